@@ -1,0 +1,1 @@
+// The page model: pages, spreads and the answers that making and marking give.
