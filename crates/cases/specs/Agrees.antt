@@ -1,0 +1,18 @@
+-- The page model answers every case of the table as the table says, by computation.
+use mathlib.Core.Path.{_≡_, refl}
+use mathlib.Core.List.{map}
+use Rattle.model.specs.Gather.{sum, between, total, each, every, row}
+use Rattle.model.specs.Galley.{count, streams, zeros, sizes, blocks}
+use Rattle.model.specs.Height.{has, kinds, stacked, height, tightest, loosest}
+use Rattle.model.specs.Leaf.{leaf, ends}
+use Rattle.model.specs.Rules.{forward, mayEnd, closes, fits, fills, cited, firstBroken, broken}
+use Rattle.model.specs.Turns.{pageOf, apart, xOf, yOf, turns}
+use Rattle.model.specs.Answers.{chunks, pagesOf, wordsOf, counted, same, refuse, judge, countsOf, marked}
+use Rattle.model.specs.Order.{thenBy, by, lex, geb, oddly, startsOf, before}
+use Rattle.model.specs.Best.{prefixed, box, keep, onward, lists, allowed, valid, firstOf, best, made, madeWords}
+use Rattle.cases.specs.Case.{blank, nth, streamOf, galleyOf, makes, marks, refuses, answered}
+use Rattle.cases.specs.Table.{spec, line, figure, three, galleyA, galleyB, galleyC, galleyD, galleyE, asks, table}
+
+pub table-agrees : map (λ c. answered (c .galley) (c .question)) table ≡ map (λ c. c .reply) table
+unfolding sum between total each every row count streams zeros sizes blocks has kinds stacked height tightest loosest leaf ends forward mayEnd closes fits fills cited firstBroken broken pageOf apart xOf yOf turns chunks pagesOf wordsOf counted same refuse judge countsOf marked thenBy by lex geb oddly startsOf before prefixed box keep onward lists allowed valid firstOf best made madeWords blank nth streamOf galleyOf makes marks refuses answered spec line figure three galleyA galleyB galleyC galleyD galleyE asks table
+table-agrees = refl

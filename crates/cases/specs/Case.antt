@@ -1,0 +1,73 @@
+-- How a case is written: a galley from its lists, what is asked of it, and what is to be answered.
+use Prim.Native.Nat.{ℕ, zero, suc, pred}
+use mathlib.Core.Bool.{Bool, true}
+use mathlib.Core.List.{List, []}
+use lib.ListN.{length, getD}
+use Rattle.model.specs.declared.answer.Answer.{Answer}
+use Rattle.model.specs.declared.answer.Numbers.{Numbers}
+use Rattle.model.specs.Galley.{Spec, Stream, Galley}
+use Rattle.model.specs.Answers.{numbersOf, marked}
+use Rattle.model.specs.Best.{made, madeWords}
+
+-- A line or figure: its height, the least and greatest space after it, whether a page may end there, and what cites it.
+pub record Block : Type 0 where
+  pub height : ℕ
+  pub least : ℕ
+  pub most : ℕ
+  pub legal : Bool
+  pub cite : ℕ
+
+unfoldable pub blank : Block
+blank = record { height = 0; least = 0; most = 0; legal = true; cite = 0 }
+
+-- Block k, counted from 1.
+unfoldable pub nth : List Block → ℕ → Block
+nth bs k = getD bs (pred k) blank
+
+unfoldable pub streamOf : List Block → Stream
+streamOf bs =
+    record {
+      size = length bs;
+      ht = λ k. (nth bs k) .height;
+      least = λ k. (nth bs k) .least;
+      most = λ k. (nth bs k) .most;
+      legal = λ k. (nth bs k) .legal;
+      cite = λ k. (nth bs k) .cite;
+    }
+
+-- The galley of a specification, lines and figures.
+unfoldable pub galleyOf : Spec → List Block → List Block → Galley
+galleyOf sp lines figures =
+    record { spec = sp; floats = 1; stream = λ s. elim s [ zero ↦ streamOf lines | suc t ↦ streamOf figures ] }
+
+-- What is asked: a making, or the marking of a list of words.
+pub data Question : Type 0 where
+  making : Question
+  marking : List ℕ → Question
+
+-- What is answered: document 01's six numbers, and the words of the list that is made.
+pub record Reply : Type 0 where
+  pub numbers : Numbers
+  pub list : List ℕ
+
+pub record Case : Type 0 where
+  pub galley : Galley
+  pub question : Question
+  pub reply : Reply
+
+-- A making that succeeds, with p, X, Y, T and the words of its list.
+unfoldable pub makes : ℕ → ℕ → ℕ → ℕ → List ℕ → Reply
+makes p x y t ws = record { numbers = record { number = 0; place = 0; pages = p; x = x; y = y; turns = t }; list = ws }
+
+-- A marking that accepts, with p, X, Y, T.
+unfoldable pub marks : ℕ → ℕ → ℕ → ℕ → Reply
+marks p x y t = makes p x y t []
+
+-- A refusal with its number and place.
+unfoldable pub refuses : ℕ → ℕ → Reply
+refuses n at = record { numbers = record { number = n; place = at; pages = 0; x = 0; y = 0; turns = 0 }; list = [] }
+
+-- What the page model answers.
+unfoldable pub answered : Galley → Question → Reply
+answered g making = record { numbers = numbersOf (made g); list = madeWords g }
+answered g (marking ws) = record { numbers = numbersOf (marked g ws); list = [] }

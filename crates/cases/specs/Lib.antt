@@ -1,0 +1,4 @@
+-- How a case is written, the table of cases, and the proof that the page model answers as the table says.
+pub mod Case
+pub mod Table
+pub mod Agrees

@@ -1,0 +1,67 @@
+-- The marking of a list of words, and the six numbers that an answer stands for.
+use Prim.Native.Nat.{ℕ, zero, suc, pred, _*_, _/_, _%_}
+use mathlib.Core.Bool.{Bool, true, false, _&&_}
+use mathlib.Core.List.{List, [], _∷_, _++_}
+use lib.ListN.{length, take, drop}
+use lib.Dec.{leb, ltb, eqb}
+use Rattle.model.specs.declared.answer.Answer.{Answer}
+use Rattle.model.specs.declared.answer.Answer.the-variants.{Counted, Refused}
+use Rattle.model.specs.declared.answer.Numbers.{Numbers}
+use Rattle.model.specs.Gather.{pick}
+use Rattle.model.specs.Galley.{Galley, Place, streams, zeros, sizes, blocks}
+use Rattle.model.specs.Rules.{broken}
+use Rattle.model.specs.Turns.{xOf, yOf, turns}
+
+-- Number, place, p, X, Y, T of each case of an answer (document 01, "Numbers that turn work away").
+abbrev pub numbersOf : Answer → Numbers
+numbersOf (Counted p x y t) = record { number = 0; place = 0; pages = p; x = x; y = y; turns = t }
+numbersOf (Refused n at) = record { number = n; place = at; pages = 0; x = 0; y = 0; turns = 0 }
+
+-- A page list's words, k of them a page, as p places (document 01, "One page").
+unfoldable pub chunks : ℕ → ℕ → List ℕ → List Place
+chunks zero k ws = []
+chunks (suc p) k ws = take k ws ∷ chunks p k (drop k ws)
+
+-- The pages that a list of words names.
+unfoldable pub pagesOf : Galley → List ℕ → List Place
+pagesOf g ws = chunks (length ws / streams g) (streams g) ws
+
+-- The words that name a list of pages.
+unfoldable pub wordsOf : List Place → List ℕ
+wordsOf [] = []
+wordsOf (v ∷ vs) = v ++ wordsOf vs
+
+-- 12: there are words, whole pages of them, and no more pages than blocks.
+unfoldable pub counted : Galley → List ℕ → Bool
+counted g ws = ltb 0 (length ws) && eqb (length ws % streams g) 0 && leb (length ws) (streams g * blocks g)
+
+-- Two places are the same, count by count.
+unfoldable pub same : Place → Place → Bool
+same [] [] = true
+same [] (y ∷ ys) = false
+same (x ∷ xs) [] = false
+same (x ∷ xs) (y ∷ ys) = eqb x y && same xs ys
+
+-- No page follows.
+abbrev pub ended : List Place → Bool
+ended [] = true
+ended (v ∷ vs) = false
+
+-- A broken rule refuses the page; otherwise the answer is that for the pages after it.
+unfoldable pub refuse : ℕ → ℕ → Answer → Answer
+refuse zero q after = after
+refuse (suc n) q after = Refused (suc n) q
+
+-- The first page that breaks a rule, of pages numbered from q that start at place u; then 18, the last place is not the full
+-- one; else the answer `good` (document 01, "Marking").
+unfoldable pub judge : Galley → Answer → ℕ → Place → List Place → Answer
+judge g good q u [] = pick (same u (sizes g)) good (Refused 18 (pred q))
+judge g good q u (v ∷ vs) = refuse (broken g q (ended vs) u v) q (judge g good (suc q) v vs)
+
+-- Page count and turns of a list of pages.
+unfoldable pub countsOf : Galley → List Place → Answer
+countsOf g ps = Counted (length ps) (xOf g ps) (yOf g ps) (turns g ps)
+
+-- The answer of marking a list of words for a galley that reads without refusal: 12 before any page, then the pages, then 18.
+unfoldable pub marked : Galley → List ℕ → Answer
+marked g ws = pick (counted g ws) (judge g (countsOf g (pagesOf g ws)) 1 (zeros g) (pagesOf g ws)) (Refused 12 0)

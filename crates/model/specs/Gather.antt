@@ -1,0 +1,45 @@
+-- Choosing by a test, and numbers and tests gathered over 1 to n or 0 to n: the notation of the other definitions.
+use Prim.Native.Nat.{ℕ, zero, suc, _+_, _-_}
+use mathlib.Core.Bool.{Bool, true, false, not, _&&_, _||_}
+use mathlib.Core.List.{List, [], _∷_}
+
+-- The first of two values where the test holds, else the second.
+abbrev pub pick : {A : Type 0} → Bool → A → A → A
+pick true a b = a
+pick false a b = b
+
+-- The second test holds wherever the first does.
+abbrev pub implies : Bool → Bool → Bool
+implies a b = not a || b
+
+-- 1 for a test that holds, else 0.
+abbrev pub one : Bool → ℕ
+one true = 1
+one false = 0
+
+-- f 1 + … + f n, the paper's Σ.
+unfoldable pub sum : ℕ → (ℕ → ℕ) → ℕ
+sum zero f = 0
+sum (suc n) f = sum n f + f (suc n)
+
+-- f (a + 1) + … + f b.
+unfoldable pub between : ℕ → ℕ → (ℕ → ℕ) → ℕ
+between a b f = sum (b - a) (λ k. f (a + k))
+
+-- f 0 + f 1 + … + f n.
+unfoldable pub total : ℕ → (ℕ → ℕ) → ℕ
+total n f = f 0 + sum n f
+
+-- f k holds for each k from 1 to n.
+unfoldable pub each : ℕ → (ℕ → Bool) → Bool
+each zero f = true
+each (suc n) f = each n f && f (suc n)
+
+-- f k holds for each k from 0 to n.
+unfoldable pub every : ℕ → (ℕ → Bool) → Bool
+every n f = f 0 && each n f
+
+-- The n values f a, f (a + 1), …
+unfoldable pub row : ℕ → ℕ → (ℕ → ℕ) → List ℕ
+row a zero f = []
+row a (suc n) f = f a ∷ row (suc a) n f

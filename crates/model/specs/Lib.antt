@@ -1,0 +1,11 @@
+-- The page model, in the order of reading: definitions first, then the laws about them.
+pub mod Gather
+pub mod Galley
+pub mod Height
+pub mod Leaf
+pub mod Rules
+pub mod Turns
+pub mod Answers
+pub mod Pagination
+pub mod Order
+pub mod Best

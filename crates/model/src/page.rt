@@ -1,0 +1,25 @@
+// A page number and a spread number are two counts, and neither serves as the other.
+ghost use mathlib.Core.Path.{_≡_};
+ghost use Rattle.model.specs.Leaf.{leaf, ends, sidesOf};
+
+// A page, counted from the galley's own first page, which is 1.
+pub struct Page(pub u32);
+
+// What lies open at a time: a spread in double-sided work, where `sides` is 2; in single-sided work each page by itself.
+pub struct Spread(pub u32);
+
+pub fn spread_of(sides: u32, page: Page) -> Spread
+    ensures { λ r. ⌜ r .0 ≡ leaf (sidesOf sides) (page .0) ⌝ }
+{
+    if sides == 2 {
+        Spread(page.0 / 2 + 1)
+    } else {
+        Spread(page.0)
+    }
+}
+
+pub fn ends_spread(sides: u32, page: Page) -> bool
+    ensures { λ r. ⌜ r ≡ ends (sidesOf sides) (page .0) ⌝ }
+{
+    if sides == 2 { page.0 % 2 == 1 } else { true }
+}
