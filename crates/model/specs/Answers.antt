@@ -17,6 +17,11 @@ abbrev pub numbersOf : Answer → Numbers
 numbersOf (Counted p x y t) = record { number = 0; place = 0; pages = p; x = x; y = y; turns = t }
 numbersOf (Refused n at) = record { number = n; place = at; pages = 0; x = 0; y = 0; turns = 0 }
 
+-- The answer is that of a list that is accepted, and no refusal.
+abbrev pub accepted : Answer → Bool
+accepted (Counted p x y t) = true
+accepted (Refused n at) = false
+
 -- A page list's words, k of them a page, as p places (document 01, "One page").
 unfoldable pub chunks : ℕ → ℕ → List ℕ → List Place
 chunks zero k ws = []

@@ -9,3 +9,4 @@ pub mod Answers
 pub mod Pagination
 pub mod Order
 pub mod Best
+pub mod laws

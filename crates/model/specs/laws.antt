@@ -1,0 +1,5 @@
+-- The laws of the page model, each file about the definitions of the file of its name.
+pub mod Gather
+pub mod Leaf
+pub mod Rules
+pub mod Judge
