@@ -1,11 +1,12 @@
 -- A pagination as section 2 of the paper has it: a map from blocks to pages, stated with no page list in sight. P s k is the
 -- page of block k of stream s.
-use Prim.Native.Nat.{ℕ, suc, pred, _+_, _-_, _*_, _≤_, _<_}
+use Prim.Native.Nat.{ℕ, zero, suc, pred, _+_, _-_, _*_, _≤_, _<_}
 use mathlib.Core.Path.{_≡_}
 use mathlib.Core.Bool.{Bool, true, _&&_}
-use lib.Dec.{eqb, ltb}
-use Rattle.model.specs.Gather.{pick, one, sum, total}
-use Rattle.model.specs.Galley.{Stream, Galley, Block}
+use mathlib.Core.List.{List, [], _∷_}
+use lib.Dec.{eqb, leb, ltb}
+use Rattle.model.specs.Gather.{pick, one, sum, total, row}
+use Rattle.model.specs.Galley.{Stream, Galley, Place, Block, streams}
 use Rattle.model.specs.Leaf.{leaf}
 
 -- A map from blocks to pages.
@@ -45,6 +46,15 @@ pub record Pagination (g : Galley) (p : ℕ) (P : Map) : Type 0 where
   -- fourth constraint: no float is on a leaf before that of the line that cites it
   pub fourth : (s k : ℕ) → 1 ≤ s → Block g s k
       → leaf (g .spec .sides) (P 0 (g .stream s .cite k)) ≤ leaf (g .spec .sides) (P s k)
+
+-- The place after page q: of each stream the blocks on that page or an earlier one.
+unfoldable pub placeOn : Galley → Map → ℕ → Place
+placeOn g P q = row 0 (streams g) (λ s. sum (g .stream s .size) (λ k. one (leb (P s k) q)))
+
+-- The page list of a map: the places after p pages from page q on.
+unfoldable pub listOn : Galley → Map → ℕ → ℕ → List Place
+listOn g P zero q = []
+listOn g P (suc p) q = placeOn g P q ∷ listOn g P p (suc q)
 
 -- The paper's Σ (P(f) − P(R(f))), over leaves: section 3.
 unfoldable pub xOn : Galley → Map → ℕ
