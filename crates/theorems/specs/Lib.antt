@@ -1,0 +1,2 @@
+-- The theorems behind least turns.
+pub mod published
