@@ -1,2 +1,3 @@
 -- Document 01's rules accept a page list exactly where it is the list of a pagination as the paper has it.
 pub mod Fits
+pub mod Heights
