@@ -3,3 +3,4 @@ pub mod Fits
 pub mod Heights
 pub mod Keeping
 pub mod Fourth
+pub mod Laid

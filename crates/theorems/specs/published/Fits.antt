@@ -118,3 +118,29 @@ fits-count {n} {q} {c} {P} F =
     count-window n 0 c (λ k. leb (P k) q) (F .top)
     (λ k i j. (λ t. (i, F .late k i j (leb-true (P k) q t)), λ r. le-leb (P k) q (F .early k i (r .1))))
     ∙ (let e : c - 0 ≡ c = omega arith in e)
+
+-- An order need be shown of a number above 0 only.
+le-positive : (a b : ℕ) → (1 ≤ a → a ≤ b) → a ≤ b
+le-positive zero b h = omega arith
+le-positive (suc a) b h = h (omega arith)
+
+module _ {n q a : ℕ} {P : ℕ → ℕ} (F : Fits n q a P) where
+  -- Where no block is on page q or earlier none is counted, and where all are all are counted.
+  pub fits-none : ((k : ℕ) → 1 ≤ k → k ≤ n → q < P k) → a ≡ 0
+  fits-none h =
+      let top = F .top in
+      let no-more = le-positive a 0 (λ i. absurd (let l = h a i top in let m = F .early a i (le-refl a) in omega arith)) in
+      omega arith
+
+  pub fits-all : ((k : ℕ) → 1 ≤ k → k ≤ n → P k ≤ q) → a ≡ n
+  fits-all h =
+      let top = F .top in
+      let all = le-positive n a (λ i. F .late n i (le-refl n) (h n i (le-refl n))) in
+      omega arith
+
+  -- Counts rise from page to page, and the last block of a page that has one is on it.
+  pub fits-up : {r b : ℕ} → Fits n r b P → q ≤ r → a ≤ b
+  fits-up {r} {b} G l = le-positive a b (λ i. G .late a i (F .top) (le-trans (F .early a i (le-refl a)) l))
+
+  pub fits-last : {b : ℕ} → Fits n (suc q) b P → a < b → P b ≡ suc q
+  fits-last {b} G l = eqb-true (P b) (suc q) (fits-page F G b (omega arith) (G .top) .1 (l, le-refl b))
