@@ -3,3 +3,6 @@ pub mod Gather
 pub mod Leaf
 pub mod Rules
 pub mod Judge
+pub mod Words
+pub mod Lists
+pub mod Valid
