@@ -7,3 +7,4 @@ pub mod Judge
 pub mod Words
 pub mod Lists
 pub mod Valid
+pub mod Order

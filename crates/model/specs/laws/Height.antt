@@ -53,21 +53,21 @@ unfolding kinds has
 kinds-grow g u v u′ v′ w =
     total-le (g .floats) (λ s. one (ltb (count u s) (count v s))) (λ s. one (ltb (count u′ s) (count v′ s)))
     (λ s h.
-        one-mono (ltb (count u s) (count v s)) (ltb (count u′ s) (count v′ s))
-        (λ e.
-            let l = ltb-true (count u s) (count v s) e in
-            let b = w .back s h in
-            let o = w .on s h in
-            lt-ltb (count u′ s) (count v′ s) (omega arith)))
+    one-mono (ltb (count u s) (count v s)) (ltb (count u′ s) (count v′ s))
+    (λ e.
+    let l = ltb-true (count u s) (count v s) e in
+    let b = w .back s h in
+    let o = w .on s h in
+    lt-ltb (count u′ s) (count v′ s) (omega arith)))
 
 pub height-grows : (g : Galley) (gap : Stream → ℕ → ℕ) (separation : ℕ) (u v u′ v′ : Place) → Wider g u v u′ v′
     → height g gap separation u v ≤ height g gap separation u′ v′
 unfolding height
 height-grows g gap separation u v u′ v′ w =
     let stacks =
-        total-le (g .floats) (λ s. stacked (g .stream s) (gap (g .stream s)) (count u s) (count v s))
-        (λ s. stacked (g .stream s) (gap (g .stream s)) (count u′ s) (count v′ s))
-        (λ s h. stacked-grows (g .stream s) (gap (g .stream s)) _ _ _ _ (w .back s h) (w .page s h) (w .on s h)) in
+    total-le (g .floats) (λ s. stacked (g .stream s) (gap (g .stream s)) (count u s) (count v s))
+    (λ s. stacked (g .stream s) (gap (g .stream s)) (count u′ s) (count v′ s))
+    (λ s h. stacked-grows (g .stream s) (gap (g .stream s)) _ _ _ _ (w .back s h) (w .page s h) (w .on s h)) in
     let seps = mul-le-mul-right separation (pred-le-pred (kinds-grow g u v u′ v′ w)) in
     omega arith
 

@@ -18,7 +18,6 @@ abbrev pub _∈_ : {A : Type 0} → A → List A → Type 0
 _∈_ a l = List·Memᴰ a l
 
 infix 40 _∈_
-
 module _ {A B : Type 0} where
   pub ∈-map : (f : A → B) (a : A) (l : List A) → a ∈ l → f a ∈ map f l
   ∈-map f a (x ∷ l) (List·Memᴰ·head e) = List·Memᴰ·head (ap f e)
@@ -184,7 +183,7 @@ module _ (ok : Allowed) (l : Place) where
             whole = r .whole;
             here = List·Memᴰ·tail (r .here);
             listed = r .listed;
-            may = r .may
+            may = r .may;
           }
 
   full : (u : Place) (ls : List (List Place)) → same u l ≡ true → [] ∈ (pick (same u l) ([] ∷ []) [] ++ ls)
@@ -200,8 +199,8 @@ module _ (ok : Allowed) (l : Place) where
   listed (suc fuel) q u (v ∷ vs) i f h =
       Memᴰ·append-right (pick (same u l) ([] ∷ []) [])
       (∈-onward (lists ok l fuel (suc q)) q u v vs (box l) (∈-box l v (i .0))
-          (listed fuel (suc q) v vs (i .1) (le-of-suc-le-suc f) (and-right (ok q (ended vs) u v) (accepts ok l (suc q) v vs) h))
-          (and-left (ok q (ended vs) u v) (accepts ok l (suc q) v vs) h))
+      (listed fuel (suc q) v vs (i .1) (le-of-suc-le-suc f) (and-right (ok q (ended vs) u v) (accepts ok l (suc q) v vs) h))
+      (and-left (ok q (ended vs) u v) (accepts ok l (suc q) v vs) h))
 
   -- What is listed is accepted, has no more pages than the fuel, and stays inside.
   pub record Listed (fuel q : ℕ) (u : Place) (ps : List Place) : Type 0 where
@@ -236,7 +235,7 @@ module _ (ok : Allowed) (l : Place) where
           (record {
             taken = and-both (r .may) (t .taken);
             short = let s = t .short in omega arith;
-            inside = (∈-unbox l (r .page) (r .here), t .inside)
+            inside = (∈-unbox l (r .page) (r .here), t .inside);
           })
 
       go : (ps ∈ pick (same u l) ([] ∷ []) []) ⊎ (ps ∈ onward ok (lists ok l fuel (suc q)) q u (box l))

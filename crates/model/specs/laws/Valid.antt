@@ -86,9 +86,10 @@ module _ (g : Galley) where
   unfolding accepts
   all-inside q u [] sh h = tt
   all-inside q u (v ∷ vs) sh h =
-      let here = kept (and-left (allowed g q (ended vs) u v) (accepts (allowed g) (sizes g) (suc q) v vs) h) in
-      (page-inside u v (sh .0) (forward-at g u v (here .rule13)),
-       all-inside (suc q) v vs (sh .1) (and-right (allowed g q (ended vs) u v) (accepts (allowed g) (sizes g) (suc q) v vs) h))
+      let here = kept (and-left (allowed g q (ended vs) u v) (accepts (allowed g) (sizes g) (suc q) v vs) h) in (
+        page-inside u v (sh .0) (forward-at g u v (here .rule13)),
+        all-inside (suc q) v vs (sh .1) (and-right (allowed g q (ended vs) u v) (accepts (allowed g) (sizes g) (suc q) v vs) h),
+      )
 
   pub inside-shaped : (ps : List Place) → AllInside (sizes g) ps → Shaped (streams g) ps
   inside-shaped [] i = tt
@@ -130,7 +131,7 @@ module _ (g : Galley) where
       into a =
           ∈-keep (λ ps. not (ended ps)) ps all
           (listed (allowed g) (sizes g) (blocks g) 1 (zeros g) ps (all-inside 1 (zeros g) ps (a .shaped) (a .taken))
-              (few-pages ps a) (a .taken))
+          (few-pages ps a) (a .taken))
           (ended-some ps (a .some))
 
   -- A list of words is accepted exactly where rule 12 holds and the rules accept its pages.
@@ -160,7 +161,7 @@ module _ (g : Galley) where
           let s = w .some in
           record {
             whole = b .0;
-            pages = record { some = omega arith; shaped = pages-shaped g ws (b .0); taken = sym same-test ∙ b .1 }
+            pages = record { some = omega arith; shaped = pages-shaped g ws (b .0); taken = sym same-test ∙ b .1 };
           }
 
       into : MarkAccepted ws → accepted (pick (counted g ws) judged (Refused 12 0)) ≡ true
@@ -188,7 +189,7 @@ module _ (g : Galley) where
           marked-accepted (wordsOf ps) .1
           (record {
             whole = counted-of g ps (a .shaped) (a .some) (few-pages ps a);
-            pages = subst (λ x. Accepted x) (sym (pages-words g ps (a .shaped))) a
+            pages = subst (λ x. Accepted x) (sym (pages-words g ps (a .shaped))) a;
           })
 
       into : ((ps : List Place) × (ps ∈ valid g) × (wordsOf ps ≡ ws)) → accepted (marked g ws) ≡ true

@@ -81,7 +81,7 @@ module _ (g : Galley) where
       record {
         whole = whole;
         some = positive (length ws / k) k whole l;
-        few = le-of-mul-le-mul-right {k = k} (subst (λ n. n ≤ blocks g * k) whole (subst (λ n. length ws ≤ n) (mul-comm k (blocks g)) m)) (omega arith)
+        few = le-of-mul-le-mul-right {k = k} (subst (λ n. n ≤ blocks g * k) whole (subst (λ n. length ws ≤ n) (mul-comm k (blocks g)) m)) (omega arith);
       }
     where
       positive : (p k : ℕ) → length ws ≡ p * k → 0 < length ws → 0 < p
@@ -106,7 +106,7 @@ module _ (g : Galley) where
   unfolding pagesOf streams
   pages-words ps h =
       let e : length (wordsOf ps) / streams g ≡ length ps =
-          ap (λ n. n / streams g) (length-words (streams g) ps h) ∙ mul-div-cancel (length ps) {n = suc (g .floats)} (omega arith) in
+      ap (λ n. n / streams g) (length-words (streams g) ps h) ∙ mul-div-cancel (length ps) {n = suc (g .floats)} (omega arith) in
       ap (λ n. chunks n (streams g) (wordsOf ps)) e ∙ chunks-words (streams g) ps h
 
   pub counted-of : (ps : List Place) → Shaped (streams g) ps → 0 < length ps → length ps ≤ blocks g → counted g (wordsOf ps) ≡ true
