@@ -40,8 +40,8 @@ ENDS, OPENS = 1, 0  # a page's side: whether its leaf ends with it (single-sided
 def best_by_table(galley):
     """As best, from a table with one entry for each place and side of the page that ends there.
 
-    Turning a leaf costs beta and, for each figure that is cited but still waiting, alpha; added up over the turns that is
-    T. A page's side fixes that of the page before it, so the least cost with the latest start is all there is to keep.
+    Turning a leaf costs beta and, for each figure that is cited but still waiting, alpha; over all turns that makes T.
+    A page's side fixes that of the page before it, so the least cost with the latest start is all there is to keep.
     """
     m, n = len(galley.lines), len(galley.figures)
     double = galley.spec.sides == 2
