@@ -76,6 +76,8 @@ def files():
     yield 'citation 0 out of order', opened + figure + record(b'FG', 1, 0, 0, 0), 6, 66
     yield 'height before citation', opened + record(b'FG', 100_001, 0, 0, 0), 3, 48
     yield 'citations fall', opened + line + record(b'FG', 1, 0, 0, 2) + figure, 7, 84
+    cites = [record(b'FG', 1, 0, 0, cite) for cite in (1, 3, 2)]
+    yield 'citation below the previous but not the first', opened + line + line + b''.join(cites), 7, 84 + 2 * 18
     yield 'a byte after the end', opened + b'EDx', 8, 50
     yield 'a second end', opened + figure + b'EDED', 8, 68
     yield from out_of_range(opened)
