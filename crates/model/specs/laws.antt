@@ -8,3 +8,4 @@ pub mod Words
 pub mod Lists
 pub mod Valid
 pub mod Order
+pub mod Best
