@@ -1,5 +1,11 @@
 -- The laws of the page model, each file about the definitions of the file of its name.
 pub mod Gather
+pub mod Height
 pub mod Leaf
 pub mod Rules
 pub mod Judge
+pub mod Words
+pub mod Lists
+pub mod Valid
+pub mod Order
+pub mod Best

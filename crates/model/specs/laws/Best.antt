@@ -1,0 +1,125 @@
+-- The best list is a valid list that comes before every other, it is the only one, and there is none only where no list is valid.
+use Prim.Native.Nat.{ℕ, _≤_}
+use native.Mathlib.Omega.{arith}
+use mathlib.Core.Path.{_≡_, refl, sym, _∙_, ap, subst}
+use mathlib.Core.Logic.{_⊎_, inl, inr}
+use mathlib.Core.Bool.{Bool, true, false}
+use mathlib.Core.List.{List, [], _∷_, List·Memᴰ·head, List·Memᴰ·tail, List·Memᴰ·cases-cons, List·Memᴰ·not-nil}
+use mathlib.Core.Option.{Option, none, some}
+use lib.Dec.{leb}
+use borrow.Author.Tests.{leb-true}
+use Rattle.model.specs.Gather.{pick, implies}
+use Rattle.model.specs.Galley.{Galley, Place}
+use Rattle.model.specs.Turns.{turns}
+use Rattle.model.specs.Order.{thenBy, by, before}
+use Rattle.model.specs.Best.{valid, firstOf, best}
+use Rattle.model.specs.laws.Gather.{and-left}
+use Rattle.model.specs.laws.Lists.{_∈_}
+use Rattle.model.specs.laws.Valid.{valid-accepted}
+use Rattle.model.specs.laws.Order.{Preference, before-preference, before-antisymm}
+
+module _ {A : Type 0} (le : A → A → Bool) (o : Preference le) where
+  -- x is in the list and comes before all that is in it.
+  pub record First (x : A) (xs : List A) : Type 0 where
+    pub among : x ∈ xs
+    pub ahead : (y : A) → y ∈ xs → le x y ≡ true
+
+  itself : (x : A) → le x x ≡ true
+  itself x = go (o .total x x)
+    where
+      go : (le x x ≡ true) ⊎ (le x x ≡ true) → le x x ≡ true
+      go (inl h) = h
+      go (inr h) = h
+
+  alone : (x : A) → First x (x ∷ [])
+  alone x = record { among = List·Memᴰ·head refl; ahead = λ y m. go y (List·Memᴰ·cases-cons m) }
+    where
+      go : (y : A) → (y ≡ x) ⊎ (y ∈ []) → le x y ≡ true
+      go y (inl e) = rw e (itself x)
+      go y (inr m) = absurd (List·Memᴰ·not-nil m)
+
+  other-way : (x y : A) → le x y ≡ false → le y x ≡ true
+  other-way x y e = go (o .total x y)
+    where
+      go : (le x y ≡ true) ⊎ (le y x ≡ true) → le y x ≡ true
+      go (inl h) = let z : _≡_ {A = ℕ} 0 1 = cc in absurd (omega arith)
+      go (inr h) = h
+
+  -- The first of one more is the better of it and the first of the others.
+  better : (x y : A) (xs : List A) → First y xs → First (pick (le x y) x y) (x ∷ xs)
+  better x y xs f = go (le x y) refl
+    where
+      x-first : le x y ≡ true → (w : A) → (w ≡ x) ⊎ (w ∈ xs) → le x w ≡ true
+      x-first h w (inl e) = rw e (itself x)
+      x-first h w (inr m) = o .trans x y w h (f .ahead w m)
+
+      y-first : le x y ≡ false → (w : A) → (w ≡ x) ⊎ (w ∈ xs) → le y w ≡ true
+      y-first h w (inl e) = rw e (other-way x y h)
+      y-first h w (inr m) = f .ahead w m
+
+      go : (b : Bool) → le x y ≡ b → First (pick b x y) (x ∷ xs)
+      go true h = record { among = List·Memᴰ·head refl; ahead = λ w m. x-first h w (List·Memᴰ·cases-cons m) }
+      go false h = record { among = List·Memᴰ·tail (f .among); ahead = λ w m. y-first h w (List·Memᴰ·cases-cons m) }
+
+  -- What `firstOf` finds: nothing in an empty list, else a first.
+  pub data Found (xs : List A) : Option A → Type 0 where
+    nothing : xs ≡ [] → Found xs none
+    found : {x : A} → First x xs → Found xs (some x)
+
+  pub firstOf-found : (xs : List A) → Found xs (firstOf le xs)
+  unfolding firstOf
+  firstOf-found [] = nothing refl
+  firstOf-found (x ∷ xs) = go (firstOf le xs) (firstOf-found xs)
+    where
+      nil : xs ≡ [] → First x (x ∷ xs)
+      nil e = subst (λ ys. First x (x ∷ ys)) (sym e) (alone x)
+
+      go : (r : Option A) → Found xs r → Found (x ∷ xs) (elim r [ none ↦ some x | some y ↦ some (pick (le x y) x y) ])
+      go none (nothing e) = found (nil e)
+      go (some y) (found f) = found (better x y xs f)
+
+module _ (g : Galley) where
+  -- ps is a valid list that no valid list comes before.
+  pub record Least (ps : List Place) : Type 0 where
+    pub lawful : ps ∈ valid g
+    pub ahead : (qs : List Place) → qs ∈ valid g → before g ps qs ≡ true
+
+  -- The least list is one only.
+  pub least-unique : (ps qs : List Place) → Least ps → Least qs → ps ≡ qs
+  least-unique ps qs a b =
+      before-antisymm g ps qs (valid-accepted g ps .0 (a .lawful)) (valid-accepted g qs .0 (b .lawful))
+      (a .ahead qs (b .lawful)) (b .ahead ps (a .lawful))
+
+  -- What making means: no list is valid, or the best list is the least one.
+  pub data Makes : Option (List Place) → Type 0 where
+    impossible : ((ps : List Place) → ps ∈ valid g → ⊥) → Makes none
+    makes : {ps : List Place} → Least ps → Makes (some ps)
+
+  pub best-makes : Makes (best g)
+  unfolding best
+  best-makes = go (firstOf (before g) (valid g)) (firstOf-found (before g) (before-preference g) (valid g))
+    where
+      go : (r : Option (List Place)) → Found (before g) (before-preference g) (valid g) r → Makes r
+      go none (nothing e) = impossible (λ ps m. List·Memᴰ·not-nil (subst (λ l. ps ∈ l) e m))
+      go (some ps) (found f) = makes (record { lawful = f .among; ahead = f .ahead })
+
+  -- Whoever has the least list has the best list.
+  pub best-is : (ps : List Place) → Least ps → best g ≡ some ps
+  best-is ps a = go (best g) best-makes
+    where
+      go : (r : Option (List Place)) → Makes r → r ≡ some ps
+      go none (impossible none-valid) = absurd (none-valid ps (a .lawful))
+      go (some qs) (makes b) = ap some (least-unique qs ps b a)
+
+  -- Whoever shows that no list is valid has that there is no best list.
+  pub best-none : ((ps : List Place) → ps ∈ valid g → ⊥) → best g ≡ none
+  best-none empty = go (best g) best-makes
+    where
+      go : (r : Option (List Place)) → Makes r → r ≡ none
+      go none m = refl
+      go (some qs) (makes b) = absurd (empty qs (b .lawful))
+
+  -- No valid list has fewer turns than the best.
+  pub least-turns : (ps qs : List Place) → Least ps → qs ∈ valid g → turns g ps ≤ turns g qs
+  unfolding before thenBy by
+  least-turns ps qs a m = leb-true (turns g ps) (turns g qs) (and-left (leb (turns g ps) (turns g qs)) _ (a .ahead qs m))

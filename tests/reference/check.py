@@ -1,0 +1,200 @@
+"""Checks the reference against document 01's cases and against itself. The last line is 'N passed, M failed'."""
+
+import random
+import sys
+from itertools import product
+from pathlib import Path
+
+sys.path.insert(0, str(Path(__file__).resolve().parents[1]))
+
+from reference import cases, marking, refusals, sample, search  # noqa: E402
+from reference.galley import Figure, Galley, Line, Spec, read, write  # noqa: E402
+
+
+class Tally:
+    """Counts checks by group; a failure is printed when it happens, a group when it ends."""
+
+    def __init__(self):
+        self.passed = self.failed = 0
+        self.group_began = 0
+        self.refusals = set()
+
+    def same(self, what, got, due):
+        if got == due:
+            self.passed += 1
+        else:
+            self.failed += 1
+            print(f'FAILED {what}: {got}, due {due}')
+
+    def met(self, answer):
+        """Remembers which refusals were ever reached."""
+        if answer[0] == 'refused':
+            self.refusals.add(answer[1])
+        return answer
+
+    def group(self, title, note=''):
+        checks = self.passed + self.failed - self.group_began
+        self.group_began += checks
+        print(f'{title}: {checks} checks{note}')
+
+
+def made(tally):
+    for name, galley, words, measure in cases.MADE:
+        for search_of in (search.best, search.best_by_table):
+            tally.same(f'{name} {search_of.__name__}', search_of(galley), words)
+        if words:
+            tally.same(f'{name} marked', marking.mark(galley, words), ('accepted', *measure))
+    tally.group('cases of making')
+
+
+def marked(tally):
+    for name, galley, words, due in cases.MARKED:
+        tally.same(name, tally.met(marking.mark(galley, words)), due)
+        tally.same(f'{name}, by the paper', by_paper(galley, words), due)
+    for name, galley, words, due in cases.MARKED_LONG:
+        tally.same(name, marking.mark(galley, words), due)
+    tally.group('cases of marking')
+
+
+def by_paper(galley, words):
+    """What the marking owes, from the paper's map."""
+    found = marking.map_of_words(galley, words)
+    if found is None or not marking.is_pagination(galley, *found):
+        return ('refused', *refusals.of_list(galley, words))
+    turn = marking.turn_d if galley.spec.sides == 2 else marking.turn_s
+    # X and Y are what the turns come to when only the one or the other weighs.
+    weights = [(1, 0), (0, 1), (galley.spec.alpha, galley.spec.beta)]
+    return ('accepted', found[2],
+            *(turn(cases.respec(galley, alpha=alpha, beta=beta), *found) for alpha, beta in weights))
+
+
+def turned_away(tally):
+    for name, data, number, place in refusals.files():
+        tally.same(name, tally.met(read(data)), ('refused', number, place))
+    tally.group('refused files')
+
+
+def round_trips(tally):
+    edge = Spec(100_000, 100_000, 100_000, 100_000, 2, 1_000, 1_000)
+    largest = Galley(edge, 4_000 * (Line(100_000, 100_000, 100_000, 0),), 200 * (Figure(100_000, 0, 100_000, 4_000),))
+    for galley in [largest, *sample.galleys(1, 300, 8, 5)]:
+        tally.same(f'round trip of {galley}', read(write(galley)), ('galley', galley))
+    tally.same('line 1 begins', write(largest)[largest.first:][:2], b'TL')
+    tally.group('galleys written and read')
+    for galley in sample.galleys(2, 20, 4, 3):
+        damaged(tally, galley)
+    tally.group('damaged files')
+
+
+def damaged(tally, galley):
+    """Cut short: 1 where the broken record began. One byte changed: refused inside the file, or still what it says."""
+    data = write(galley)
+    begins = [0, *range(galley.first, len(data), 18)]
+    cuts = [(read(data[:cut]), ('refused', 1, max(at for at in begins if at <= cut)))
+            for cut in range(len(data))]
+    tally.same('cut short', [cut for cut, (got, due) in enumerate(cuts) if got != due], [])
+    rng = random.Random(data)
+    for at in range(len(data)):
+        changed = data[:at] + bytes([rng.randrange(256)]) + data[at + 1:]
+        answer = tally.met(read(changed))
+        sound = (write(answer[1]) == changed if answer[0] == 'galley'
+                 else answer[2] in begins or (answer[1] == 8 and answer[2] - 2 in begins))
+        tally.same(f'byte {at} of {galley}', sound, True)
+
+
+def all_lists(tally):
+    """Tiny galleys: of all lists of words, just those of paginations are accepted, with their turns, and enumerated."""
+    several = 0
+    for galley in [*sample.galleys(3, 300, 2, 1), *sample.galleys(4, 12, 2, 2), *sample.galleys(5, 12, 3, 1)]:
+        due = paginations(galley)
+        several += len(due) > 1
+        found = {}
+        for words in lists_of_words(galley):
+            answer = tally.met(marking.mark(galley, words))
+            if answer[0] == 'accepted':
+                found[words] = answer[4]
+        tally.same(f'accepted lists of {galley}', found, due)
+        tally.same(f'every list of {galley}', sorted(search.every(galley)), sorted(due))
+    tally.group('all lists of words against all maps', f' ({several} galleys have several paginations)')
+    for galley in sample.galleys(12, 100, 2, 1):
+        wrong = [words for words in lists_of_words(galley) if marking.mark(galley, words) != by_paper(galley, words)]
+        tally.same(f'lists marked differently for {galley}', wrong, [])
+    tally.group('all lists of words, refusals included, against the paper')
+
+
+def paginations(galley):
+    """List of words to turns, from every map of the material to pages."""
+    m, n = len(galley.lines), len(galley.figures)
+    turn = marking.turn_d if galley.spec.sides == 2 else marking.turn_s
+    found = {}
+    for p in range(1, m + n + 1):
+        for pages in product(range(1, p + 1), repeat=m + n):
+            if marking.is_pagination(galley, pages[:m], pages[m:], p):
+                found[marking.words_of_map(pages[:m], pages[m:], p)] = turn(galley, pages[:m], pages[m:], p)
+    return found
+
+
+def lists_of_words(galley):
+    """Every list of no more pages than there is material, each word up to one too high; then some of a wrong length."""
+    m, n = len(galley.lines), len(galley.figures)
+    ends = list(product(range(m + 2), range(n + 2)))
+    for p in range(m + n + 1):
+        for pages in product(ends, repeat=p):
+            yield sum(pages, ())
+        yield (m, n) * p + (m,)
+    yield (m, n) * (m + n + 1)
+
+
+def random_lists(tally):
+    """Lists drawn at random or spoilt by a slip: the rules and the paper agree on refusal or turns."""
+    rng = random.Random(6)
+    accepted = 0
+    for galley in sample.galleys(7, 400, 7, 4):
+        lists = [sample.page_list(rng, galley) for _ in range(10)]
+        best = search.best_by_table(galley)
+        lists += [sample.mutated(rng, best) for _ in range(20)] + [best] if best else []
+        for words in lists:
+            answer = tally.met(marking.mark(galley, words))
+            accepted += answer[0] == 'accepted'
+            tally.same(f'{words} for {galley}', answer, by_paper(galley, words))
+    tally.group('random and spoilt lists against the paper', f' ({accepted} accepted)')
+
+
+def searches(tally):
+    """The table finds what the search of all lists finds, ties included."""
+    tied = solved = 0
+    for galley in [*sample.galleys(8, 600, 5, 3), *sample.galleys(9, 100, 9, 0)]:
+        ranks = sorted(search.rank(galley, words) for words in search.every(galley))
+        solved += bool(ranks)
+        tied += len(ranks) > 1 and ranks[0][0] == ranks[1][0]
+        tally.same(f'best of {galley}', search.best_by_table(galley), search.best(galley))
+    tally.group('table against search of all lists', f' ({solved} galleys have a valid list, {tied} a tie)')
+
+
+def larger(tally):
+    """Larger galleys: what the table returns is valid, and no valid list one slip away from it ranks before it."""
+    rng = random.Random(10)
+    for galley in sample.galleys(11, 60, 60, 12):
+        best = search.best_by_table(galley)
+        if best:
+            tally.same(f'{best} for {galley}', marking.mark(galley, best), by_paper(galley, best))
+            others = [words for words in (sample.mutated(rng, best) for _ in range(40))
+                      if marking.mark(galley, words)[0] == 'accepted']
+            better = [words for words in others if search.rank(galley, words) < search.rank(galley, best)]
+            tally.same(f'best of {galley}', better, [])
+    tally.group('larger galleys')
+
+
+def main():
+    tally = Tally()
+    for group in (made, marked, turned_away, round_trips, all_lists, random_lists, searches, larger):
+        group(tally)
+    for number in [*range(1, 9), *range(12, 19)]:
+        tally.same(f'refusal {number} is reached', number in tally.refusals, True)
+    tally.group('refusals reached')
+    print(f'{tally.passed} passed, {tally.failed} failed')
+    return 1 if tally.failed else 0
+
+
+if __name__ == '__main__':
+    sys.exit(main())

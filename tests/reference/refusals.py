@@ -1,0 +1,96 @@
+"""Which refusal is due: to some files, from document 01, and to any list, again, from the paper's map of its pages."""
+
+import struct
+from dataclasses import replace
+
+from . import marking
+
+
+def of_list(galley, words):
+    """Number and place for a list that is no pagination's, from the paper's map of its pages so far."""
+    m, n = len(galley.lines), len(galley.figures)
+    pages = len(words) // 2
+    if len(words) not in range(2, 2 * (m + n) + 1, 2):
+        return 12, 0
+    for page in range(1, pages + 1):
+        number = of_page(galley, words[:2 * page], page == pages)
+        if number:
+            return number, page
+    return 18, pages
+
+
+def of_page(galley, words, last):
+    """The first of 13 to 17 that the last of these pages breaks, or None; the pages before it break none."""
+    page, (i, j) = len(words) // 2, words[-2:]
+    so_far = replace(galley, lines=galley.lines[:i], figures=galley.figures[:j])
+    found = marking.map_of_words(so_far, words)
+    if found is None or {*found[0], *found[1]} != {*range(1, page + 1)}:
+        return 13
+    page_of_line, page_of_figure, _ = found
+    # Lines still to come go to the next page at the earliest, and to no page that could be seen if there is none.
+    to_come = [page + 2 if last else page + 1] * (len(galley.lines) - i)
+    if not marking.ends_are_legal(galley, page_of_line + to_come):
+        return 14
+    if not marking.not_overfull(so_far, page_of_line, page_of_figure, page):
+        return 15
+    if not last and not marking.not_underfull(so_far, page_of_line, page_of_figure, page):
+        return 16
+    if not marking.citations_come_first(galley, page_of_line + to_come, page_of_figure):
+        return 17
+    return None
+
+
+def record(mark, *fields):
+    return mark + struct.pack(f'>{len(fields)}I', *fields)
+
+
+def files():
+    """Name, bytes, number and place; each number where it is due, and each where two compete."""
+    spec, line = record(b'GS', 30, 30, 0, 0, 1, 1, 1), record(b'TL', 10, 0, 0, 1)
+    figure = record(b'FG', 20, 0, 0, 1)
+    opened, full = spec + line, spec + 4_000 * line
+    yield 'no bytes', b'', 1, 0
+    yield 'half a mark', b'G', 1, 0
+    yield 'half a specification', spec[:29], 1, 0
+    yield 'no end', opened, 1, 48
+    yield 'half a mark after a line', opened + b'X', 1, 48
+    yield 'half a figure out of range', opened + record(b'FG', 2**32 - 1, 0), 1, 48
+    yield 'no specification', line, 2, 0
+    yield 'end first', b'ED', 2, 0
+    yield 'figure first', figure, 2, 0
+    yield 'second specification', spec + spec, 2, 30
+    yield 'specification after a line, cut short', opened + b'GS', 2, 48
+    yield 'unknown mark, nothing after it', opened + b'tl', 2, 48
+    yield 'unknown mark before any line', spec + b'XX', 2, 30
+    yield 'line after a figure', opened + figure + line, 2, 66
+    yield 'line 4,001 after a figure', full + figure + line, 2, 30 + 4_000 * 18 + 18
+    yield 'line 4,001', full + line + b'ED', 4, 30 + 4_000 * 18
+    yield 'line 4,001 cut short', full + b'TL', 4, 30 + 4_000 * 18
+    yield 'figure 201', opened + 201 * figure, 4, 48 + 200 * 18
+    yield 'figure 201 cut short', opened + 200 * figure + b'FG', 4, 48 + 200 * 18
+    yield 'end before any line', spec + b'ED', 5, 30
+    yield 'figure before any line', spec + figure, 5, 30
+    yield 'figure before any line, cut short', spec + b'FG', 5, 30
+    yield 'citation 0', opened + record(b'FG', 1, 0, 0, 0) + b'ED', 6, 48
+    yield 'citation above m', opened + record(b'FG', 1, 0, 0, 2) + b'ED', 6, 48
+    yield 'citation 0 out of order', opened + figure + record(b'FG', 1, 0, 0, 0), 6, 66
+    yield 'height before citation', opened + record(b'FG', 100_001, 0, 0, 0), 3, 48
+    yield 'citations fall', opened + line + record(b'FG', 1, 0, 0, 2) + figure, 7, 84
+    cites = [record(b'FG', 1, 0, 0, cite) for cite in (1, 3, 2)]
+    yield 'citation below the previous but not the first', opened + line + line + b''.join(cites), 7, 84 + 2 * 18
+    yield 'a byte after the end', opened + b'EDx', 8, 50
+    yield 'a second end', opened + figure + b'EDED', 8, 68
+    yield from out_of_range(opened)
+
+
+def out_of_range(opened):
+    """One field at a time just outside its range, the others inside."""
+    for fields in [(2, 1, 0, 0, 1, 1, 1), (0, 0, 0, 0, 1, 1, 1), (0, 100_001, 0, 0, 1, 1, 1), (0, 1, 2, 1, 1, 1, 1),
+                   (0, 1, 0, 100_001, 1, 1, 1), (0, 1, 0, 0, 0, 1, 1), (0, 1, 0, 0, 3, 1, 1),
+                   (0, 1, 0, 0, 1, 1_001, 1), (0, 1, 0, 0, 1, 1, 1_001), (2**32 - 1, 1, 0, 0, 1, 1, 1)]:
+        yield f'specification {fields}', record(b'GS', *fields) + opened[30:] + b'ED', 3, 0
+    for sizes in [(100_001, 0, 0), (0, 1, 0), (0, 0, 100_001), (0, 100_001, 100_001), (2**32 - 1, 0, 0)]:
+        yield f'line {sizes}', opened + record(b'TL', *sizes, 1) + b'ED', 3, 48
+        yield f'figure {sizes}', opened + record(b'FG', *sizes, 1) + b'ED', 3, 48
+    for legal in (2, 256, 2**32 - 1):
+        yield f'page end {legal}', opened + record(b'TL', 1, 0, 0, legal) + b'ED', 3, 48

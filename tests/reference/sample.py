@@ -1,0 +1,73 @@
+"""Random galleys and page lists from a seeded generator, small enough in height that many lists are valid."""
+
+import random
+
+from .galley import Figure, Galley, Line, Spec
+
+
+def galleys(seed, count, max_lines, max_figures):
+    """The same galleys for the same seed, single-sided and double-sided in turn."""
+    rng = random.Random(seed)
+    for number in range(count):
+        yield one_galley(rng, max_lines, max_figures, sides=1 + number % 2)
+
+
+def one_galley(rng, max_lines, max_figures, sides):
+    htmax = rng.randint(8, 40)
+    # A low least height keeps most pages possible; a high one now and then exercises 16 and 11.
+    htmin = rng.choice((0, htmax // 4, htmax // 2, rng.randint(0, htmax)))
+    smin = rng.choice((0, 0, 1, 3))
+    spec = Spec(htmin, htmax, smin, smin + rng.choice((0, 2, 10)), sides, weight(rng), weight(rng))
+    lines = tuple(Line(*sized(rng, htmax), int(rng.random() < 0.85)) for _ in range(rng.randint(1, max_lines)))
+    cites = citations(rng, len(lines), rng.randint(0, max_figures))
+    figures = tuple(Figure(*sized(rng, htmax), cite) for cite in cites)
+    return Galley(spec, lines, figures)
+
+
+def weight(rng):
+    return rng.choice((0, 1, 1, 2, 5, 1_000))
+
+
+def sized(rng, htmax):
+    """Height, least and greatest space; some items fill their page, some have no height, some spaces stretch far."""
+    height = rng.choice((0, 4, 5, 8, 10, rng.randint(1, htmax)))
+    least = rng.choice((0, 0, 0, 1, 3))
+    return height, least, least + rng.choice((0, 0, 2, 20))
+
+
+def citations(rng, lines, figures):
+    """Drawn from few lines, so that several figures often share one."""
+    few = [rng.randint(1, lines) for _ in range(max(1, figures // 2 + 1))]
+    return sorted(rng.choice(few) for _ in range(figures))
+
+
+def page_list(rng, galley):
+    """A list that ends with everything placed and never falls, but may break any other rule."""
+    m, n = len(galley.lines), len(galley.figures)
+    pages = rng.randint(1, m + n)
+    lines = sorted(rng.randint(0, m) for _ in range(pages - 1)) + [m]
+    figures = sorted(rng.randint(0, n) for _ in range(pages - 1)) + [n]
+    return tuple(word for end in zip(lines, figures) for word in end)
+
+
+def mutated(rng, words):
+    """The list with one slip of the kinds a person or a program makes."""
+    words = list(words)
+    at = rng.randrange(len(words))
+    page = at // 2 * 2
+    slip = rng.randrange(7)
+    if slip == 0:
+        words[at] += 1
+    elif slip == 1:
+        words[at] = max(0, words[at] - 1)
+    elif slip == 2:
+        words[at] = rng.choice((0, 2**31, 2**32 - 1))
+    elif slip == 3:
+        del words[page:page + 2]
+    elif slip == 4:
+        words[page:page] = words[page:page + 2]
+    elif slip == 5:
+        words[page], words[page + 1] = words[page + 1], words[page]
+    else:
+        del words[at]
+    return tuple(words)
