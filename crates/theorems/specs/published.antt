@@ -4,3 +4,6 @@ pub mod Heights
 pub mod Keeping
 pub mod Fourth
 pub mod Laid
+pub mod Along
+pub mod OfMap
+pub mod Accepted
