@@ -7,3 +7,5 @@ pub mod Laid
 pub mod Along
 pub mod OfMap
 pub mod Accepted
+pub mod Numbers
+pub mod Theorem

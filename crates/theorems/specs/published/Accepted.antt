@@ -1,27 +1,25 @@
 -- The rules accept a page list exactly where it is the list of a pagination.
 use Prim.Native.Nat.{ℕ, zero, suc, _+_, _≤_, _<_}
-use native.Mathlib.Nat.{le-refl}
 use native.Mathlib.Omega.{arith}
-use mathlib.Core.Path.{_≡_, refl, sym, _∙_, ap, subst}
+use mathlib.Core.Path.{_≡_, sym, _∙_, ap, subst}
 use mathlib.Core.Logic.{_↔_}
-use mathlib.Core.Bool.{Bool, true}
+use mathlib.Core.Bool.{true}
 use mathlib.Core.List.{List}
 use lib.ListN.{length}
-use lib.Dec.{eqb}
-use Rattle.model.specs.Galley.{Galley, Place, Block, Sane, count, streams, zeros, sizes}
+use Rattle.model.specs.Galley.{Galley, Place, Sane, count, streams, zeros, sizes}
 use Rattle.model.specs.Turns.{pageOf}
 use Rattle.model.specs.Best.{allowed}
 use Rattle.model.specs.Pagination.{Map, Pagination, placeOn, listOn}
 use Rattle.model.specs.laws.Gather.{length-row}
-use Rattle.model.specs.laws.Rules.{Kept, kept, kept-allowed, Forward, forward-at}
+use Rattle.model.specs.laws.Rules.{kept, kept-allowed, Forward, forward-at}
 use Rattle.model.specs.laws.Judge.{accepts}
 use Rattle.model.specs.laws.Words.{Shaped}
-use Rattle.model.specs.laws.Valid.{count-sizes, count-zeros, Accepted}
-use Rattle.theorems.specs.published.Fits.{Fits, fits-count}
+use Rattle.model.specs.laws.Valid.{count-sizes, count-zeros}
+use Rattle.theorems.specs.published.Fits.{fits-count}
 use Rattle.theorems.specs.published.Heights.{After}
 use Rattle.theorems.specs.published.Laid.{Laid, laid-pagination, pagination-laid}
-use Rattle.theorems.specs.published.Along.{placeAt, shaped-at, accepts-page, accepts-end, page-from, page-reached, list-is}
-use Rattle.theorems.specs.published.OfMap.{count-place, place-is, length-list, list-shaped, accepts-list, place-after}
+use Rattle.theorems.specs.published.Along.{placeAt, shaped-at, accepts-page, accepts-end, page-reached, list-is}
+use Rattle.theorems.specs.published.OfMap.{count-place, place-is, accepts-list, place-after}
 
 module _ (g : Galley) (sane : Sane g) where
   module _ (ps : List Place) (shaped : Shaped (streams g) ps) (taken : accepts (allowed g) (sizes g) 1 (zeros g) ps ≡ true) where
@@ -74,7 +72,7 @@ module _ (g : Galley) (sane : Sane g) where
   pub pagination-accepts : {p : ℕ} {P : Map} → Pagination g p P → accepts (allowed g) (sizes g) 1 (zeros g) (listOn g P p 1) ≡ true
   unfolding zeros sizes
   pagination-accepts {p} {P} m =
-      let laid = pagination-laid g sane p (placeOn g P) P (λ q b. place-after m q) m in
+      let laid = pagination-laid g sane p (placeOn g P) P (λ q b. place-after (m .order) q) m in
       let start = place-is g P 0 (zeros g) (length-row 0 (streams g) (λ s. 0)) (λ s d. laid .none s d ∙ sym (count-zeros g s d)) in
       let full = place-is g P p (sizes g) (length-row 0 (streams g) (λ s. g .stream s .size)) (λ s d. laid .all s d ∙ sym (count-sizes g s d)) in
       subst (λ u. accepts (allowed g) (sizes g) 1 u (listOn g P p 1) ≡ true) start

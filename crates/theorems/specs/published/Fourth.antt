@@ -3,19 +3,17 @@ use Prim.Native.Nat.{ℕ, zero, suc, _+_, _-_, _≤_, _<_}
 use native.Mathlib.Nat.{le-suc-iff, le-refl, le-trans, le-of-eq}
 use native.Mathlib.Decide.{decLe}
 use native.Mathlib.Omega.{arith}
-use mathlib.Core.Path.{_≡_, refl, sym, _∙_, ap}
+use mathlib.Core.Path.{_≡_, refl, _∙_, ap}
 use mathlib.Core.Logic.{_⊎_, inl, inr}
 use mathlib.Core.Bool.{Bool, true, false, _||_}
 use lib.Dec.{eqb}
 use borrow.Author.Tests.{eqb-true, eq-eqb}
-use Rattle.model.specs.Gather.{one}
 use Rattle.model.specs.Galley.{Sides, Galley, Place, count, Block, Sane}
 use Rattle.model.specs.Leaf.{leaf, ends}
 use Rattle.model.specs.Rules.{cited}
 use Rattle.model.specs.Pagination.{Map}
 use Rattle.model.specs.laws.Gather.{or-left, or-right, or-cases}
 use Rattle.model.specs.laws.Leaf.{leaf-next, leaf-mono, leaf-after}
-use Rattle.theorems.specs.published.Fits.{Fits}
 use Rattle.theorems.specs.published.Heights.{After}
 use Rattle.theorems.specs.published.Keeping.{cited-at, cited-of}
 

@@ -1,12 +1,12 @@
 -- The height of a page is the same whether its blocks are found by their page or by the counts before and after it.
 use Prim.Native.Nat.{ℕ, suc, pred, _+_, _-_, _*_, _≤_, _<_}
 use native.Mathlib.Omega.{arith}
-use mathlib.Core.Path.{_≡_, refl, sym, _∙_, ap, ap₂}
+use mathlib.Core.Path.{_≡_, refl, _∙_, ap, ap₂}
 use mathlib.Core.Logic.{_↔_}
 use mathlib.Core.Bool.{Bool, true, false, _&&_}
 use lib.Dec.{ltb, eqb}
 use borrow.Author.Tests.{ltb-true, ltb-false, lt-ltb, le-ltb}
-use Rattle.model.specs.Gather.{pick, one, sum, between, total}
+use Rattle.model.specs.Gather.{one}
 use Rattle.model.specs.Galley.{Stream, Galley, Place, count}
 use Rattle.model.specs.Height.{has, kinds, stacked, height}
 use Rattle.model.specs.Pagination.{Map, stackedOn, hasOn, heightOn}

@@ -2,9 +2,8 @@
 use Prim.Native.Nat.{ℕ, _≤_, _<_}
 use mathlib.Core.Path.{_≡_}
 use mathlib.Core.Bool.{Bool, true, _&&_, _||_}
-use lib.Dec.{leb, ltb}
+use lib.Dec.{ltb}
 use borrow.Author.Tests.{ltb-true, lt-ltb, leb-true, le-leb}
-use Rattle.model.specs.Gather.{implies, each, every}
 use Rattle.model.specs.Galley.{Galley, Place, count}
 use Rattle.model.specs.Leaf.{ends}
 use Rattle.model.specs.Rules.{mayEnd, closes, cited}

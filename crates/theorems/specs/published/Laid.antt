@@ -1,20 +1,17 @@
 -- The places after the pages of a pagination keep the rules, and places that keep the rules are those of a pagination.
 use Prim.Native.Nat.{ℕ, zero, suc, pred, _≤_, _<_}
-use native.Mathlib.Nat.{le-refl, le-trans, le-of-eq}
+use native.Mathlib.Nat.{le-refl}
 use native.Mathlib.Omega.{arith}
-use mathlib.Core.Path.{_≡_, refl, sym, _∙_, ap, subst}
-use mathlib.Core.Logic.{_⊎_, inl, inr}
+use mathlib.Core.Path.{_≡_, refl, subst}
 use mathlib.Core.Bool.{Bool, true, false, _||_}
 use lib.Dec.{leb, eqb}
 use borrow.Author.Tests.{leb-true, le-leb, eq-eqb, eqb-false, ne-eqb}
-use Rattle.model.specs.Galley.{Stream, Galley, Place, count, Block, Sane}
-use Rattle.model.specs.Height.{height, tightest, loosest}
-use Rattle.model.specs.Leaf.{leaf}
-use Rattle.model.specs.Rules.{closes, fits, fills, cited}
+use Rattle.model.specs.Galley.{Galley, Place, count, Block, Sane}
+use Rattle.model.specs.Height.{tightest, loosest}
+use Rattle.model.specs.Rules.{fits, fills}
 use Rattle.model.specs.Pagination.{Map, Pagination, heightOn}
-use Rattle.model.specs.laws.Gather.{or-cases, or-right}
-use Rattle.model.specs.laws.Rules.{Kept, Forward, forward-at, forward-of}
-use Rattle.theorems.specs.published.Fits.{Fits, fits-page, fits-none, fits-all, fits-up, fits-last}
+use Rattle.model.specs.laws.Rules.{Kept, forward-at, forward-of}
+use Rattle.theorems.specs.published.Fits.{fits-page, fits-none, fits-all, fits-up, fits-last}
 use Rattle.theorems.specs.published.Heights.{After, height-on}
 use Rattle.theorems.specs.published.Keeping.{closes-at, closes-of}
 use Rattle.theorems.specs.published.Fourth.{fourth-of, cited-on}

@@ -1,19 +1,18 @@
 -- The page list of a map: its places, and when it is accepted.
 use Prim.Native.Nat.{ℕ, zero, suc, _+_, _≤_, _<_}
 use native.Mathlib.Omega.{arith}
-use mathlib.Core.Path.{_≡_, refl, sym, _∙_, ap, subst}
-use mathlib.Core.Bool.{Bool, true, false, _&&_}
-use mathlib.Core.List.{List, [], _∷_}
+use mathlib.Core.Path.{_≡_, refl, sym, _∙_, ap}
+use mathlib.Core.Bool.{Bool, true, false}
 use lib.ListN.{length}
 use lib.Seq.{ext-getD}
 use lib.Dec.{leb, eqb}
 use borrow.Author.Tests.{leb-true, leb-false, eq-eqb, ne-eqb}
-use Rattle.model.specs.Gather.{pick, one, sum, row}
+use Rattle.model.specs.Gather.{pick, one, sum}
 use Rattle.model.specs.Galley.{Galley, Place, Block, count, streams}
 use Rattle.model.specs.Answers.{ended}
 use Rattle.model.specs.Turns.{pageOf}
 use Rattle.model.specs.Best.{Allowed}
-use Rattle.model.specs.Pagination.{Map, Pagination, placeOn, listOn}
+use Rattle.model.specs.Pagination.{Map, placeOn, listOn}
 use Rattle.model.specs.laws.Gather.{and-both, length-row, row-at}
 use Rattle.model.specs.laws.Judge.{accepts}
 use Rattle.model.specs.laws.Words.{Shaped}
@@ -67,12 +66,12 @@ module _ (g : Galley) (P : Map) where
       let here = rw (← ended-list d q (suc (suc q)) p e) at (may q (omega arith)) in
       and-both here (accepts-list ok l p full may d (suc q) (omega arith))
 
-module _ {g : Galley} {p : ℕ} {P : Map} (m : Pagination g p P) where
-  -- The places of a pagination.
+module _ {g : Galley} {P : Map} (order : (s k : ℕ) → Block g s k → Block g s (suc k) → P s k ≤ P s (suc k)) where
+  -- Where each stream keeps its order, the first blocks of each stream are those on page q or earlier.
   pub place-after : (q : ℕ) → After g P q (placeOn g P q)
-  place-after q s d = rw (count-place g P q s d) (count-fits (g .stream s .size) q (P s) (λ k a b. m .order s k (record { stream = d; first = a; last = omega arith }) (record { stream = d; first = omega arith; last = b })))
+  place-after q s d = rw (count-place g P q s d) (count-fits (g .stream s .size) q (P s) (λ k a b. order s k (record { stream = d; first = a; last = omega arith }) (record { stream = d; first = omega arith; last = b })))
 
-  -- The page of a block in the list of a pagination is its page.
+  -- The page that places a block in the list is its page.
   pub page-list : (s k : ℕ) → Block g s k → (d q : ℕ) → q < P s k → P s k ≤ q + d → pageOf s k (suc q) (listOn g P d (suc q)) ≡ P s k
   unfolding pageOf listOn
   page-list s k b zero q l h = absurd (omega arith)
