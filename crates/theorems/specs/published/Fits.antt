@@ -18,35 +18,37 @@ pub record Fits (n q c : ℕ) (P : ℕ → ℕ) : Type 0 where
   pub early : (k : ℕ) → 1 ≤ k → k ≤ c → P k ≤ q
   pub late : (k : ℕ) → 1 ≤ k → k ≤ n → P k ≤ q → k ≤ c
 
+-- An order need be shown of a number above 0 only.
+le-positive : (a b : ℕ) → (1 ≤ a → a ≤ b) → a ≤ b
+le-positive zero b h = omega arith
+le-positive (suc a) b h = h (omega arith)
+
 -- The blocks on page q or earlier, counted, are the first ones where no block is on an earlier page than the one before it.
 pub count-fits : (n q : ℕ) (P : ℕ → ℕ) → ((k : ℕ) → 1 ≤ k → k < n → P k ≤ P (suc k))
     → Fits n q (sum n (λ k. one (leb (P k) q))) P
 unfolding sum
-count-fits zero q P up = record { top = le-refl 0; early = λ k a b. absurd (omega arith); late = λ k a b c. absurd (omega arith) }
+count-fits zero q P up =
+    record { top = le-refl 0; early = λ k a b. absurd (omega arith); late = λ k a b l. absurd (omega arith) }
 count-fits (suc n) q P up = go (leb (P (suc n)) q) refl (count-fits n q P (λ k a b. up k a (omega arith)))
   where
-    full : (m : ℕ) → m ≡ n → P (suc n) ≤ q → Fits n q (sum n (λ k. one (leb (P k) q))) P → n ≤ sum n (λ k. one (leb (P k) q))
-    full zero e l F = omega arith
-    full (suc m) e l F = F .late n (omega arith) (le-refl n) (le-trans (up n (omega arith) (le-refl (suc n))) l)
-
     go : (b : Bool) → leb (P (suc n)) q ≡ b → Fits n q (sum n (λ k. one (leb (P k) q))) P
         → Fits (suc n) q (sum n (λ k. one (leb (P k) q)) + one b) P
     go true e F =
-        let at = leb-true (P (suc n)) q e in
-        let all = full n refl at F in
-        let most = F .top in
-        record {
-          top = omega arith;
-          early = λ k a b. elim (le-suc-iff .0 (let m : k ≤ suc n = omega arith in m)) [ inl l ↦ F .early k a (omega arith) | inr j ↦ rw j at ];
-          late = λ k a b l. omega arith;
-        }
+        let here = leb-true (P (suc n)) q e in
+        let top = F .top in
+        let all = le-positive n _ (λ i. F .late n i (le-refl n) (le-trans (up n i (le-refl (suc n))) here)) in
+        let early : (k : ℕ) → 1 ≤ k → k ≤ suc n → P k ≤ q =
+        λ k a b. elim (le-suc-iff .0 b) [ inl l ↦ F .early k a (omega arith) | inr j ↦ rw j here ] in
+        record { top = omega arith; early = λ k a b. early k a (omega arith); late = λ k a b l. omega arith }
     go false e F =
-        let at = leb-false (P (suc n)) q e in
-        let most = F .top in
+        let here = leb-false (P (suc n)) q e in
+        let top = F .top in
+        let within : (k : ℕ) → k ≤ suc n → P k ≤ q → k ≤ n =
+        λ k b l. elim (le-suc-iff .0 b) [ inl m ↦ m | inr j ↦ absurd (let m = rw j at l in omega arith) ] in
         record {
           top = omega arith;
           early = λ k a b. F .early k a (omega arith);
-          late = λ k a b l. elim (le-suc-iff .0 b) [ inl m ↦ (let r = F .late k a m l in omega arith) | inr j ↦ absurd (let m : P (suc n) ≤ q = rw (← j) l in omega arith) ];
+          late = λ k a b l. (let r = F .late k a (within k b l) l in omega arith);
         }
 
 -- A sum over what a test admits is the sum over an interval, where the test admits just that.
@@ -74,7 +76,8 @@ sum-window (suc n) a b test f l h =
         omega arith
     go false e (yes p) below = let same = shorter (omega arith) in omega arith
     go false e (no p) below =
-        let out : ¬ (suc n ≤ b) = λ q. let z : _≡_ {A = ℕ} 0 1 = cc (h (suc n) (omega arith) (le-refl (suc n)) .1 ((omega arith), q)) in (omega arith) in
+        let held = h (suc n) (omega arith) (le-refl (suc n)) .1 in
+        let out : ¬ (suc n ≤ b) = λ q. (let z : _≡_ {A = ℕ} 0 1 = cc (held ((omega arith), q)) in omega arith) in
         let same = shorter (omega arith) in
         omega arith
 
@@ -118,11 +121,6 @@ fits-count {n} {q} {c} {P} F =
     count-window n 0 c (λ k. leb (P k) q) (F .top)
     (λ k i j. (λ t. (i, F .late k i j (leb-true (P k) q t)), λ r. le-leb (P k) q (F .early k i (r .1))))
     ∙ (let e : c - 0 ≡ c = omega arith in e)
-
--- An order need be shown of a number above 0 only.
-le-positive : (a b : ℕ) → (1 ≤ a → a ≤ b) → a ≤ b
-le-positive zero b h = omega arith
-le-positive (suc a) b h = h (omega arith)
 
 module _ {n q a : ℕ} {P : ℕ → ℕ} (F : Fits n q a P) where
   -- Where no block is on page q or earlier none is counted, and where all are all are counted.

@@ -1,16 +1,16 @@
 -- The places after the pages of a pagination keep the rules, and places that keep the rules are those of a pagination.
 use Prim.Native.Nat.{ℕ, zero, suc, pred, _≤_, _<_}
-use native.Mathlib.Nat.{le-refl}
+use native.Mathlib.Nat.{le-refl, le-trans, le-of-eq}
 use native.Mathlib.Omega.{arith}
-use mathlib.Core.Path.{_≡_, refl, subst}
+use mathlib.Core.Path.{_≡_, refl, sym, subst}
 use mathlib.Core.Bool.{Bool, true, false, _||_}
 use lib.Dec.{leb, eqb}
 use borrow.Author.Tests.{leb-true, le-leb, eq-eqb, eqb-false, ne-eqb}
-use Rattle.model.specs.Galley.{Galley, Place, count, Block, Sane}
-use Rattle.model.specs.Height.{tightest, loosest}
+use Rattle.model.specs.Galley.{Stream, Galley, Place, count, Block, Sane}
+use Rattle.model.specs.Height.{height, tightest, loosest}
 use Rattle.model.specs.Rules.{fits, fills}
 use Rattle.model.specs.Pagination.{Map, Pagination, heightOn}
-use Rattle.model.specs.laws.Rules.{Kept, forward-at, forward-of}
+use Rattle.model.specs.laws.Rules.{Kept, Forward, forward-at, forward-of}
 use Rattle.theorems.specs.published.Fits.{fits-page, fits-none, fits-all, fits-up, fits-last}
 use Rattle.theorems.specs.published.Heights.{After, height-on}
 use Rattle.theorems.specs.published.Keeping.{closes-at, closes-of}
@@ -23,6 +23,13 @@ pub record Laid (g : Galley) (p : ℕ) (w : ℕ → Place) : Type 0 where
   pub page : (q : ℕ) → q < p → Kept g (suc q) (eqb (suc q) p) (w q) (w (suc q))
 
 module _ (g : Galley) (sane : Sane g) (p : ℕ) (w : ℕ → Place) (P : Map) (after : (q : ℕ) → q ≤ p → After g P q (w q)) where
+  heights : (gap : Stream → ℕ → ℕ) (separation q : ℕ) → q < p
+      → heightOn g gap separation P (suc q) ≡ height g gap separation (w q) (w (suc q))
+  heights gap separation q c = height-on g gap separation P q (w q) (w (suc q)) (after q (omega arith)) (after (suc q) c)
+
+  block : (s k : ℕ) → s ≤ g .floats → 1 ≤ k → k ≤ g .stream s .size → Block g s k
+  block s k d a b = record { stream = d; first = a; last = b }
+
   -- Places that keep the rules are those of a pagination.
   pub laid-pagination : Laid g p w → Pagination g p P
   unfolding fits fills tightest loosest
@@ -57,7 +64,8 @@ module _ (g : Galley) (sane : Sane g) (p : ℕ) (w : ℕ → Place) (P : Map) (a
           let s = f .more .0 in
           let d = f .more .1 in
           let more = f .more .2 in
-          (s, count (w (suc q)) s, record { stream = d; first = omega arith; last = f .top s d }, fits-last (after q (omega arith) s d) (after (suc q) c s d) more)
+          let page = fits-last (after q (omega arith) s d) (after (suc q) c s d) more in
+          (s, count (w (suc q)) s, block s (count (w (suc q)) s) d (omega arith) (f .top s d), page)
 
       order : (s k : ℕ) → Block g s k → Block g s (suc k) → P s k ≤ P s (suc k)
       order s k b c =
@@ -67,15 +75,13 @@ module _ (g : Galley) (sane : Sane g) (p : ℕ) (w : ℕ → Place) (P : Map) (a
 
       over : (q : ℕ) → 1 ≤ q → q ≤ p → heightOn g (λ st. st .least) (g .spec .smin) P q ≤ g .spec .htmax
       over zero a c = absurd (omega arith)
-      over (suc q) a c =
-          rw (height-on g (λ st. st .least) (g .spec .smin) P q (w q) (w (suc q)) (after q (omega arith)) (after (suc q) c))
-          (leb-true _ _ (l .page q c .rule15))
+      over (suc q) a c = le-trans (le-of-eq (heights _ _ q c)) (leb-true _ _ (l .page q c .rule15))
 
       under : (q : ℕ) → 1 ≤ q → q < p → g .spec .htmin ≤ heightOn g (λ st. st .most) (g .spec .smax) P q
       under zero a c = absurd (omega arith)
       under (suc q) a c =
-          rw (height-on g (λ st. st .most) (g .spec .smax) P q (w q) (w (suc q)) (after q (omega arith)) (after (suc q) (omega arith)))
-          (leb-true _ _ (rw (ne-eqb (suc q) p (λ e. omega arith)) at (l .page q (omega arith) .rule16)))
+          let fills-it = rw (ne-eqb (suc q) p (λ e. omega arith)) at (l .page q (omega arith) .rule16) in
+          le-trans (leb-true _ _ fills-it) (le-of-eq (sym (heights _ _ q (omega arith))))
 
       legal : (s k : ℕ) → Block g s k → Block g s (suc k) → P s k < P s (suc k) → g .stream s .legal k ≡ true
       legal s k b c m =
@@ -87,7 +93,8 @@ module _ (g : Galley) (sane : Sane g) (p : ℕ) (w : ℕ → Place) (P : Map) (a
           let is : count (w q) s ≡ k = omega arith in
           let first = b .first in
           let last = c .last in
-          subst (λ j. g .stream s .legal j ≡ true) is (closes-at g (w q) (kept q (into s k b .0) upto .rule14) s (b .stream) (omega arith) (omega arith))
+          let closes = kept q (into s k b .0) upto .rule14 in
+          subst (λ j. g .stream s .legal j ≡ true) is (closes-at g (w q) closes s (b .stream) (omega arith) (omega arith))
 
   -- The places after the pages of a pagination keep the rules.
   pub pagination-laid : Pagination g p P → Laid g p w
@@ -99,15 +106,12 @@ module _ (g : Galley) (sane : Sane g) (p : ℕ) (w : ℕ → Place) (P : Map) (a
         page = page;
       }
     where
-      block : (s k : ℕ) → s ≤ g .floats → 1 ≤ k → k ≤ g .stream s .size → Block g s k
-      block s k d a b = record { stream = d; first = a; last = b }
-
       page : (q : ℕ) → q < p → Kept g (suc q) (eqb (suc q) p) (w q) (w (suc q))
       page q c =
           record {
-            rule13 = forward-of g (w q) (w (suc q)) (record { up = λ s d. fits-up (F s d) (G s d) (omega arith); top = λ s d. G s d .top; more = more });
+            rule13 = forward-of g (w q) (w (suc q)) forth;
             rule14 = closes-of g (w (suc q)) legal;
-            rule15 = le-leb (tightest g (w q) (w (suc q))) (g .spec .htmax) (rw (← height-on g (λ st. st .least) (g .spec .smin) P q (w q) (w (suc q)) F G) (m .over (suc q) (omega arith) c));
+            rule15 = le-leb _ _ (le-trans (le-of-eq (sym (heights _ _ q c))) (m .over (suc q) (omega arith) c));
             rule16 = fill (eqb (suc q) p) refl;
             rule17 = cited-on g sane p w P after (m .fourth) (λ k b. m .into 0 k b .1) (suc q) (omega arith) c;
           }
@@ -118,14 +122,19 @@ module _ (g : Galley) (sane : Sane g) (p : ℕ) (w : ℕ → Place) (P : Map) (a
           G : After g P (suc q) (w (suc q))
           G = after (suc q) c
 
-          more : (s : ℕ) × (s ≤ g .floats) × (count (w q) s < count (w (suc q)) s)
-          more =
+          forth : Forward g (w q) (w (suc q))
+          forth =
               let o = m .onto (suc q) (omega arith) c in
               let b = o .2 in
-              let r = fits-page (F (o .0) (b .stream)) (G (o .0) (b .stream)) (o .1) (b .first) (b .last) .0 (eq-eqb _ _ (o .3)) in
-              (o .0, b .stream, (omega arith))
+              let r = fits-page (F _ (b .stream)) (G _ (b .stream)) (o .1) (b .first) (b .last) .0 (eq-eqb _ _ (o .3)) in
+              record {
+                up = λ s d. fits-up (F s d) (G s d) (omega arith);
+                top = λ s d. G s d .top;
+                more = (o .0, b .stream, (omega arith));
+              }
 
-          legal : (s : ℕ) → s ≤ g .floats → 0 < count (w (suc q)) s → count (w (suc q)) s < g .stream s .size → g .stream s .legal (count (w (suc q)) s) ≡ true
+          legal : (s : ℕ) → s ≤ g .floats → 0 < count (w (suc q)) s → count (w (suc q)) s < g .stream s .size
+              → g .stream s .legal (count (w (suc q)) s) ≡ true
           legal s d i j =
               let k = count (w (suc q)) s in
               let here = G s d .early k i (le-refl k) in
@@ -136,4 +145,4 @@ module _ (g : Galley) (sane : Sane g) (p : ℕ) (w : ℕ → Place) (P : Map) (a
           fill true e = refl
           fill false e =
               let other = eqb-false (suc q) p e in
-              le-leb (g .spec .htmin) (loosest g (w q) (w (suc q))) (rw (← height-on g (λ st. st .most) (g .spec .smax) P q (w q) (w (suc q)) F G) (m .under (suc q) (omega arith) (omega arith)))
+              le-leb _ _ (le-trans (m .under (suc q) (omega arith) (omega arith)) (le-of-eq (heights _ _ q c)))
