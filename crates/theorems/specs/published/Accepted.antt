@@ -22,7 +22,10 @@ use Rattle.theorems.specs.published.Along.{placeAt, shaped-at, accepts-p
 use Rattle.theorems.specs.published.OfMap.{count-place, place-is, accepts-list, place-after}
 
 module _ (g : Galley) (sane : Sane g) where
-  module _ (ps : List Place) (shaped : Shaped (streams g) ps) (taken : accepts (allowed g) (sizes g) 1 (zeros g) ps ≡ true) where
+  module _
+      (ps : List Place)
+      (shaped : Shaped (streams g) ps)
+      (taken : accepts (allowed g) (sizes g) 1 (zeros g) ps ≡ true) where
     -- The page that places each block, and the place after each page.
     abbrev pages : Map
     pages s k = pageOf s k 1 ps
@@ -55,11 +58,14 @@ module _ (g : Galley) (sane : Sane g) where
         top (suc i) b = forth i b .top s d
 
         reached : (k : ℕ) → 1 ≤ k → (k ≤ count (place q) s) ↔ (pages s k ≤ 0 + q)
-        reached k a = page-reached s k 0 (zeros g) ps (λ i c. forth i c .up s d) (let none = count-zeros g s d in omega arith) q b
+        reached k a =
+            let none = count-zeros g s d in
+            page-reached s k 0 (zeros g) ps (λ i c. forth i c .up s d) (omega arith) q b
 
     -- An accepted list is the list of a pagination.
     pub accepted-pagination : (P : Map) × Pagination g (length ps) P × (listOn g P (length ps) 1 ≡ ps)
-    accepted-pagination = (pages, laid-pagination g sane (length ps) place pages after laid, list-is g pages 1 (zeros g) ps here)
+    accepted-pagination =
+        (pages, laid-pagination g sane (length ps) place pages after laid, list-is g pages 1 (zeros g) ps here)
       where
         here : (i j : ℕ) → j ≡ 1 + i → i < length ps → placeOn g pages j ≡ place (suc i)
         here i j e b =
@@ -69,11 +75,12 @@ module _ (g : Galley) (sane : Sane g) where
             (λ s d. count-place g pages (suc i) s d ∙ fits-count (after (suc i) b s d)))
 
   -- The list of a pagination is accepted.
-  pub pagination-accepts : {p : ℕ} {P : Map} → Pagination g p P → accepts (allowed g) (sizes g) 1 (zeros g) (listOn g P p 1) ≡ true
+  pub pagination-accepts : {p : ℕ} {P : Map} → Pagination g p P
+      → accepts (allowed g) (sizes g) 1 (zeros g) (listOn g P p 1) ≡ true
   unfolding zeros sizes
   pagination-accepts {p} {P} m =
       let laid = pagination-laid g sane p (placeOn g P) P (λ q b. place-after (m .order) q) m in
-      let start = place-is g P 0 (zeros g) (length-row 0 (streams g) (λ s. 0)) (λ s d. laid .none s d ∙ sym (count-zeros g s d)) in
-      let full = place-is g P p (sizes g) (length-row 0 (streams g) (λ s. g .stream s .size)) (λ s d. laid .all s d ∙ sym (count-sizes g s d)) in
+      let start = place-is g P 0 (zeros g) (length-row 0 (streams g) _) (λ s d. laid .none s d ∙ sym (count-zeros g s d)) in
+      let full = place-is g P p (sizes g) (length-row 0 (streams g) _) (λ s d. laid .all s d ∙ sym (count-sizes g s d)) in
       subst (λ u. accepts (allowed g) (sizes g) 1 u (listOn g P p 1) ≡ true) start
       (accepts-list g P (allowed g) (sizes g) p full (λ q b. kept-allowed (laid .page q b)) p 0 (omega arith))

@@ -26,7 +26,8 @@ placeAt u vs zero = u
 placeAt u [] (suc i) = u
 placeAt u (v ∷ vs) (suc i) = placeAt v vs i
 
-pub shaped-at : (k : ℕ) (u : Place) (vs : List Place) → Shaped k vs → (i : ℕ) → i < length vs → length (placeAt u vs (suc i)) ≡ k
+pub shaped-at : (k : ℕ) (u : Place) (vs : List Place) → Shaped k vs → (i : ℕ) → i < length vs
+    → length (placeAt u vs (suc i)) ≡ k
 unfolding placeAt
 shaped-at k u [] h i b = absurd (omega arith)
 shaped-at k u (v ∷ vs) h zero b = h .0
@@ -54,7 +55,8 @@ module _ (ok : Allowed) (l : Place) where
   accepts-end q u [] h = same-true u l h
   accepts-end q u (v ∷ vs) h = accepts-end (suc q) v vs (and-right (ok q (ended vs) u v) (accepts ok l (suc q) v vs) h)
 
-pub page-from : (s k q : ℕ) (vs : List Place) → q ≤ pageOf s k q vs
+-- The page that places a block is one of those pages or follows them.
+page-from : (s k q : ℕ) (vs : List Place) → q ≤ pageOf s k q vs
 unfolding pageOf
 page-from s k q [] = omega arith
 page-from s k q (v ∷ vs) = go (leb k (count v s)) (page-from s k (suc q) vs)
@@ -63,6 +65,7 @@ page-from s k q (v ∷ vs) = go (leb k (count v s)) (page-from s k (suc q) vs)
     go true l = omega arith
     go false l = omega arith
 
+-- What rises from page to page is never below its first value.
 rises : (c : ℕ → ℕ) (p : ℕ) → ((i : ℕ) → i < p → c i ≤ c (suc i)) → (i : ℕ) → i ≤ p → c 0 ≤ c i
 rises c p up zero b = omega arith
 rises c p up (suc i) b = le-trans (rises c p up i (omega arith)) (up i b)
@@ -73,7 +76,9 @@ pub page-reached : (s k q : ℕ) (u : Place) (vs : List Place)
     → ((i : ℕ) → i < length vs → count (placeAt u vs i) s ≤ count (placeAt u vs (suc i)) s) → count u s < k
     → (i : ℕ) → i ≤ length vs → (k ≤ count (placeAt u vs i) s) ↔ (pageOf s k (suc q) vs ≤ q + i)
 unfolding placeAt pageOf
-page-reached s k q u vs up l zero b = let from = page-from s k (suc q) vs in (λ m. absurd (omega arith), λ m. absurd (omega arith))
+page-reached s k q u vs up l zero b =
+    let from = page-from s k (suc q) vs in
+    (λ m. absurd (omega arith), λ m. absurd (omega arith))
 page-reached s k q u [] up l (suc i) b = absurd (omega arith)
 page-reached s k q u (v ∷ vs) up l (suc i) b =
     go (leb k (count v s)) refl (λ m. page-reached s k (suc q) v vs (λ i c. up (suc i) (omega arith)) m i (omega arith))
@@ -95,4 +100,5 @@ pub list-is : (g : Galley) (P : Map) (q : ℕ) (u : Place) (vs : List Place)
 unfolding listOn placeAt
 list-is g P q u [] h = refl
 list-is g P q u (v ∷ vs) h =
-    ap₂ _∷_ (h 0 q (omega arith) (omega arith)) (list-is g P (suc q) v vs (λ i j e b. h (suc i) j (omega arith) (omega arith)))
+    ap₂ _∷_ (h 0 q (omega arith) (omega arith))
+    (list-is g P (suc q) v vs (λ i j e b. h (suc i) j (omega arith) (omega arith)))

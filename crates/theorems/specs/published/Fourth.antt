@@ -17,7 +17,7 @@ use Rattle.model.specs.laws.Leaf.{leaf-next, leaf-mono, leaf-after}
 use Rattle.theorems.specs.published.Heights.{After}
 use Rattle.theorems.specs.published.Keeping.{cited-at, cited-of}
 
--- From page q on there is a page of its leaf that ends the leaf or is the last of the q + d pages.
+-- From page q on there is a page of the same leaf that ends it or is the last, page p.
 leaf-end : (sides : Sides) (d q p : ℕ) → p ≡ q + d
     → (e : ℕ) × (q ≤ e) × (e ≤ p) × (ends sides e || eqb e p ≡ true) × (leaf sides e ≡ leaf sides q)
 leaf-end sides zero q p h = (q, le-refl q, (omega arith), or-right (ends sides q) (eq-eqb q p (omega arith)), refl)
@@ -33,7 +33,8 @@ leaf-end sides (suc d) q p h = go (ends sides q) refl (leaf-end sides d (suc q) 
         (r .0, (omega arith), r .2, r .3, r .4 ∙ same)
 
 -- An earlier float is cited by no later line.
-cite-mono : {g : Galley} → Sane g → (s k j : ℕ) → 1 ≤ s → Block g s j → 1 ≤ k → k ≤ j → g .stream s .cite k ≤ g .stream s .cite j
+cite-mono : {g : Galley} → Sane g → (s k j : ℕ) → 1 ≤ s → Block g s j → 1 ≤ k → k ≤ j
+    → g .stream s .cite k ≤ g .stream s .cite j
 cite-mono {g} sane s k zero a b c l = absurd (omega arith)
 cite-mono {g} sane s k (suc j) a b c l = go (le-suc-iff .0 l) (cite-mono sane s k j a)
   where
@@ -46,7 +47,7 @@ cite-mono {g} sane s k (suc j) a b c l = go (le-suc-iff .0 l) (cite-mono sane s 
     go (inr e) below = le-of-eq (ap (g .stream s .cite) e)
 
 module _ (g : Galley) (sane : Sane g) (p : ℕ) (w : ℕ → Place) (P : Map) (after : (q : ℕ) → q ≤ p → After g P q (w q)) where
-  -- Rule 17 on each page gives the fourth constraint for a float on page q.
+  -- Rule 17 on each page gives the fourth constraint.
   pub fourth-of : ((e : ℕ) → 1 ≤ e → e ≤ p → cited g e (eqb e p) (w e) ≡ true)
       → (s k : ℕ) → 1 ≤ s → Block g s k → 1 ≤ P s k → P s k ≤ p
       → leaf (g .spec .sides) (P 0 (g .stream s .cite k)) ≤ leaf (g .spec .sides) (P s k)
@@ -61,9 +62,8 @@ module _ (g : Galley) (sane : Sane g) (p : ℕ) (w : ℕ → Place) (P : Map) (a
       let placed = F .late k first (b .last) from in
       let last : Block g s j = record { stream = b .stream; first = omega arith; last = F .top } in
       let line = cited-at g e (eqb e p) (w e) (rule e (omega arith) upto) (end .3) s a (b .stream) (last .first) in
-      let page =
-      after e upto 0 (omega arith) .early (g .stream s .cite k) (sane .cites s k a b .first)
-      (le-trans (cite-mono sane s k j a last first placed) line) in
+      let before = le-trans (cite-mono sane s k j a last first placed) line in
+      let page = after e upto 0 (omega arith) .early (g .stream s .cite k) (sane .cites s k a b .first) before in
       le-trans (leaf-mono (g .spec .sides) (P 0 (g .stream s .cite k)) e page) (le-of-eq (end .4))
 
   -- The fourth constraint gives rule 17 on each page.

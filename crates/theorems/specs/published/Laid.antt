@@ -8,6 +8,7 @@ use lib.Dec.{leb, eqb}
 use borrow.Author.Tests.{leb-true, le-leb, eq-eqb, eqb-false, ne-eqb}
 use Rattle.model.specs.Galley.{Stream, Galley, Place, count, Block, Sane}
 use Rattle.model.specs.Height.{height, tightest, loosest}
+use Rattle.model.specs.Leaf.{leaf}
 use Rattle.model.specs.Rules.{fits, fills}
 use Rattle.model.specs.Pagination.{Map, Pagination, heightOn}
 use Rattle.model.specs.laws.Rules.{Kept, Forward, forward-at, forward-of}
@@ -41,7 +42,7 @@ module _ (g : Galley) (sane : Sane g) (p : ℕ) (w : ℕ → Place) (P : Map) (a
         over = over;
         under = under;
         legal = legal;
-        fourth = λ s k a b. fourth-of g sane p w P after (λ e c d. kept e c d .rule17) s k a b (into s k b .0) (into s k b .1);
+        fourth = fourth;
       }
     where
       kept : (e : ℕ) → 1 ≤ e → e ≤ p → Kept g e (eqb e p) (w (pred e)) (w e)
@@ -54,7 +55,8 @@ module _ (g : Galley) (sane : Sane g) (p : ℕ) (w : ℕ → Place) (P : Map) (a
           let all = l .all s (b .stream) in
           let first = b .first in
           let last = b .last in
-          let early : ¬ (P s k ≤ 0) = λ m. (let r = after 0 (omega arith) s (b .stream) .late k first last m in omega arith) in
+          let F = after 0 (omega arith) s (b .stream) in
+          let early : ¬ (P s k ≤ 0) = λ m. (let r = F .late k first last m in omega arith) in
           ((omega arith), after p (le-refl p) s (b .stream) .early k first (omega arith))
 
       onto : (q : ℕ) → 1 ≤ q → q ≤ p → (s : ℕ) × (k : ℕ) × Block g s k × (P s k ≡ q)
@@ -95,6 +97,12 @@ module _ (g : Galley) (sane : Sane g) (p : ℕ) (w : ℕ → Place) (P : Map) (a
           let last = c .last in
           let closes = kept q (into s k b .0) upto .rule14 in
           subst (λ j. g .stream s .legal j ≡ true) is (closes-at g (w q) closes s (b .stream) (omega arith) (omega arith))
+
+      fourth : (s k : ℕ) → 1 ≤ s → Block g s k
+          → leaf (g .spec .sides) (P 0 (g .stream s .cite k)) ≤ leaf (g .spec .sides) (P s k)
+      fourth s k a b =
+          let pages = into s k b in
+          fourth-of g sane p w P after (λ e c d. kept e c d .rule17) s k a b (pages .0) (pages .1)
 
   -- The places after the pages of a pagination keep the rules.
   pub pagination-laid : Pagination g p P → Laid g p w

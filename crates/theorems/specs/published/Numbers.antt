@@ -16,14 +16,18 @@ module _ {g : Galley} (sane : Sane g) {p : ℕ} {P : Map} (m : Pagination g p P)
   pub page-on : (s k : ℕ) → Block g s k → pageOf s k 1 (listOn g P p 1) ≡ P s k
   page-on s k b = let upto = m .into s k b .1 in page-list (m .order) s k b p 0 (m .into s k b .0) (omega arith)
 
+  -- X, Y and T of the list are those of the pagination.
   pub x-on : xOf g (listOn g P p 1) ≡ xOn g P
   unfolding xOf xOn apart
-  x-on = sum-ext (g .floats) _ _ (λ s a d. sum-ext (g .stream s .size) _ _ (λ k b c. float s a k (record { stream = d; first = b; last = c })))
+  x-on =
+      sum-ext (g .floats) _ _
+      (λ s a d. sum-ext (g .stream s .size) _ _ (λ k b c. float s a k (record { stream = d; first = b; last = c })))
     where
       float : (s : ℕ) → 1 ≤ s → (k : ℕ) → Block g s k
           → apart g (listOn g P p 1) s k ≡ leaf (g .spec .sides) (P s k) - leaf (g .spec .sides) (P 0 (g .stream s .cite k))
       float s a k b =
-          ap₂ (λ x y. leaf (g .spec .sides) x - leaf (g .spec .sides) y) (page-on s k b) (page-on 0 (g .stream s .cite k) (sane .cites s k a b))
+          ap₂ (λ x y. leaf (g .spec .sides) x - leaf (g .spec .sides) y) (page-on s k b)
+          (page-on 0 (g .stream s .cite k) (sane .cites s k a b))
 
   pub y-on : yOf g (listOn g P p 1) ≡ leaf (g .spec .sides) p - leaf (g .spec .sides) 1
   unfolding yOf
@@ -42,5 +46,6 @@ sum-times a (suc n) f =
     omega arith
 
 -- A weight goes into the sum over floats.
-pub weighted : (a n : ℕ) (m : ℕ → ℕ) (f : ℕ → ℕ → ℕ) → a * sum n (λ s. sum (m s) (f s)) ≡ sum n (λ s. sum (m s) (λ k. a * f s k))
+pub weighted : (a n : ℕ) (m : ℕ → ℕ) (f : ℕ → ℕ → ℕ)
+    → a * sum n (λ s. sum (m s) (f s)) ≡ sum n (λ s. sum (m s) (λ k. a * f s k))
 weighted a n m f = sum-times a n (λ s. sum (m s) (f s)) ∙ sum-ext n _ _ (λ s b c. sum-times a (m s) (f s))

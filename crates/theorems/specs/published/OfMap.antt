@@ -69,10 +69,15 @@ module _ (g : Galley) (P : Map) where
 module _ {g : Galley} {P : Map} (order : (s k : ℕ) → Block g s k → Block g s (suc k) → P s k ≤ P s (suc k)) where
   -- Where each stream keeps its order, the first blocks of each stream are those on page q or earlier.
   pub place-after : (q : ℕ) → After g P q (placeOn g P q)
-  place-after q s d = rw (count-place g P q s d) (count-fits (g .stream s .size) q (P s) (λ k a b. order s k (record { stream = d; first = a; last = omega arith }) (record { stream = d; first = omega arith; last = b })))
+  place-after q s d = rw (count-place g P q s d) (count-fits (g .stream s .size) q (P s) up)
+    where
+      up : (k : ℕ) → 1 ≤ k → k < g .stream s .size → P s k ≤ P s (suc k)
+      up k a b =
+          order s k (record { stream = d; first = a; last = omega arith }) (record { stream = d; first = omega arith; last = b })
 
   -- The page that places a block in the list is its page.
-  pub page-list : (s k : ℕ) → Block g s k → (d q : ℕ) → q < P s k → P s k ≤ q + d → pageOf s k (suc q) (listOn g P d (suc q)) ≡ P s k
+  pub page-list : (s k : ℕ) → Block g s k → (d q : ℕ) → q < P s k → P s k ≤ q + d
+      → pageOf s k (suc q) (listOn g P d (suc q)) ≡ P s k
   unfolding pageOf listOn
   page-list s k b zero q l h = absurd (omega arith)
   page-list s k b (suc d) q l h = go (leb k (count (placeOn g P (suc q)) s)) refl (page-list s k b d (suc q))
