@@ -1,0 +1,57 @@
+-- When a table of least costs is right: one condition for each cell, which looks only at the entries of its starts.
+use mathlib.Core.List.{List, [], _∷_}
+use mathlib.Core.Path.{_≡_}
+use Prim.Native.Nat.{ℕ, _<_}
+use Rattle.theorems.specs.Graph.{Graph, Entry, unreached, least}
+
+-- An entry for each state.
+abbrev pub Table : Graph → Type 0
+Table G = G .S → Entry (G .C) (G .S)
+
+-- A set of states that holds the start of each step into it, with a number that falls from a state to its starts.
+pub record Domain (G : Graph) : Type 1 where
+  pub In : G .S → Type 0
+  pub closed : {u v : G .S} → In v → G .step u v → In u
+  pub rank : G .S → ℕ
+  pub falls : {u v : G .S} → In v → G .step u v → rank u < rank v
+
+-- All states.
+abbrev pub All : {S : Type 0} → S → Type 0
+All u = Unit
+
+module _ (G : Graph) (D : Table G) where
+  open Graph G using (S, o, C, step, nil, add, le, tie)
+
+  -- The start u, one of P, has a step to v and is reached, and c is its cost with that step added.
+  pub record Offer (P : S → Type 0) (v : S) (c : C) (u : S) : Type 0 where
+    pub among : P u
+    pub may : step u v
+    pub cost : C
+    pub start : S
+    pub reached : D u ≡ least cost start
+    pub price : c ≡ add u v cost
+
+  -- The start u is the best that P offers v: none is cheaper than c, and of those at c it comes first.
+  pub record Best (P : S → Type 0) (v : S) (c : C) (u : S) : Type 0 where
+    pub offer : Offer P v c u
+    pub cheapest : (d : C) (w : S) → Offer P v d w → le c d
+    pub first : (w : S) → Offer P v c w → tie u w
+
+  -- The entry e of v is right as far as the starts in P go.
+  pub record Seen (P : S → Type 0) (v : S) (e : Entry C S) : Type 0 where
+    pub none : e ≡ unreached → (c : C) (u : S) → ¬ Offer P v c u
+    pub best : (c : C) (u : S) → e ≡ least c u → Best P v c u
+
+  -- The entry e of v is right: the origin costs nothing, and any other state has the best of all starts.
+  pub data Cell (v : S) (e : Entry C S) : Type 0 where
+    opening : v ≡ o → (u : S) → e ≡ least nil u → Cell v e
+    inner : ¬ (v ≡ o) → Seen All v e → Cell v e
+
+  -- Every cell of K is right.
+  abbrev pub Right : (S → Type 0) → Type 0
+  Right K = (v : S) → K v → Cell v (D v)
+
+  -- The starts met on the walk from v back to the origin, each taken from the entry of the state before.
+  unfoldable pub Trace : List S → S → Type 0
+  Trace [] v = v ≡ o
+  Trace (u ∷ us) v = (¬ (v ≡ o)) × ((c : C) × (D v ≡ least c u)) × Trace us u

@@ -1,0 +1,3 @@
+-- The principle of optimality for tables of least costs, and the steps of a loop that fills one.
+pub mod Graph
+pub mod Cell
