@@ -2,7 +2,7 @@
 use mathlib.Core.List.{List, [], _∷_}
 use mathlib.Core.Path.{_≡_}
 use Prim.Native.Nat.{ℕ, _<_}
-use Rattle.theorems.specs.Graph.{Graph, Entry, unreached, least}
+use Rattle.theorems.specs.Graph.{Graph, Entry, unreached, least, Way, total, Optimal}
 
 -- An entry for each state.
 abbrev pub Table : Graph → Type 0
@@ -55,3 +55,8 @@ module _ (G : Graph) (D : Table G) where
   unfoldable pub Trace : List S → S → Type 0
   Trace [] v = v ≡ o
   Trace (u ∷ us) v = (¬ (v ≡ o)) × ((c : C) × (D v ≡ least c u)) × Trace us u
+
+  -- What the entry of v tells: no way, or that cost and a walk back, which is the optimal way and costs just that.
+  pub record Answer (v : S) (e : Entry C S) : Type 0 where
+    pub none : e ≡ unreached → (us : List S) → ¬ Way G us v
+    pub found : (c : C) (u : S) → e ≡ least c u → (us : List S) × Trace us v × (total G us v ≡ c) × Optimal G us v
