@@ -1,5 +1,6 @@
 -- When a table of least costs is right: one condition for each cell, which looks only at the entries of its starts.
 use mathlib.Core.List.{List, [], _∷_}
+use mathlib.Core.Logic.{_⊎_}
 use mathlib.Core.Path.{_≡_}
 use Prim.Native.Nat.{ℕ, _<_}
 use Rattle.theorems.specs.Graph.{Graph, Entry, unreached, least, Way, total, Optimal}
@@ -18,6 +19,26 @@ pub record Domain (G : Graph) : Type 1 where
 -- All states.
 abbrev pub All : {S : Type 0} → S → Type 0
 All u = Unit
+
+module _ (G : Graph) where
+  open Graph G using (S, C, step, le, tie)
+
+  -- The entry e is no worse than f: cheaper, or as cheap with a start that comes first, or f holds nothing.
+  unfoldable pub Ahead : Entry C S → Entry C S → Type 0
+  Ahead e unreached = Unit
+  Ahead unreached (least d w) = ⊥
+  Ahead (least c u) (least d w) = le c d × (c ≡ d → tie u w)
+
+  -- The cost c is smaller than the one that e holds, if any.
+  unfoldable pub Cheaper : C → Entry C S → Type 0
+  Cheaper c unreached = Unit
+  Cheaper c (least d w) = le c d × (¬ (c ≡ d))
+
+  -- Of the starts with a step to v, Q has those of P and s.
+  pub record More (P : S → Type 0) (s : S) (Q : S → Type 0) (v : S) : Type 0 where
+    pub old : (u : S) → P u → Q u
+    pub new : Q s
+    pub only : (u : S) → Q u → step u v → P u ⊎ (u ≡ s)
 
 module _ (G : Graph) (D : Table G) where
   open Graph G using (S, o, C, step, nil, add, le, tie)

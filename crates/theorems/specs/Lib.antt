@@ -2,3 +2,4 @@
 pub mod Graph
 pub mod Cell
 pub mod Optimality
+pub mod LoopStep
