@@ -65,7 +65,7 @@ module _ (G : Graph) (D : Table G) where
 
   -- The entry e of v is right: the origin costs nothing, and any other state has the best of all starts.
   pub data Cell (v : S) (e : Entry C S) : Type 0 where
-    opening : v ≡ o → (u : S) → e ≡ least nil u → Cell v e
+    base : v ≡ o → (u : S) → e ≡ least nil u → Cell v e
     inner : ¬ (v ≡ o) → Seen All v e → Cell v e
 
   -- Every cell of K is right.

@@ -14,7 +14,7 @@ use Rattle.theorems.specs.Cell.{
   Best,
   Seen,
   Cell,
-  opening,
+  base,
   inner,
   Right,
 }
@@ -200,7 +200,7 @@ module _ (G : Graph) (D E : Table G) where
   -- A finished cell stays right while the entries of its starts do not change.
   pub frame :
       {v : S} {e : Entry C S} → ((u : S) → step u v → E u ≡ D u) → Cell G D v e → Cell G E v e
-  frame f (opening p u q) = opening p u q
+  frame f (base p u q) = base p u q
   frame f (inner n s) = inner n (seen-frame (λ u p. f u) s)
 
   -- With the cell of v stored, the cells of K that were right and v are right, where K holds their starts.

@@ -5,7 +5,7 @@ use Prim.Native.Nat.{ℕ, suc, zero, _≤_, _<_}
 use native.Mathlib.Omega.{arith}
 use lib.ListN.{length}
 use Rattle.theorems.specs.Graph.{Graph, Laws, Entry, unreached, least, Way, total, First, Optimal}
-use Rattle.theorems.specs.Cell.{Table, Domain, All, Offer, Best, Seen, Cell, opening, inner, Right, Trace, Answer}
+use Rattle.theorems.specs.Cell.{Table, Domain, All, Offer, Best, Seen, Cell, base, inner, Right, Trace, Answer}
 
 module _ (G : Graph) (L : Laws G) where
   open Graph G using (S, o, C, step, nil, add, le, tie)
@@ -32,11 +32,11 @@ module _ (G : Graph) (L : Laws G) (R : Domain G) (D : Table G) (right : Right G 
 
   -- The origin is reached and costs nothing.
   pub at-origin : {v : S} → R .In v → v ≡ o → (u : S) × (D v ≡ least nil u)
-  at-origin {v} i e = elim (right v i) [ opening e′ u p ↦ (u, p) | inner n s ↦ absurd (n e) ]
+  at-origin {v} i e = elim (right v i) [ base e′ u p ↦ (u, p) | inner n s ↦ absurd (n e) ]
 
   -- Any other state has the best of all starts.
   pub past-origin : {v : S} → R .In v → ¬ (v ≡ o) → Seen G D All v (D v)
-  past-origin {v} i n = elim (right v i) [ opening e u p ↦ absurd (n e) | inner n′ s ↦ s ]
+  past-origin {v} i n = elim (right v i) [ base e u p ↦ absurd (n e) | inner n′ s ↦ s ]
 
   -- A reached start is on offer at its cost with the step added.
   pub on-offer : {u v : S} {a : C} {s : S} → step u v → D u ≡ least a s → Offer G D All v (add u v a) u
@@ -87,7 +87,7 @@ module _ (G : Graph) (L : Laws G) (R : Domain G) (D : Table G) (right : Right G 
       go zero h i p = absurd (omega arith)
       go (suc n) {v} {c} {u} h i p =
           elim (right v i) [
-            | opening e s q ↦ ([], e)
+            | base e s q ↦ ([], e)
             | inner m s ↦
                 let b = s .best c u p .offer in
                 let r = go n {v = u} (omega (arith, R .falls i (b .may))) (R .closed i (b .may)) (b .reached) in
