@@ -77,7 +77,14 @@ module _ (G : Graph) (D : Table G) where
   Trace [] v = v ≡ o
   Trace (u ∷ us) v = (¬ (v ≡ o)) × ((c : C) × (D v ≡ least c u)) × Trace us u
 
-  -- What the entry of v tells: no way, or that cost and a walk back, which is the optimal way and costs just that.
+  -- The walk back from v meets us, which is the one optimal way to v and costs c.
+  pub record Walk (us : List S) (v : S) (c : C) : Type 0 where
+    pub trace : Trace us v
+    pub cost : total G us v ≡ c
+    pub optimal : Optimal G us v
+    pub only : (vs : List S) → Optimal G vs v → vs ≡ us
+
+  -- What the entry e tells of v: that no way leads there, or the least cost, with the way itself by walking back.
   pub record Answer (v : S) (e : Entry C S) : Type 0 where
     pub none : e ≡ unreached → (us : List S) → ¬ Way G us v
-    pub found : (c : C) (u : S) → e ≡ least c u → (us : List S) × Trace us v × (total G us v ≡ c) × Optimal G us v
+    pub found : (c : C) (u : S) → e ≡ least c u → (us : List S) × Walk us v c

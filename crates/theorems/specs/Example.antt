@@ -100,6 +100,6 @@ unfolding Cheaper
 by-loop =
     finished hops laws table (λ e. omega arith) (λ u m. inl (omega arith))
     (passed-stepless hops laws table (more 0 3) (λ m. omega arith)
-    (kept hops laws table (more 1 3) (omega arith) refl (λ w p. omega arith) (omega arith)
+    (kept hops laws table (more 1 3) (omega arith) refl (omega arith) (λ w p. omega arith)
     (taken hops laws table (more 2 3) (omega arith) refl tt
-    (started hops laws table {P = From 3} (λ u p m. omega arith)))))
+    (started hops laws table {P = From 3} (λ u p m. absurd (omega arith))))))

@@ -1,39 +1,33 @@
 -- The loop's step: one more start is offered to a cell or passed over, or an entry is stored, and cells stay right.
+-- A turn of a loop over starts ends in `passed-unreached`, `passed-stepless`, `taken` or `kept`.
 use mathlib.Core.Logic.{_⊎_, inl, inr, ⊎-elim, ⊎-swap, ⊎-map}
 use mathlib.Core.Path.{_≡_, refl, sym, _∙_}
 use Prim.Native.Nat.{ℕ}
 use native.Mathlib.Omega.{arith}
 use Rattle.theorems.specs.Graph.{Graph, Laws, Entry, unreached, least}
-use Rattle.theorems.specs.Cell.{
-  Table,
-  All,
-  Ahead,
-  Cheaper,
-  More,
-  Offer,
-  Best,
-  Seen,
-  Cell,
-  base,
-  inner,
-  Right,
-}
+use Rattle.theorems.specs.Cell.{Table, All, Ahead, Cheaper, More, Offer, Seen, Cell, base, inner, Right}
 
 module _ (G : Graph) (D E : Table G) where
-  open Graph G using (S, o, C, step, add)
+  open Graph G using (S, C, step)
 
-  -- What P offers v under D, Q offers v under E, where Q has the start and E its entry.
-  offer-moved :
+  -- What P offers under D, Q offers under E, where Q has the start and E has its entry.
+  moved :
       {P Q : S → Type 0} {v : S} {c : C} {u : S}
       → (P u → step u v → Q u × (E u ≡ D u))
       → Offer G D P v c u
       → Offer G E Q v c u
-  offer-moved f x =
+  moved f x =
       let (q, e) = f (x .among) (x .may) in
       record { among = q; may = x .may; cost = x .cost; start = x .start; reached = e ∙ x .reached; price = x .price }
 
-module _ (G : Graph) (L : Laws G) (D : Table G) where
-  open Graph G using (S, o, C, step, add, le, tie)
+module _ (G : Graph) (L : Laws G) (D E : Table G) where
+  open Graph G using (S, C, le, tie)
+
+  -- Only an unreached entry is behind an unreached one.
+  behind : (y : Entry C S) → Ahead G unreached y → y ≡ unreached
+  unfolding Ahead
+  behind unreached h = refl
+  behind (least a t) h = absurd h
 
   -- An entry that is ahead of another is ahead of all that the other has seen.
   outdone :
@@ -44,23 +38,54 @@ module _ (G : Graph) (L : Laws G) (D : Table G) where
       → Offer G D P v d w
       → le c d × (c ≡ d → tie u w)
   unfolding Ahead
-  outdone unreached h s x = absurd (s .none refl _ _ x)
-  outdone (least a t) h s x =
+  outdone {c = c} {d} {u} {w} unreached h s x = absurd (s .none refl _ _ x)
+  outdone {c = c} {d} {u} {w} (least a t) h s x =
       let b = s .best a t refl in
-      let l = b .cheapest _ _ x in (
-        L .le-trans (h .0) l,
-        λ e.
-            let f = L .le-antisym (h .0) (rw e l) in
-            L .tie-trans (h .1 f) (b .first _ (rw (← f, e) x)),
-      )
+      let l = b .cheapest _ _ x in
+      let first : c ≡ d → tie u w = λ e.
+      let f = L .le-antisym (h .0) (rw e l) in
+      L .tie-trans (h .1 f) (b .first _ (rw (← f, e) x)) in
+      (L .le-trans (h .0) l, first)
 
-  -- Only an unreached entry is behind an unreached one.
-  behind : (y : Entry C S) → Ahead G unreached y → y ≡ unreached
-  unfolding Ahead
-  behind unreached h = refl
-  behind (least a t) h = absurd h
+  -- The better of two entries is right for Q, where what Q offers is what either has seen.
+  combined :
+      {A B Q : S → Type 0} {v : S} {x y : Entry C S}
+      → ((c : C) (u : S) → Offer G D A v c u → Offer G E Q v c u)
+      → ((c : C) (u : S) → Offer G E Q v c u → Offer G D A v c u ⊎ Offer G D B v c u)
+      → Ahead G x y
+      → Seen G D A v x
+      → Seen G D B v y
+      → Seen G E Q v x
+  combined {y = y} into part h a b =
+      record {
+        none = λ q c u z. ⊎-elim (a .none q c u) (b .none (behind y (rw q at h)) c u) (part c u z);
+        best =
+            λ c u q.
+            let m = a .best c u q in
+            let k = rw q at h in
+            record {
+              offer = into c u (m .offer);
+              cheapest = λ d w z. ⊎-elim (m .cheapest d w) (λ z. outdone y k b z .0) (part d w z);
+              first = λ w z. ⊎-elim (m .first w) (λ z. outdone y k b z .1 refl) (part c w z);
+            };
+      }
 
-  -- The better of two entries is right for the starts that either has seen.
+module _ (G : Graph) (L : Laws G) (D : Table G) where
+  open Graph G using (S, o, C, step, add, le, tie)
+
+  -- An offer is made by any set that has its start.
+  offer-of : {P Q : S → Type 0} {v : S} {c : C} {u : S} → P u → Offer G D Q v c u → Offer G D P v c u
+  offer-of p = moved G D D (λ q m. (p, refl))
+
+  -- While all starts seen are unreached, and before any is seen, the cell is unreached.
+  pub started : {P : S → Type 0} {v : S} → ((u : S) → P u → step u v → D u ≡ unreached) → Seen G D P v unreached
+  started f =
+      record {
+        none = λ q c u x. let y = f u (x .among) (x .may) in let z : _≡_ {A = ℕ} 0 1 = cc in absurd (omega arith);
+        best = λ c u q. let z : _≡_ {A = ℕ} 0 1 = cc in absurd (omega arith);
+      }
+
+  -- The better of two entries by cost, then tie, is right for the starts that either has seen.
   pub merged :
       {A B Q : S → Type 0} {v : S} {x y : Entry C S}
       → ((u : S) → A u → Q u)
@@ -69,37 +94,12 @@ module _ (G : Graph) (L : Laws G) (D : Table G) where
       → Seen G D A v x
       → Seen G D B v y
       → Seen G D Q v x
-  merged {A} {B} {Q} {v} {x} {y} old only h a b =
-      record {
-        none = λ q c u z. ⊎-elim (a .none q c u) (b .none (behind y (rw q at h)) c u) (part z);
-        best =
-            λ c u q.
-            let m = a .best c u q in
-            let beats : (d : C) (w : S) → Offer G D B v d w → le c d × (c ≡ d → tie u w) =
-            λ d w. outdone y (rw q at h) b in
-            record {
-              offer = offer-moved G D D (λ p s. (old u p, refl)) (m .offer);
-              cheapest = λ d w z. ⊎-elim (m .cheapest d w) (λ z. beats d w z .0) (part z);
-              first = λ w z. ⊎-elim (m .first w) (λ z. beats c w z .1 refl) (part z);
-            };
-      }
-    where
-      part : {c : C} {u : S} → Offer G D Q v c u → Offer G D A v c u ⊎ Offer G D B v c u
-      part {c} {u} z =
-          ⊎-map
-          (λ p. offer-moved G D D (λ q s. (p, refl)) z)
-          (λ p. offer-moved G D D (λ q s. (p, refl)) z)
-          (only u (z .among) (z .may))
+  merged old only =
+      combined G L D D
+      (λ c u z. offer-of (old u (z .among)) z)
+      (λ c u z. ⊎-map (λ p. offer-of p z) (λ p. offer-of p z) (only u (z .among) (z .may)))
 
-  -- Before any start is tried a cell is unreached.
-  pub started : {P : S → Type 0} {v : S} → ((u : S) → P u → ¬ step u v) → Seen G D P v unreached
-  started f =
-      record {
-        none = λ q c u x. f u (x .among) (x .may);
-        best = λ c u q. let z : _≡_ {A = ℕ} 0 1 = cc in absurd (omega arith);
-      }
-
-  -- Starts that have no step to v, or are unreached, may be passed over, any number at once.
+  -- Starts that are unreached or have no step to v may be passed over, any number at once.
   pub passed :
       {P Q : S → Type 0} {v : S} {e : Entry C S}
       → ((u : S) → P u → Q u)
@@ -107,16 +107,9 @@ module _ (G : Graph) (L : Laws G) (D : Table G) where
       → Seen G D P v e
       → Seen G D Q v e
   unfolding Ahead
-  passed old only s = merged old only tt s unreached-only
-    where
-      unreached-only : {v : S} → Seen G D (λ u. D u ≡ unreached) v unreached
-      unreached-only =
-          record {
-            none = λ q c u x. let z : _≡_ {A = ℕ} 0 1 = cc in absurd (omega arith);
-            best = λ c u q. let z : _≡_ {A = ℕ} 0 1 = cc in absurd (omega arith);
-          }
+  passed old only s = merged old only tt s (started (λ u p m. p))
 
-  -- A start alone offers its cost with the step added.
+  -- A start alone has its cost with the step added.
   pub alone : {s v : S} {a : C} {t : S} → step s v → D s ≡ least a t → Seen G D (λ u. u ≡ s) v (least (add s v a) s)
   alone {s} {v} {a} {t} m p =
       record {
@@ -134,46 +127,52 @@ module _ (G : Graph) (L : Laws G) (D : Table G) where
   module _ {P Q : S → Type 0} {s v : S} (more : More G P s Q v) where
     -- A start that is unreached is passed over.
     pub passed-unreached : {e : Entry C S} → D s ≡ unreached → Seen G D P v e → Seen G D Q v e
-    passed-unreached p =
-        passed (more .old) (λ u q m. ⊎-map (λ x. x) (λ f. rw f p) (more .only u q m))
+    passed-unreached p = passed (more .old) (λ u q m. ⊎-map (λ x. x) (λ f. rw f p) (more .only u q m))
 
     -- A start with no step to v is passed over.
     pub passed-stepless : {e : Entry C S} → ¬ step s v → Seen G D P v e → Seen G D Q v e
-    passed-stepless n =
-        passed (more .old) (λ u q m. ⊎-map (λ x. x) (λ f. absurd (n (rw f at m))) (more .only u q m))
+    passed-stepless n = passed (more .old) (λ u q m. ⊎-map (λ x. x) (λ f. absurd (n (rw f at m))) (more .only u q m))
 
-    module _ {a : C} {t : S} (may : step s v) (reached : D s ≡ least a t) where
-      -- A start that is cheaper than the best so far is taken.
-      pub taken : {e : Entry C S} → Cheaper G (add s v a) e → Seen G D P v e → Seen G D Q v (least (add s v a) s)
-      unfolding Ahead Cheaper
-      taken {e} h x =
-          merged (λ u f. rw f (more .new)) (λ u q m. ⊎-swap (more .only u q m)) (go e h) (alone may reached) x
-        where
-          go : (e : Entry C S) → Cheaper G (add s v a) e → Ahead G (least (add s v a) s) e
-          go unreached h = tt
-          go (least d w) h = (h .0, λ f. absurd (h .1 f))
+    -- A reached start that is cheaper than the best so far is taken.
+    pub taken :
+        {a : C} {t : S} {e : Entry C S}
+        → step s v
+        → D s ≡ least a t
+        → Cheaper G (add s v a) e
+        → Seen G D P v e
+        → Seen G D Q v (least (add s v a) s)
+    unfolding Ahead Cheaper
+    taken {a} {e = e} m p h x =
+        merged (λ u f. rw f (more .new)) (λ u q n. ⊎-swap (more .only u q n)) (go e h) (alone m p) x
+      where
+        go : (e : Entry C S) → Cheaper G (add s v a) e → Ahead G (least (add s v a) s) e
+        go unreached h = tt
+        go (least d w) h = (h .0, λ f. absurd (h .1 f))
 
-      -- A start that is not cheaper is not taken, if it comes after those seen.
-      pub kept :
-          {c : C} {u : S}
-          → ((w : S) → P w → tie w s)
-          → le c (add s v a)
-          → Seen G D P v (least c u)
-          → Seen G D Q v (least c u)
-      unfolding Ahead
-      kept {c} {u} order h x = merged (more .old) (more .only) (h, λ e. order u (x .best c u refl .offer .among)) x (alone may reached)
+    -- A reached start that is not cheaper leaves the best as it is, where it comes after all those seen.
+    pub kept :
+        {a : C} {t : S} {c : C} {u : S}
+        → step s v
+        → D s ≡ least a t
+        → le c (add s v a)
+        → ((w : S) → P w → tie w s)
+        → Seen G D P v (least c u)
+        → Seen G D Q v (least c u)
+    unfolding Ahead
+    kept {c = c} {u} m p h after x =
+        merged (more .old) (more .only) (h, λ e. after u (x .best c u refl .offer .among)) x (alone m p)
 
-  -- A cell that has seen all its reached starts is right.
+  -- A cell that has seen every start with a step to it, but for unreached ones, is right.
   pub finished :
       {P : S → Type 0} {v : S} {e : Entry C S}
       → ¬ (v ≡ o)
       → ((u : S) → step u v → P u ⊎ (D u ≡ unreached))
       → Seen G D P v e
       → Cell G D v e
-  finished n f s = inner n (passed (λ u p. tt) (λ u q. f u) s)
+  finished n all s = inner n (passed (λ u p. tt) (λ u q. all u) s)
 
-module _ (G : Graph) (D E : Table G) where
-  open Graph G using (S, o, C, step, add)
+module _ (G : Graph) (L : Laws G) (D E : Table G) where
+  open Graph G using (S, C, step)
 
   -- A half-seen cell stays right while the entries of its starts do not change.
   pub seen-frame :
@@ -181,39 +180,38 @@ module _ (G : Graph) (D E : Table G) where
       → ((u : S) → P u → step u v → E u ≡ D u)
       → Seen G D P v e
       → Seen G E P v e
-  seen-frame {P} {v} f s =
-      record {
-        none = λ q c u x. s .none q c u (back x);
-        best =
-            λ c u q.
-            let b = s .best c u q in
-            record {
-              offer = offer-moved G D E (λ p m. (p, f u p m)) (b .offer);
-              cheapest = λ d w x. b .cheapest d w (back x);
-              first = λ w x. b .first w (back x);
-            };
-      }
-    where
-      back : {c : C} {u : S} → Offer G E P v c u → Offer G D P v c u
-      back {u = u} = offer-moved G E D (λ p m. (p, sym (f u p m)))
+  unfolding Ahead
+  seen-frame same s =
+      combined G L D E
+      (λ c u. moved G D E (λ p m. (p, same u p m)))
+      (λ c u z. inl (moved G E D (λ p m. (p, sym (same u p m))) z))
+      tt
+      s
+      (started G L D {P = λ u. ⊥} (λ u p. absurd p))
 
   -- A finished cell stays right while the entries of its starts do not change.
-  pub frame :
-      {v : S} {e : Entry C S} → ((u : S) → step u v → E u ≡ D u) → Cell G D v e → Cell G E v e
-  frame f (base p u q) = base p u q
-  frame f (inner n s) = inner n (seen-frame (λ u p. f u) s)
+  pub frame : {v : S} {e : Entry C S} → ((u : S) → step u v → E u ≡ D u) → Cell G D v e → Cell G E v e
+  frame same (base p u q) = base p u q
+  frame same (inner n s) = inner n (seen-frame (λ u p. same u) s)
 
-  -- With the cell of v stored, the cells of K that were right and v are right, where K holds their starts.
+  -- Right cells stay right while they do not change, where their starts are among them.
+  pub right-frame :
+      {K : S → Type 0}
+      → ((u v : S) → K v → step u v → K u)
+      → ((u : S) → K u → E u ≡ D u)
+      → Right G D K
+      → Right G E K
+  right-frame closed same right v k = frame (λ u m. same u (closed u v k m)) (rw (same v k) (right v k))
+
+  -- With the finished cell of v stored, v is right beside the cells of K, where K holds all their starts.
   pub stored :
       {K M : S → Type 0} {v : S}
-      → ((u w : S) → K w ⊎ (w ≡ v) → step u w → K u)
-      → ((u : S) → K u → E u ≡ D u)
+      → ((u w : S) → K w → step u w → K u)
+      → ((u : S) → step u v → K u)
       → ((w : S) → M w → K w ⊎ (w ≡ v))
+      → ((u : S) → K u → E u ≡ D u)
       → Right G D K
       → Cell G D v (E v)
       → Right G E M
-  stored {K} {M} {v} starts same only right cell w m = frame (λ u t. same u (starts u w (only w m) t)) (go (only w m))
-    where
-      go : K w ⊎ (w ≡ v) → Cell G D w (E w)
-      go (inl k) = rw (same w k) (right w k)
-      go (inr e) = rw e cell
+  stored closed starts only same right cell w m =
+      ⊎-elim (right-frame closed same right w) (λ e. rw e (frame (λ u s. same u (starts u s)) cell)) (only w m)
