@@ -16,16 +16,16 @@ pub record Domain (G : Graph) : Type 1 where
   pub rank : G .S → ℕ
   pub falls : {u v : G .S} → In v → G .step u v → rank u < rank v
 
--- All states.
+-- The set of all states.
 abbrev pub All : {S : Type 0} → S → Type 0
 All u = Unit
 
 module _ (G : Graph) where
   open Graph G using (S, C, step, le, tie)
 
-  -- The entry e is no worse than f: cheaper, or as cheap with a start that comes first, or f holds nothing.
+  -- The entry x is ahead of y, or level: cheaper, or as cheap with a start that comes first, or y is unreached.
   unfoldable pub Ahead : Entry C S → Entry C S → Type 0
-  Ahead e unreached = Unit
+  Ahead x unreached = Unit
   Ahead unreached (least d w) = ⊥
   Ahead (least c u) (least d w) = le c d × (c ≡ d → tie u w)
 
@@ -41,9 +41,9 @@ module _ (G : Graph) where
     pub only : (u : S) → Q u → step u v → P u ⊎ (u ≡ s)
 
 module _ (G : Graph) (D : Table G) where
-  open Graph G using (S, o, C, step, nil, add, le, tie)
+  open Graph G using (S, o, C, step, nil, add)
 
-  -- The start u, one of P, has a step to v and is reached, and c is its cost with that step added.
+  -- The start u, one of P, is reached and has a step to v, and c is its cost with that step added.
   pub record Offer (P : S → Type 0) (v : S) (c : C) (u : S) : Type 0 where
     pub among : P u
     pub may : step u v
@@ -52,18 +52,12 @@ module _ (G : Graph) (D : Table G) where
     pub reached : D u ≡ least cost start
     pub price : c ≡ add u v cost
 
-  -- The start u is the best that P offers v: none is cheaper than c, and of those at c it comes first.
-  pub record Best (P : S → Type 0) (v : S) (c : C) (u : S) : Type 0 where
-    pub offer : Offer P v c u
-    pub cheapest : (d : C) (w : S) → Offer P v d w → le c d
-    pub first : (w : S) → Offer P v c w → tie u w
-
-  -- The entry e of v is right as far as the starts in P go.
+  -- The entry e of v is right as far as P goes: it is the best of what P offers, or unreached where nothing is offered.
   pub record Seen (P : S → Type 0) (v : S) (e : Entry C S) : Type 0 where
-    pub none : e ≡ unreached → (c : C) (u : S) → ¬ Offer P v c u
-    pub best : (c : C) (u : S) → e ≡ least c u → Best P v c u
+    pub offered : (c : C) (u : S) → e ≡ least c u → Offer P v c u
+    pub best : (c : C) (u : S) → Offer P v c u → Ahead G e (least c u)
 
-  -- The entry e of v is right: the origin costs nothing, and any other state has the best of all starts.
+  -- The entry e of v is right: the origin costs nothing, and any other state has the best that all starts offer.
   pub data Cell (v : S) (e : Entry C S) : Type 0 where
     base : v ≡ o → (u : S) → e ≡ least nil u → Cell v e
     inner : ¬ (v ≡ o) → Seen All v e → Cell v e
@@ -72,7 +66,7 @@ module _ (G : Graph) (D : Table G) where
   abbrev pub Right : (S → Type 0) → Type 0
   Right K = (v : S) → K v → Cell v (D v)
 
-  -- The starts met on the walk from v back to the origin, each taken from the entry of the state before.
+  -- The starts met on the walk from v back to the origin, each read from the entry of the state before.
   unfoldable pub Trace : List S → S → Type 0
   Trace [] v = v ≡ o
   Trace (u ∷ us) v = (¬ (v ≡ o)) × ((c : C) × (D v ≡ least c u)) × Trace us u

@@ -1,11 +1,11 @@
 -- An example: the fewest hops of one or two from 0 to a number; of two starts that do equally well, the later.
 use mathlib.Core.List.{List, [], _∷_}
-use mathlib.Core.Logic.{_⊎_, inl, inr}
-use mathlib.Core.Path.{_≡_, refl, sym, ap, _∙_}
-use Prim.Native.Nat.{ℕ, zero, suc, _+_, _-_, _*_, _/_, _%_, _≤_, _<_}
+use mathlib.Core.Logic.{inl, inr}
+use mathlib.Core.Path.{_≡_, refl}
+use Prim.Native.Nat.{ℕ, zero, suc, _+_, _-_, _*_, _/_, _≤_, _<_}
 use native.Mathlib.Omega.{arith}
-use Rattle.theorems.specs.Graph.{Graph, Laws, Entry, unreached, least, Way, total, Optimal}
-use Rattle.theorems.specs.Cell.{Table, Domain, All, Seen, Cell, base, inner, Right, Trace, More, Cheaper}
+use Rattle.theorems.specs.Graph.{Graph, Laws, least, total, Optimal}
+use Rattle.theorems.specs.Cell.{Table, Domain, All, Ahead, Cheaper, More, Cell, base, inner, Right, Trace}
 use Rattle.theorems.specs.Optimality.{trace-optimal}
 use Rattle.theorems.specs.LoopStep.{started, taken, kept, passed-stepless, finished}
 use native.Mathlib.Decide.{decLt}
@@ -57,19 +57,15 @@ table v = least (cost v) (start v)
 
 -- Every cell of the table is right.
 right : Right hops table All
+unfolding Ahead
 right zero i = base refl 0 refl
 right (suc n) i =
     inner (λ e. omega arith) (record {
-      none = λ q c u x. let z : _≡_ {A = ℕ} 0 1 = cc in absurd (omega arith);
-      best =
-          λ c u q.
+      offered = λ c u q.
           let e : c ≡ cost (suc n) = cc in
           let f : u ≡ start (suc n) = cc in
-          record {
-            offer = record { among = tt; may = omega arith; cost = cost u; start = start u; reached = refl; price = omega arith };
-            cheapest = λ d w x. let g : x .cost ≡ cost w = let y = x .reached in cc in omega arith;
-            first = λ w x. let g : x .cost ≡ cost w = let y = x .reached in cc in omega arith;
-          };
+          record { among = tt; may = omega arith; cost = cost u; start = start u; reached = refl; price = omega arith };
+      best = λ c u x. let g : x .cost ≡ cost u = let y = x .reached in cc in omega arith;
     })
 
 -- The walk back from 5 meets 4, 2 and 0.
@@ -82,10 +78,11 @@ answer : Optimal hops (4 ∷ 2 ∷ 0 ∷ []) 5 × (total hops (4 ∷ 2 ∷ 0 ∷
 unfolding total domain
 answer = (trace-optimal hops laws domain table right tt walk, refl)
 
--- The starts from k on, and those from the number before.
+-- The starts from k on.
 abbrev From : ℕ → ℕ → Type 0
 From k u = k ≤ u
 
+-- With k they are one more than those after it.
 more : (k v : ℕ) → More hops (From (suc k)) k (From k) v
 more k v =
     record {
@@ -94,7 +91,7 @@ more k v =
       only = λ u q m. elim (decLt k u) [ yes h ↦ inl h | no n ↦ inr (omega arith) ];
     }
 
--- The cell of 3, as a loop fills it from the latest start to the earliest: 2 is taken, 1 is kept out, 0 has no step.
+-- The cell of 3, as a loop fills it from the latest start to the earliest: 2 is taken, 1 is no cheaper, 0 has no step.
 by-loop : Cell hops table 3 (least 2 2)
 unfolding Cheaper
 by-loop =

@@ -3,4 +3,4 @@ pub mod Graph
 pub mod Cell
 pub mod Optimality
 pub mod LoopStep
-pub mod Example
+mod Example

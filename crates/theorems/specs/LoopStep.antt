@@ -21,31 +21,16 @@ module _ (G : Graph) (D E : Table G) where
       record { among = q; may = x .may; cost = x .cost; start = x .start; reached = e ∙ x .reached; price = x .price }
 
 module _ (G : Graph) (L : Laws G) (D E : Table G) where
-  open Graph G using (S, C, le, tie)
+  open Graph G using (S, C)
 
-  -- Only an unreached entry is behind an unreached one.
-  behind : (y : Entry C S) → Ahead G unreached y → y ≡ unreached
+  -- Being ahead is transitive.
+  ahead-trans : (x y z : Entry C S) → Ahead G x y → Ahead G y z → Ahead G x z
   unfolding Ahead
-  behind unreached h = refl
-  behind (least a t) h = absurd h
-
-  -- An entry that is ahead of another is ahead of all that the other has seen.
-  outdone :
-      {P : S → Type 0} {v : S} {c d : C} {u w : S}
-      → (y : Entry C S)
-      → Ahead G (least c u) y
-      → Seen G D P v y
-      → Offer G D P v d w
-      → le c d × (c ≡ d → tie u w)
-  unfolding Ahead
-  outdone {c = c} {d} {u} {w} unreached h s x = absurd (s .none refl _ _ x)
-  outdone {c = c} {d} {u} {w} (least a t) h s x =
-      let b = s .best a t refl in
-      let l = b .cheapest _ _ x in
-      let first : c ≡ d → tie u w = λ e.
-      let f = L .le-antisym (h .0) (rw e l) in
-      L .tie-trans (h .1 f) (b .first _ (rw (← f, e) x)) in
-      (L .le-trans (h .0) l, first)
+  ahead-trans x y unreached h k = tt
+  ahead-trans x unreached (least d w) h k = absurd k
+  ahead-trans unreached (least b s) (least d w) h k = absurd h
+  ahead-trans (least c u) (least b s) (least d w) (h, f) (k, g) =
+      (L .le-trans h k, λ e. let q = L .le-antisym h (rw e k) in L .tie-trans (f q) (g (sym q ∙ e)))
 
   -- The better of two entries is right for Q, where what Q offers is what either has seen.
   combined :
@@ -56,18 +41,10 @@ module _ (G : Graph) (L : Laws G) (D E : Table G) where
       → Seen G D A v x
       → Seen G D B v y
       → Seen G E Q v x
-  combined {y = y} into part h a b =
+  combined {x = x} {y} into part h a b =
       record {
-        none = λ q c u z. ⊎-elim (a .none q c u) (b .none (behind y (rw q at h)) c u) (part c u z);
-        best =
-            λ c u q.
-            let m = a .best c u q in
-            let k = rw q at h in
-            record {
-              offer = into c u (m .offer);
-              cheapest = λ d w z. ⊎-elim (m .cheapest d w) (λ z. outdone y k b z .0) (part d w z);
-              first = λ w z. ⊎-elim (m .first w) (λ z. outdone y k b z .1 refl) (part c w z);
-            };
+        offered = λ c u q. into c u (a .offered c u q);
+        best = λ c u z. ⊎-elim (a .best c u) (λ z. ahead-trans x y (least c u) h (b .best c u z)) (part c u z);
       }
 
 module _ (G : Graph) (L : Laws G) (D : Table G) where
@@ -81,8 +58,8 @@ module _ (G : Graph) (L : Laws G) (D : Table G) where
   pub started : {P : S → Type 0} {v : S} → ((u : S) → P u → step u v → D u ≡ unreached) → Seen G D P v unreached
   started f =
       record {
-        none = λ q c u x. let y = f u (x .among) (x .may) in let z : _≡_ {A = ℕ} 0 1 = cc in absurd (omega arith);
-        best = λ c u q. let z : _≡_ {A = ℕ} 0 1 = cc in absurd (omega arith);
+        offered = λ c u q. let z : _≡_ {A = ℕ} 0 1 = cc in absurd (omega arith);
+        best = λ c u x. let y = f u (x .among) (x .may) in let z : _≡_ {A = ℕ} 0 1 = cc in absurd (omega arith);
       }
 
   -- The better of two entries by cost, then tie, is right for the starts that either has seen.
@@ -111,17 +88,16 @@ module _ (G : Graph) (L : Laws G) (D : Table G) where
 
   -- A start alone has its cost with the step added.
   pub alone : {s v : S} {a : C} {t : S} → step s v → D s ≡ least a t → Seen G D (λ u. u ≡ s) v (least (add s v a) s)
+  unfolding Ahead
   alone {s} {v} {a} {t} m p =
       record {
-        none = λ q c u x. let z : _≡_ {A = ℕ} 0 1 = cc in absurd (omega arith);
-        best =
-            λ c u q.
+        offered = λ c u q.
             let f : u ≡ s = cc in
-            record {
-              offer = record { among = f; may = rw f m; cost = a; start = t; reached = cc; price = cc };
-              cheapest = λ d w x. let g : d ≡ c = let y = x .among in cc in rw g (L .le-refl c);
-              first = λ w x. rw (x .among, f) (L .tie-refl s);
-            };
+            record { among = f; may = rw f m; cost = a; start = t; reached = cc; price = cc };
+        best = λ c u x.
+            let f = x .among in
+            let g : c ≡ add s v a = cc in
+            (rw g (L .le-refl _), λ e. rw f (L .tie-refl s));
       }
 
   module _ {P Q : S → Type 0} {s v : S} (more : More G P s Q v) where
@@ -160,7 +136,7 @@ module _ (G : Graph) (L : Laws G) (D : Table G) where
         → Seen G D Q v (least c u)
     unfolding Ahead
     kept {c = c} {u} m p h after x =
-        merged (more .old) (more .only) (h, λ e. after u (x .best c u refl .offer .among)) x (alone m p)
+        merged (more .old) (more .only) (h, λ e. after u (x .offered c u refl .among)) x (alone m p)
 
   -- A cell that has seen every start with a step to it, but for unreached ones, is right.
   pub finished :

@@ -1,12 +1,12 @@
 -- The principle of optimality: where every cell is right, the table tells the best way to each state of the domain.
 -- The main theorem is the last, `optimality`; the laws before it are its parts, each of use alone.
 use mathlib.Core.List.{List, [], _∷_}
-use mathlib.Core.Path.{_≡_, refl, sym, _∙_}
+use mathlib.Core.Path.{_≡_, refl, sym}
 use Prim.Native.Nat.{ℕ, suc, zero, _≤_, _<_}
 use native.Mathlib.Omega.{arith}
 use lib.ListN.{length}
 use Rattle.theorems.specs.Graph.{Graph, Laws, Entry, unreached, least, Way, total, First, Optimal}
-use Rattle.theorems.specs.Cell.{Table, Domain, All, Offer, Seen, base, inner, Right, Trace, Answer}
+use Rattle.theorems.specs.Cell.{Table, Domain, All, Ahead, Offer, Seen, base, inner, Right, Trace, Answer}
 
 module _ (G : Graph) (L : Laws G) where
   open Graph G using (S)
@@ -35,11 +35,11 @@ module _ (G : Graph) (L : Laws G) (R : Domain G) (D : Table G) (right : Right G 
   pub at-origin : {v : S} → R .In v → v ≡ o → (u : S) × (D v ≡ least nil u)
   at-origin {v} i e = elim (right v i) [ base e′ u p ↦ (u, p) | inner n s ↦ absurd (n e) ]
 
-  -- Any other state has the best of all starts.
+  -- Any other state has the best that all starts offer.
   pub past-origin : {v : S} → R .In v → ¬ (v ≡ o) → Seen G D All v (D v)
   past-origin {v} i n = elim (right v i) [ base e u p ↦ absurd (n e) | inner n′ s ↦ s ]
 
-  -- One step back: the start in an entry is reached and on offer at the entry's cost, in the domain, and lower in rank.
+  -- One step back: the start in an entry is reached, has a step at the entry's cost, and lies in the domain, lower.
   pub step-back :
       {v : S} {c : C} {u : S}
       → R .In v
@@ -47,7 +47,7 @@ module _ (G : Graph) (L : Laws G) (R : Domain G) (D : Table G) (right : Right G 
       → D v ≡ least c u
       → Offer G D All v c u × R .In u × (R .rank u < R .rank v)
   step-back {v} {c} {u} i n p =
-      let x = past-origin i n .best c u p .offer in
+      let x = past-origin i n .offered c u p in
       (x, R .closed i (x .may), R .falls i (x .may))
 
   -- A reached start is on offer at its cost with the step added.
@@ -57,24 +57,21 @@ module _ (G : Graph) (L : Laws G) (R : Domain G) (D : Table G) (right : Right G 
   -- A state with a way is reached, at no higher cost than the way's.
   pub reached :
       (us : List S) {v : S} → R .In v → Way G us v → (c : C) × (u : S) × (D v ≡ least c u) × le c (total G us v)
-  unfolding Way total
+  unfolding Way total Ahead
   reached [] i w = let (u, p) = at-origin i w in (nil, u, p, L .le-refl nil)
   reached (u ∷ us) {v} i (m, w) =
       let (a, t, p, l) = reached us (R .closed i m) w in
-      go (on-offer m p) l (D v) refl
+      go (D v) refl (past-origin i (L .origin m) .best _ u (on-offer m p)) (L .add-mono u v l)
     where
-      seen : Seen G D All v (D v)
-      seen = past-origin i (L .origin m)
-
       go :
-          {a : C}
-          → Offer G D All v (add u v a) u
-          → le a (total G us u)
+          {d b : C}
           → (e : Entry C S)
           → D v ≡ e
-          → (c : C) × (s : S) × (D v ≡ least c s) × le c (add u v (total G us u))
-      go x l unreached q = absurd (seen .none q _ _ x)
-      go x l (least c s) q = (c, s, q, L .le-trans (seen .best c s q .cheapest _ _ x) (L .add-mono u v l))
+          → Ahead G e (least d u)
+          → le d b
+          → (c : C) × (s : S) × (D v ≡ least c s) × le c b
+      go unreached q h k = absurd h
+      go (least c s) q h k = (c, s, q, L .le-trans (h .0) k)
 
   -- The walk back is a way, and the entry that it begins at holds the way's cost.
   pub trace-way :
@@ -117,20 +114,17 @@ module _ (G : Graph) (L : Laws G) (R : Domain G) (D : Table G) (right : Right G 
   -- Of all ways that cost as much, the walk back comes first.
   pub trace-first :
       (us vs : List S) {v : S} → R .In v → Trace G D us v → Way G vs v → total G vs v ≡ total G us v → First G us vs
-  unfolding Way total First Trace
+  unfolding Way total First Trace Ahead
   trace-first [] vs i t w e = tt
   trace-first (u ∷ us) [] i t w e = absurd (t .0 w)
   trace-first (u ∷ us) (w ∷ ws) {v} i (n, (c, p), t) (m, x) e =
       let (a, s, q, l) = reached ws (R .closed i m) x in
       let (_, (_, r)) = trace-way (u ∷ us) i (n, (c, p), t) in
       let f : add w v (total G ws w) ≡ c = cc in
-      let b = past-origin i n .best c u p in
-      let y = on-offer m q in
-      let g = L .le-antisym (rw f at (L .add-mono w v l)) (b .cheapest _ _ y) in
-      let rest : u ≡ w → First G us ws = λ h.
-      let k : add u v (total G ws u) ≡ add u v (total G us u) = cc in
-      trace-first us ws (step-back i n p .1) t (rw h x) (L .add-cancel u v k) in
-      (b .first w (rw g at y), rest)
+      let (h, k) = rw p at (past-origin i n .best _ w (on-offer m q)) in (
+        k (L .le-antisym h (rw f at (L .add-mono w v l))),
+        λ g. trace-first us ws (step-back i n p .1) t (rw g x) (L .add-cancel u v (rw (← g) at e)),
+      )
 
   -- The walk back is an optimal way.
   pub trace-optimal : {us : List S} {v : S} → R .In v → Trace G D us v → Optimal G us v

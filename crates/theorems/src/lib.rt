@@ -1,1 +1,1 @@
-// The mathematics behind the engine: theorems about graphs of states, with no code.
+// The theorems behind least turns: mathematics alone, no code.
