@@ -57,7 +57,7 @@ module _ (G : Graph) (D : Table G) where
     pub offered : (c : C) (u : S) → e ≡ least c u → Offer P v c u
     pub best : (c : C) (u : S) → Offer P v c u → Ahead G e (least c u)
 
-  -- The entry e of v is right: the origin costs nothing, and any other state has the best that all starts offer.
+  -- The entry e of v is right: the origin has the cost nil, and any other state has the best that all starts offer.
   pub data Cell (v : S) (e : Entry C S) : Type 0 where
     base : v ≡ o → (u : S) → e ≡ least nil u → Cell v e
     inner : ¬ (v ≡ o) → Seen All v e → Cell v e

@@ -31,7 +31,7 @@ module _ (G : Graph) (L : Laws G) where
 module _ (G : Graph) (L : Laws G) (R : Domain G) (D : Table G) (right : Right G D (R .In)) where
   open Graph G using (S, o, C, step, nil, add, le)
 
-  -- The origin is reached and costs nothing.
+  -- The origin is reached, at the cost nil.
   pub at-origin : {v : S} → R .In v → v ≡ o → (u : S) × (D v ≡ least nil u)
   at-origin {v} i e = elim (right v i) [ base e′ u p ↦ (u, p) | inner n s ↦ absurd (n e) ]
 
