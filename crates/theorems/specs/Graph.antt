@@ -43,7 +43,7 @@ module _ (G : Graph) where
   total [] v = nil
   total (u ∷ us) v = add u v (total us u)
 
-  -- The first way by ties: at the last step where the two differ, its start comes first; a list that ends there comes first.
+  -- The first of two ways: at the last step where they differ its start comes first, and a list that has ended does.
   unfoldable pub First : List S → List S → Type 0
   First [] vs = Unit
   First (u ∷ us) [] = ⊥
