@@ -1,0 +1,1 @@
+// The theorems behind least turns: mathematics alone, no code.
