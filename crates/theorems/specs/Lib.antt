@@ -1,0 +1,5 @@
+-- The theorems behind least turns, over the definitions of the page model.
+pub mod Waiting
+pub mod Pages
+pub mod LeafEnds
+pub mod Costs

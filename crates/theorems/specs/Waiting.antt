@@ -1,0 +1,36 @@
+-- What a page costs where a leaf ends: the floats that are cited but not yet placed there, and the turn itself.
+use Prim.Native.Nat.{ℕ, suc, _+_, _*_}
+use mathlib.Core.Bool.{Bool, _&&_}
+use mathlib.Core.List.{List, [], _∷_}
+use lib.Dec.{leb, ltb}
+use Rattle.model.specs.Gather.{pick, one, sum}
+use Rattle.model.specs.Galley.{Galley, Place, count}
+use Rattle.model.specs.Leaf.{ends}
+use Rattle.model.specs.Answers.{ended}
+
+-- Float k of stream s dangles at place v: it is not yet placed, and line c that cites it is (paper, section 4).
+unfoldable pub dangles : ℕ → ℕ → ℕ → Place → Bool
+dangles s k c v = ltb (count v s) k && leb c (count v 0)
+
+-- The floats of stream s that dangle at place v: the stream's dangling references (paper, section 4).
+unfoldable pub waitingIn : Galley → Place → ℕ → ℕ
+waitingIn g v s = sum (g .stream s .size) (λ k. one (dangles s k (g .stream s .cite k) v))
+
+-- The floats of all streams that dangle at place v: the dangling references (paper, section 4).
+unfoldable pub waiting : Galley → Place → ℕ
+waiting g v = sum (g .floats) (waitingIn g v)
+
+-- f of pages q, q + 1, … of a list, summed: of each page its number, whether it is the last, and the place where it ends.
+unfoldable pub pages : (ℕ → Bool → Place → ℕ) → ℕ → List Place → ℕ
+pages f q [] = 0
+pages f q (v ∷ vs) = f q (ended vs) v + pages f (suc q) vs
+
+-- What page q costs, which ends at place v: nothing where it is the last or its leaf goes on; else the turn of the leaf, by β,
+-- and every float that dangles there, by α (paper, section 4).
+unfoldable pub pageCost : Galley → ℕ → Bool → Place → ℕ
+pageCost g q last v =
+    pick last 0 (pick (ends (g .spec .sides) q) (g .spec .alpha * waiting g v + g .spec .beta) 0)
+
+-- What the pages of a list cost, numbered from q.
+unfoldable pub costs : Galley → ℕ → List Place → ℕ
+costs g = pages (pageCost g)

@@ -1,0 +1,1 @@
+// The theorems behind least turns, over the page model: see specs/.
