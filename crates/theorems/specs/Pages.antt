@@ -58,13 +58,3 @@ pages-mix a b f h q [] = simp mul-zero
 pages-mix a b f h q (v ∷ vs) =
     let after = pages-mix a b f h (suc q) vs in
     simp mul-add (omega arith)
-
--- A sum of sums over pages may be taken page by page.
-pub pages-swap : (n : ℕ) (f : ℕ → ℕ → Bool → Place → ℕ) (q : ℕ) (ps : List Place)
-    → sum n (λ k. pages (f k) q ps) ≡ pages (λ q last v. sum n (λ k. f k q last v)) q ps
-unfolding pages
-pages-swap n f q [] = sum-zero n
-pages-swap n f q (v ∷ vs) =
-    let both = sum-add n (λ k. f k q (ended vs) v) (λ k. pages (f k) (suc q) vs) in
-    let after = pages-swap n f (suc q) vs in
-    omega arith

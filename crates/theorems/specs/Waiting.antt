@@ -8,17 +8,17 @@ use Rattle.model.specs.Galley.{Galley, Place, count}
 use Rattle.model.specs.Leaf.{ends}
 use Rattle.model.specs.Answers.{ended}
 
--- Float k of stream s dangles at place v: it is not yet placed, and line c that cites it is (paper, section 4).
-unfoldable pub dangles : ℕ → ℕ → ℕ → Place → Bool
-dangles s k c v = ltb (count v s) k && leb c (count v 0)
+-- Float k of stream s dangles at place v: it is not yet placed there, and the line that cites it is (paper, section 4).
+unfoldable pub dangles : Galley → ℕ → ℕ → Place → Bool
+dangles g s k v = ltb (count v s) k && leb (g .stream s .cite k) (count v 0)
 
 -- The floats of stream s that dangle at place v: the stream's dangling references (paper, section 4).
-unfoldable pub waitingIn : Galley → Place → ℕ → ℕ
-waitingIn g v s = sum (g .stream s .size) (λ k. one (dangles s k (g .stream s .cite k) v))
+unfoldable pub waitingIn : Galley → ℕ → Place → ℕ
+waitingIn g s v = sum (g .stream s .size) (λ k. one (dangles g s k v))
 
 -- The floats of all streams that dangle at place v: the dangling references (paper, section 4).
 unfoldable pub waiting : Galley → Place → ℕ
-waiting g v = sum (g .floats) (waitingIn g v)
+waiting g v = sum (g .floats) (λ s. waitingIn g s v)
 
 -- f of pages q, q + 1, … of a list, summed: of each page its number, whether it is the last, and the place where it ends.
 unfoldable pub pages : (ℕ → Bool → Place → ℕ) → ℕ → List Place → ℕ
