@@ -35,9 +35,13 @@ unfolding accepts
 accepts-along ok l q u [] h = tt
 accepts-along ok l q u (v ∷ []) h = ((and-left (ok q true u v) (same v l) h, λ e. and-right (ok q true u v) (same v l) h), tt)
 accepts-along ok l q u (v ∷ (w ∷ ws)) h =
-    let rest = and-right (ok q false u v) (ok (suc q) (ended ws) v w && accepts ok l (suc (suc q)) w ws) h in
-    ((and-left (ok q false u v) (ok (suc q) (ended ws) v w && accepts ok l (suc (suc q)) w ws) h,
-    λ e. let z : _≡_ {A = ℕ} 0 1 = cc in absurd (omega arith)), accepts-along ok l (suc q) v (w ∷ ws) rest)
+    let rest = and-right (ok q false u v) (ok (suc q) (ended ws) v w && accepts ok l (suc (suc q)) w ws) h in (
+      (
+        and-left (ok q false u v) (ok (suc q) (ended ws) v w && accepts ok l (suc (suc q)) w ws) h,
+        λ e. let z : _≡_ {A = ℕ} 0 1 = cc in absurd (omega arith),
+      ),
+      accepts-along ok l (suc q) v (w ∷ ws) rest,
+    )
 
 -- A sum over pages goes by its terms.
 pub pages-ext : (P : About) (f h : ℕ → Bool → Place → ℕ)
