@@ -1,17 +1,18 @@
 -- Laws of sums over the pages of a list, and of what holds of each of its pages.
-use Prim.Native.Nat.{ℕ, zero, suc, _+_, _*_, _≤_}
+use Prim.Native.Nat.{ℕ, suc, _+_, _*_}
 use native.Mathlib.Nat.{mul-zero, mul-add}
 use native.Mathlib.Omega.{arith}
-use mathlib.Core.Path.{_≡_, refl, sym, _∙_, ap}
-use mathlib.Core.Bool.{Bool, true, false, _&&_}
+use mathlib.Core.Path.{_≡_, refl}
+use mathlib.Core.Bool.{Bool, true, false}
 use mathlib.Core.List.{List, [], _∷_}
-use Rattle.model.specs.Gather.{sum}
+use lib.Dec.{eqb}
+use borrow.Author.Tests.{eqb-true}
 use Rattle.model.specs.Galley.{Place}
 use Rattle.model.specs.Answers.{same, ended}
 use Rattle.model.specs.Best.{Allowed}
-use Rattle.model.specs.laws.Gather.{and-left, and-right, sum-zero, sum-add}
+use Rattle.model.specs.laws.Gather.{and-left, and-right}
 use Rattle.model.specs.laws.Judge.{accepts}
-use Rattle.theorems.specs.Waiting.{pages}
+use Rattle.theorems.specs.Waiting.{pageSum}
 
 -- What may hold of page q that goes from u to v, and is the last of its list or not.
 abbrev pub About : Type 1
@@ -28,37 +29,44 @@ pub along : (P Q : About) → ((q : ℕ) (last : Bool) (u v : Place) → P q las
 along P Q h q u [] a = tt
 along P Q h q u (v ∷ vs) a = (h q (ended vs) u v (a .0), along P Q h (suc q) v vs (a .1))
 
+-- Places that test as the same are equal.
+pub same-eq : (u v : Place) → same u v ≡ true → u ≡ v
+unfolding same
+same-eq [] [] h = refl
+same-eq [] (y ∷ ys) h = let z : _≡_ {A = ℕ} 0 1 = cc in absurd (omega arith)
+same-eq (x ∷ xs) [] h = let z : _≡_ {A = ℕ} 0 1 = cc in absurd (omega arith)
+same-eq (x ∷ xs) (y ∷ ys) h =
+    cc (eqb-true x y (and-left (eqb x y) (same xs ys) h), same-eq xs ys (and-right (eqb x y) (same xs ys) h))
+
 -- In an accepted list each page is allowed, and the last ends at the full place.
 pub accepts-along : (ok : Allowed) (l : Place) (q : ℕ) (u : Place) (ps : List Place) → accepts ok l q u ps ≡ true
-    → Along (λ q last u v. (ok q last u v ≡ true) × (last ≡ true → same v l ≡ true)) q u ps
+    → Along (λ q last u v. (ok q last u v ≡ true) × (last ≡ true → v ≡ l)) q u ps
 unfolding accepts
 accepts-along ok l q u [] h = tt
-accepts-along ok l q u (v ∷ []) h = ((and-left (ok q true u v) (same v l) h, λ e. and-right (ok q true u v) (same v l) h), tt)
+accepts-along ok l q u (v ∷ []) h =
+    ((and-left (ok q true u v) (same v l) h, λ e. same-eq v l (and-right (ok q true u v) (same v l) h)), tt)
 accepts-along ok l q u (v ∷ (w ∷ ws)) h =
-    let rest = and-right (ok q false u v) (ok (suc q) (ended ws) v w && accepts ok l (suc (suc q)) w ws) h in (
-      (
-        and-left (ok q false u v) (ok (suc q) (ended ws) v w && accepts ok l (suc (suc q)) w ws) h,
-        λ e. let z : _≡_ {A = ℕ} 0 1 = cc in absurd (omega arith),
-      ),
-      accepts-along ok l (suc q) v (w ∷ ws) rest,
+    let rest : Bool = accepts ok l (suc q) v (w ∷ ws) in (
+      (and-left (ok q false u v) rest h, λ e. let z : _≡_ {A = ℕ} 0 1 = cc in absurd (omega arith)),
+      accepts-along ok l (suc q) v (w ∷ ws) (and-right (ok q false u v) rest h),
     )
 
 -- A sum over pages goes by its terms.
-pub pages-ext : (P : About) (f h : ℕ → Bool → Place → ℕ)
+pub pageSum-ext : (P : About) (f h : ℕ → Bool → Place → ℕ)
     → ((q : ℕ) (last : Bool) (u v : Place) → P q last u v → f q last v ≡ h q last v)
-    → (q : ℕ) (u : Place) (ps : List Place) → Along P q u ps → pages f q ps ≡ pages h q ps
-unfolding pages
-pages-ext P f h e q u [] a = refl
-pages-ext P f h e q u (v ∷ vs) a =
+    → (q : ℕ) (u : Place) (ps : List Place) → Along P q u ps → pageSum f q ps ≡ pageSum h q ps
+unfolding pageSum
+pageSum-ext P f h e q u [] a = refl
+pageSum-ext P f h e q u (v ∷ vs) a =
     let at = e q (ended vs) u v (a .0) in
-    let after = pages-ext P f h e (suc q) v vs (a .1) in
+    let after = pageSum-ext P f h e (suc q) v vs (a .1) in
     omega arith
 
 -- Multiples of two sums over pages add up page by page.
-pub pages-mix : (a b : ℕ) (f h : ℕ → Bool → Place → ℕ) (q : ℕ) (ps : List Place)
-    → a * pages f q ps + b * pages h q ps ≡ pages (λ q last v. a * f q last v + b * h q last v) q ps
-unfolding pages
-pages-mix a b f h q [] = simp mul-zero
-pages-mix a b f h q (v ∷ vs) =
-    let after = pages-mix a b f h (suc q) vs in
+pub pageSum-mix : (a b : ℕ) (f h : ℕ → Bool → Place → ℕ) (q : ℕ) (ps : List Place)
+    → a * pageSum f q ps + b * pageSum h q ps ≡ pageSum (λ q last v. a * f q last v + b * h q last v) q ps
+unfolding pageSum
+pageSum-mix a b f h q [] = simp mul-zero
+pageSum-mix a b f h q (v ∷ vs) =
+    let after = pageSum-mix a b f h (suc q) vs in
     simp mul-add (omega arith)

@@ -4,7 +4,7 @@ use mathlib.Core.Bool.{Bool, _&&_}
 use mathlib.Core.List.{List, [], _∷_}
 use lib.Dec.{leb, ltb}
 use Rattle.model.specs.Gather.{pick, one, sum}
-use Rattle.model.specs.Galley.{Galley, Place, count}
+use Rattle.model.specs.Galley.{Sides, Galley, Place, count}
 use Rattle.model.specs.Leaf.{ends}
 use Rattle.model.specs.Answers.{ended}
 
@@ -21,9 +21,17 @@ unfoldable pub waiting : Galley → Place → ℕ
 waiting g v = sum (g .floats) (λ s. waitingIn g s v)
 
 -- f of pages q, q + 1, … of a list, summed: of each page its number, whether it is the last, and the place where it ends.
-unfoldable pub pages : (ℕ → Bool → Place → ℕ) → ℕ → List Place → ℕ
-pages f q [] = 0
-pages f q (v ∷ vs) = f q (ended vs) v + pages f (suc q) vs
+unfoldable pub pageSum : (ℕ → Bool → Place → ℕ) → ℕ → List Place → ℕ
+pageSum f q [] = 0
+pageSum f q (v ∷ vs) = f q (ended vs) v + pageSum f (suc q) vs
+
+-- f at the pages that end their leaf, and 0 at the others.
+unfoldable pub atEnd : Sides → (Place → ℕ) → ℕ → Bool → Place → ℕ
+atEnd sides f q last v = pick (ends sides q) (f v) 0
+
+-- 1 at a page that ends its leaf and is not the last, else 0.
+unfoldable pub turned : Sides → ℕ → Bool → Place → ℕ
+turned sides q last v = pick last 0 (one (ends sides q))
 
 -- What page q costs, which ends at place v: nothing where it is the last or its leaf goes on; else the turn of the leaf, by β,
 -- and every float that dangles there, by α (paper, section 4).
@@ -33,4 +41,4 @@ pageCost g q last v =
 
 -- What the pages of a list cost, numbered from q.
 unfoldable pub costs : Galley → ℕ → List Place → ℕ
-costs g = pages (pageCost g)
+costs g = pageSum (pageCost g)
