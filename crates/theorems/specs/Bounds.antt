@@ -101,7 +101,7 @@ costs-most g (v ∷ vs) h =
     let scaled = mul-le-mul-right (dearest g) rest in
     omega arith
 
--- What document 01 lets a galley have: 4,000 lines, 200 floats, weights of 1,000.
+-- At most 4,000 lines, 200 floats in all and weights of 1,000: document 01's ranges, with its figures the only floats.
 pub record Limits (g : Galley) : Type 0 where
   pub lines : g .stream 0 .size ≤ 4000
   pub floats : allFloats g ≤ 200

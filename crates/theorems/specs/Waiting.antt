@@ -33,8 +33,8 @@ atEnd sides f q last v = pick (ends sides q) (f v) 0
 unfoldable pub turned : Sides → ℕ → Bool → Place → ℕ
 turned sides q last v = pick last 0 (one (ends sides q))
 
--- What page q costs, which ends at place v: nothing where it is the last or its leaf goes on; else the turn of the leaf, by β,
--- and every float that dangles there, by α (paper, section 4).
+-- What page q costs, which ends at place v: nothing where it is the last or its leaf goes on; else every float that dangles
+-- there, by α, and the turn of the leaf, by β (paper, section 4, which counts the turn at the page turned to).
 unfoldable pub pageCost : Galley → ℕ → Bool → Place → ℕ
 pageCost g q last v =
     pick last 0 (pick (ends (g .spec .sides) q) (g .spec .alpha * waiting g v + g .spec .beta) 0)
