@@ -1,1 +1,1 @@
-// The theorems behind least turns: mathematics alone, no code.
+// The theorems behind least turns, over the page model: mathematics alone, no code. See specs/.
