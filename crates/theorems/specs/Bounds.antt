@@ -16,8 +16,7 @@ use Rattle.model.specs.laws.Gather.{and-left, and-right, sum-le}
 use Rattle.model.specs.laws.Rules.{kept, placed, placed-grows}
 use Rattle.model.specs.laws.Judge.{accepts}
 use Rattle.theorems.specs.Waiting.{dangles, waitingIn, waiting, pageSum, pageCost, costs}
-use Rattle.theorems.specs.Pages.{same-eq}
-use Rattle.theorems.specs.Full.{placed-full}
+use Rattle.model.specs.laws.Valid.{same-true, pages-fit}
 use Rattle.theorems.specs.Costs.{turns-are-costs}
 
 -- The number of floats, of all streams together: n for n figures.
@@ -63,23 +62,12 @@ costs-le g q v (w ∷ ws) =
     let after = costs-le g (suc q) w ws in
     simp suc-mul (omega arith)
 
--- A list from u to l has no more pages than blocks are placed from u to l.
-pub pages-le : (g : Galley) (l : Place) (q : ℕ) (u : Place) (ps : List Place) → accepts (allowed g) l q u ps ≡ true
-    → placed g u + length ps ≤ placed g l
-unfolding accepts
-pages-le g l q u [] h = let e = ap (placed g) (same-eq u l h) in omega arith
-pages-le g l q u (v ∷ vs) h =
-    let rest : Bool = accepts (allowed g) l (suc q) v vs in
-    let here = placed-grows g u v (kept (and-left (allowed g q (ended vs) u v) rest h) .rule13) in
-    let after = pages-le g l (suc q) v vs (and-right (allowed g q (ended vs) u v) rest h) in
-    omega arith
-
 -- A partial list from u to l, none of whose pages is the last, costs at most α·n + β for each block that it places.
 pub partial-le : (g : Galley) (l : Place) (q : ℕ) (u : Place) (ps : List Place)
     → accepts (λ q last u v. allowed g q false u v) l q u ps ≡ true
     → pageSum (λ q last v. pageCost g q false v) q ps + placed g u * dearest g ≤ placed g l * dearest g
 unfolding accepts pageSum
-partial-le g l q u [] h = let e = ap (λ v. placed g v * dearest g) (same-eq u l h) in omega arith
+partial-le g l q u [] h = let e = ap (λ v. placed g v * dearest g) (same-true u l h) in omega arith
 partial-le g l q u (v ∷ vs) h =
     let rest : Bool = accepts (λ q last u v. allowed g q false u v) l (suc q) v vs in
     let here = cost-le g q false v in
@@ -94,8 +82,7 @@ pub costs-most : (g : Galley) (ps : List Place) → accepts (allowed g) (sizes g
 unfolding costs pageSum
 costs-most g [] h = omega arith
 costs-most g (v ∷ vs) h =
-    let number = pages-le g (sizes g) 1 (zeros g) (v ∷ vs) h in
-    let full = placed-full g in
+    let number = pages-fit g 1 (zeros g) (v ∷ vs) h in
     let most = costs-le g 1 v vs in
     let rest : length vs ≤ pred (blocks g) = omega arith in
     let scaled = mul-le-mul-right (dearest g) rest in

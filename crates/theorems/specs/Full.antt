@@ -1,19 +1,13 @@
--- The full place: every block is placed, and nothing waits.
-use Prim.Native.Nat.{ℕ, suc, _≤_}
-use native.Mathlib.Nat.{zero-add}
+-- The full place: nothing waits there.
+use Prim.Native.Nat.{ℕ, _≤_}
 use native.Mathlib.Omega.{arith}
-use mathlib.Core.Path.{_≡_, _∙_, ap}
+use mathlib.Core.Path.{_≡_, _∙_}
 use borrow.Author.Tests.{le-ltb}
 use Rattle.model.specs.Gather.{one, sum}
-use Rattle.model.specs.Galley.{Galley, count, streams, sizes, blocks}
-use Rattle.model.specs.laws.Gather.{sum-ext, sum-zero, total-ext, row-at}
-use Rattle.model.specs.laws.Rules.{placed}
+use Rattle.model.specs.Galley.{Galley, count, sizes}
+use Rattle.model.specs.laws.Gather.{sum-ext, sum-zero}
+use Rattle.model.specs.laws.Valid.{count-sizes}
 use Rattle.theorems.specs.Waiting.{dangles, waitingIn, waiting}
-
--- The full place has every block of each stream.
-pub sizes-at : (g : Galley) (s : ℕ) → s ≤ g .floats → count (sizes g) s ≡ g .stream s .size
-unfolding count sizes streams
-sizes-at g s h = row-at 0 (suc (g .floats)) (λ s. g .stream s .size) s (omega arith) ∙ ap (λ i. g .stream i .size) (zero-add s)
 
 -- At the full place nothing waits.
 pub waiting-full : (g : Galley) → waiting g (sizes g) ≡ 0
@@ -25,10 +19,5 @@ waiting-full g = none (g .floats) _ (λ s p q. none (g .stream s .size) _ (λ k 
 
     go : (s k : ℕ) → s ≤ g .floats → k ≤ g .stream s .size → one (dangles g s k (sizes g)) ≡ 0
     go s k q j =
-        let full = sizes-at g s q in
+        let full = count-sizes g s q in
         simp (le-ltb (count (sizes g) s) k (omega arith))
-
--- The blocks placed at the full place are all.
-pub placed-full : (g : Galley) → placed g (sizes g) ≡ blocks g
-unfolding placed blocks
-placed-full g = total-ext (g .floats) (count (sizes g)) (λ s. g .stream s .size) (sizes-at g)

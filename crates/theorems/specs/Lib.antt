@@ -6,7 +6,6 @@ pub mod Cell
 pub mod Optimality
 pub mod LoopStep
 mod Example
-
 -- Turns as a sum of what each page costs.
 pub mod Waiting
 pub mod Pages

@@ -5,13 +5,12 @@ use native.Mathlib.Omega.{arith}
 use mathlib.Core.Path.{_≡_, refl}
 use mathlib.Core.Bool.{Bool, true, false}
 use mathlib.Core.List.{List, [], _∷_}
-use lib.Dec.{eqb}
-use borrow.Author.Tests.{eqb-true}
 use Rattle.model.specs.Galley.{Place}
 use Rattle.model.specs.Answers.{same, ended}
 use Rattle.model.specs.Best.{Allowed}
 use Rattle.model.specs.laws.Gather.{and-left, and-right}
 use Rattle.model.specs.laws.Judge.{accepts}
+use Rattle.model.specs.laws.Valid.{same-true}
 use Rattle.theorems.specs.Waiting.{pageSum}
 
 -- What may hold of page q that goes from u to v, and is the last of its list or not.
@@ -29,22 +28,13 @@ pub along : (P Q : About) → ((q : ℕ) (last : Bool) (u v : Place) → P q las
 along P Q h q u [] a = tt
 along P Q h q u (v ∷ vs) a = (h q (ended vs) u v (a .0), along P Q h (suc q) v vs (a .1))
 
--- Places that test as the same are equal.
-pub same-eq : (u v : Place) → same u v ≡ true → u ≡ v
-unfolding same
-same-eq [] [] h = refl
-same-eq [] (y ∷ ys) h = let z : _≡_ {A = ℕ} 0 1 = cc in absurd (omega arith)
-same-eq (x ∷ xs) [] h = let z : _≡_ {A = ℕ} 0 1 = cc in absurd (omega arith)
-same-eq (x ∷ xs) (y ∷ ys) h =
-    cc (eqb-true x y (and-left (eqb x y) (same xs ys) h), same-eq xs ys (and-right (eqb x y) (same xs ys) h))
-
 -- In an accepted list each page is allowed, and the last ends at the full place.
 pub accepts-along : (ok : Allowed) (l : Place) (q : ℕ) (u : Place) (ps : List Place) → accepts ok l q u ps ≡ true
     → Along (λ q last u v. (ok q last u v ≡ true) × (last ≡ true → v ≡ l)) q u ps
 unfolding accepts
 accepts-along ok l q u [] h = tt
 accepts-along ok l q u (v ∷ []) h =
-    ((and-left (ok q true u v) (same v l) h, λ e. same-eq v l (and-right (ok q true u v) (same v l) h)), tt)
+    ((and-left (ok q true u v) (same v l) h, λ e. same-true v l (and-right (ok q true u v) (same v l) h)), tt)
 accepts-along ok l q u (v ∷ (w ∷ ws)) h =
     let rest : Bool = accepts ok l (suc q) v (w ∷ ws) in (
       (and-left (ok q false u v) rest h, λ e. let z : _≡_ {A = ℕ} 0 1 = cc in absurd (omega arith)),
