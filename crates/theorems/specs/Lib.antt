@@ -1,2 +1,18 @@
--- The theorems behind least turns.
+-- The theorems behind least turns, over the definitions of the page model.
+
+-- The principle of optimality, for any graph of states: its definitions, the theorem, and the steps of a loop.
+pub mod Graph
+pub mod Cell
+pub mod Optimality
+pub mod LoopStep
+mod Example
+-- Turns as a sum of what each page costs.
+pub mod Waiting
+pub mod Pages
+pub mod Leaves
+pub mod LeafEnds
+pub mod Full
+pub mod Costs
+pub mod Bounds
+-- The published model: document 01's rules and numbers are the paper's.
 pub mod published

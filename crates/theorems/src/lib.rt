@@ -1,1 +1,1 @@
-// The theorems behind least turns, over the definitions of `model`: see specs/.
+// The theorems behind least turns, over the page model: mathematics alone, no code. See specs/.
