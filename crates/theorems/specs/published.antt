@@ -4,7 +4,7 @@ pub mod Heights
 pub mod Keeping
 pub mod Fourth
 pub mod Laid
-pub mod Along
+pub mod Places
 pub mod OfMap
 pub mod Accepted
 pub mod Numbers

@@ -18,7 +18,7 @@ use Rattle.model.specs.laws.Valid.{count-sizes, count-zeros}
 use Rattle.theorems.specs.published.Fits.{fits-count}
 use Rattle.theorems.specs.published.Heights.{After}
 use Rattle.theorems.specs.published.Laid.{Laid, laid-pagination, pagination-laid}
-use Rattle.theorems.specs.published.Along.{placeAt, shaped-at, accepts-page, accepts-end, page-reached, list-is}
+use Rattle.theorems.specs.published.Places.{placeAt, shaped-at, accepts-page, accepts-end, page-reached, list-is}
 use Rattle.theorems.specs.published.OfMap.{count-place, place-is, accepts-list, place-after}
 
 module _ (g : Galley) (sane : Sane g) where

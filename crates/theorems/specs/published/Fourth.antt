@@ -1,9 +1,9 @@
 -- Rule 17 where leaves end and on the last page is the paper's fourth constraint, as citations grow.
 use Prim.Native.Nat.{ℕ, zero, suc, _+_, _-_, _≤_, _<_}
-use native.Mathlib.Nat.{le-suc-iff, le-refl, le-trans, le-of-eq}
+use native.Mathlib.Nat.{le-refl, le-trans, le-of-eq}
 use native.Mathlib.Decide.{decLe}
 use native.Mathlib.Omega.{arith}
-use mathlib.Core.Path.{_≡_, refl, _∙_, ap}
+use mathlib.Core.Path.{_≡_, refl, _∙_}
 use mathlib.Core.Logic.{_⊎_, inl, inr}
 use mathlib.Core.Bool.{Bool, true, false, _||_}
 use lib.Dec.{eqb}
@@ -14,6 +14,7 @@ use Rattle.model.specs.Rules.{cited}
 use Rattle.model.specs.Pagination.{Map}
 use Rattle.model.specs.laws.Gather.{or-left, or-right, or-cases}
 use Rattle.model.specs.laws.Leaf.{leaf-next, leaf-mono, leaf-after}
+use Rattle.theorems.specs.Costs.{cite-mono}
 use Rattle.theorems.specs.published.Heights.{After}
 use Rattle.theorems.specs.published.Keeping.{cited-at, cited-of}
 
@@ -32,20 +33,6 @@ leaf-end sides (suc d) q p h = go (ends sides q) refl (leaf-end sides d (suc q) 
         let same : leaf sides (suc q) ≡ leaf sides q = leaf-next sides q ∙ rw b (omega arith) in
         (r .0, (omega arith), r .2, r .3, r .4 ∙ same)
 
--- An earlier float is cited by no later line.
-cite-mono : {g : Galley} → Sane g → (s k j : ℕ) → 1 ≤ s → Block g s j → 1 ≤ k → k ≤ j
-    → g .stream s .cite k ≤ g .stream s .cite j
-cite-mono {g} sane s k zero a b c l = absurd (omega arith)
-cite-mono {g} sane s k (suc j) a b c l = go (le-suc-iff .0 l) (cite-mono sane s k j a)
-  where
-    go : (k ≤ j) ⊎ (k ≡ suc j) → (Block g s j → 1 ≤ k → k ≤ j → g .stream s .cite k ≤ g .stream s .cite j)
-        → g .stream s .cite k ≤ g .stream s .cite (suc j)
-    go (inl m) below =
-        let last = b .last in
-        let here : Block g s j = record { stream = b .stream; first = omega arith; last = omega arith } in
-        le-trans (below here c m) (sane .grows s j a here b)
-    go (inr e) below = le-of-eq (ap (g .stream s .cite) e)
-
 module _ (g : Galley) (sane : Sane g) (p : ℕ) (w : ℕ → Place) (P : Map) (after : (q : ℕ) → q ≤ p → After g P q (w q)) where
   -- Rule 17 on each page gives the fourth constraint.
   pub fourth-of : ((e : ℕ) → 1 ≤ e → e ≤ p → cited g e (eqb e p) (w e) ≡ true)
@@ -60,9 +47,9 @@ module _ (g : Galley) (sane : Sane g) (p : ℕ) (w : ℕ → Place) (P : Map) (a
       let j = count (w e) s in
       let first = b .first in
       let placed = F .late k first (b .last) from in
-      let last : Block g s j = record { stream = b .stream; first = omega arith; last = F .top } in
+      let last : Block g s j = omega arith in
       let line = cited-at g e (eqb e p) (w e) (rule e (omega arith) upto) (end .3) s a (b .stream) (last .first) in
-      let before = le-trans (cite-mono sane s k j a last first placed) line in
+      let before = le-trans (cite-mono g sane s k j a first placed last) line in
       let page = after e upto 0 (omega arith) .early (g .stream s .cite k) (sane .cites s k a b .first) before in
       le-trans (leaf-mono (g .spec .sides) (P 0 (g .stream s .cite k)) e page) (le-of-eq (end .4))
 
@@ -71,13 +58,10 @@ module _ (g : Galley) (sane : Sane g) (p : ℕ) (w : ℕ → Place) (P : Map) (a
       → leaf (g .spec .sides) (P 0 (g .stream s .cite k)) ≤ leaf (g .spec .sides) (P s k))
       → ((k : ℕ) → Block g 0 k → P 0 k ≤ p)
       → (e : ℕ) → 1 ≤ e → e ≤ p → cited g e (eqb e p) (w e) ≡ true
-  cited-on fourth into e a b = cited-of g e (eqb e p) (w e) (λ t s c d l. line t s c (block s d l))
+  cited-on fourth into e a b = cited-of g e (eqb e p) (w e) (λ t s c d l. line t s c (let top = after e b s d .top in omega arith))
     where
       sides : Sides
       sides = g .spec .sides
-
-      block : (s : ℕ) → s ≤ g .floats → 0 < count (w e) s → Block g s (count (w e) s)
-      block s d l = record { stream = d; first = l; last = after e b s d .top }
 
       page : ends sides e || eqb e p ≡ true → (r : ℕ) → r ≤ p → leaf sides r ≤ leaf sides e → r ≤ e
       page t r upto l = go (or-cases (ends sides e) (eqb e p) t) (decLe r e)

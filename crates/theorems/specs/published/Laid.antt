@@ -28,9 +28,6 @@ module _ (g : Galley) (sane : Sane g) (p : ℕ) (w : ℕ → Place) (P : Map) (a
       → heightOn g gap separation P (suc q) ≡ height g gap separation (w q) (w (suc q))
   heights gap separation q c = height-on g gap separation P q (w q) (w (suc q)) (after q (omega arith)) (after (suc q) c)
 
-  block : (s k : ℕ) → s ≤ g .floats → 1 ≤ k → k ≤ g .stream s .size → Block g s k
-  block s k d a b = record { stream = d; first = a; last = b }
-
   -- Places that keep the rules are those of a pagination.
   pub laid-pagination : Laid g p w → Pagination g p P
   unfolding fits fills tightest loosest
@@ -66,8 +63,9 @@ module _ (g : Galley) (sane : Sane g) (p : ℕ) (w : ℕ → Place) (P : Map) (a
           let s = f .more .0 in
           let d = f .more .1 in
           let more = f .more .2 in
+          let top = f .top s d in
           let page = fits-last (after q (omega arith) s d) (after (suc q) c s d) more in
-          (s, count (w (suc q)) s, block s (count (w (suc q)) s) d (omega arith) (f .top s d), page)
+          (s, count (w (suc q)) s, (omega arith), page)
 
       order : (s k : ℕ) → Block g s k → Block g s (suc k) → P s k ≤ P s (suc k)
       order s k b c =
@@ -109,8 +107,8 @@ module _ (g : Galley) (sane : Sane g) (p : ℕ) (w : ℕ → Place) (P : Map) (a
   unfolding fits fills tightest loosest
   pagination-laid m =
       record {
-        none = λ s d. fits-none (after 0 (omega arith) s d) (λ k a b. m .into s k (block s k d a b) .0);
-        all = λ s d. fits-all (after p (le-refl p) s d) (λ k a b. m .into s k (block s k d a b) .1);
+        none = λ s d. fits-none (after 0 (omega arith) s d) (λ k a b. m .into s k (omega arith) .0);
+        all = λ s d. fits-all (after p (le-refl p) s d) (λ k a b. m .into s k (omega arith) .1);
         page = page;
       }
     where
@@ -147,7 +145,7 @@ module _ (g : Galley) (sane : Sane g) (p : ℕ) (w : ℕ → Place) (P : Map) (a
               let k = count (w (suc q)) s in
               let here = G s d .early k i (le-refl k) in
               let not-next : ¬ (P s (suc k) ≤ suc q) = λ n. (let r = G s d .late (suc k) (omega arith) j n in omega arith) in
-              m .legal s k (block s k d i (omega arith)) (block s (suc k) d (omega arith) j) (omega arith)
+              m .legal s k (omega arith) (omega arith) (omega arith)
 
           fill : (t : Bool) → eqb (suc q) p ≡ t → t || leb (g .spec .htmin) (loosest g (w q) (w (suc q))) ≡ true
           fill true e = refl

@@ -21,7 +21,7 @@ module _ {g : Galley} (sane : Sane g) {p : ℕ} {P : Map} (m : Pagination g p P)
   unfolding xOf xOn apart
   x-on =
       sum-ext (g .floats) _ _
-      (λ s a d. sum-ext (g .stream s .size) _ _ (λ k b c. float s a k (record { stream = d; first = b; last = c })))
+      (λ s a d. sum-ext (g .stream s .size) _ _ (λ k b c. float s a k (omega arith)))
     where
       float : (s : ℕ) → 1 ≤ s → (k : ℕ) → Block g s k
           → apart g (listOn g P p 1) s k ≡ leaf (g .spec .sides) (P s k) - leaf (g .spec .sides) (P 0 (g .stream s .cite k))

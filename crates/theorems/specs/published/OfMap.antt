@@ -73,7 +73,7 @@ module _ {g : Galley} {P : Map} (order : (s k : ℕ) → Block g s k → Block g
     where
       up : (k : ℕ) → 1 ≤ k → k < g .stream s .size → P s k ≤ P s (suc k)
       up k a b =
-          order s k (record { stream = d; first = a; last = omega arith }) (record { stream = d; first = omega arith; last = b })
+          order s k (omega arith) (omega arith)
 
   -- The page that places a block in the list is its page.
   pub page-list : (s k : ℕ) → Block g s k → (d q : ℕ) → q < P s k → P s k ≤ q + d

@@ -50,7 +50,7 @@ module _ (g : Galley) (sane : Sane g) where
 
   list-accepted : {p : ℕ} {P : Map} → Pagination g p P → Accepted g (listOn g P p 1)
   list-accepted {p} {P} m =
-      let line = m .into 0 1 (record { stream = omega arith; first = omega arith; last = sane .lined }) in
+      let line = m .into 0 1 (let lined = sane .lined in omega arith) in
       let long = length-list g P p 1 in
       record { some = omega arith; shaped = list-shaped g P p 1; taken = pagination-accepts g sane m }
 
