@@ -14,3 +14,6 @@ pub mod LeafEnds
 pub mod Full
 pub mod Costs
 pub mod Bounds
+-- The instance: pages as a graph, and its best way as the best list.
+pub mod PageGraph
+pub mod PageSides
