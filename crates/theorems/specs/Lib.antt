@@ -17,3 +17,4 @@ pub mod Bounds
 -- The instance: pages as a graph, and its best way as the best list.
 pub mod PageGraph
 pub mod PageSides
+pub mod PageLaws
