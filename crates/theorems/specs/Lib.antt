@@ -18,3 +18,4 @@ pub mod Bounds
 pub mod PageGraph
 pub mod PageSides
 pub mod PageLaws
+pub mod PageWays
