@@ -19,3 +19,4 @@ pub mod PageGraph
 pub mod PageSides
 pub mod PageLaws
 pub mod PageWays
+pub mod PageLists
