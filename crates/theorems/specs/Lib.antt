@@ -20,3 +20,4 @@ pub mod PageSides
 pub mod PageLaws
 pub mod PageWays
 pub mod PageLists
+pub mod PageTies

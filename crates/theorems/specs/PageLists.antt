@@ -20,7 +20,7 @@ use Rattle.theorems.specs.Waiting.{pageSum, costs}
 use Rattle.theorems.specs.Costs.{turns-are-costs}
 use Rattle.theorems.specs.PageGraph.{State, stop, end, Within, Page, Finish, Step, price, pageGraph, pagesTo, pagesOn, stopsOf, wayOf}
 use Rattle.theorems.specs.PageSides.{side-zero, side-side, side-next}
-use Rattle.theorems.specs.PageWays.{same-rules, Reads, reads}
+use Rattle.theorems.specs.PageWays.{same-rules, way-side, Reads, reads}
 
 module _ (g : Galley) where
   -- A way to the end is a way to the full place, and there the reading of its pages begins.
@@ -126,3 +126,13 @@ module _ (g : Galley) where
   pub list-pages : (ps : List Place) → pagesOn (wayOf g ps) ≡ ps
   unfolding pagesTo
   list-pages ps = pages-stops 0 (zeros g) ps []
+
+  -- A way to the end is that of its list.
+  pub way-list : (us : List State) → Way (pageGraph g) us end → wayOf g (pagesOn us) ≡ us
+  unfolding stopsOf
+  way-list us w =
+      let e = way-ends us w in
+      let s = way-side g (e .stops) (sizes g) (e .side) (e .way) in
+      let b = e .read .back in
+      let l = e .last in
+      cc

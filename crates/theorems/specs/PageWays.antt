@@ -70,15 +70,16 @@ module _ (g : Galley) where
     pub cost : costs g 1 ps ≡ total (pageGraph g) us (stop v c) + costs g (suc (length us)) after
     pub long : length ps ≡ length us + length after
     pub starts : startsOf (zeros g) ps [] ≡ startsOf v after (map placeOf us)
+    pub back : wayOf g ps ≡ stopsOf (g .spec .sides) (length us) v after us
 
   -- The list of a way before an accepted list is accepted.
   pub reads : (us : List State) (v : Place) (c : ℕ) (after : List Place) → Way (pageGraph g) us (stop v c) → Inside (sizes g) v
       → AllInside (sizes g) after → accepts (allowed g) (sizes g) (suc (length us)) v after ≡ true
       → Reads us v c after (pagesTo us (stop v c) after)
-  unfolding Way Step total costs pageSum pagesTo startsOf accepts Within placeOf
+  unfolding Way Step total costs pageSum pagesTo stopsOf startsOf accepts Within placeOf
   reads [] v c after e i is h =
       let z : v ≡ zeros g = cc in
-      record { taken = cc; inside = is; cost = omega arith; long = omega arith; starts = cc }
+      record { taken = cc; inside = is; cost = omega arith; long = omega arith; starts = cc; back = cc }
   reads (stop u b ∷ us) v c after (p, w) i is h =
       let s = way-side (stop u b ∷ us) v c (p, w) in
       let may : allowed g (suc (length us)) (ended after) u v ≡ true = let r = same-rules (suc (length us)) v after h u in let m = p .may in cc in
@@ -87,5 +88,5 @@ module _ (g : Galley) where
       ap (λ d. price g (stop v d)) s ∙ same-price (suc (length us)) v after h in
       let cost = r .cost in
       let long = r .long in
-      record { taken = r .taken; inside = r .inside; cost = omega arith; long = omega arith; starts = r .starts }
+      record { taken = r .taken; inside = r .inside; cost = omega arith; long = omega arith; starts = r .starts; back = r .back ∙ ap (λ d. stopsOf (g .spec .sides) (suc (length us)) v after (stop u d ∷ us)) (sym (way-side us u b w)) }
   reads (end ∷ us) v c after (p, w) i is h = absurd p
