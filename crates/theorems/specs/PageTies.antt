@@ -40,3 +40,33 @@ module _ (g : Galley) where
       let e = later-antisymm w u k (f .0 .0) in
       let r = same-side u v b d c (x .0) (rw e at (y .0)) in
       first-starts us ws u b (x .1) (rw (e, ← r) at (y .1)) (f .1 (cc))))
+
+  -- The side at which a way ends is the parity of its list's page count.
+  end-side : (us : List State) (e : Ends g us) → oddly (g .spec .sides) (length (pagesOn us)) ≡ e .side
+  end-side us e =
+      let long : length (pagesOn us) ≡ length (e .stops) = let l = e .read .long in omega arith in
+      ap (oddly (g .spec .sides)) long ∙ sym (way-side g (e .stops) (sizes g) (e .side) (e .way))
+
+  -- The starts of a way's list are the places of its stops.
+  end-starts : (us : List State) (e : Ends g us) → startsOf (zeros g) (pagesOn us) [] ≡ map placeOf (e .stops)
+  unfolding startsOf
+  end-starts us e = e .read .starts
+
+  -- Of two ways to the end that cost the same the first has the preferred list.
+  pub first-before : (us ws : List State) → Way (pageGraph g) us end → Way (pageGraph g) ws end
+      → turns g (pagesOn us) ≤ turns g (pagesOn ws)
+      → (turns g (pagesOn us) ≡ turns g (pagesOn ws) → First (pageGraph g) us ws)
+      → before g (pagesOn us) (pagesOn ws) ≡ true
+  unfolding before thenBy by First Prefers
+  first-before us ws w x l h =
+      let e = way-ends g us w in
+      let f = way-ends g ws x in
+      simp (end-side us e, end-side ws f, end-starts us e, end-starts ws f)
+      (and-both (le-leb _ _ l) (implies-of (leb (turns g (pagesOn ws)) (turns g (pagesOn us))) _ (λ k.
+      let m = leb-true (turns g (pagesOn ws)) (turns g (pagesOn us)) k in
+      let first = rw (e .last, f .last) at (h (omega arith)) in
+      and-both (le-leb _ _ (first .0 .1 refl)) (implies-of (leb (f .side) (e .side)) _ (λ k′.
+      let m′ = leb-true (f .side) (e .side) k′ in
+      let m″ = first .0 .1 refl in
+      let s : e .side ≡ f .side = omega arith in
+      first-starts (e .stops) (f .stops) (sizes g) (e .side) (e .way) (rw (← s) at (f .way)) (first .1 (cc)))))))
