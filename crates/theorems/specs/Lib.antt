@@ -21,3 +21,4 @@ pub mod PageLaws
 pub mod PageWays
 pub mod PageLists
 pub mod PageTies
+pub mod PageBounds
