@@ -22,3 +22,4 @@ pub mod PageWays
 pub mod PageLists
 pub mod PageTies
 pub mod PageBounds
+pub mod PageTheorem

@@ -86,20 +86,22 @@ module _ (g : Galley) where
   blocksAt (stop v c) = placed g v
   blocksAt end = suc (blocks g)
 
-  step-within : (s t : State) → Step g s t → Within g s
+  -- A step starts within the table,
+  pub step-within : (s t : State) → Step g s t → Within g s
   unfolding Step
   step-within (stop u b) (stop v c) p = p .within
   step-within (stop u b) end p = p .within
   step-within end t p = absurd p
 
-  step-falls : (s t : State) → Step g s t → blocksAt s < blocksAt t
+  -- with fewer blocks placed than where it stops.
+  pub step-falls : (s t : State) → Step g s t → blocksAt s < blocksAt t
   unfolding Step blocksAt
   step-falls (stop u b) (stop v c) p = placed-grows g u v (kept (p .may) .rule13)
   step-falls (stop u b) end p = let e = ap (placed g) (p .whole) in let all = placed-sizes g in omega arith
   step-falls end t p = absurd p
 
   -- The states of the table are a domain: each step into them starts in them, with fewer blocks placed.
-  pub pageDomain : Domain (pageGraph g)
+  abbrev pub pageDomain : Domain (pageGraph g)
   pageDomain =
       record {
         In = Within g;
