@@ -16,3 +16,12 @@ pub mod Costs
 pub mod Bounds
 -- The published model: document 01's rules and numbers are the paper's.
 pub mod published
+-- The instance: pages as a graph, and its best way as the best list.
+pub mod PageGraph
+pub mod PageSides
+pub mod PageLaws
+pub mod PageWays
+pub mod PageLists
+pub mod PageTies
+pub mod PageBounds
+pub mod PageTheorem

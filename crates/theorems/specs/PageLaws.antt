@@ -1,0 +1,111 @@
+-- The graph of pages obeys the laws of graphs, and its table's states are a domain.
+use Prim.Native.Nat.{ℕ, zero, suc, _+_, _≤_, _<_}
+use native.Mathlib.Nat.{le-trans}
+use native.Mathlib.Omega.{arith}
+use mathlib.Core.Path.{_≡_, refl, sym, _∙_, ap}
+use mathlib.Core.Logic.{_⊎_, inl, inr}
+use mathlib.Core.Bool.{Bool, true}
+use mathlib.Core.List.{List, []}
+use Rattle.model.specs.Galley.{Galley, Place, count, zeros, sizes, blocks}
+use Rattle.model.specs.Order.{lex, geb}
+use Rattle.model.specs.laws.Rules.{kept, forward-at, placed, placed-grows}
+use Rattle.model.specs.laws.Valid.{count-zeros, placed-sizes}
+use Rattle.model.specs.laws.Order.{lex-preference, lex-antisymm, geb-preference, geb-antisymm}
+use Rattle.theorems.specs.Graph.{Laws}
+use Rattle.theorems.specs.Cell.{Domain}
+use Rattle.theorems.specs.PageGraph.{State, stop, end, Within, Page, Finish, Step, Prefers, price, pageGraph}
+
+-- Two places that are each the later are the same.
+pub later-antisymm : (u w : Place) → lex geb u w ≡ true → lex geb w u ≡ true → u ≡ w
+later-antisymm = lex-antisymm geb geb-antisymm
+
+prefers-refl : (s : State) → Prefers s s
+unfolding Prefers
+prefers-refl (stop u b) = (itself (lex-preference geb geb-preference .total u u), λ e. omega arith)
+  where
+    itself : (lex geb u u ≡ true) ⊎ (lex geb u u ≡ true) → lex geb u u ≡ true
+    itself (inl h) = h
+    itself (inr h) = h
+prefers-refl end = tt
+
+prefers-trans : (s t r : State) → Prefers s t → Prefers t r → Prefers s r
+unfolding Prefers
+prefers-trans (stop u b) (stop v c) (stop w d) (h, f) (k, f′) = (
+  lex-preference geb geb-preference .trans u v w h k,
+  λ e. let p = later-antisymm u v h (rw e k) in le-trans (f p) (f′ (sym p ∙ e)),
+)
+prefers-trans (stop u b) (stop v c) end p q = tt
+prefers-trans (stop u b) end (stop w d) p q = absurd q
+prefers-trans (stop u b) end end p q = tt
+prefers-trans end (stop v c) r p q = absurd p
+prefers-trans end end r p q = q
+
+prefers-antisymm : (s t : State) → Prefers s t → Prefers t s → s ≡ t
+unfolding Prefers
+prefers-antisymm (stop u b) (stop w d) (h, f) (k, f′) =
+    let e = later-antisymm u w h k in
+    let l = f e in
+    let m = f′ (sym e) in
+    let c : b ≡ d = omega arith in
+    cc
+prefers-antisymm (stop u b) end p q = absurd q
+prefers-antisymm end (stop w d) p q = absurd p
+prefers-antisymm end end p q = refl
+
+module _ (g : Galley) where
+  -- No page stops where nothing is placed.
+  no-origin : (s t : State) → Step g s t → ¬ (t ≡ stop (zeros g) 0)
+  unfolding Step
+  no-origin (stop u b) (stop v c) p e =
+      let f = forward-at g u v (kept (p .may) .rule13) in
+      let nil = count-zeros g (f .more .0) (f .more .1) in
+      let at-origin : v ≡ zeros g = cc in
+      let counts = ap (λ x. count x (f .more .0)) at-origin in
+      let more = f .more .2 in
+      omega arith
+  no-origin (stop u b) end p e = let z : _≡_ {A = ℕ} 0 1 = cc in absurd (omega arith)
+  no-origin end t p e = p
+
+  -- The graph of pages obeys the laws of graphs.
+  pub page-laws : Laws (pageGraph g)
+  page-laws =
+      record {
+        le-refl = λ a. omega arith;
+        le-trans = λ p q. omega arith;
+        le-antisym = λ p q. omega arith;
+        add-mono = λ u v p. omega arith;
+        add-cancel = λ u v p. omega arith;
+        tie-refl = prefers-refl;
+        tie-trans = λ {u} {v} {w}. prefers-trans u v w;
+        tie-antisym = λ {u} {v}. prefers-antisymm u v;
+        origin = λ {u} {v}. no-origin u v;
+      }
+
+  -- The blocks placed where a state stops, and one more at the end.
+  unfoldable pub blocksAt : State → ℕ
+  blocksAt (stop v c) = placed g v
+  blocksAt end = suc (blocks g)
+
+  -- A step starts within the table,
+  pub step-within : (s t : State) → Step g s t → Within g s
+  unfolding Step
+  step-within (stop u b) (stop v c) p = p .within
+  step-within (stop u b) end p = p .within
+  step-within end t p = absurd p
+
+  -- with fewer blocks placed than where it stops.
+  pub step-falls : (s t : State) → Step g s t → blocksAt s < blocksAt t
+  unfolding Step blocksAt
+  step-falls (stop u b) (stop v c) p = placed-grows g u v (kept (p .may) .rule13)
+  step-falls (stop u b) end p = let e = ap (placed g) (p .whole) in let all = placed-sizes g in omega arith
+  step-falls end t p = absurd p
+
+  -- The states of the table are a domain: each step into them starts in them, with fewer blocks placed.
+  abbrev pub pageDomain : Domain (pageGraph g)
+  pageDomain =
+      record {
+        In = Within g;
+        closed = λ {u} {v} i. step-within u v;
+        rank = blocksAt;
+        falls = λ {u} {v} i. step-falls u v;
+      }
