@@ -1,3 +1,5 @@
+use Rattle.galley.specs.Record.{whole, openedBy}
+use borrow.Author.Tests.{lt-ltb, le-ltb}
 use borrow.Author.Needs.{needs}
 use Rattle.galley.proofs.records.figure_record.Statement.{statement}
 use Rattle.galley.proofs.records.figure_record.Tie as tie
@@ -13,7 +15,8 @@ left-from-requires c κs = search needs
 
 -- src/records.rt:89:9
 returns : tie.Need-returns
-returns c = search needs
+unfolding whole openedBy
+returns c = simp (← c .before .left-from .ensures, lt-ltb _ _ (c .if1 .taken))
 
 -- src/records.rt:91:9
 figure-fields-requires : tie.Need-figure-fields-requires
@@ -25,11 +28,13 @@ figure-in-range-requires c κs = search needs
 
 -- src/records.rt:93:9
 returns-2 : tie.Need-returns-2
-returns-2 c = search needs
+unfolding whole openedBy
+returns-2 c = simp (← c .before .before .before .before .left-from .ensures, le-ltb _ _ (c .before .before .before .if1 .left), ← c .before .before .figure-fields .ensures, ← c .before .figure-in-range .ensures, c .if2 .taken)
 
 -- src/records.rt:85:1
 returns-3 : tie.Need-returns-3
-returns-3 c = search needs
+unfolding whole openedBy
+returns-3 c = simp (← c .before .before .before .before .left-from .ensures, le-ltb _ _ (c .before .before .before .if1 .left), ← c .before .before .figure-fields .ensures, ← c .before .figure-in-range .ensures, c .if2 .left)
 
 pub figure-record-spec : {M : Type 1} → statement M
 figure-record-spec =

@@ -1,3 +1,5 @@
+use Rattle.galley.specs.Record.{whole, openedBy}
+use borrow.Author.Tests.{lt-ltb, le-ltb}
 use borrow.Author.Needs.{needs}
 use Rattle.galley.proofs.records.line_record.Statement.{statement}
 use Rattle.galley.proofs.records.line_record.Tie as tie
@@ -13,7 +15,8 @@ left-from-requires c κs = search needs
 
 -- src/records.rt:75:9
 returns : tie.Need-returns
-returns c = search needs
+unfolding whole openedBy
+returns c = simp (← c .before .left-from .ensures, lt-ltb _ _ (c .if1 .taken))
 
 -- src/records.rt:77:9
 line-fields-requires : tie.Need-line-fields-requires
@@ -25,11 +28,13 @@ line-in-range-requires c κs = search needs
 
 -- src/records.rt:79:9
 returns-2 : tie.Need-returns-2
-returns-2 c = search needs
+unfolding whole openedBy
+returns-2 c = simp (← c .before .before .before .before .left-from .ensures, le-ltb _ _ (c .before .before .before .if1 .left), ← c .before .before .line-fields .ensures, ← c .before .line-in-range .ensures, c .if2 .taken)
 
 -- src/records.rt:71:1
 returns-3 : tie.Need-returns-3
-returns-3 c = search needs
+unfolding whole openedBy
+returns-3 c = simp (← c .before .before .before .before .left-from .ensures, le-ltb _ _ (c .before .before .before .if1 .left), ← c .before .before .line-fields .ensures, ← c .before .line-in-range .ensures, c .if2 .left)
 
 pub line-record-spec : {M : Type 1} → statement M
 line-record-spec =

@@ -1,3 +1,5 @@
+use Rattle.galley.specs.Record.{recordAt, openedBy}
+use borrow.Author.Tests.{lt-ltb, le-ltb}
 use borrow.Author.Needs.{needs}
 use Rattle.galley.proofs.records.record_at.Statement.{statement}
 use Rattle.galley.proofs.records.record_at.Tie as tie
@@ -16,7 +18,8 @@ left-from-requires c κs = search needs
 
 -- src/records.rt:103:9
 returns : tie.Need-returns
-returns c = search needs
+unfolding recordAt
+returns c = simp (← c .before .left-from .ensures, lt-ltb _ _ (c .if1 .taken))
 
 -- src/records.rt:105:38
 mark-at-requires : tie.Need-mark-at-requires
@@ -60,23 +63,28 @@ enum-told-5 c = search needs
 
 -- src/records.rt:99:1
 returns-2 : tie.Need-returns-2
-returns-2 c = search needs
+unfolding recordAt
+returns-2 c = simp (← c .before .before .before .before .before .before .left-from .ensures, le-ltb _ _ (c .before .before .before .before .before .if1 .left), ← c .before .before .before .before .mark-at .ensures, ← c .before .before .before .kind-of .ensures, c .before .enum-told .given .1) (c .spec-record .ensures)
 
 -- src/records.rt:99:1
 returns-3 : tie.Need-returns-3
-returns-3 c = search needs
+unfolding recordAt
+returns-3 c = simp (← c .before .before .before .before .before .before .left-from .ensures, le-ltb _ _ (c .before .before .before .before .before .if1 .left), ← c .before .before .before .before .mark-at .ensures, ← c .before .before .before .kind-of .ensures, c .before .enum-told2 .given .1) (c .line-record .ensures)
 
 -- src/records.rt:99:1
 returns-4 : tie.Need-returns-4
-returns-4 c = search needs
+unfolding recordAt
+returns-4 c = simp (← c .before .before .before .before .before .before .left-from .ensures, le-ltb _ _ (c .before .before .before .before .before .if1 .left), ← c .before .before .before .before .mark-at .ensures, ← c .before .before .before .kind-of .ensures, c .before .enum-told3 .given .1) (c .figure-record .ensures)
 
 -- src/records.rt:99:1
 returns-5 : tie.Need-returns-5
-returns-5 c = search needs
+unfolding recordAt openedBy
+returns-5 c = simp (← c .before .before .before .before .before .left-from .ensures, le-ltb _ _ (c .before .before .before .before .if1 .left), ← c .before .before .before .mark-at .ensures, ← c .before .before .kind-of .ensures, c .enum-told4 .given .1)
 
 -- src/records.rt:99:1
 returns-6 : tie.Need-returns-6
-returns-6 c = search needs
+unfolding recordAt openedBy
+returns-6 c = simp (← c .before .before .before .before .before .left-from .ensures, le-ltb _ _ (c .before .before .before .before .if1 .left), ← c .before .before .before .mark-at .ensures, ← c .before .before .kind-of .ensures, c .enum-told5 .given .1)
 
 pub record-at-spec : {M : Type 1} → statement M
 record-at-spec =
