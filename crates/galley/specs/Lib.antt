@@ -1,0 +1,9 @@
+pub mod Pick
+pub mod Word
+pub mod Range
+pub mod Mark
+pub mod Record
+pub mod Place
+pub mod Whole
+pub mod Block
+mod CaseA
