@@ -6,4 +6,5 @@ pub mod Record
 pub mod Place
 pub mod Whole
 pub mod Block
+pub mod Model
 mod CaseA
