@@ -6,4 +6,5 @@ pub mod Record
 pub mod Place
 pub mod Whole
 pub mod Block
-mod CaseA
+pub mod CaseA
+pub mod Laws
