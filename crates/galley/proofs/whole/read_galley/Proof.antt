@@ -1,3 +1,9 @@
+use Rattle.galley.specs.Laws.Whole.{refused-placed}
+use Rattle.galley.specs.Whole.{opened, galleyOf}
+use denote.Ref.{now}
+use mathlib.Core.Bool.{false}
+use native.Mathlib.Omega.{arith}
+use mathlib.Core.Path.{sym, _∙_}
 use borrow.Author.Needs.{needs}
 use Rattle.galley.proofs.whole.read_galley.Statement.{statement}
 use Rattle.galley.proofs.whole.read_galley.Tie as tie
@@ -36,27 +42,35 @@ enum-known-found-4 c = search needs
 
 -- src/whole.rt:124:20
 cast-t9 : tie.Need-cast-t9
-cast-t9 c = search needs
+cast-t9 c = 
+    omega
+    (arith,
+    refused-placed (now (c .before .before .before .before .before .args .s)) 0 false 0 0 0 (sym (c .before .before .before .record-in .ensures) ∙ c .before .found4 .given .1))
 
 -- src/whole.rt:113:1
 returns : tie.Need-returns
-returns c = search needs
+unfolding galleyOf opened
+returns c = simp (← c .before .before .before .before .record-in .ensures, c .before .before .found .given .1) (c .read-blocks .ensures)
 
 -- src/whole.rt:113:1
 returns-2 : tie.Need-returns-2
-returns-2 c = search needs
+unfolding galleyOf opened
+returns-2 c = simp (← c .before .before .before .record-in .ensures, c .before .found2 .given .1)
 
 -- src/whole.rt:113:1
 returns-3 : tie.Need-returns-3
-returns-3 c = search needs
+unfolding galleyOf opened
+returns-3 c = simp (← c .before .before .before .record-in .ensures, c .before .found3 .given .1)
 
 -- src/whole.rt:113:1
 returns-4 : tie.Need-returns-4
-returns-4 c = search needs
+unfolding galleyOf opened
+returns-4 c = simp (← c .before .before .record-in .ensures, c .enum-told .given .1)
 
 -- src/whole.rt:113:1
 returns-5 : tie.Need-returns-5
-returns-5 c = search needs
+unfolding galleyOf opened
+returns-5 c = simp (← c .before .before .before .record-in .ensures, c .before .found4 .given .1)
 
 pub read-galley-spec : {M : Type 1} → statement M
 read-galley-spec =
