@@ -6,5 +6,6 @@ pub mod Record
 pub mod Place
 pub mod Whole
 pub mod Block
+pub mod Laws
 pub mod Model
 mod CaseA
