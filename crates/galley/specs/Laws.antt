@@ -1,0 +1,5 @@
+pub mod Pick
+pub mod Record
+pub mod Place
+pub mod Whole
+pub mod Blocks
