@@ -6,5 +6,6 @@ pub mod Record
 pub mod Place
 pub mod Whole
 pub mod Block
+pub mod Sound
 pub mod CaseA
 pub mod Laws
