@@ -11,7 +11,7 @@ use lib.ListN.{length}
 use Rattle.galley.specs.Record.{specOf, lineOf, figureOf, recordAt}
 use Rattle.galley.specs.Whole.{recordIn, dueAt, next, blocks, opened, galleyOf}
 use Rattle.galley.specs.Range.{SpecRanged, LineRanged, FigureRanged}
-use Rattle.galley.specs.Block.{lineOffset, figureOffset, lineAt, figureAt}
+use Rattle.galley.specs.Block.{lineOffset, figureOffset, lineAt, figureAt, Within}
 use Rattle.galley.specs.Sound.{citation, Sound}
 use Rattle.galley.specs.Laws.Range.{spec-ranged, line-ranged, figure-ranged}
 use Rattle.galley.specs.Laws.Record.{Stands, Found, found-at}
@@ -73,7 +73,7 @@ module _ (bytes : List ℕ) (spec : Spec) (first lines figures last : ℕ) where
   sofar-line : (l : Line) → SoFar bytes (soFar spec first lines figures) last
       → LinePlaced bytes (dueAt first lines figures) true lines figures l
       → SoFar bytes (soFar spec first (lines + 1) figures) last
-  unfolding lineOffset lineAt
+  unfolding lineAt
   sofar-line l so p =
       let none = p .before in
       let here : dueAt first lines figures ≡ first + (lines + 1 - 1) * 18 = omega arith in
@@ -95,7 +95,7 @@ module _ (bytes : List ℕ) (spec : Spec) (first lines figures last : ℕ) where
   sofar-figure : (f : Figure) → SoFar bytes (soFar spec first lines figures) last
       → FigurePlaced bytes (dueAt first lines figures) true lines figures last f
       → SoFar bytes (soFar spec first lines (figures + 1)) (f .cite)
-  unfolding lineOffset lineAt figureOffset figureAt
+  unfolding lineAt figureAt
   sofar-figure f so p =
       let here : dueAt first lines figures ≡ first + lines * 18 + (figures + 1 - 1) * 18 = omega arith in
       let same = figure-same bytes _ (p .read) in
@@ -211,3 +211,7 @@ pub sound : (bytes : List ℕ) (g : Galley) → galleyOf bytes ≡ reads.Galley 
 unfolding galleyOf
 sound bytes g h =
     opened-sound bytes (recordIn bytes 0 false 0 0 0) g (λ s e. spec-placed bytes 0 false 0 0 0 e .0) h
+
+-- All its records lie within the bytes.
+pub sound-within : (bytes : List ℕ) (g : Galley) → Sound bytes g → Within bytes g
+sound-within bytes g so = record { upto = omega (arith, so .ends) }
