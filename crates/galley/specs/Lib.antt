@@ -6,6 +6,8 @@ pub mod Record
 pub mod Place
 pub mod Whole
 pub mod Block
+pub mod Sound
+pub mod CaseA
 pub mod Laws
 pub mod Model
 mod CaseA

@@ -1,0 +1,6 @@
+-- Making: its definitions first, then the laws about them.
+pub mod Search
+pub mod Filled
+pub mod Fill
+pub mod Trace
+mod Example
