@@ -10,4 +10,3 @@ pub mod Sound
 pub mod CaseA
 pub mod Laws
 pub mod Model
-mod CaseA
