@@ -3,4 +3,5 @@ pub mod Search
 pub mod Filled
 pub mod Fill
 pub mod Trace
+pub mod laws
 mod Example

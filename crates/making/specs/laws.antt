@@ -1,0 +1,2 @@
+-- The laws of making's definitions.
+pub mod Entered
