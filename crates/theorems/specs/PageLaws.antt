@@ -19,13 +19,22 @@ use Rattle.theorems.specs.PageGraph.{State, stop, end, Within, Page, Fin
 pub later-antisymm : (u w : Place) → lex geb u w ≡ true → lex geb w u ≡ true → u ≡ w
 later-antisymm = lex-antisymm geb geb-antisymm
 
+-- A place is no later than itself.
+pub later-refl : (u : Place) → lex geb u u ≡ true
+later-refl u = go (lex-preference geb geb-preference .total u u)
+  where
+    go : (lex geb u u ≡ true) ⊎ (lex geb u u ≡ true) → lex geb u u ≡ true
+    go (inl h) = h
+    go (inr h) = h
+
+-- At one place the lower side is preferred.
+pub prefers-side : (u : Place) (b d : ℕ) → b ≤ d → Prefers (stop u b) (stop u d)
+unfolding Prefers
+prefers-side u b d h = (later-refl u, λ e. h)
+
 prefers-refl : (s : State) → Prefers s s
 unfolding Prefers
-prefers-refl (stop u b) = (itself (lex-preference geb geb-preference .total u u), λ e. omega arith)
-  where
-    itself : (lex geb u u ≡ true) ⊎ (lex geb u u ≡ true) → lex geb u u ≡ true
-    itself (inl h) = h
-    itself (inr h) = h
+prefers-refl (stop u b) = prefers-side u b b (omega arith)
 prefers-refl end = tt
 
 prefers-trans : (s t r : State) → Prefers s t → Prefers t r → Prefers s r
@@ -100,12 +109,12 @@ module _ (g : Galley) where
   step-falls (stop u b) end p = let e = ap (placed g) (p .whole) in let all = placed-sizes g in omega arith
   step-falls end t p = absurd p
 
-  -- The states of the table are a domain: each step into them starts in them, with fewer blocks placed.
-  abbrev pub pageDomain : Domain (pageGraph g)
-  pageDomain =
+  -- States that hold the start of each step into them are a domain: fewer blocks are placed at each start.
+  abbrev pub domainOf : (K : State → Type 0) → ((u v : State) → K v → Step g u v → K u) → Domain (pageGraph g)
+  domainOf K closed =
       record {
-        In = Within g;
-        closed = λ {u} {v} i. step-within u v;
+        In = K;
+        closed = λ {u} {v} i. closed u v i;
         rank = blocksAt;
         falls = λ {u} {v} i. step-falls u v;
       }
