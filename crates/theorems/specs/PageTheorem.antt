@@ -43,7 +43,9 @@ module _ (g : Galley) where
     optimal-least us w = (
       λ o. record {
         lawful = way-valid us w .0;
-        ahead = λ qs m. let (x, e) = valid-way qs m in rw (← e) (before-ways g sane us (wayOf g qs) w x .1 (o .cheapest _ x, o .first _ x));
+        ahead = λ qs m.
+            let (x, e) = valid-way qs m in
+            rw (← e) (before-ways g sane us (wayOf g qs) w x .1 (o .cheapest _ x, o .first _ x));
       },
       λ l. record { way = w; cheapest = λ ws x. ahead l ws x .0; first = λ ws x. ahead l ws x .1 },
     )
@@ -79,6 +81,7 @@ module _ (g : Galley) where
   -- A table that is right on the states of K, which holds the start of each step into it: the whole table, or one half filled.
   module _ (K : State → Type 0) (closed : (u v : State) → K v → Step g u v → K u)
       (D : Table (pageGraph g)) (right : Right (pageGraph g) D K) where
+    -- The principle of optimality, for such a table.
     tells : (t : State) → K t → Answer (pageGraph g) D t (D t)
     tells = optimality (pageGraph g) (page-laws g) (domainOf g K closed) D right
 

@@ -1,6 +1,6 @@
 -- The first of two ways to the end is the preferred of their lists by document 01's ties: at the end the side of the last page
 -- decides, and from there back the sides agree, so that the places decide.
-use Prim.Native.Nat.{ℕ, _+_, _≤_}
+use Prim.Native.Nat.{ℕ, _≤_}
 use native.Mathlib.Nat.{le-of-eq}
 use native.Mathlib.Omega.{arith}
 use mathlib.Core.Path.{_≡_, refl, sym, _∙_, ap}
@@ -16,10 +16,10 @@ use Rattle.model.specs.Turns.{turns}
 use Rattle.model.specs.Order.{thenBy, by, lex, geb, oddly, startsOf, before}
 use Rattle.model.specs.laws.Gather.{and-left, and-right, and-both, implies-at, implies-of}
 use Rattle.theorems.specs.Graph.{Way, total, First}
-use Rattle.theorems.specs.PageGraph.{State, stop, end, placeOf, Within, Page, Step, Prefers, pageGraph, pagesOn}
+use Rattle.theorems.specs.PageGraph.{State, stop, end, placeOf, Within, PageStep, Step, Prefers, pageGraph, pagesOn}
 use Rattle.theorems.specs.PageSides.{side-back}
 use Rattle.theorems.specs.PageLaws.{later-refl, later-antisymm, prefers-side}
-use Rattle.theorems.specs.PageWays.{way-side, Reads}
+use Rattle.theorems.specs.PageWays.{way-side}
 use Rattle.theorems.specs.PageLists.{Ends, way-ends, way-turns}
 
 -- One order and then another, read from its test.
@@ -43,11 +43,12 @@ module _ (g : Galley) where
     λ h. both .1 (le-leb _ _ (h .0), λ k. let l = leb-true (turns g qs) (turns g ps) k in let m = h .0 in h .1 (omega arith)),
   )
     where
-      both : (before g ps qs ≡ true) ↔ ((leb (turns g ps) (turns g qs) ≡ true) × (leb (turns g qs) (turns g ps) ≡ true → ties ps qs ≡ true))
+      both : (before g ps qs ≡ true)
+          ↔ ((leb (turns g ps) (turns g qs) ≡ true) × (leb (turns g qs) (turns g ps) ≡ true → ties ps qs ≡ true))
       both = then-iff (leb (turns g ps) (turns g qs)) (leb (turns g qs) (turns g ps)) (ties ps qs)
 
   -- Two pages from one place to one stop are the same step.
-  same-side : (u v : Place) (b d c : ℕ) → Page g u b v c → Page g u d v c → b ≡ d
+  same-side : (u v : Place) (b d c : ℕ) → PageStep g u b v c → PageStep g u d v c → b ≡ d
   unfolding Within
   same-side u v b d c p q =
       side-back (g .spec .sides) b d (p .within .1) (q .within .1) (sym (p .next) ∙ q .next)
@@ -66,9 +67,9 @@ module _ (g : Galley) where
       let next : u ≡ w → First (pageGraph g) us ws ↔ (rest ≡ true) =
       λ e. first-starts us ws u b (x .1) (rw (← e, ← side e) at (y .1)) in (
         λ f. then-iff (lex geb u w) (lex geb w u) rest .1
-        (f .0 .0, λ k. let e = later-antisymm u w (f .0 .0) k in let s = side e in next e .0 (f .1 (cc))),
+            (f .0 .0, λ k. let e = later-antisymm u w (f .0 .0) k in let s = side e in next e .0 (f .1 (cc))),
         λ h. let (l, k) = then-iff (lex geb u w) (lex geb w u) rest .0 h in
-        ((l, λ e. le-of-eq (side e)), λ e. let p : u ≡ w = cc in next p .1 (k (rw p (later-refl w)))),
+            ((l, λ e. le-of-eq (side e)), λ e. let p : u ≡ w = cc in next p .1 (k (rw p (later-refl w)))),
       )
 
   -- The side on which a way ends is the parity of its list's page count.
@@ -94,13 +95,24 @@ module _ (g : Galley) where
           let next : e .side ≡ f .side → First (pageGraph g) (e .stops) (f .stops) ↔ (rest ≡ true) =
           λ s. first-starts (e .stops) (f .stops) (sizes g) (e .side) (e .way) (rw (← s) at (f .way)) in
           let both = then-iff (leb (e .side) (f .side)) (leb (f .side) (e .side)) rest in
-          simp (end-side us e, end-side ws f, end-starts us e, end-starts ws f)
-          (λ h. let (p, n) = rw (e .last, f .last) at h in
-          let l = p .1 refl in
-          both .1 (le-leb _ _ l, λ k. let m = leb-true (f .side) (e .side) k in let s : e .side ≡ f .side = omega arith in next s .0 (n (cc))),
-          λ h. let (l, k) = both .0 h in
-          rw (e .last, f .last)
-          (prefers-side (sizes g) (e .side) (f .side) (leb-true _ _ l), λ q. let s : e .side ≡ f .side = cc in next s .1 (k (le-leb _ _ (le-of-eq (sym s))))))
+          simp (end-side us e, end-side ws f, end-starts us e, end-starts ws f) (
+            λ h. let (p, n) = rw (e .last, f .last) at h in
+                let l = p .1 refl in
+                both .1 (
+                  le-leb _ _ l,
+                  λ k.
+                      let m = leb-true (f .side) (e .side) k in
+                      let s : e .side ≡ f .side = omega arith in
+                      next s .0 (n (cc)),
+                ),
+            λ h. let (l, k) = both .0 h in
+                rw (e .last, f .last) (
+                  prefers-side (sizes g) (e .side) (f .side) (leb-true _ _ l),
+                  λ q.
+                      let s : e .side ≡ f .side = cc in
+                      next s .1 (k (le-leb _ _ (le-of-eq (sym s)))),
+                ),
+          )
 
   -- Of two ways to the end the one with the preferred list costs no more, and where it costs as much it is the first.
   pub before-ways : Sane g → (us ws : List State) → Way (pageGraph g) us end → Way (pageGraph g) ws end
