@@ -32,7 +32,7 @@ unfoldable pub Within : Galley → State → Type 0
 Within g (stop v c) = Inside (sizes g) v × (oddly (g .spec .sides) c ≡ c)
 Within g end = Unit {0}
 
--- A page from u, after a page on side b, to v on the other side, or on the one side of single-sided work: one that breaks no rule.
+-- A page from u to v that breaks no rule: the page before it is on side b, and it is on side c, the next.
 pub record PageStep (g : Galley) (u : Place) (b : ℕ) (v : Place) (c : ℕ) : Type 0 where
   pub within : Within g (stop u b)
   pub next : c ≡ oddly (g .spec .sides) (suc b)

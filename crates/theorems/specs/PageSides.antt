@@ -30,7 +30,8 @@ side-next single q = refl
 side-next double q = omega arith
 
 -- The side follows from the next page's side.
-pub side-back : (sides : Sides) (b d : ℕ) → oddly sides b ≡ b → oddly sides d ≡ d → oddly sides (suc b) ≡ oddly sides (suc d) → b ≡ d
+pub side-back : (sides : Sides) (b d : ℕ) → oddly sides b ≡ b → oddly sides d ≡ d
+    → oddly sides (suc b) ≡ oddly sides (suc d) → b ≡ d
 unfolding oddly
 side-back single b d h k e = omega arith
 side-back double b d h k e = omega arith
