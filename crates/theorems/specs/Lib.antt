@@ -23,3 +23,5 @@ pub mod PageLists
 pub mod PageTies
 pub mod PageBounds
 pub mod PageTheorem
+-- The published model: document 01's rules and numbers are the paper's.
+pub mod published

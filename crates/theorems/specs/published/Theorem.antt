@@ -1,0 +1,139 @@
+-- The published model (sections 2 and 3 of the paper) and document 01's rules and numbers say the same, for any number of
+-- float streams. Asked of the galley is only what reading it makes sure of: there is a line, and citations grow and exist.
+use Prim.Native.Nat.{ℕ, suc, _+_, _-_, _*_, _/_, _≤_}
+use native.Mathlib.Omega.{arith}
+use mathlib.Core.Path.{_≡_, refl, sym, _∙_, ap, subst}
+use mathlib.Core.Logic.{_↔_}
+use mathlib.Core.Bool.{true}
+use mathlib.Core.List.{List}
+use lib.ListN.{length}
+use lib.Dec.{eqb}
+use Rattle.model.specs.declared.answer.Answer.the-variants.{Counted}
+use Rattle.model.specs.Gather.{sum}
+use Rattle.model.specs.Galley.{Galley, Place, Block, Sane, single, double, streams, zeros, sizes}
+use Rattle.model.specs.Leaf.{leaf}
+use Rattle.model.specs.Rules.{cited}
+use Rattle.model.specs.Turns.{pageOf}
+use Rattle.model.specs.Answers.{accepted, marked, pagesOf, wordsOf, countsOf}
+use Rattle.model.specs.Best.{allowed, valid}
+use Rattle.model.specs.Pagination.{Map, Pagination, placeOn, listOn, xOn, turnsOn}
+use Rattle.model.specs.laws.Judge.{accepts}
+use Rattle.model.specs.laws.Words.{Shaped, pages-words}
+use Rattle.model.specs.laws.Lists.{_∈_}
+use Rattle.model.specs.laws.Valid.{Accepted, valid-accepted, accepted-valid, marked-counts}
+use Rattle.theorems.specs.published.Heights.{After}
+use Rattle.theorems.specs.published.Fourth.{fourth-of, cited-on}
+use Rattle.theorems.specs.published.OfMap.{place-after, length-list, list-shaped}
+use Rattle.theorems.specs.published.Accepted.{accepted-pagination, pagination-accepts}
+use Rattle.theorems.specs.published.Numbers.{page-on, x-on, y-on, turns-on, weighted}
+
+module _ (g : Galley) (sane : Sane g) where
+  -- For blocks on pages 1 to p in the order of their streams, rule 17 on each page is the fourth constraint.
+  pub fourth-published : (p : ℕ) (P : Map) → ((s k : ℕ) → Block g s k → (1 ≤ P s k) × (P s k ≤ p))
+      → ((s k : ℕ) → Block g s k → Block g s (suc k) → P s k ≤ P s (suc k))
+      → ((q : ℕ) → 1 ≤ q → q ≤ p → cited g q (eqb q p) (placeOn g P q) ≡ true)
+      ↔ ((s k : ℕ) → 1 ≤ s → Block g s k → leaf (g .spec .sides) (P 0 (g .stream s .cite k)) ≤ leaf (g .spec .sides) (P s k))
+  fourth-published p P into order =
+      let after : (q : ℕ) → q ≤ p → After g P q (placeOn g P q) = λ q b. place-after order q in (
+        λ rule s k a b. fourth-of g sane p (placeOn g P) P after rule s k a b (into s k b .0) (into s k b .1),
+        λ fourth. cited-on g sane p (placeOn g P) P after fourth (λ k b. into 0 k b .1),
+      )
+
+  -- Rules 13 to 18 accept a list of places exactly where it is the list of a pagination.
+  pub places-published : (ps : List Place) → Shaped (streams g) ps
+      → (accepts (allowed g) (sizes g) 1 (zeros g) ps ≡ true)
+      ↔ ((P : Map) × Pagination g (length ps) P × (listOn g P (length ps) 1 ≡ ps))
+  places-published ps shaped = (
+    accepted-pagination g sane ps shaped,
+    λ r. subst (λ ps. accepts (allowed g) (sizes g) 1 (zeros g) ps ≡ true) (r .2) (pagination-accepts g sane (r .1)),
+  )
+
+  list-accepted : {p : ℕ} {P : Map} → Pagination g p P → Accepted g (listOn g P p 1)
+  list-accepted {p} {P} m =
+      let line = m .into 0 1 (let lined = sane .lined in omega arith) in
+      let long = length-list g P p 1 in
+      record { some = omega arith; shaped = list-shaped g P p 1; taken = pagination-accepts g sane m }
+
+  -- The lists among which making seeks the best are exactly the lists of paginations.
+  pub valid-published : (ps : List Place)
+      → (ps ∈ valid g) ↔ ((P : Map) × Pagination g (length ps) P × (listOn g P (length ps) 1 ≡ ps))
+  valid-published ps = (
+    λ v. let a = valid-accepted g ps .0 v in accepted-pagination g sane ps (a .shaped) (a .taken),
+    λ r. valid-accepted g ps .1 (subst (λ ps. Accepted g ps) (r .2) (list-accepted (r .1))),
+  )
+
+  -- Marking accepts a list of words, by rules 12 to 18, exactly where it is the words of the list of a pagination.
+  pub words-published : (ws : List ℕ)
+      → (accepted (marked g ws) ≡ true) ↔ ((p : ℕ) × (P : Map) × Pagination g p P × (wordsOf (listOn g P p 1) ≡ ws))
+  words-published ws = (
+    λ h.
+        let v = accepted-valid g ws .0 h in
+        let r = valid-published (v .0) .0 (v .1) in
+        (length (v .0), r .0, r .1, ap wordsOf (r .2) ∙ v .2),
+    λ r.
+        let ps = listOn g (r .1) (r .0) 1 in
+        accepted-valid g ws .1 (ps, valid-accepted g ps .1 (list-accepted (r .2)), r .3),
+  )
+
+  module _ {p : ℕ} {P : Map} (m : Pagination g p P) where
+    -- No two paginations have the same list, nor the same words.
+    pub places-unique : {p′ : ℕ} {P′ : Map} → Pagination g p′ P′ → listOn g P p 1 ≡ listOn g P′ p′ 1
+        → (p ≡ p′) × ((s k : ℕ) → Block g s k → P s k ≡ P′ s k)
+    places-unique {p′} {P′} m′ e = (
+      sym (length-list g P p 1) ∙ ap length e ∙ length-list g P′ p′ 1,
+      λ s k b. sym (page-on sane m s k b) ∙ ap (pageOf s k 1) e ∙ page-on sane m′ s k b,
+    )
+
+    pub words-unique : {p′ : ℕ} {P′ : Map} → Pagination g p′ P′ → wordsOf (listOn g P p 1) ≡ wordsOf (listOn g P′ p′ 1)
+        → (p ≡ p′) × ((s k : ℕ) → Block g s k → P s k ≡ P′ s k)
+    words-unique {p′} {P′} m′ e =
+        places-unique m′
+        (sym (pages-words g (listOn g P p 1) (list-shaped g P p 1))
+        ∙ ap (pagesOf g) e
+        ∙ pages-words g (listOn g P′ p′ 1) (list-shaped g P′ p′ 1))
+
+    -- The counts of its list are its page count, X and Y over its leaves, and its turns.
+    pub places-counts : countsOf g (listOn g P p 1)
+        ≡ Counted p (xOn g P) (leaf (g .spec .sides) p - leaf (g .spec .sides) 1) (turnsOn g p P)
+    unfolding countsOf
+    places-counts = rw (length-list g P p 1, x-on sane m, y-on sane m, turns-on sane m)
+
+    -- And so marking answers the words of its list.
+    pub words-counts : marked g (wordsOf (listOn g P p 1))
+        ≡ Counted p (xOn g P) (leaf (g .spec .sides) p - leaf (g .spec .sides) 1) (turnsOn g p P)
+    words-counts =
+        marked-counts g (wordsOf (listOn g P p 1)) (words-published (wordsOf (listOn g P p 1)) .1 (p, P, m, refl))
+        ∙ ap (countsOf g) (pages-words g (listOn g P p 1) (list-shaped g P p 1))
+        ∙ places-counts
+
+    -- No difference that X sums is cut off at 0: a float's leaf is its line's leaf and the leaves between them.
+    pub nothing-cut : (s k : ℕ) → 1 ≤ s → Block g s k
+        → leaf (g .spec .sides) (P s k)
+        ≡ leaf (g .spec .sides) (P 0 (g .stream s .cite k))
+        + (leaf (g .spec .sides) (P s k) - leaf (g .spec .sides) (P 0 (g .stream s .cite k)))
+    nothing-cut s k a b = let l = m .fourth s k a b in omega arith
+
+module _ (g : Galley) (p : ℕ) (P : Map) where
+  -- Single-sided, the turns are the paper's Turn.S: Σ α·(P(f) − P(R(f))) + β·(p − 1).
+  pub turn-single : g .spec .sides ≡ single
+      → turnsOn g p P
+      ≡ sum (g .floats) (λ s. sum (g .stream s .size) (λ f. g .spec .alpha * (P s f - P 0 (g .stream s .cite f))))
+      + g .spec .beta * (p - 1)
+  unfolding turnsOn xOn leaf
+  turn-single e =
+      rw e
+      (ap (λ x. x + g .spec .beta * (p - 1))
+      (weighted (g .spec .alpha) (g .floats) (λ s. g .stream s .size) (λ s f. P s f - P 0 (g .stream s .cite f))))
+
+  -- Double-sided, they are Turn.D: Σ α·(S(P(f)) − S(P(R(f)))) + β·(S(p) − 1), with S(q) = q DIV 2 + 1.
+  pub turn-double : g .spec .sides ≡ double
+      → (let S : ℕ → ℕ = λ q. q / 2 + 1 in
+      turnsOn g p P
+      ≡ sum (g .floats) (λ s. sum (g .stream s .size) (λ f. g .spec .alpha * (S (P s f) - S (P 0 (g .stream s .cite f)))))
+      + g .spec .beta * (S p - 1))
+  unfolding turnsOn xOn leaf
+  turn-double e =
+      let S : ℕ → ℕ = λ q. q / 2 + 1 in
+      rw e
+      (ap (λ x. x + g .spec .beta * (S p - 1))
+      (weighted (g .spec .alpha) (g .floats) (λ s. g .stream s .size) (λ s f. S (P s f) - S (P 0 (g .stream s .cite f)))))
