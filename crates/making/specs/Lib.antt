@@ -3,5 +3,6 @@ pub mod Search
 pub mod Filled
 pub mod Fill
 pub mod Trace
+pub mod Shown
 pub mod laws
 mod Example

@@ -1,2 +1,3 @@
--- The laws of making's definitions.
+-- The laws of making.
 pub mod Entered
+pub mod Seen
