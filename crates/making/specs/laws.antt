@@ -1,3 +1,4 @@
 -- The laws of making.
 pub mod Entered
 pub mod Seen
+pub mod Fill

@@ -52,6 +52,7 @@ good-start i j a b x h k l d y r e =
     line-of : Entry → ℕ
     line-of Unreached = 0
     line-of (Least x r) = r .line
+
     figure-of : Entry → ℕ
     figure-of Unreached = 0
     figure-of (Least x r) = r .figure
@@ -83,9 +84,9 @@ module _ (s : Search) (fill : Filled (s .galley) (s .table) (s .i) (s .j)) (high
       let filling : Bool = fills (s .galley) (full (s .galley) (place (s .i) (s .j))) (place a b) (place (s .i) (s .j)) in
       good-pick (s .i) (s .j) ((ltb a (s .i) || ltb b (s .j)) && filling) (better (s .table a b (s .side)) a b e) e
       (λ t.
-          let (l, m) = earlier a b h k (and-left (ltb a (s .i) || ltb b (s .j)) filling t) in
-          good-better (s .i) (s .j) a b (s .table a b (s .side)) e h k m
-          (λ x r q. fill .entered a b (s .side) x r l (omega arith) side q .dear) g)
+      let (l, m) = earlier a b h k (and-left (ltb a (s .i) || ltb b (s .j)) filling t) in
+      good-better (s .i) (s .j) a b (s .table a b (s .side)) e h k m
+      (λ x r q. fill .entered a b (s .side) x r l (omega arith) side q .dear) g)
       (λ t. g)
 
   good-row : (a b : ℕ) (e : Entry) → a ≤ s .i → b ≤ suc (s .j) → Good (s .i) (s .j) e → Good (s .i) (s .j) (row s a b e)
@@ -151,7 +152,7 @@ module _ (g : Galley) (light : dearest g ≤ 201000) (t : Table) (i j c : ℕ) (
 
       go : (a b : Bool)
           → pick a (Least 0 (record { line = 0; figure = 0 }))
-              (pick b (priced (pageCost g c (full g (place i j)) (place i j)) (bestStart search)) Unreached)
+          (pick b (priced (pageCost g c (full g (place i j)) (place i j)) (bestStart search)) Unreached)
           ≡ Least x r → Entered i j x r
       go true b q = least-start x r q
       go false true q =

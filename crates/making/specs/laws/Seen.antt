@@ -133,7 +133,7 @@ module _ (g : Galley) (two : g .floats ≡ 1) (t : Table) (i j c : ℕ) (inside 
         may-close = k .rule14;
         fitting = k .rule15;
         filling = k .rule16;
-        may-cite = k .rule17
+        may-cite = k .rule17;
       }
     where
       grown : (s : ℕ) → s ≤ g .floats → getD u s 0 < getD (place i j) s 0 → (ltb (getD u 0 0) i || ltb (getD u 1 0) j) ≡ true
@@ -150,14 +150,14 @@ module _ (g : Galley) (two : g .floats ≡ 1) (t : Table) (i j c : ℕ) (inside 
         within = (record { long = inside .long; under = below }, before-side (g .spec .sides) c side);
         next = side-after (g .spec .sides) c side;
         may =
-          kept-allowed
-          (record {
-            rule13 = forward-of g (place a b) (place i j) (record { up = up; top = top; more = more (or-cases (ltb a i) (ltb b j) some) });
-            rule14 = and-left (closes g (place i j)) (cited g c (full g (place i j)) (place i j)) may;
-            rule15 = fit;
-            rule16 = fill;
-            rule17 = and-right (closes g (place i j)) (cited g c (full g (place i j)) (place i j)) may
-          })
+            kept-allowed
+            (record {
+              rule13 = forward-of g (place a b) (place i j) (record { up = up; top = top; more = more (or-cases (ltb a i) (ltb b j) some) });
+              rule14 = and-left (closes g (place i j)) (cited g c (full g (place i j)) (place i j)) may;
+              rule15 = fit;
+              rule16 = fill;
+              rule17 = and-right (closes g (place i j)) (cited g c (full g (place i j)) (place i j)) may;
+            });
       }
     where
       up : (s : ℕ) → s ≤ g .floats → getD (place a b) s 0 ≤ getD (place i j) s 0
@@ -443,8 +443,8 @@ module _ (g : Galley) (two : g .floats ≡ 1) (t : Table) (i j c : ℕ) (inside 
     where
       go : (a : Bool) → eqb (i + j + c) 0 ≡ a → (b : Bool) → mayStop g i j c ≡ b
           → Cell (pageGraph g) (tableAt g t) (stop (place i j) c)
-              (shown (g .spec .sides) c
-                  (pick a (Least 0 (record { line = 0; figure = 0 })) (pick b (priced cost (bestStart search)) Unreached)))
+          (shown (g .spec .sides) c
+          (pick a (Least 0 (record { line = 0; figure = 0 })) (pick b (priced cost (bestStart search)) Unreached)))
       go true e b m =
           let z = eqb-true (i + j + c) 0 e in
           let x : i ≡ 0 = omega arith in
