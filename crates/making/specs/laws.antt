@@ -2,3 +2,4 @@
 pub mod Entered
 pub mod Seen
 pub mod Fill
+pub mod Right
