@@ -1,1 +1,2 @@
 -- The laws of making.
+pub mod Shown
