@@ -1,2 +1,3 @@
 -- The laws of making.
 pub mod Shown
+pub mod Back
