@@ -4,5 +4,6 @@ pub mod Filled
 pub mod Fill
 pub mod Trace
 pub mod Shown
+pub mod Back
 pub mod laws
 mod Example

@@ -3,3 +3,5 @@ pub mod Entered
 pub mod Seen
 pub mod Fill
 pub mod Right
+pub mod Shown
+pub mod Back
