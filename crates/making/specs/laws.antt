@@ -1,7 +1,7 @@
 -- The laws of making.
 pub mod Entered
+pub mod Shown
 pub mod Seen
 pub mod Fill
 pub mod Right
-pub mod Shown
 pub mod Back

@@ -20,7 +20,7 @@ use Rattle.theorems.specs.Graph as graph
 use Rattle.theorems.specs.Cell.{Right, Trace}
 use Rattle.theorems.specs.Optimality.{step-back, trace-length}
 use Rattle.theorems.specs.PageGraph.{State, stop, end, Within, pageGraph, pagesTo, pagesOn}
-use Rattle.theorems.specs.PageLaws.{page-laws, pageDomain, blocksAt}
+use Rattle.theorems.specs.PageLaws.{page-laws, domainOf, step-within, blocksAt}
 use Rattle.theorems.specs.PageTheorem.{table-none, table-best}
 use Rattle.places.specs.declared.Start.{Start}
 use Rattle.places.specs.declared.Entry.{Entry}
@@ -58,7 +58,7 @@ module _ (g : Galley) (one : g .floats ≡ 1) (t : Table) (right : Right (pageGr
       → Trace (pageGraph g) (tableAt g t) (u ∷ us) (stop (place i j) c) → Back u us i j c
   unfolding Trace tableAt count blocksAt
   back-one u us i j c w (n, (x, e), r) =
-      let (o, v, l) = step-back (pageGraph g) (page-laws g) (pageDomain g) (tableAt g t) right w n e in
+      let (o, v, l) = step-back (pageGraph g) (page-laws g) (domainOf g (Within g) (λ u v i. step-within g u v)) (tableAt g t) right w n e in
       let h = shown-least (g .spec .sides) c (t i j c) x u e in
       record {
         cost = x;
@@ -140,17 +140,17 @@ module _
   where
     -- Where the table is right and the full place unreached, there is no best list.
     pub back-none-best : t (g .stream 0 .size) (g .stream 1 .size) (lastOf g t) ≡ Unreached → model.best g ≡ none
-    unfolding tableAt finished
+    unfolding tableAt finished Within
     back-none-best e =
-        table-none g (tableAt g t) right sane
+        table-none g (Within g) (λ u v i. step-within g u v) (tableAt g t) right sane tt
         (ap (finished (stop (place (g .stream 0 .size) (g .stream 1 .size)) (lastOf g t))) e)
 
     -- Where it is reached, the walk back from the better side counts and writes the best list.
     pub back-best : (x : ℕ) (s : Start) → t (g .stream 0 .size) (g .stream 1 .size) (lastOf g t) ≡ Least x s
         → (ps : List Place) × Found g t x ps
-    unfolding tableAt finished Trace pagesTo blocksAt
+    unfolding tableAt finished Trace pagesTo blocksAt Within
     back-best x s e =
-        let (us, r, is, cost) = table-best g (tableAt g t) right sane x (stop whole (lastOf g t))
+        let (us, r, is, cost) = table-best g (Within g) (λ u v i. step-within g u v) (tableAt g t) right sane tt x (stop whole (lastOf g t))
         (ap (finished (stop whole (lastOf g t))) e) in
         go us r is cost
       where
@@ -166,7 +166,7 @@ module _
         reached us w r is cost =
             let m = g .stream 0 .size in
             let n = g .stream 1 .size in
-            let short = trace-length (pageGraph g) (page-laws g) (pageDomain g) (tableAt g t) right us w r in
+            let short = trace-length (pageGraph g) (page-laws g) (domainOf g (Within g) (λ u v i. step-within g u v)) (tableAt g t) right us w r in
             let few : length us ≤ m + n = omega (arith, placed-two g one m n) in
             let count = trace-count g one t right us m n (lastOf g t) (m + n) 0 w r few in
             let pages = trace-pages g one t right us m n (lastOf g t) [] w r in

@@ -7,8 +7,7 @@ use mathlib.Core.Path.{_≡_, refl, sym, _∙_, ap, subst}
 use mathlib.Core.Logic.{_⊎_, inl, inr}
 use mathlib.Core.Bool.{true}
 use lib.ListN.{length, getD}
-use Rattle.model.specs.Gather.{row as model-row}
-use Rattle.model.specs.Galley.{Sides, single, double, Galley, Place, count, streams, sizes}
+use Rattle.model.specs.Galley.{Sides, single, double, Galley, Place, count, sizes}
 use Rattle.model.specs.Order.{oddly}
 use Rattle.model.specs.laws.Rules.{kept, Forward, forward-at}
 use Rattle.model.specs.laws.Lists.{Inside}
@@ -24,6 +23,7 @@ use Rattle.making.specs.Search.{place, Table, entryOf}
 use Rattle.making.specs.Filled.{Side}
 use Rattle.making.specs.Fill.{Words, tall, fillSide, fillPlace, fillColumn, fillColumns, filled}
 use Rattle.making.specs.Shown.{shown, tableAt}
+use Rattle.making.specs.laws.Shown.{sizes-two, end-right}
 use Rattle.making.specs.laws.Entered.{side-low}
 use Rattle.making.specs.laws.Seen.{two-counts, entry-cell}
 use Rattle.making.specs.laws.Fill.{Room, held, side-same, side-other, room-side, earlier-next, earlier-column, length-place, length-column, room-kept}
@@ -165,8 +165,7 @@ module _ (g : Galley) (two : g .floats ≡ 1) where
 
   -- A place within the galley's counts is inside the full place.
   pub place-inside : (i j : ℕ) → i ≤ g .stream 0 .size → j ≤ g .stream 1 .size → Inside (sizes g) (place i j)
-  unfolding sizes streams model-row
-  place-inside i j h k = rw two (record { long = refl; under = λ s. under s })
+  place-inside i j h k = rw (sizes-two g two) (record { long = refl; under = under })
     where
       under : (s : ℕ) → getD (place i j) s 0 ≤ getD (place (g .stream 0 .size) (g .stream 1 .size)) s 0
       under zero = h
@@ -214,3 +213,8 @@ module _ (g : Galley) (two : g .floats ≡ 1) where
 
       all : (v : Place) (c : ℕ) → Within g (stop v c) → Done g 0 (suc (g .stream 1 .size)) 0 (stop v c)
       all v c h = all-done g two v c h
+
+  -- The whole table is right, the end included.
+  pub table-right : (w : Words) → Room g w → Right (pageGraph g) (tableAt g (held g (filled g w))) (Within g)
+  table-right w room (stop v c) h = places-right w room v c h
+  table-right w room end h = end-right g two (held g (filled g w))

@@ -10,8 +10,8 @@ use mathlib.Core.List.{List, [], _∷_}
 use lib.ListN.{length, getD}
 use lib.Dec.{ltb, leb, eqb}
 use borrow.Author.Tests.{eqb-true, eqb-false, ltb-true, ltb-false, lt-ltb, leb-true, leb-false, le-leb, lt-leb}
-use Rattle.model.specs.Gather.{pick, row as model-row}
-use Rattle.model.specs.Galley.{Sides, single, double, Galley, Place, count, streams, zeros, sizes}
+use Rattle.model.specs.Gather.{pick}
+use Rattle.model.specs.Galley.{Sides, single, double, Galley, Place, count, zeros, sizes}
 use Rattle.model.specs.Order.{lex, geb, oddly}
 use Rattle.model.specs.Height.{tightest}
 use Rattle.model.specs.Rules.{forward, closes, fits, fills, cited}
@@ -33,6 +33,7 @@ use Rattle.places.specs.declared.Entry.the-variants.{Unreached, Least}
 use Rattle.making.specs.Search.{place, Table, before, better, Search, offered, row, rows, bestStart, priced, mayStop, entryOf}
 use Rattle.making.specs.Filled.{Side}
 use Rattle.making.specs.Shown.{shown, tableAt}
+use Rattle.making.specs.laws.Shown.{zeros-two}
 
 -- Start (a, b) and all later ones: a later line, or the same line and no earlier figure.
 unfoldable pub Tried : ℕ → ℕ → State → Type 0
@@ -46,11 +47,6 @@ two-counts [] h = absurd (omega arith)
 two-counts (x ∷ []) h = absurd (omega arith)
 two-counts (x ∷ y ∷ []) h = refl
 two-counts (x ∷ y ∷ z ∷ u) h = absurd (omega arith)
-
--- With two streams the place where nothing is placed is (0, 0).
-pub zeros-two : (g : Galley) → g .floats ≡ 1 → zeros g ≡ place 0 0
-unfolding zeros streams model-row
-zeros-two g two = rw two refl
 
 -- Later places are preferred to earlier ones.
 later : (u : Place) (a b : ℕ) → (a < count u 0) ⊎ ((count u 0 ≡ a) × (suc b ≤ count u 1)) → lex geb u (place a b) ≡ true

@@ -14,7 +14,7 @@ use Rattle.model.specs.laws.Lists.{Inside}
 use Rattle.model.specs.laws.Rules.{placed}
 use Rattle.theorems.specs.Graph as graph
 use Rattle.theorems.specs.Cell.{All, Ahead, Offer, Seen, Cell, inner}
-use Rattle.theorems.specs.PageGraph.{State, stop, end, Within, Finish, Step, Prefers, price, pageGraph}
+use Rattle.theorems.specs.PageGraph.{State, stop, end, Within, Step, Prefers, price, pageGraph}
 use Rattle.theorems.specs.PageLaws.{page-laws}
 use Rattle.places.specs.declared.Start.{Start}
 use Rattle.places.specs.declared.Entry.{Entry}
