@@ -23,5 +23,6 @@ pub mod PageLists
 pub mod PageTies
 pub mod PageBounds
 pub mod PageTheorem
+pub mod LeastTurns
 -- The published model: document 01's rules and numbers are the paper's.
 pub mod published
