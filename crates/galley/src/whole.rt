@@ -14,11 +14,14 @@ use crate::Spec;
 fn cited_figure(f: Figure, lines: usize, last: u32, at: usize) -> Record
     ensures { λ r. ⌜ r ≡ cited lines last at f ⌝ }
 {
-    let cite = f.cite;
-    if (cite == 0) | (lines < crate::word::size(cite)) {
+    let cite = crate::word::size(f.cite);
+    let before = crate::word::size(last);
+    let beyond = (cite == 0) | (lines < cite);
+    let falls = cite < before;
+    if beyond {
         return Record::Refused { number: 6, place: at };
     }
-    if cite < last {
+    if falls {
         return Record::Refused { number: 7, place: at };
     }
     Record::Figure(f)
