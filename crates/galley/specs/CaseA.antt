@@ -9,7 +9,7 @@ use Rattle.galley.specs.Range.{specInRange, lineInRange, figureInRange}
 use Rattle.galley.specs.Place.{misplaced, tooEarly, tooMany, unfit}
 use Rattle.galley.specs.Record.{specOf, lineOf, figureOf, whole, openedBy, recordAt}
 use Rattle.galley.specs.Whole.{cited, ended, settled, recordIn, next, blocks, opened}
-use Rattle.galley.specs.Block.{lineAt, figureAt, lineOffset, figureOffset}
+use Rattle.galley.specs.Block.{lineAt, figureAt}
 use Rattle.galley.specs.declared.Spec.{Spec}
 use Rattle.galley.specs.declared.Galley.{Galley}
 use Rattle.galley.specs.declared.Reading.{Reading}
@@ -45,9 +45,9 @@ a-reads = refl
 
 -- Its third line and its figure.
 a-line : lineAt caseA galleyA 3 ≡ record { height = 10; least = 0; most = 0; legal = 1 }
-unfolding wordAt lineOf lineAt lineOffset
+unfolding wordAt lineOf lineAt
 a-line = refl
 
 a-figure : figureAt caseA galleyA 1 ≡ record { height = 20; least = 0; most = 0; cite = 1 }
-unfolding wordAt figureOf figureAt figureOffset
+unfolding wordAt figureOf figureAt
 a-figure = refl

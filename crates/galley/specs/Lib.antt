@@ -6,6 +6,7 @@ pub mod Record
 pub mod Place
 pub mod Whole
 pub mod Block
+pub mod Sound
 pub mod Laws
 pub mod Model
 mod CaseA

@@ -1,1 +1,86 @@
-// to come
+// The fields of line k and of figure k of a galley that was read, k from 1, in constant time.
+ghost use mathlib.Core.Path.{_≡_};
+ghost use Prim.Native.Nat.{_+_, _*_, _^_, _≤_, _<_};
+ghost use Rattle.galley.specs.Block.{HasLine, HasFigure, lineOffset, figureOffset, lineAt, figureAt};
+
+use crate::Galley;
+
+// The offset of line k.
+fn line_offset(g: Galley, k: usize) -> usize
+    requires { ⌜ (1 ≤ k) × (g .first + k * 18 < 2 ^ 64) ⌝ }
+    ensures { λ r. ⌜ r ≡ lineOffset g k ⌝ }
+{
+    g.first + (k - 1) * 18
+}
+
+// The offset of figure k: figures follow all lines.
+fn figure_offset(g: Galley, k: usize) -> usize
+    requires { ⌜ (1 ≤ k) × (g .first + g .lines * 18 + k * 18 < 2 ^ 64) ⌝ }
+    ensures { λ r. ⌜ r ≡ figureOffset g k ⌝ }
+{
+    g.first + g.lines * 18 + (k - 1) * 18
+}
+
+// The height of line k.
+pub fn line_height(s: &[u8], g: Galley, k: usize) -> u32
+    requires { ⌜ HasLine (now s) g k ⌝ }
+    ensures { λ r. ⌜ r ≡ lineAt (now (s .entry)) g k .height ⌝ }
+{
+    crate::word::word_at(s, line_offset(g, k) + 2)
+}
+
+// The least space after line k.
+pub fn line_least(s: &[u8], g: Galley, k: usize) -> u32
+    requires { ⌜ HasLine (now s) g k ⌝ }
+    ensures { λ r. ⌜ r ≡ lineAt (now (s .entry)) g k .least ⌝ }
+{
+    crate::word::word_at(s, line_offset(g, k) + 6)
+}
+
+// The greatest space after line k.
+pub fn line_most(s: &[u8], g: Galley, k: usize) -> u32
+    requires { ⌜ HasLine (now s) g k ⌝ }
+    ensures { λ r. ⌜ r ≡ lineAt (now (s .entry)) g k .most ⌝ }
+{
+    crate::word::word_at(s, line_offset(g, k) + 10)
+}
+
+// 1 where a page may end after line k, else 0.
+pub fn line_legal(s: &[u8], g: Galley, k: usize) -> u32
+    requires { ⌜ HasLine (now s) g k ⌝ }
+    ensures { λ r. ⌜ r ≡ lineAt (now (s .entry)) g k .legal ⌝ }
+{
+    crate::word::word_at(s, line_offset(g, k) + 14)
+}
+
+// The height of figure k.
+pub fn figure_height(s: &[u8], g: Galley, k: usize) -> u32
+    requires { ⌜ HasFigure (now s) g k ⌝ }
+    ensures { λ r. ⌜ r ≡ figureAt (now (s .entry)) g k .height ⌝ }
+{
+    crate::word::word_at(s, figure_offset(g, k) + 2)
+}
+
+// The least space after figure k.
+pub fn figure_least(s: &[u8], g: Galley, k: usize) -> u32
+    requires { ⌜ HasFigure (now s) g k ⌝ }
+    ensures { λ r. ⌜ r ≡ figureAt (now (s .entry)) g k .least ⌝ }
+{
+    crate::word::word_at(s, figure_offset(g, k) + 6)
+}
+
+// The greatest space after figure k.
+pub fn figure_most(s: &[u8], g: Galley, k: usize) -> u32
+    requires { ⌜ HasFigure (now s) g k ⌝ }
+    ensures { λ r. ⌜ r ≡ figureAt (now (s .entry)) g k .most ⌝ }
+{
+    crate::word::word_at(s, figure_offset(g, k) + 10)
+}
+
+// The number of the line that cites figure k.
+pub fn figure_cite(s: &[u8], g: Galley, k: usize) -> u32
+    requires { ⌜ HasFigure (now s) g k ⌝ }
+    ensures { λ r. ⌜ r ≡ figureAt (now (s .entry)) g k .cite ⌝ }
+{
+    crate::word::word_at(s, figure_offset(g, k) + 14)
+}
