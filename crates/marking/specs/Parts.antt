@@ -8,6 +8,10 @@ use Rattle.model.specs.Gather.{pick}
 use Rattle.model.specs.Galley as model
 use Rattle.model.specs.Rules.{forward, closes}
 use Rattle.model.specs.Answers.{chunks}
+use Rattle.galley.specs.declared.Galley.{Galley}
+use Rattle.galley.specs.Block.{HasLine, HasFigure}
+use Rattle.galley.specs.Sound.{Sound}
+use Rattle.marking.specs.declared.pile.Pile.{Pile}
 
 -- Rules 13 and 14, which ask for no height: the number of the first that fails, or 0.
 unfoldable pub startFault : model.Galley → model.Place → model.Place → ℕ
@@ -20,6 +24,11 @@ endFault fills cited = pick fills (pick cited 0 17) 16
 -- What block k + 1 adds to the height of blocks a + 1 to k: its own height, and the space before it if that is on the page.
 unfoldable pub added : model.Stream → (ℕ → ℕ) → ℕ → ℕ → ℕ
 added st gap a k = st .ht (k + 1) + pick (ltb a k) (gap k) 0
+
+-- The pile with block k + 1 on it, at least and at greatest spaces.
+unfoldable pub onPile : model.Stream → Pile → ℕ → ℕ → Pile
+onPile st pile a k =
+    record { tight = pile .tight + added st (st .least) a k; loose = pile .loose + added st (st .most) a k }
 
 -- The separation of a page that has both kinds, else 0.
 unfoldable pub separation : Bool → Bool → ℕ → ℕ
@@ -34,3 +43,17 @@ pub record Citing (st : model.Stream) (a c : ℕ) : Type 0 where
 -- The pages of a list of words, two a page, after the first `done` of them.
 unfoldable pub rest : List ℕ → ℕ → ℕ → List model.Place
 rest ws pages done = chunks (pages - done) 2 (drop (2 * done) ws)
+
+-- A pile of lines a + 1 to k has room for line k + 1.
+pub record RoomForLine (bytes : List ℕ) (g : Galley) (pile : Pile) (a k : ℕ) : Type 0 where
+  pub sound : Sound bytes g
+  pub next : k < g .lines
+  pub tight : pile .tight ≤ 4000000000
+  pub loose : pile .loose ≤ 4000000000
+
+-- A pile of figures b + 1 to k has room for figure k + 1.
+pub record RoomForFigure (bytes : List ℕ) (g : Galley) (pile : Pile) (b k : ℕ) : Type 0 where
+  pub sound : Sound bytes g
+  pub next : k < g .figures
+  pub tight : pile .tight ≤ 4000000000
+  pub loose : pile .loose ≤ 4000000000

@@ -1,4 +1,6 @@
--- The laws behind marking: one page's tests, its height, its waiting figures, and the run over the pages.
+-- The laws behind marking: a galley that was read, one page's tests, its height, its waiting figures, and the run over the
+-- pages.
+pub mod Sane
 pub mod Two
 pub mod Pile
 pub mod Citing

@@ -16,7 +16,6 @@ use Rattle.model.specs.laws.Height.{stacked-grows}
 use Rattle.galley.specs.declared.Galley.{Galley}
 use Rattle.galley.specs.Model.{textOf, figuresOf, modelOf}
 use Rattle.marking.specs.Parts.{added, separation}
-use Rattle.marking.specs.Ready.{Low, Ready}
 use Rattle.marking.specs.laws.Two.{height-two}
 
 -- Nothing stands between a and a place that is not after it.
