@@ -26,7 +26,7 @@ use Rattle.theorems.specs.LeafEnds.{Orderly, x-by-ends}
 use Rattle.theorems.specs.Costs.{orderly}
 use Rattle.galley.specs.declared.Galley.{Galley}
 use Rattle.galley.specs.Model.{figuresOf, modelOf}
-use Rattle.marking.specs.Parts.{Citing, rest}
+use Rattle.marking.specs.Parts.{Citing, rest, waitingAt, counts, finished}
 use Rattle.marking.specs.laws.Two.{full-two, zeros-two}
 use Rattle.marking.specs.laws.Citing.{waiting-two, citing-none}
 use Rattle.marking.specs.laws.Rest.{rest-all, rest-none, rest-next, rest-ended}
@@ -53,10 +53,6 @@ pub record Run (bytes : List ℕ) (g : Galley) (ws : List ℕ) (done a b c x : �
   pub judging : judged bytes g ws (done + 1) (a ∷ b ∷ []) (rest ws (length ws / 2) done) ≡ wholly bytes g ws
   pub waiting : x + waited bytes g (done + 1) (rest ws (length ws / 2) done) ≡ waited bytes g 1 (pagesOf (modelOf bytes g) ws)
 
--- What page q adds to X, which ends at figure j with c cited by then.
-unfoldable pub waitingAt : Galley → ℕ → ℕ → ℕ → ℕ
-waitingAt g q c j = pick (ends (sidesOf (g .spec .sides)) q) (c - j) 0
-
 -- The place where page `done` + 1 ends.
 abbrev pub pageAt : List ℕ → ℕ → Place
 pageAt ws done = getD ws (2 * done) 0 ∷ getD ws (2 * done + 1) 0 ∷ []
@@ -64,16 +60,6 @@ pageAt ws done = getD ws (2 * done) 0 ∷ getD ws (2 * done + 1) 0 ∷ []
 -- The first rule that this page breaks, or 0.
 abbrev pub brokenAt : List ℕ → Galley → List ℕ → ℕ → Place → ℕ
 brokenAt bytes g ws done u = broken (modelOf bytes g) (done + 1) (eqb (done + 1) (length ws / 2)) u (pageAt ws done)
-
--- The counts of p pages with X known.
-unfoldable pub counts : Galley → ℕ → ℕ → Answer
-counts g p x =
-    let y = leaf (sidesOf (g .spec .sides)) p - leaf (sidesOf (g .spec .sides)) 1 in
-    Counted p x y (g .spec .alpha * x + g .spec .beta * y)
-
--- The answer once p pages are judged: 18 where the last does not end at the full place, else the counts.
-unfoldable pub finished : Galley → ℕ → ℕ → ℕ → ℕ → Answer
-finished g p a b x = pick (eqb a (g .lines) && eqb b (g .figures)) (counts g p x) (Refused 18 p)
 
 refuse-some : (n q : ℕ) (after : Answer) → 0 < n → refuse n q after ≡ Refused n q
 unfolding refuse
