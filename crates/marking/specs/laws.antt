@@ -6,3 +6,4 @@ pub mod Pile
 pub mod Citing
 pub mod Rest
 pub mod Run
+pub mod Counts
