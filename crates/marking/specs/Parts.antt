@@ -1,9 +1,10 @@
 -- The parts of one page's test, as the functions of this crate divide it.
-use Prim.Native.Nat.{ℕ, suc, _+_, _*_, _-_, _≤_, _<_}
+use Prim.Native.Nat.{ℕ, suc, _+_, _*_, _-_, _/_, _≤_, _<_}
 use mathlib.Core.Bool.{Bool, _&&_}
 use mathlib.Core.List.{List, [], _∷_}
 use lib.Dec.{ltb, eqb}
-use lib.ListN.{drop}
+use lib.ListN.{length, drop}
+use mathlib.Core.Path.{_≡_}
 use Rattle.model.specs.Gather.{pick}
 use Rattle.model.specs.Galley as model
 use Rattle.model.specs.Rules.{forward, closes}
@@ -38,6 +39,11 @@ onPile st pile a k =
 -- The separation of a page that has both kinds, else 0.
 unfoldable pub separation : Bool → Bool → ℕ → ℕ
 separation lines figures s = pick (lines && figures) s 0
+
+-- The pile of a page before its first block: its separations.
+unfoldable pub apartBy : Galley → Bool → Bool → Pile
+apartBy g lines figures =
+    record { tight = separation lines figures (g .spec .smin); loose = separation lines figures (g .spec .smax) }
 
 -- c figures, those of a stream's first, are cited by line a or earlier, and no other.
 pub record Citing (st : model.Stream) (a c : ℕ) : Type 0 where
@@ -89,3 +95,10 @@ pub record Few (g : Galley) (pages x : ℕ) : Type 0 where
   pub few : pages ≤ 4200
   pub most : x ≤ 200 * pages
   pub ranged : SpecRanged (g .spec)
+
+-- A galley that was read and a list of 1 to 4,200 whole pages.
+pub record Listed (bytes : List ℕ) (g : Galley) (ws : List ℕ) : Type 0 where
+  pub sound : Sound bytes g
+  pub whole : length ws ≡ 2 * (length ws / 2)
+  pub some : 1 ≤ length ws / 2
+  pub few : length ws / 2 ≤ 4200

@@ -2,8 +2,10 @@
 -- pages.
 pub mod Sane
 pub mod Two
+pub mod Faults
 pub mod Pile
 pub mod Citing
 pub mod Rest
 pub mod Run
 pub mod Counts
+pub mod Page

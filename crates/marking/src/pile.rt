@@ -1,13 +1,26 @@
 // The height of a page, block by block.
 ghost use mathlib.Core.Path.{_≡_};
 ghost use Rattle.galley.specs.Model.{textOf, figuresOf};
-ghost use Rattle.marking.specs.Parts.{onPile, RoomForLine, RoomForFigure};
+ghost use Rattle.marking.specs.Parts.{apartBy, onPile, RoomForLine, RoomForFigure};
 use galley::Galley;
 
 // A page's height so far, with every space at its least and with every space at its greatest.
 pub struct Pile {
     pub tight: u32,
     pub loose: u32,
+}
+
+// The pile of a page before its first block: a separation if it has both kinds.
+pub fn apart_by(g: Galley, lines: bool, figures: bool) -> Pile
+    ensures { λ r. ⌜ r ≡ apartBy g lines figures ⌝ }
+{
+    if lines & figures {
+        return Pile {
+            tight: g.spec.smin,
+            loose: g.spec.smax,
+        };
+    }
+    Pile { tight: 0, loose: 0 }
 }
 
 // The pile of lines a + 1 to k with line k + 1, and with the space before it where that is on the page.

@@ -9,11 +9,12 @@ use lib.Dec.{leb, ltb}
 use borrow.Author.Tests.{ltb-true, ltb-false, lt-ltb, le-ltb, le-leb, lt-leb}
 use Rattle.model.specs.Gather.{pick, one, sum}
 use Rattle.model.specs.Galley.{Stream, Sane, Block, count}
+use Rattle.model.specs.Leaf.{ends, sidesOf}
 use Rattle.theorems.specs.Waiting.{dangles, waitingIn, waiting}
 use Rattle.theorems.specs.Costs.{cite-mono}
 use Rattle.galley.specs.declared.Galley.{Galley}
 use Rattle.galley.specs.Model.{figuresOf, modelOf}
-use Rattle.marking.specs.Parts.{Citing}
+use Rattle.marking.specs.Parts.{Citing, waitingAt}
 
 module _ (st : Stream) (i j c : ℕ) (h : Citing st i c) where
   past : ℕ → ℕ
@@ -98,3 +99,12 @@ upto-next f i c upto here k p q = go (decLe k c)
 pub citing-all : (bytes : List ℕ) (g : Galley) (i c : ℕ) → g .figures ≤ c → c ≤ g .figures
     → ((k : ℕ) → 1 ≤ k → k ≤ c → figuresOf bytes g .cite k ≤ i) → Citing (figuresOf bytes g) i c
 citing-all bytes g i c l h upto = record { few = h; upto = upto; beyond = λ k p q. absurd (omega arith) }
+
+-- No more wait than are cited.
+pub waits-few : (g : Galley) (q c j : ℕ) → waitingAt g q c j ≤ c
+unfolding waitingAt
+waits-few g q c j = go (ends (sidesOf (g .spec .sides)) q)
+  where
+    go : (e : Bool) → pick e (c - j) 0 ≤ c
+    go true = omega arith
+    go false = omega arith

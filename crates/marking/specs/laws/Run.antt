@@ -105,18 +105,16 @@ module _ (bytes : List ℕ) (g : Galley) (sane : Sane (modelOf bytes g)) (ws : L
           let wait = waiting-two bytes g (getD ws (2 * done) 0) (getD ws (2 * done + 1) 0) c′ citing in
           rw (here, wait, s)
 
-      -- A page that breaks a rule ends the run.
-      pub run-refused : (n : ℕ) → n ≡ brokenAt bytes g ws done (a ∷ b ∷ []) → 0 < n → Refused n (done + 1) ≡ wholly bytes g ws
-      run-refused n e h =
+      refused-here : (n : ℕ) → n ≡ brokenAt bytes g ws done (a ∷ b ∷ []) → 0 < n → Refused n (done + 1) ≡ wholly bytes g ws
+      refused-here n e h =
           sym (refuse-some n (done + 1) after h) ∙ ap (λ n. refuse n (done + 1) after) e ∙ step
 
-      -- A page that breaks none goes on to the next.
-      pub run-next : brokenAt bytes g ws done (a ∷ b ∷ []) ≡ 0 → g .figures ≤ 200
+      next-here : brokenAt bytes g ws done (a ∷ b ∷ []) ≡ 0 → g .figures ≤ 200
           → (c′ : ℕ) → Citing (figuresOf bytes g) (getD ws (2 * done) 0) c′
           → Run bytes g ws (done + 1) (getD ws (2 * done) 0) (getD ws (2 * done + 1) 0) c′
           (x + waitingAt g (done + 1) c′ (getD ws (2 * done + 1) 0))
       unfolding refuse after count waitingAt allowed
-      run-next e few c′ citing =
+      next-here e few c′ citing =
           let goes = forward-at _ _ _ (kept (eq-eqb (brokenAt bytes g ws done (a ∷ b ∷ [])) 0 e) .rule13) in
           let most = run .most in
           let cited = citing .few in
@@ -137,6 +135,19 @@ module _ (bytes : List ℕ) (g : Galley) (sane : Sane (modelOf bytes g)) (ws : L
           waitingAt-most : (e : Bool) → pick e (c′ - getD ws (2 * done + 1) 0) 0 ≤ c′
           waitingAt-most true = omega arith
           waitingAt-most false = omega arith
+
+      module _ (i j : ℕ) (ei : i ≡ getD ws (2 * done) 0) (ej : j ≡ getD ws (2 * done + 1) 0) where
+        -- A page that breaks a rule ends the run.
+        pub run-refused : (n : ℕ)
+            → n ≡ broken (modelOf bytes g) (done + 1) (eqb (done + 1) (length ws / 2)) (a ∷ b ∷ []) (i ∷ j ∷ []) → 0 < n
+            → Refused n (done + 1) ≡ wholly bytes g ws
+        run-refused n e h = refused-here n (rw (ei, ej) at e) h
+
+        -- A page that breaks none goes on to the next.
+        pub run-next : broken (modelOf bytes g) (done + 1) (eqb (done + 1) (length ws / 2)) (a ∷ b ∷ []) (i ∷ j ∷ []) ≡ 0
+            → g .figures ≤ 200 → (c′ : ℕ) → Citing (figuresOf bytes g) i c′
+            → Run bytes g ws (done + 1) i j c′ (x + waitingAt g (done + 1) c′ j)
+        run-next e few c′ citing = rw (ei, ej) (next-here (rw (ei, ej) at e) few c′ (rw ei at citing))
 
     module _ (e : done ≡ length ws / 2) where
       none : rest ws (length ws / 2) done ≡ []
