@@ -71,3 +71,17 @@ fn judge_pages(s: &[u8], g: Galley, list: &[u32]) -> Answer
     };
     answer
 }
+
+// The answer for a galley that reads without refusal: 12 before any page, then the pages.
+pub fn mark_read(s: &[u8], g: Galley, list: &[u32]) -> Answer
+    requires { ⌜ Sound (now s) g ⌝ }
+    ensures { λ r. ⌜ r ≡ marked (modelOf (now (s .entry)) g) (now (list .entry)) ⌝ }
+{
+    if crate::rules::is_counted(g, list.len()) {
+        return judge_pages(s, g, list);
+    }
+    Answer::Refused {
+        number: 12,
+        place: 0,
+    }
+}

@@ -15,19 +15,20 @@ use Rattle.model.specs.Galley.{Place, Sane, count, zeros, sizes, streams}
 use Rattle.model.specs.Leaf.{leaf, ends, sidesOf}
 use Rattle.model.specs.Rules.{broken}
 use Rattle.model.specs.Turns.{xOf, yOf, turns}
-use Rattle.model.specs.Answers.{accepted, same, ended, refuse, judge, countsOf, pagesOf}
+use Rattle.model.specs.Answers.{accepted, same, ended, refuse, judge, counted, countsOf, pagesOf, marked}
 use Rattle.model.specs.Best.{allowed}
 use Rattle.model.specs.laws.Rules.{kept, Kept, forward-at}
 use Rattle.model.specs.laws.Judge.{accepts, judge-accepts}
-use Rattle.model.specs.laws.Words.{length-pages}
+use Rattle.model.specs.laws.Words.{length-pages, counted-at}
 use Rattle.theorems.specs.Waiting.{waiting, pageSum, atEnd}
 use Rattle.theorems.specs.Pages.{along, accepts-along}
 use Rattle.theorems.specs.LeafEnds.{Orderly, x-by-ends}
 use Rattle.theorems.specs.Costs.{orderly}
 use Rattle.galley.specs.declared.Galley.{Galley}
+use Rattle.galley.specs.Sound.{Sound}
 use Rattle.galley.specs.Model.{figuresOf, modelOf}
-use Rattle.marking.specs.Parts.{Citing, rest, waitingAt, counts, finished}
-use Rattle.marking.specs.laws.Two.{full-two, zeros-two}
+use Rattle.marking.specs.Parts.{Citing, Listed, rest, waitingAt, counts, finished}
+use Rattle.marking.specs.laws.Two.{full-two, zeros-two, blocks-two}
 use Rattle.marking.specs.laws.Citing.{waiting-two, citing-none}
 use Rattle.marking.specs.laws.Rest.{rest-all, rest-none, rest-next, rest-ended}
 
@@ -193,3 +194,25 @@ module _ (bytes : List ℕ) (g : Galley) (sane : Sane (modelOf bytes g)) (ws : L
               let good : countsOf (modelOf bytes g) (pagesOf (modelOf bytes g) ws) ≡ wholly bytes g ws = rw t at end in
               counts-are good ∙ good
           go false t = rw t at end
+
+-- The words that rule 12 lets pass are whole pages, and no more than there are blocks.
+pub counted-listed : (bytes : List ℕ) (g : Galley) → Sound bytes g → (ws : List ℕ) → counted (modelOf bytes g) ws ≡ true
+    → Listed bytes g ws
+unfolding streams
+counted-listed bytes g so ws h =
+    let w = counted-at (modelOf bytes g) ws h in
+    let n = blocks-two bytes g in
+    let whole = w .whole in
+    let few = w .few in
+    record { sound = so; whole = omega arith; some = w .some; few = omega arith }
+
+-- Rule 12 first, then the pages.
+pub marked-wholly : (bytes : List ℕ) (g : Galley) (ws : List ℕ) → counted (modelOf bytes g) ws ≡ true
+    → wholly bytes g ws ≡ marked (modelOf bytes g) ws
+unfolding wholly judged marked
+marked-wholly bytes g ws h = rw h
+
+pub marked-refused : (bytes : List ℕ) (g : Galley) (ws : List ℕ) → counted (modelOf bytes g) ws ≡ false
+    → Refused 12 0 ≡ marked (modelOf bytes g) ws
+unfolding marked
+marked-refused bytes g ws h = rw h
