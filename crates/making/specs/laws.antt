@@ -1,3 +1,4 @@
 -- The laws of making.
 pub mod Shown
 pub mod Back
+pub mod Walk
