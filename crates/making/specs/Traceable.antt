@@ -75,7 +75,8 @@ pub record Counting (g : Galley) (w : List ℕ) (from i j c p : ℕ) : Type 0 wh
 -- left and the list ws.
 pub record Writing (g : Galley) (w : List ℕ) (from p : ℕ) (first ws : List ℕ) (i j c r : ℕ) : Type 0 where
   pub visits : Visits g i j c
-  pub room : 2 * r ≤ length ws
+  pub few : r ≤ p
+  pub room : 2 * p ≤ length ws
   pub long : length ws ≡ length first
   pub same :
       writeBack (sidesIn g) (tableIn g w) r i j c ws

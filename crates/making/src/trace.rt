@@ -112,12 +112,13 @@ pub fn write_pages(g: Galley, work: &[u32], side: usize, p: usize, pages: &mut [
     let mut c = side;
     let mut r = p;
     while 0 < r {
-        r -= 1;
+        let at = 2 * (r - 1);
         let start = start_of(entry_of(g, work, i, j, c));
-        pages[2 * r] = i as u32;
-        pages[2 * r + 1] = j as u32;
+        pages[at] = i as u32;
+        pages[at + 1] = j as u32;
         i = size(start.line);
         j = size(start.figure);
         c = side_before(g.spec.sides, c);
+        r -= 1;
     }
 }

@@ -168,6 +168,7 @@ module _ (g : Galley) (w : List ℕ) (tr : Traceable g w) where
       let long : length (set (set ws (2 * (r - 1)) i) (2 * (r - 1) + 1) j) ≡ length ws = simp length-set in
       record {
         visits = step-visits i j c i′ j′ c′ (n .visits) s;
+        few = omega (arith, n .few);
         room = omega (arith, n .room);
         long = long ∙ n .long;
         same = rw (s .line, s .figure, s .side) (sym (write-step (sidesIn g) (tableIn g w) r i j c ws h) ∙ n .same);

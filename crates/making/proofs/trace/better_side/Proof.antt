@@ -1,6 +1,7 @@
 -- `better_side` names the better of two entries: each way through the matches is a case of the definition, and where both are
 -- reached the test on their costs decides.
 use borrow.Author.Tests.{le-leb, lt-leb}
+use native.Mathlib.Omega.{arith}
 use borrow.Author.Needs.{needs}
 use Rattle.making.specs.Trace.{better-side}
 use Rattle.making.proofs.trace.better_side.Statement.{statement}
@@ -38,11 +39,17 @@ returns-3 c = cc
 
 returns-4 : tie.Need-returns-4
 unfolding better-side
-returns-4 c = rw (c .before .before .before .before .before .even .given .1, c .before .before .odd2 .given .1, le-leb _ _ (c .if1 .taken))
+returns-4 c =
+    let even = c .before .before .before .before .before .even .given in
+    let odd = c .before .before .odd2 .given in
+    rw (even .1, odd .1, le-leb (even .0 .0) (odd .0 .0) (omega (arith, c .if1 .taken)))
 
 returns-5 : tie.Need-returns-5
 unfolding better-side
-returns-5 c = rw (c .before .before .before .before .before .even .given .1, c .before .before .odd2 .given .1, lt-leb _ _ (c .if1 .left))
+returns-5 c =
+    let even = c .before .before .before .before .before .even .given in
+    let odd = c .before .before .odd2 .given in
+    rw (even .1, odd .1, lt-leb (even .0 .0) (odd .0 .0) (omega (arith, c .if1 .left)))
 
 pub better-side-spec : {M : Type 1} → statement M
 better-side-spec =

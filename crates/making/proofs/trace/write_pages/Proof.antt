@@ -1,6 +1,5 @@
 -- `write_pages` writes the pages on the way back. The invariant says that the writing from here on is the whole writing, and that
 -- there is room for the pages left, whose number is the measure.
-use Prim.Native.Nat.{_*_, _-_}
 use native.Mathlib.Omega.{arith}
 use lib.ListN.{length-set}
 use borrow.Author.Needs.{needs}
@@ -18,8 +17,11 @@ abbrev μ-loop : tie.MeasureT-loop
 loop-holds : tie.Need-loop-holds Inv-loop μ-loop
 loop-holds c = search needs
 
-sub-r : tie.Need-sub-r Inv-loop μ-loop
-sub-r c = search needs
+sub-at : tie.Need-sub-at Inv-loop μ-loop
+sub-at c = search needs
+
+mul-at : tie.Need-mul-at Inv-loop μ-loop
+mul-at c = search needs
 
 entry-of-requires : tie.Need-entry-of-requires Inv-loop μ-loop
 entry-of-requires c κs = (c .before .before .before .before .pre .walk .table .lent, visits-placed (c .before .loop .inv .visits))
@@ -33,28 +35,20 @@ cast-pages c = search needs
 mul-pages : tie.Need-mul-pages Inv-loop μ-loop
 mul-pages c = search needs
 
-mul-pages-2 : tie.Need-mul-pages-2 Inv-loop μ-loop
-mul-pages-2 c = search needs
-
 slice-write-pages : tie.Need-slice-write-pages Inv-loop μ-loop
 slice-write-pages c = search needs
 
 cast-pages-2 : tie.Need-cast-pages-2 Inv-loop μ-loop
 cast-pages-2 c = search needs
 
-mul-pages-3 : tie.Need-mul-pages-3 Inv-loop μ-loop
-mul-pages-3 c = search needs
-
 add-pages : tie.Need-add-pages Inv-loop μ-loop
 add-pages c = search needs
 
-mul-pages-4 : tie.Need-mul-pages-4 Inv-loop μ-loop
-mul-pages-4 c = search needs
+mul-pages-2 : tie.Need-mul-pages-2 Inv-loop μ-loop
+mul-pages-2 c = search needs
 
 slice-write-pages-2 : tie.Need-slice-write-pages-2 Inv-loop μ-loop
-slice-write-pages-2 c =
-    let st = c .before .before .before .loop in
-    omega (arith, length-set (st .pages) (2 * (st .r - 1)) (st .i))
+slice-write-pages-2 c = simp length-set (omega arith)
 
 size-requires : tie.Need-size-requires Inv-loop μ-loop
 size-requires c κs = search needs
@@ -64,6 +58,9 @@ size-requires-2 c κs = search needs
 
 side-before-requires : tie.Need-side-before-requires Inv-loop μ-loop
 side-before-requires c κs = visits-placed (c .before .before .before .before .before .loop .inv .visits) .side
+
+sub-r : tie.Need-sub-r Inv-loop μ-loop
+sub-r c = search needs
 
 loop-less : tie.Need-loop-less Inv-loop μ-loop
 loop-less c = search needs
@@ -102,21 +99,21 @@ write-pages-spec =
     Inv-loop
     μ-loop
     loop-holds
-    sub-r
+    sub-at
+    mul-at
     entry-of-requires
     start-of-requires
     cast-pages
     mul-pages
-    mul-pages-2
     slice-write-pages
     cast-pages-2
-    mul-pages-3
     add-pages
-    mul-pages-4
+    mul-pages-2
     slice-write-pages-2
     size-requires
     size-requires-2
     side-before-requires
+    sub-r
     loop-less
     loop-again
     same-length
