@@ -5,5 +5,6 @@ pub mod Fill
 pub mod Trace
 pub mod Shown
 pub mod Back
+pub mod Traceable
 pub mod laws
 mod Example

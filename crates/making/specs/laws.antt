@@ -5,3 +5,4 @@ pub mod Seen
 pub mod Fill
 pub mod Right
 pub mod Back
+pub mod Walk
