@@ -1,0 +1,81 @@
+-- The figures that wait at a place, by the number of figures cited so far.
+use Prim.Native.Nat.{ℕ, zero, suc, _+_, _-_, _≤_, _<_}
+use native.Mathlib.Decide.{decLe}
+use native.Mathlib.Omega.{arith}
+use mathlib.Core.Path.{_≡_, refl, sym, _∙_, ap}
+use mathlib.Core.Bool.{Bool, true, false, _&&_}
+use mathlib.Core.List.{List, [], _∷_}
+use lib.Dec.{leb, ltb}
+use borrow.Author.Tests.{ltb-true, ltb-false, lt-ltb, le-ltb, le-leb, lt-leb}
+use Rattle.model.specs.Gather.{one, sum}
+use Rattle.model.specs.Galley.{Stream, Sane, Block, count}
+use Rattle.theorems.specs.Waiting.{dangles, waitingIn, waiting}
+use Rattle.theorems.specs.Costs.{cite-mono}
+use Rattle.galley.specs.declared.Galley.{Galley}
+use Rattle.galley.specs.Model.{figuresOf, modelOf}
+use Rattle.marking.specs.Parts.{Citing}
+
+module _ (st : Stream) (i j c : ℕ) (h : Citing st i c) where
+  past : ℕ → ℕ
+  past k = one (ltb j k && leb (st .cite k) i)
+
+  -- Of the first n figures, all cited, those past j wait.
+  all-cited : (n : ℕ) → n ≤ c → sum n past ≡ n - j
+  unfolding sum past
+  all-cited zero l = omega arith
+  all-cited (suc n) l = go (ltb j (suc n)) refl (all-cited n (omega arith))
+    where
+      go : (b : Bool) → ltb j (suc n) ≡ b → sum n past ≡ n - j
+          → sum n past + one (b && leb (st .cite (suc n)) i) ≡ suc n - j
+      go true e below =
+          let p = ltb-true j (suc n) e in
+          simp (le-leb (st .cite (suc n)) i (h .upto (suc n) (omega arith) l)) (omega arith)
+      go false e below = let p = ltb-false j (suc n) e in omega arith
+
+  -- No figure after the cited ones waits.
+  rest-uncited : (d : ℕ) → c + d ≤ st .size → sum (c + d) past ≡ c - j
+  unfolding sum past
+  rest-uncited zero l = let e : c + 0 ≡ c = omega arith in rw e (all-cited c (omega arith))
+  rest-uncited (suc d) l =
+      let below = rest-uncited d (omega arith) in
+      let e : c + suc d ≡ suc (c + d) = omega arith in
+      rw e (go (ltb j (suc (c + d))) below)
+    where
+      go : (b : Bool) → sum (c + d) past ≡ c - j → sum (c + d) past + one (b && leb (st .cite (suc (c + d))) i) ≡ c - j
+      go true below = simp (lt-leb (st .cite (suc (c + d))) i (h .beyond (suc (c + d)) (omega arith) (omega arith))) (omega arith)
+      go false below = omega arith
+
+-- The figures that wait at a place are those cited by then but not placed.
+pub waiting-two : (bytes : List ℕ) (g : Galley) (i j c : ℕ) → Citing (figuresOf bytes g) i c
+    → waiting (modelOf bytes g) (i ∷ j ∷ []) ≡ c - j
+unfolding waiting waitingIn dangles sum count past
+waiting-two bytes g i j c h =
+    let few = h .few in
+    let e : c + (g .figures - c) ≡ g .figures = omega arith in
+    let r = rest-uncited (figuresOf bytes g) i j c h (g .figures - c) (omega arith) in
+    let s = ap (λ n. sum n (past (figuresOf bytes g) i j c h)) e in
+    omega arith
+
+-- No figure is cited by line 0.
+pub citing-none : (bytes : List ℕ) (g : Galley) → Sane (modelOf bytes g) → Citing (figuresOf bytes g) 0 0
+citing-none bytes g sane =
+    record {
+      few = omega arith;
+      upto = λ k p q. absurd (omega arith);
+      beyond = λ k p q. sane .cites 1 k (omega arith) (record { stream = omega arith; first = p; last = q }) .first;
+    }
+
+-- The count goes on while figures are cited by line i or earlier, and stops at the first that is not, since citations grow.
+pub citing-stop : (bytes : List ℕ) (g : Galley) → Sane (modelOf bytes g) → (i c : ℕ) → c < g .figures
+    → ((k : ℕ) → 1 ≤ k → k ≤ c → figuresOf bytes g .cite k ≤ i) → i < figuresOf bytes g .cite (c + 1)
+    → Citing (figuresOf bytes g) i c
+citing-stop bytes g sane i c l upto stop =
+    record {
+      few = omega arith;
+      upto = upto;
+      beyond = λ k p q.
+          let order =
+          cite-mono (modelOf bytes g) sane 1 (c + 1) k (omega arith) (omega arith) (omega arith)
+          (record { stream = omega arith; first = omega arith; last = q }) in
+          omega arith;
+    }

@@ -1,0 +1,198 @@
+-- The run over the pages: what holds after `done` of them, and how each way of leaving a page goes on.
+use Prim.Native.Nat.{ℕ, zero, suc, pred, _+_, _-_, _*_, _/_, _≤_, _<_}
+use native.Mathlib.Numerals.{add-one}
+use native.Mathlib.Omega.{arith}
+use mathlib.Core.Path.{_≡_, refl, sym, _∙_, ap, subst}
+use mathlib.Core.Bool.{Bool, true, false, _&&_}
+use mathlib.Core.List.{List, [], _∷_}
+use lib.ListN.{length, getD}
+use lib.Dec.{eqb}
+use borrow.Author.Tests.{eq-eqb}
+use Rattle.model.specs.declared.answer.Answer.{Answer}
+use Rattle.model.specs.declared.answer.Answer.the-variants.{Counted, Refused}
+use Rattle.model.specs.Gather.{pick}
+use Rattle.model.specs.Galley.{Place, Sane, count, zeros, sizes, streams}
+use Rattle.model.specs.Leaf.{leaf, ends, sidesOf}
+use Rattle.model.specs.Rules.{broken}
+use Rattle.model.specs.Turns.{xOf, yOf, turns}
+use Rattle.model.specs.Answers.{accepted, same, ended, refuse, judge, countsOf, pagesOf}
+use Rattle.model.specs.Best.{allowed}
+use Rattle.model.specs.laws.Rules.{kept, Kept, forward-at}
+use Rattle.model.specs.laws.Judge.{accepts, judge-accepts}
+use Rattle.model.specs.laws.Words.{length-pages}
+use Rattle.theorems.specs.Waiting.{waiting, pageSum, atEnd}
+use Rattle.theorems.specs.Pages.{along, accepts-along}
+use Rattle.theorems.specs.LeafEnds.{Orderly, x-by-ends}
+use Rattle.theorems.specs.Costs.{orderly}
+use Rattle.galley.specs.declared.Galley.{Galley}
+use Rattle.galley.specs.Model.{figuresOf, modelOf}
+use Rattle.marking.specs.Parts.{Citing, rest}
+use Rattle.marking.specs.laws.Two.{full-two, zeros-two}
+use Rattle.marking.specs.laws.Citing.{waiting-two, citing-none}
+use Rattle.marking.specs.laws.Rest.{rest-all, rest-none, rest-next, rest-ended}
+
+-- The answer of judging pages numbered from q that start at place u, for the counts of the whole list of words.
+unfoldable pub judged : List ℕ → Galley → List ℕ → ℕ → Place → List Place → Answer
+judged bytes g ws = judge (modelOf bytes g) (countsOf (modelOf bytes g) (pagesOf (modelOf bytes g) ws))
+
+-- The answer of judging the whole list.
+unfoldable pub wholly : List ℕ → Galley → List ℕ → Answer
+wholly bytes g ws = judged bytes g ws 1 (zeros (modelOf bytes g)) (pagesOf (modelOf bytes g) ws)
+
+-- The figures that wait where pages numbered from q end their leaf, summed.
+unfoldable pub waited : List ℕ → Galley → ℕ → List Place → ℕ
+waited bytes g = pageSum (atEnd (modelOf bytes g .spec .sides) (waiting (modelOf bytes g)))
+
+-- After `done` pages, the last of which ends at (a, b): c figures are cited, and x is X so far.
+pub record Run (bytes : List ℕ) (g : Galley) (ws : List ℕ) (done a b c x : ℕ) : Type 0 where
+  pub within : done ≤ length ws / 2
+  pub lines : a ≤ g .lines
+  pub figures : b ≤ g .figures
+  pub most : x ≤ 200 * done
+  pub citing : Citing (figuresOf bytes g) a c
+  pub judging : judged bytes g ws (done + 1) (a ∷ b ∷ []) (rest ws (length ws / 2) done) ≡ wholly bytes g ws
+  pub waiting : x + waited bytes g (done + 1) (rest ws (length ws / 2) done) ≡ waited bytes g 1 (pagesOf (modelOf bytes g) ws)
+
+-- What page q adds to X, which ends at figure j with c cited by then.
+unfoldable pub waitingAt : Galley → ℕ → ℕ → ℕ → ℕ
+waitingAt g q c j = pick (ends (sidesOf (g .spec .sides)) q) (c - j) 0
+
+-- The place where page `done` + 1 ends.
+abbrev pub pageAt : List ℕ → ℕ → Place
+pageAt ws done = getD ws (2 * done) 0 ∷ getD ws (2 * done + 1) 0 ∷ []
+
+-- The first rule that this page breaks, or 0.
+abbrev pub brokenAt : List ℕ → Galley → List ℕ → ℕ → Place → ℕ
+brokenAt bytes g ws done u = broken (modelOf bytes g) (done + 1) (eqb (done + 1) (length ws / 2)) u (pageAt ws done)
+
+-- The counts of p pages with X known.
+unfoldable pub counts : Galley → ℕ → ℕ → Answer
+counts g p x =
+    let y = leaf (sidesOf (g .spec .sides)) p - leaf (sidesOf (g .spec .sides)) 1 in
+    Counted p x y (g .spec .alpha * x + g .spec .beta * y)
+
+-- The answer once p pages are judged: 18 where the last does not end at the full place, else the counts.
+unfoldable pub finished : Galley → ℕ → ℕ → ℕ → ℕ → Answer
+finished g p a b x = pick (eqb a (g .lines) && eqb b (g .figures)) (counts g p x) (Refused 18 p)
+
+refuse-some : (n q : ℕ) (after : Answer) → 0 < n → refuse n q after ≡ Refused n q
+unfolding refuse
+refuse-some zero q after h = absurd (omega arith)
+refuse-some (suc n) q after h = refl
+
+module _ (bytes : List ℕ) (g : Galley) (sane : Sane (modelOf bytes g)) (ws : List ℕ) where
+  -- Before the first page.
+  pub run-start : Run bytes g ws 0 0 0 0 0
+  unfolding wholly
+  run-start =
+      let all = rest-all bytes g ws in
+      let start = zeros-two bytes g in
+      record {
+        within = omega arith;
+        lines = omega arith;
+        figures = omega arith;
+        most = omega arith;
+        citing = citing-none bytes g sane;
+        judging = rw (all, start);
+        waiting = rw all (omega arith);
+      }
+
+  module _ (whole : length ws ≡ 2 * (length ws / 2)) {done a b c x : ℕ} (run : Run bytes g ws done a b c x) where
+    module _ (more : done < length ws / 2) where
+      after : Answer
+      after = judged bytes g ws (suc (done + 1)) (pageAt ws done) (rest ws (length ws / 2) (done + 1))
+
+      step : refuse (brokenAt bytes g ws done (a ∷ b ∷ [])) (done + 1) after ≡ wholly bytes g ws
+      unfolding judged judge after
+      step =
+          let here = rest-next ws (length ws / 2) done whole more in
+          let last = rest-ended ws (length ws / 2) (done + 1) (omega arith) in
+          rw (here, last) at (run .judging)
+
+      step-waiting : (c′ : ℕ) → Citing (figuresOf bytes g) (getD ws (2 * done) 0) c′
+          → waited bytes g (done + 1) (rest ws (length ws / 2) done)
+          ≡ waitingAt g (done + 1) c′ (getD ws (2 * done + 1) 0) + waited bytes g (done + 1 + 1) (rest ws (length ws / 2) (done + 1))
+      unfolding waited pageSum atEnd waitingAt
+      step-waiting c′ citing =
+          let here = rest-next ws (length ws / 2) done whole more in
+          let s : suc (done + 1) ≡ done + 1 + 1 = omega arith in
+          let wait = waiting-two bytes g (getD ws (2 * done) 0) (getD ws (2 * done + 1) 0) c′ citing in
+          rw (here, wait, s)
+
+      -- A page that breaks a rule ends the run.
+      pub run-refused : (n : ℕ) → n ≡ brokenAt bytes g ws done (a ∷ b ∷ []) → 0 < n → Refused n (done + 1) ≡ wholly bytes g ws
+      run-refused n e h =
+          sym (refuse-some n (done + 1) after h) ∙ ap (λ n. refuse n (done + 1) after) e ∙ step
+
+      -- A page that breaks none goes on to the next.
+      pub run-next : brokenAt bytes g ws done (a ∷ b ∷ []) ≡ 0 → g .figures ≤ 200
+          → (c′ : ℕ) → Citing (figuresOf bytes g) (getD ws (2 * done) 0) c′
+          → Run bytes g ws (done + 1) (getD ws (2 * done) 0) (getD ws (2 * done + 1) 0) c′
+          (x + waitingAt g (done + 1) c′ (getD ws (2 * done + 1) 0))
+      unfolding refuse after count waitingAt allowed
+      run-next e few c′ citing =
+          let goes = forward-at _ _ _ (kept (eq-eqb (brokenAt bytes g ws done (a ∷ b ∷ [])) 0 e) .rule13) in
+          let most = run .most in
+          let cited = citing .few in
+          let add = waitingAt-most (ends (sidesOf (g .spec .sides)) (done + 1)) in
+          let s : suc (done + 1) ≡ done + 1 + 1 = omega arith in
+          record {
+            within = omega arith;
+            lines = goes .top 0 (omega arith);
+            figures = goes .top 1 (omega arith);
+            most = omega arith;
+            citing = citing;
+            judging =
+                ap (λ q. judged bytes g ws q (pageAt ws done) (rest ws (length ws / 2) (done + 1))) (sym s)
+                ∙ (rw e at step);
+            waiting = let more-x = step-waiting c′ citing in let x-so-far = run .waiting in omega arith;
+          }
+        where
+          waitingAt-most : (e : Bool) → pick e (c′ - getD ws (2 * done + 1) 0) 0 ≤ c′
+          waitingAt-most true = omega arith
+          waitingAt-most false = omega arith
+
+    module _ (e : done ≡ length ws / 2) where
+      none : rest ws (length ws / 2) done ≡ []
+      none = ap (rest ws (length ws / 2)) e ∙ rest-none ws (length ws / 2)
+
+      end : pick (eqb a (g .lines) && eqb b (g .figures)) (countsOf (modelOf bytes g) (pagesOf (modelOf bytes g) ws))
+          (Refused 18 (length ws / 2))
+          ≡ wholly bytes g ws
+      unfolding judged judge
+      end =
+          let p : pred (done + 1) ≡ length ws / 2 = omega arith in
+          rw (none, full-two bytes g a b, p) at (run .judging)
+
+      -- X of an accepted list is what waited at the ends of its leaves.
+      x-is : countsOf (modelOf bytes g) (pagesOf (modelOf bytes g) ws) ≡ wholly bytes g ws
+          → x ≡ xOf (modelOf bytes g) (pagesOf (modelOf bytes g) ws)
+      unfolding countsOf waited wholly judged pageSum
+      x-is good =
+          let M = modelOf bytes g in
+          let pages = pagesOf M ws in
+          let taken : accepts (allowed M) (sizes M) 1 (zeros M) pages ≡ true =
+          sym (judge-accepts M (countsOf M pages) 1 (zeros M) pages refl) ∙ ap accepted (sym good) in
+          let fine =
+          along _ (Orderly M) (λ q last u v t. let k = kept (t .0) in orderly M sane q last u v (k .rule13) (k .rule17)) 1
+          (zeros M) pages (accepts-along (allowed M) (sizes M) 1 (zeros M) pages taken) in
+          let by-ends = x-by-ends M (zeros M) pages fine in
+          let so-far : x + 0 ≡ waited bytes g 1 pages = rw none at (run .waiting) in
+          omega arith
+
+      counts-are : countsOf (modelOf bytes g) (pagesOf (modelOf bytes g) ws) ≡ wholly bytes g ws
+          → counts g (length ws / 2) x ≡ countsOf (modelOf bytes g) (pagesOf (modelOf bytes g) ws)
+      unfolding counts countsOf yOf turns streams
+      counts-are good = rw (length-pages (modelOf bytes g) ws, ← x-is good)
+
+      -- After the last page comes rule 18, and then the counts.
+      pub run-finish : finished g (length ws / 2) a b x ≡ wholly bytes g ws
+      unfolding finished
+      run-finish = go (eqb a (g .lines) && eqb b (g .figures)) refl
+        where
+          go : (t : Bool) → (eqb a (g .lines) && eqb b (g .figures)) ≡ t
+              → pick t (counts g (length ws / 2) x) (Refused 18 (length ws / 2)) ≡ wholly bytes g ws
+          go true t =
+              let good : countsOf (modelOf bytes g) (pagesOf (modelOf bytes g) ws) ≡ wholly bytes g ws = rw t at end in
+              counts-are good ∙ good
+          go false t = rw t at end

@@ -1,0 +1,80 @@
+-- The model's tests of one page, for lines and figures: two streams, places of two counts.
+use Prim.Native.Nat.{ℕ, zero, suc, pred, _+_, _*_}
+use native.Mathlib.Omega.{arith}
+use mathlib.Core.Path.{_≡_, refl, sym, _∙_, ap}
+use mathlib.Core.Bool.{Bool, true, false, _&&_, _||_}
+use mathlib.Core.List.{List, [], _∷_}
+use lib.Dec.{leb, ltb, eqb}
+use lib.ListN.{getD}
+use Rattle.model.specs.Gather.{pick, implies, one, sum, total, each, every, row}
+use Rattle.model.specs.Galley.{count, streams, zeros, sizes, blocks, Stream}
+use Rattle.model.specs.Height.{has, kinds, stacked, height, tightest, loosest}
+use Rattle.model.specs.Leaf.{ends}
+use Rattle.model.specs.Rules.{forward, mayEnd, closes, fits, fills, cited, firstBroken, broken}
+use Rattle.model.specs.Answers.{same, counted}
+use Rattle.galley.specs.declared.Galley.{Galley}
+use Rattle.galley.specs.Model.{textOf, figuresOf, modelOf}
+use Rattle.marking.specs.Parts.{startFault, endFault, separation}
+
+some-kind : (a b : Bool) → ltb 0 (one a + (0 + one b)) ≡ (a || b)
+some-kind true true = refl
+some-kind true false = refl
+some-kind false true = refl
+some-kind false false = refl
+
+and-true : (a : Bool) → (a && true) ≡ a
+and-true true = refl
+and-true false = refl
+
+implies-true : (a : Bool) → implies a true ≡ true
+implies-true true = refl
+implies-true false = refl
+
+separated : (a b : Bool) (s : ℕ) → pred (one a + (0 + one b)) * s ≡ separation a b s
+unfolding separation
+separated true true s = omega arith
+separated true false s = omega arith
+separated false true s = omega arith
+separated false false s = omega arith
+
+module _ (bytes : List ℕ) (g : Galley) where
+  -- Rule 13.
+  pub forward-two : (a b i j : ℕ)
+      → forward (modelOf bytes g) (a ∷ b ∷ []) (i ∷ j ∷ [])
+      ≡ (((leb a i && leb i (g .lines)) && (leb b j && leb j (g .figures))) && (ltb a i || ltb b j))
+  unfolding forward every each kinds has total sum count
+  forward-two a b i j = simp (some-kind (ltb a i) (ltb b j))
+
+  -- Rule 14: a page may end after any figure.
+  pub closes-two : (i j : ℕ) → closes (modelOf bytes g) (i ∷ j ∷ []) ≡ mayEnd (textOf bytes g) i
+  unfolding closes every each mayEnd count
+  closes-two i j = simp (implies-true, and-true)
+
+  -- The height of a page.
+  pub height-two : (gap : Stream → ℕ → ℕ) (s a b i j : ℕ)
+      → height (modelOf bytes g) gap s (a ∷ b ∷ []) (i ∷ j ∷ [])
+      ≡ separation (ltb a i) (ltb b j) s
+      + stacked (textOf bytes g) (gap (textOf bytes g)) a i
+      + stacked (figuresOf bytes g) (gap (figuresOf bytes g)) b j
+  unfolding height kinds has total sum count
+  height-two gap s a b i j = let e = separated (ltb a i) (ltb b j) s in omega arith
+
+  -- Rule 17.
+  pub cited-two : (q : ℕ) (last : Bool) (i j : ℕ)
+      → cited (modelOf bytes g) q last (i ∷ j ∷ [])
+      ≡ implies (ends (modelOf bytes g .spec .sides) q || last) (implies (ltb 0 j) (leb (figuresOf bytes g .cite j) i))
+  unfolding cited each count
+  cited-two q last i j = refl
+
+  -- The full place.
+  pub full-two : (a b : ℕ) → same (a ∷ b ∷ []) (sizes (modelOf bytes g)) ≡ (eqb a (g .lines) && eqb b (g .figures))
+  unfolding same sizes row streams
+  full-two a b = simp and-true
+
+  pub zeros-two : zeros (modelOf bytes g) ≡ 0 ∷ 0 ∷ []
+  unfolding zeros row streams
+  zeros-two = refl
+
+  pub blocks-two : blocks (modelOf bytes g) ≡ g .lines + g .figures
+  unfolding blocks total sum
+  blocks-two = omega arith

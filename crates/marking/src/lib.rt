@@ -1,0 +1,1 @@
+// Marking a page list: any bytes, any words.
