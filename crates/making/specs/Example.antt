@@ -27,7 +27,7 @@ galleyC =
     record {
       spec = record { htmin = 10; htmax = 20; smin = 0; smax = 0; sides = double; alpha = 1; beta = 1 };
       floats = 1;
-      stream = λ s. elim s [ zero ↦ stream (10 ∷ 10 ∷ 20 ∷ 20 ∷ []) 0 | suc t ↦ stream (20 ∷ []) 4 ]
+      stream = λ s. elim s [ zero ↦ stream (10 ∷ 10 ∷ 20 ∷ 20 ∷ []) 0 | suc t ↦ stream (20 ∷ []) 4 ];
     }
 
 w : List ℕ
@@ -36,6 +36,7 @@ w = filled galleyC (replicate 80 7)
 test : writeBack double (tableOf 5 w) 5 4 1 (lastSide double (tableOf 5 w) 4 1) (replicate 10 0) ≡ (1 ∷ 0 ∷ 2 ∷ 0 ∷ 3 ∷ 0 ∷ 4 ∷ 0 ∷ 4 ∷ 1 ∷ [])
 unfolding stream galleyC w sum between total each every rowOf count streams zeros sizes blocks has kinds stacked height tightest loosest leaf ends forward mayEnd closes fits fills cited same dangles waitingIn waiting pageCost full entryAt put stored address tableOf before better offered row rows bestStart priced mayStop entryOf tall fillSide fillPlace fillColumn fillColumns filled startOf better-side lastSide countBack writeBack
 test = refl
+
 test2 : countBack double (tableOf 5 w) 5 4 1 (lastSide double (tableOf 5 w) 4 1) 0 ≡ 5
 unfolding stream galleyC w sum between total each every rowOf count streams zeros sizes blocks has kinds stacked height tightest loosest leaf ends forward mayEnd closes fits fills cited same dangles waitingIn waiting pageCost full entryAt put stored address tableOf before better offered row rows bestStart priced mayStop entryOf tall fillSide fillPlace fillColumn fillColumns filled startOf better-side lastSide countBack writeBack
 test2 = refl

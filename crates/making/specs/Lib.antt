@@ -3,4 +3,7 @@ pub mod Search
 pub mod Filled
 pub mod Fill
 pub mod Trace
+pub mod Heights
+pub mod Asked
+pub mod laws
 mod Example

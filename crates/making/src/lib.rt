@@ -1,1 +1,3 @@
 // Making
+mod heights; // heights.rt: the heights of a page, gathered back from its end
+mod search; // search.rt: the best start of a place

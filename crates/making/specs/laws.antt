@@ -1,0 +1,3 @@
+-- The laws of making's definitions.
+pub mod Heights
+pub mod Search
