@@ -2,7 +2,6 @@
 ghost use mathlib.Core.Path.{_≡_};
 ghost use Prim.Native.Nat.{_+_, _*_, _^_, _≤_, _<_};
 ghost use Rattle.galley.specs.Block.{HasLine, HasFigure, lineOffset, figureOffset, lineAt, figureAt};
-
 use crate::Galley;
 
 // The offset of line k.

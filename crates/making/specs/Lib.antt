@@ -3,6 +3,8 @@ pub mod Search
 pub mod Filled
 pub mod Fill
 pub mod Trace
+pub mod Shown
+pub mod Back
 pub mod Heights
 pub mod Asked
 pub mod laws

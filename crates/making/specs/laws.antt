@@ -1,3 +1,9 @@
--- The laws of making's definitions.
+-- The laws of making.
+pub mod Entered
+pub mod Shown
+pub mod Seen
+pub mod Fill
+pub mod Right
+pub mod Back
 pub mod Heights
 pub mod Search

@@ -95,14 +95,17 @@ pub record Limits (g : Galley) : Type 0 where
   pub alpha : g .spec .alpha ≤ 1000
   pub beta : g .spec .beta ≤ 1000
 
+-- Within the limits a page costs at most 201,000, and there are at most 4,200 blocks.
+pub rate-limit : (g : Galley) → Limits g → (dearest g ≤ 201000) × (blocks g ≤ 4200)
+unfolding blocks total allFloats dearest
+rate-limit g l = let weights = mul-le-mul (l .alpha) (l .floats) in omega arith
+
 -- Within the limits, α·n + β for each block but one is at most 843,999,000.
 pub dearest-limit : (g : Galley) → Limits g → pred (blocks g) * dearest g ≤ 843999000
-unfolding blocks total allFloats dearest
 dearest-limit g l =
-    let weights = mul-le-mul (l .alpha) (l .floats) in
-    let rate : dearest g ≤ 201000 = omega arith in
-    let number : pred (blocks g) ≤ 4199 = omega arith in
-    mul-le-mul number rate
+    let (rate, number) = rate-limit g l in
+    let fewer : pred (blocks g) ≤ 4199 = omega arith in
+    mul-le-mul fewer rate
 
 -- Within the limits no accepted list has more turns than that.
 pub turns-limit : (g : Galley) → Sane g → Limits g → (ps : List Place)

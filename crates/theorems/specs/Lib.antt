@@ -14,8 +14,6 @@ pub mod LeafEnds
 pub mod Full
 pub mod Costs
 pub mod Bounds
--- The published model: document 01's rules and numbers are the paper's.
-pub mod published
 -- The instance: pages as a graph, and its best way as the best list.
 pub mod PageGraph
 pub mod PageSides
@@ -25,3 +23,6 @@ pub mod PageLists
 pub mod PageTies
 pub mod PageBounds
 pub mod PageTheorem
+pub mod LeastTurns
+-- The published model: document 01's rules and numbers are the paper's.
+pub mod published

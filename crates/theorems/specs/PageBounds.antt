@@ -1,12 +1,12 @@
--- No cost in the table of pages, and no sum that fills it, passes α·n + β for each block but one.
-use Prim.Native.Nat.{ℕ, zero, suc, pred, _+_, _*_, _≤_, _<_}
+-- A way costs at most α·n + β for each block that it places, and for each block but one, since the last page costs nothing.
+use Prim.Native.Nat.{ℕ, suc, pred, _+_, _*_, _≤_, _<_}
 use native.Mathlib.Nat.{suc-mul, mul-le-mul-right}
 use native.Mathlib.Decide.{decLt}
 use native.Mathlib.Omega.{arith}
-use mathlib.Core.Path.{_≡_, refl, sym, _∙_, ap}
+use mathlib.Core.Path.{_≡_, refl, _∙_}
 use mathlib.Core.Bool.{Bool, true, false}
 use mathlib.Core.List.{List, [], _∷_}
-use lib.ListN.{length, getD}
+use lib.ListN.{length}
 use lib.Seq.{ext-getD}
 use Rattle.model.specs.Galley.{Galley, Place, count, streams, sizes, blocks}
 use Rattle.model.specs.Rules.{forward}
@@ -17,7 +17,7 @@ use Rattle.model.specs.laws.Valid.{same-refl, placed-sizes}
 use Rattle.theorems.specs.Graph.{Way, total}
 use Rattle.theorems.specs.Waiting.{pageCost}
 use Rattle.theorems.specs.Bounds.{dearest, cost-le}
-use Rattle.theorems.specs.PageGraph.{State, stop, end, full, Within, Page, Finish, Step, price, pageGraph}
+use Rattle.theorems.specs.PageGraph.{State, stop, end, full, Within, Step, price, pageGraph}
 
 module _ (g : Galley) where
   -- Inside, no more blocks are placed than there are.
@@ -30,7 +30,8 @@ module _ (g : Galley) where
   unfolding full placed count sizes streams
   placed-lt v i e = go (decLt (placed g v) (blocks g))
     where
-      equal : ¬ (placed g v < blocks g) → (s : ℕ) → s < length v → Dec (count v s < count (sizes g) s) → count v s ≡ count (sizes g) s
+      equal : ¬ (placed g v < blocks g) → (s : ℕ) → s < length v → Dec (count v s < count (sizes g) s)
+          → count v s ≡ count (sizes g) s
       equal h s l (yes p) =
           let long = i .long ∙ length-row 0 (suc (g .floats)) (λ s. g .stream s .size) in
           let less = total-lt (g .floats) (count v) (count (sizes g)) (λ s h. i .under s) s (omega arith) p in

@@ -32,21 +32,21 @@ unfoldable pub Within : Galley → State → Type 0
 Within g (stop v c) = Inside (sizes g) v × (oddly (g .spec .sides) c ≡ c)
 Within g end = Unit {0}
 
--- A page from u, after a page on side b, to v on the other side, or on the one side of single-sided work: one that breaks no rule.
-pub record Page (g : Galley) (u : Place) (b : ℕ) (v : Place) (c : ℕ) : Type 0 where
+-- A page from u to v that breaks no rule: the page before it is on side b, and it is on side c, the next.
+pub record PageStep (g : Galley) (u : Place) (b : ℕ) (v : Place) (c : ℕ) : Type 0 where
   pub within : Within g (stop u b)
   pub next : c ≡ oddly (g .spec .sides) (suc b)
   pub may : allowed g c (full g v) u v ≡ true
 
 -- The step to the end: from the full place, on either side.
-pub record Finish (g : Galley) (u : Place) (b : ℕ) : Type 0 where
+pub record EndStep (g : Galley) (u : Place) (b : ℕ) : Type 0 where
   pub within : Within g (stop u b)
   pub whole : u ≡ sizes g
 
 -- A step is a page, or leads from the full place to the end.
 unfoldable pub Step : Galley → State → State → Type 0
-Step g (stop u b) (stop v c) = Page g u b v c
-Step g (stop u b) end = Finish g u b
+Step g (stop u b) (stop v c) = PageStep g u b v c
+Step g (stop u b) end = EndStep g u b
 Step g end t = ⊥
 
 -- What is added on the way into a state: the cost of the page that stops there; nothing at the end.

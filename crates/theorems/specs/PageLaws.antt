@@ -1,33 +1,43 @@
--- The graph of pages obeys the laws of graphs, and its table's states are a domain.
-use Prim.Native.Nat.{ℕ, zero, suc, _+_, _≤_, _<_}
+-- The graph of pages obeys the laws of graphs, and every set of states that holds its starts is a domain.
+use Prim.Native.Nat.{ℕ, suc, _≤_, _<_}
 use native.Mathlib.Nat.{le-trans}
 use native.Mathlib.Omega.{arith}
 use mathlib.Core.Path.{_≡_, refl, sym, _∙_, ap}
 use mathlib.Core.Logic.{_⊎_, inl, inr}
-use mathlib.Core.Bool.{Bool, true}
-use mathlib.Core.List.{List, []}
-use Rattle.model.specs.Galley.{Galley, Place, count, zeros, sizes, blocks}
+use mathlib.Core.Bool.{true}
+use Rattle.model.specs.Galley.{Galley, Place, count, zeros, blocks}
 use Rattle.model.specs.Order.{lex, geb}
 use Rattle.model.specs.laws.Rules.{kept, forward-at, placed, placed-grows}
 use Rattle.model.specs.laws.Valid.{count-zeros, placed-sizes}
 use Rattle.model.specs.laws.Order.{lex-preference, lex-antisymm, geb-preference, geb-antisymm}
 use Rattle.theorems.specs.Graph.{Laws}
 use Rattle.theorems.specs.Cell.{Domain}
-use Rattle.theorems.specs.PageGraph.{State, stop, end, Within, Page, Finish, Step, Prefers, price, pageGraph}
+use Rattle.theorems.specs.PageGraph.{State, stop, end, Within, Step, Prefers, pageGraph}
 
--- Two places that are each the later are the same.
+-- Two places, each no earlier than the other, are the same.
 pub later-antisymm : (u w : Place) → lex geb u w ≡ true → lex geb w u ≡ true → u ≡ w
 later-antisymm = lex-antisymm geb geb-antisymm
 
+-- A place is no earlier than itself.
+pub later-refl : (u : Place) → lex geb u u ≡ true
+later-refl u = go (lex-preference geb geb-preference .total u u)
+  where
+    go : (lex geb u u ≡ true) ⊎ (lex geb u u ≡ true) → lex geb u u ≡ true
+    go (inl h) = h
+    go (inr h) = h
+
+-- At one place the lower side is preferred.
+pub prefers-side : (u : Place) (b d : ℕ) → b ≤ d → Prefers (stop u b) (stop u d)
+unfolding Prefers
+prefers-side u b d h = (later-refl u, λ e. h)
+
+-- Every state is preferred to itself,
 prefers-refl : (s : State) → Prefers s s
 unfolding Prefers
-prefers-refl (stop u b) = (itself (lex-preference geb geb-preference .total u u), λ e. omega arith)
-  where
-    itself : (lex geb u u ≡ true) ⊎ (lex geb u u ≡ true) → lex geb u u ≡ true
-    itself (inl h) = h
-    itself (inr h) = h
+prefers-refl (stop u b) = prefers-side u b b (omega arith)
 prefers-refl end = tt
 
+-- what is preferred to a preferred state is preferred,
 prefers-trans : (s t r : State) → Prefers s t → Prefers t r → Prefers s r
 unfolding Prefers
 prefers-trans (stop u b) (stop v c) (stop w d) (h, f) (k, f′) = (
@@ -40,6 +50,7 @@ prefers-trans (stop u b) end end p q = tt
 prefers-trans end (stop v c) r p q = absurd p
 prefers-trans end end r p q = q
 
+-- and two states that are each preferred to the other are the same.
 prefers-antisymm : (s t : State) → Prefers s t → Prefers t s → s ≡ t
 unfolding Prefers
 prefers-antisymm (stop u b) (stop w d) (h, f) (k, f′) =
@@ -100,12 +111,12 @@ module _ (g : Galley) where
   step-falls (stop u b) end p = let e = ap (placed g) (p .whole) in let all = placed-sizes g in omega arith
   step-falls end t p = absurd p
 
-  -- The states of the table are a domain: each step into them starts in them, with fewer blocks placed.
-  abbrev pub pageDomain : Domain (pageGraph g)
-  pageDomain =
+  -- States that hold the start of each step into them are a domain: fewer blocks are placed at each start.
+  abbrev pub domainOf : (K : State → Type 0) → ((u v : State) → K v → Step g u v → K u) → Domain (pageGraph g)
+  domainOf K closed =
       record {
-        In = Within g;
-        closed = λ {u} {v} i. step-within u v;
+        In = K;
+        closed = λ {u} {v} i. closed u v i;
         rank = blocksAt;
         falls = λ {u} {v} i. step-falls u v;
       }

@@ -1,8 +1,8 @@
 -- Ways to the end and valid lists, one for one, at the same cost.
-use Prim.Native.Nat.{ℕ, zero, suc, _+_, _≤_, _<_}
+use Prim.Native.Nat.{ℕ, zero, suc, _+_, _<_}
 use native.Mathlib.Omega.{arith}
 use mathlib.Core.Path.{_≡_, refl, sym, _∙_, ap}
-use mathlib.Core.Bool.{Bool, true, false}
+use mathlib.Core.Bool.{true}
 use mathlib.Core.List.{List, [], _∷_}
 use lib.ListN.{length, getD}
 use Rattle.model.specs.Gather.{row}
@@ -18,7 +18,7 @@ use Rattle.model.specs.laws.Valid.{same-true, same-refl, count-sizes, count-zer
 use Rattle.theorems.specs.Graph.{Way, total}
 use Rattle.theorems.specs.Waiting.{pageSum, costs}
 use Rattle.theorems.specs.Costs.{turns-are-costs}
-use Rattle.theorems.specs.PageGraph.{State, stop, end, Within, Page, Finish, Step, price, pageGraph, pagesTo, pagesOn, stopsOf, wayOf}
+use Rattle.theorems.specs.PageGraph.{State, stop, end, Within, Step, price, pageGraph, pagesTo, pagesOn, stopsOf, wayOf}
 use Rattle.theorems.specs.PageSides.{side-zero, side-side, side-next}
 use Rattle.theorems.specs.PageWays.{same-rules, way-side, Reads, reads}
 
@@ -52,7 +52,11 @@ module _ (g : Galley) where
     unfolding Way
     way-accepted us w =
         let e = way-ends us w in
-        record { some = go (e .stops) (e .side) (e .way) (e .read .long); shaped = inside-shaped g (pagesOn us) (e .read .inside); taken = e .read .taken }
+        record {
+          some = go (e .stops) (e .side) (e .way) (e .read .long);
+          shaped = inside-shaped g (pagesOn us) (e .read .inside);
+          taken = e .read .taken;
+        }
       where
         go : (stops : List State) (c : ℕ) → Way (pageGraph g) stops (stop (sizes g) c)
             → length (pagesOn us) ≡ length stops + 0 → 0 < length (pagesOn us)
@@ -85,13 +89,14 @@ module _ (g : Galley) where
   stops-way q u (v ∷ vs) after w i is h =
       let rest = and-right (allowed g (suc q) (ended vs) u v) (accepts (allowed g) (sizes g) (suc (suc q)) v vs) h in
       let here = and-left (allowed g (suc q) (ended vs) u v) (accepts (allowed g) (sizes g) (suc (suc q)) v vs) h in
-      stops-way (suc q) v vs (stop u (oddly (g .spec .sides) q) ∷ after)
-      (record {
-        within = (i, side-side (g .spec .sides) q);
-        next = sym (side-next (g .spec .sides) q);
-        may = same-rules g (suc q) v vs rest u ∙ here;
-      },
-      w)
+      stops-way (suc q) v vs (stop u (oddly (g .spec .sides) q) ∷ after) (
+        record {
+          within = (i, side-side (g .spec .sides) q);
+          next = sym (side-next (g .spec .sides) q);
+          may = same-rules g (suc q) v vs rest u ∙ here;
+        },
+        w,
+      )
       (is .0) (is .1) rest
 
   -- The pages of a list's stops are the list.

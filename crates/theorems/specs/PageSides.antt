@@ -2,7 +2,7 @@
 use Prim.Native.Nat.{ℕ, suc, _%_}
 use native.Mathlib.Omega.{arith}
 use mathlib.Core.Path.{_≡_, refl, ap}
-use mathlib.Core.Bool.{Bool, true}
+use mathlib.Core.Bool.{Bool}
 use lib.Dec.{eqb}
 use Rattle.model.specs.Galley.{Sides, single, double, Galley, Place}
 use Rattle.model.specs.Leaf.{ends}
@@ -30,7 +30,8 @@ side-next single q = refl
 side-next double q = omega arith
 
 -- The side follows from the next page's side.
-pub side-back : (sides : Sides) (b d : ℕ) → oddly sides b ≡ b → oddly sides d ≡ d → oddly sides (suc b) ≡ oddly sides (suc d) → b ≡ d
+pub side-back : (sides : Sides) (b d : ℕ) → oddly sides b ≡ b → oddly sides d ≡ d
+    → oddly sides (suc b) ≡ oddly sides (suc d) → b ≡ d
 unfolding oddly
 side-back single b d h k e = omega arith
 side-back double b d h k e = omega arith

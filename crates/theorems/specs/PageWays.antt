@@ -1,27 +1,23 @@
--- Ways to the end and valid lists are the same: read backwards, a way's stops are a list that the rules accept, at the same cost.
-use Prim.Native.Nat.{ℕ, zero, suc, _+_, _≤_, _<_}
-use native.Mathlib.Nat.{add-zero}
+-- A way's stops, read backwards, are a list that the rules accept, at the way's cost.
+use Prim.Native.Nat.{ℕ, suc, _+_}
 use native.Mathlib.Omega.{arith}
 use mathlib.Core.Path.{_≡_, refl, sym, _∙_, ap}
 use mathlib.Core.Bool.{Bool, true, false}
 use mathlib.Core.List.{List, [], _∷_, map}
-use lib.ListN.{length, getD}
-use Rattle.model.specs.Gather.{row}
-use Rattle.model.specs.Galley.{Galley, Place, Sane, count, streams, zeros, sizes, blocks}
-use Rattle.model.specs.Turns.{turns}
+use lib.ListN.{length}
+use Rattle.model.specs.Galley.{Galley, Place, count, zeros, sizes}
 use Rattle.model.specs.Answers.{same, ended}
 use Rattle.model.specs.Order.{oddly, startsOf}
-use Rattle.model.specs.Best.{Allowed, allowed}
-use Rattle.model.specs.laws.Gather.{and-left, and-right, and-both, length-row}
-use Rattle.model.specs.laws.Rules.{kept, forward-at, placed}
+use Rattle.model.specs.Best.{allowed}
+use Rattle.model.specs.laws.Gather.{and-left, and-both}
+use Rattle.model.specs.laws.Rules.{kept, forward-at}
 use Rattle.model.specs.laws.Judge.{accepts}
 use Rattle.model.specs.laws.Lists.{Inside, AllInside}
-use Rattle.model.specs.laws.Valid.{same-true, count-sizes, count-zeros, inside-shaped, all-inside, Accepted}
+use Rattle.model.specs.laws.Valid.{same-true, count-sizes}
 use Rattle.theorems.specs.Graph.{Way, total}
 use Rattle.theorems.specs.Waiting.{pageSum, pageCost, costs}
-use Rattle.theorems.specs.Costs.{turns-are-costs}
-use Rattle.theorems.specs.PageGraph.{State, stop, end, placeOf, full, Within, Page, Finish, Step, price, pageGraph, pagesTo, pagesOn, stopsOf, wayOf}
-use Rattle.theorems.specs.PageSides.{side-zero, side-side, side-next, allowed-side, cost-side}
+use Rattle.theorems.specs.PageGraph.{State, stop, end, placeOf, full, Within, Step, price, pageGraph, pagesTo, stopsOf, wayOf}
+use Rattle.theorems.specs.PageSides.{side-zero, side-next, allowed-side, cost-side}
 
 module _ (g : Galley) where
   -- In an accepted list a page stops at the full place exactly where it is the last: from there no page goes forward.
@@ -63,7 +59,7 @@ module _ (g : Galley) where
       p .next ∙ ap (λ d. oddly (g .spec .sides) (suc d)) (way-side us u b w) ∙ side-next (g .spec .sides) (length us)
   way-side (end ∷ us) v c (p, w) = absurd p
 
-  -- What the list ps of a way is, which goes on after its stop at v with the pages `after`.
+  -- What ps is, the list of a way to v and then of the pages `after`.
   pub record Reads (us : List State) (v : Place) (c : ℕ) (after ps : List Place) : Type 0 where
     pub taken : accepts (allowed g) (sizes g) 1 (zeros g) ps ≡ true
     pub inside : AllInside (sizes g) ps
@@ -72,7 +68,7 @@ module _ (g : Galley) where
     pub starts : startsOf (zeros g) ps [] ≡ startsOf v after (map placeOf us)
     pub back : wayOf g ps ≡ stopsOf (g .spec .sides) (length us) v after us
 
-  -- The list of a way before an accepted list is accepted.
+  -- The list of a way, put before an accepted list, is accepted.
   pub reads : (us : List State) (v : Place) (c : ℕ) (after : List Place) → Way (pageGraph g) us (stop v c) → Inside (sizes g) v
       → AllInside (sizes g) after → accepts (allowed g) (sizes g) (suc (length us)) v after ≡ true
       → Reads us v c after (pagesTo us (stop v c) after)
@@ -82,11 +78,19 @@ module _ (g : Galley) where
       record { taken = cc; inside = is; cost = omega arith; long = omega arith; starts = cc; back = cc }
   reads (stop u b ∷ us) v c after (p, w) i is h =
       let s = way-side (stop u b ∷ us) v c (p, w) in
-      let may : allowed g (suc (length us)) (ended after) u v ≡ true = let r = same-rules (suc (length us)) v after h u in let m = p .may in cc in
+      let may : allowed g (suc (length us)) (ended after) u v ≡ true =
+      sym (same-rules (suc (length us)) v after h u) ∙ ap (λ d. allowed g d (full g v) u v) (sym s) ∙ p .may in
       let r = reads us u b (v ∷ after) w (p .within .0) (i, is) (and-both may h) in
       let page : price g (stop v c) ≡ pageCost g (suc (length us)) (ended after) v =
       ap (λ d. price g (stop v d)) s ∙ same-price (suc (length us)) v after h in
       let cost = r .cost in
       let long = r .long in
-      record { taken = r .taken; inside = r .inside; cost = omega arith; long = omega arith; starts = r .starts; back = r .back ∙ ap (λ d. stopsOf (g .spec .sides) (suc (length us)) v after (stop u d ∷ us)) (sym (way-side us u b w)) }
+      record {
+        taken = r .taken;
+        inside = r .inside;
+        cost = omega arith;
+        long = omega arith;
+        starts = r .starts;
+        back = r .back ∙ ap (λ d. stopsOf (g .spec .sides) (suc (length us)) v after (stop u d ∷ us)) (sym (way-side us u b w));
+      }
   reads (end ∷ us) v c after (p, w) i is h = absurd p

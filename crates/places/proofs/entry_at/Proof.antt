@@ -1,4 +1,8 @@
 -- `entry_at` meets its contract: by the test on the tag, each arm is the clause of `entryOf` for it.
+use mathlib.Core.Path.{_≡_}
+use mathlib.Core.Logic.{_≢_}
+use native.Mathlib.Omega.{arith}
+use lib.ListN.{getD}
 use borrow.Author.Tests.{eq-eqb, ne-eqb}
 use Rattle.places.specs.Entry.{entryAt}
 use borrow.Author.Needs.{needs}
@@ -40,11 +44,17 @@ shared-slice-read-t16-2 c = search needs
 
 returns : tie.Need-returns
 unfolding entryAt
-returns c = simp (eq-eqb _ _ (c .before .before .before .if1 .taken))
+returns c =
+    let args = c .before .before .before .before .before .args in
+    let tag : getD (args .work .now) (args .at) 0 ≡ 1 = omega (arith, c .before .before .before .if1 .taken) in
+    simp (eq-eqb _ _ tag)
 
 returns-2 : tie.Need-returns-2
 unfolding entryAt
-returns-2 c = simp (ne-eqb _ _ (c .if1 .left))
+returns-2 c =
+    let args = c .before .before .args in
+    let tag : getD (args .work .now) (args .at) 0 ≢ 1 = omega (arith, c .if1 .left) in
+    simp (ne-eqb _ _ tag)
 
 pub entry-at-spec : {M : Type 1} → statement M
 entry-at-spec =

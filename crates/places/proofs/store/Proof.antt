@@ -1,5 +1,4 @@
 -- `store` meets its contract: in each arm the entry is known, and what `put` ensures is the clause of `stored` for it.
-use mathlib.Core.Path.{sym, ap, _∙_}
 use Rattle.places.specs.Entry.{stored}
 use borrow.Author.Needs.{needs}
 use Rattle.places.proofs.store.Statement.{statement}
@@ -24,8 +23,7 @@ returns : tie.Need-returns
 unfolding stored
 returns c =
     let told = c .before .before .before .before in
-    let args = told .before .before .before .args in
-    c .before .before .put .ensures ∙ ap (stored (args .work .now) (args .at)) (sym (told .enum-told .given .1))
+    rw (told .enum-told .given .1) (c .before .before .put .ensures)
 
 same-length-2 : tie.Need-same-length-2
 same-length-2 c = search needs
@@ -34,8 +32,7 @@ returns-2 : tie.Need-returns-2
 unfolding stored
 returns-2 c =
     let told = c .before .before .before .before .before in
-    let args = told .before .before .before .args in
-    c .before .before .put2 .ensures ∙ ap (stored (args .work .now) (args .at)) (sym (told .entry .given .1))
+    rw (told .entry .given .1) (c .before .before .put2 .ensures)
 
 pub store-spec : {M : Type 1} → statement M
 store-spec =

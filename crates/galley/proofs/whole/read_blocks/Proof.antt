@@ -14,12 +14,12 @@ use Rattle.galley.proofs.whole.read_blocks.Lts as lts
 use Rattle.galley.proofs.whole.record_in.Reads as record-in-reads
 
 abbrev Inv-loop : tie.InvT-loop
-Inv-loop s spec first lines₀ figures₀ last₀ lines figures last = 
+Inv-loop s spec first lines₀ figures₀ last₀ lines figures last =
     (lines ≤ 4000) × (figures ≤ 200)
     × (blocks s spec first (4201 - (lines + figures)) lines figures last ≡ blocks s spec first 4201 0 0 0)
 
 abbrev μ-loop : tie.MeasureT-loop
-μ-loop s spec first lines₀ figures₀ last₀ lines figures last =  4201 - (lines + figures)
+μ-loop s spec first lines₀ figures₀ last₀ lines figures last = 4201 - (lines + figures)
 
 -- src/whole.rt:77:5
 loop-holds : tie.Need-loop-holds Inv-loop μ-loop
@@ -55,7 +55,7 @@ add-lines c = search needs
 
 -- src/whole.rt:77:5
 loop-less : tie.Need-loop-less Inv-loop μ-loop
-loop-less c = 
+loop-less c =
     let a = c .before .before .before .before .before .before .args in
     let l = c .before .before .before .before .loop in
     let at = dueAt (a .first) (l .lines) (l .figures) in
@@ -65,7 +65,7 @@ loop-less c =
 
 -- src/whole.rt:77:5
 loop-again : tie.Need-loop-again Inv-loop μ-loop
-loop-again c = 
+loop-again c =
     let a = c .before .before .before .before .before .before .args in
     let l = c .before .before .before .before .loop in
     let at = dueAt (a .first) (l .lines) (l .figures) in
@@ -83,7 +83,7 @@ add-figures c = search needs
 
 -- src/whole.rt:77:5
 loop-less-2 : tie.Need-loop-less-2 Inv-loop μ-loop
-loop-less-2 c = 
+loop-less-2 c =
     let a = c .before .before .before .before .before .before .args in
     let l = c .before .before .before .before .loop in
     let at = dueAt (a .first) (l .lines) (l .figures) in
@@ -93,7 +93,7 @@ loop-less-2 c =
 
 -- src/whole.rt:77:5
 loop-again-2 : tie.Need-loop-again-2 Inv-loop μ-loop
-loop-again-2 c = 
+loop-again-2 c =
     let a = c .before .before .before .before .before .before .args in
     let l = c .before .before .before .before .loop in
     let at = dueAt (a .first) (l .lines) (l .figures) in
@@ -107,7 +107,7 @@ enum-told c = search needs
 
 -- src/whole.rt:89:17
 returns : tie.Need-returns Inv-loop μ-loop
-returns c = 
+returns c =
     let a = c .before .before .before .before .before .args in
     let l = c .before .before .before .loop in
     let at = dueAt (a .first) (l .lines) (l .figures) in
@@ -124,7 +124,7 @@ cast-t18 c = search needs
 
 -- src/whole.rt:97:17
 returns-2 : tie.Need-returns-2 Inv-loop μ-loop
-returns-2 c = 
+returns-2 c =
     let a = c .before .before .before .before .before .before .args in
     let l = c .before .before .before .before .loop in
     let at = dueAt (a .first) (l .lines) (l .figures) in
@@ -137,7 +137,7 @@ enum-known-found-4 c = search needs
 
 -- src/whole.rt:105:28
 cast-t19 : tie.Need-cast-t19 Inv-loop μ-loop
-cast-t19 c = 
+cast-t19 c =
     let a = c .before .before .before .before .before .before .args in
     let l = c .before .before .before .before .loop in
     let at = dueAt (a .first) (l .lines) (l .figures) in
@@ -147,7 +147,7 @@ cast-t19 c =
 
 -- src/whole.rt:103:17
 returns-3 : tie.Need-returns-3 Inv-loop μ-loop
-returns-3 c = 
+returns-3 c =
     let a = c .before .before .before .before .before .before .args in
     let l = c .before .before .before .before .loop in
     let at = dueAt (a .first) (l .lines) (l .figures) in

@@ -42,10 +42,11 @@ enum-known-found-4 c = search needs
 
 -- src/whole.rt:124:20
 cast-t9 : tie.Need-cast-t9
-cast-t9 c = 
-    omega
-    (arith,
-    refused-placed (now (c .before .before .before .before .before .args .s)) 0 false 0 0 0 (sym (c .before .before .before .record-in .ensures) ∙ c .before .found4 .given .1))
+cast-t9 c =
+    omega (
+      arith,
+      refused-placed (now (c .before .before .before .before .before .args .s)) 0 false 0 0 0 (sym (c .before .before .before .record-in .ensures) ∙ c .before .found4 .given .1),
+    )
 
 -- src/whole.rt:113:1
 returns : tie.Need-returns

@@ -1,0 +1,209 @@
+-- What the table of entries shows: places of one float stream, the better side of the full place, and that the end is right.
+use Prim.Native.Nat.{ℕ, zero, suc, _+_, _≤_, _<_}
+use native.Mathlib.Omega.{arith}
+use mathlib.Core.Path.{_≡_, refl, sym, _∙_, ap}
+use mathlib.Core.Bool.{Bool, true, false}
+use mathlib.Core.List.{List, [], _∷_}
+use lib.Dec.{leb}
+use lib.ListN.{length, getD}
+use borrow.Author.Tests.{leb-true, leb-false}
+use Rattle.model.specs.Gather.{pick, sum, total, row}
+use Rattle.model.specs.Galley.{Sides, single, double, Galley, Place, count, streams, zeros, sizes}
+use Rattle.model.specs.Order.{oddly}
+use Rattle.model.specs.laws.Lists.{Inside}
+use Rattle.model.specs.laws.Rules.{placed}
+use Rattle.theorems.specs.Graph as graph
+use Rattle.theorems.specs.Cell.{All, Ahead, Offer, Seen, Cell, inner}
+use Rattle.theorems.specs.PageGraph.{State, stop, end, Within, Step, Prefers, price, pageGraph}
+use Rattle.theorems.specs.PageLaws.{page-laws}
+use Rattle.places.specs.declared.Start.{Start}
+use Rattle.places.specs.declared.Entry.{Entry}
+use Rattle.places.specs.declared.Entry.the-variants.{Unreached, Least}
+use Rattle.making.specs.Search.{place, Table, before}
+use Rattle.making.specs.Filled.{Side}
+use Rattle.making.specs.Trace.{better-side, lastSide}
+use Rattle.making.specs.Shown.{shown, finished, tableAt}
+
+-- With one float stream the full place is (m, n),
+pub sizes-two : (g : Galley) → g .floats ≡ 1 → sizes g ≡ place (g .stream 0 .size) (g .stream 1 .size)
+unfolding sizes streams row
+sizes-two g one = ap (λ k. row 0 (suc k) (λ s. g .stream s .size)) one
+
+-- the place before the first page is (0, 0),
+pub zeros-two : (g : Galley) → g .floats ≡ 1 → zeros g ≡ place 0 0
+unfolding zeros streams row
+zeros-two g one = ap (λ k. row 0 (suc k) (λ s. 0)) one
+
+-- and i + j blocks are placed at (i, j).
+pub placed-two : (g : Galley) → g .floats ≡ 1 → (i j : ℕ) → placed g (place i j) ≡ i + j
+unfolding placed total sum count
+placed-two g one i j = ap (λ k. total k (count (place i j))) one ∙ whole
+  where
+    whole : i + (0 + j) ≡ i + j
+    whole = omega arith
+
+-- An entry that shows a least cost holds it, with the start that is shown.
+pub record Holds (sides : Sides) (c : ℕ) (e : Entry) (x : ℕ) (u : State) : Type 0 where
+  pub start : Start
+  pub entry : e ≡ Least x start
+  pub shows : u ≡ stop (place (start .line) (start .figure)) (before sides c)
+
+pub shown-least :
+    (sides : Sides) (c : ℕ) (e : Entry) (x : ℕ) (u : State) → shown sides c e ≡ graph.least x u → Holds sides c e x u
+unfolding shown
+shown-least sides c Unreached x u h = let z : _≡_ {A = ℕ} 0 1 = cc in absurd (omega arith)
+shown-least sides c (Least y s) x u h = record { start = s; entry = cc; shows = cc }
+
+-- The same of the end.
+pub finished-least :
+    (w : State) (e : Entry) (x : ℕ) (u : State) → finished w e ≡ graph.least x u → (s : Start) × (e ≡ Least x s) × (u ≡ w)
+unfolding finished
+finished-least w Unreached x u h = let z : _≡_ {A = ℕ} 0 1 = cc in absurd (omega arith)
+finished-least w (Least y s) x u h = (s, cc, cc)
+
+-- The last side is one that occurs.
+pub last-side : (sides : Sides) (t : Table) (i j : ℕ) → Side sides (lastSide sides t i j)
+unfolding lastSide better-side oddly
+last-side single t i j = refl
+last-side double t i j = go (t i j 0) (t i j 1)
+  where
+    by-cost : (b : Bool) → oddly double (pick b 0 1) ≡ pick b 0 1
+    by-cost true = refl
+    by-cost false = refl
+
+    go : (e f : Entry) → oddly double (better-side e f) ≡ better-side e f
+    go Unreached Unreached = refl
+    go Unreached (Least y r) = refl
+    go (Least x s) Unreached = refl
+    go (Least x s) (Least y r) = by-cost (leb x y)
+
+-- Side c of (i, j) leads a side b that is reached at cost x: it is reached at no higher cost, and at the same cost c is b or 0.
+pub record Leads (t : Table) (i j c b x : ℕ) : Type 0 where
+  pub cost : ℕ
+  pub start : Start
+  pub reached : t i j c ≡ Least cost start
+  pub low : cost ≤ x
+  pub tie : cost ≡ x → c ≤ b
+
+-- The last side leads every side that is reached.
+pub last-leads :
+    (sides : Sides) (t : Table) (i j b x : ℕ) (s : Start) → Side sides b → t i j b ≡ Least x s
+    → Leads t i j (lastSide sides t i j) b x
+unfolding lastSide better-side oddly
+last-leads single t i j b x s side h =
+    record { cost = x; start = s; reached = ap (t i j) side ∙ h; low = omega arith; tie = λ e. omega arith }
+last-leads double t i j b x s side h = go (t i j 0) (t i j 1) refl refl b (omega arith) h
+  where
+    absurdly : {P : Type 0} (e : Entry) → e ≡ Unreached → e ≡ Least x s → P
+    absurdly e p q = let z : _≡_ {A = ℕ} 0 1 = cc in absurd (omega arith)
+
+    cost-is : (e : Entry) (y : ℕ) (r : Start) → e ≡ Least y r → e ≡ Least x s → y ≡ x
+    cost-is e y r p q = cc
+
+    by-cost :
+        (y z : ℕ) (r k : Start) → t i j 0 ≡ Least y r → t i j 1 ≡ Least z k → (v : Bool) → leb y z ≡ v
+        → (b : ℕ) → b ≤ 1 → t i j b ≡ Least x s → Leads t i j (pick v 0 1) b x
+    by-cost y z r k p q true l zero m h =
+        let e = cost-is _ y r p h in
+        record { cost = y; start = r; reached = p; low = omega arith; tie = λ f. omega arith }
+    by-cost y z r k p q true l (suc zero) m h =
+        let e = cost-is _ z k q h in
+        let d = leb-true y z l in
+        record { cost = y; start = r; reached = p; low = omega arith; tie = λ f. omega arith }
+    by-cost y z r k p q false l zero m h =
+        let e = cost-is _ y r p h in
+        let d = leb-false y z l in
+        record { cost = z; start = k; reached = q; low = omega arith; tie = λ f. omega arith }
+    by-cost y z r k p q false l (suc zero) m h =
+        let e = cost-is _ z k q h in
+        record { cost = z; start = k; reached = q; low = omega arith; tie = λ f. omega arith }
+    by-cost y z r k p q v l (suc (suc b)) m h = absurd (omega arith)
+
+    go :
+        (e f : Entry) → t i j 0 ≡ e → t i j 1 ≡ f → (b : ℕ) → b ≤ 1 → t i j b ≡ Least x s
+        → Leads t i j (better-side e f) b x
+    go Unreached Unreached p q zero m h = absurdly _ p h
+    go Unreached Unreached p q (suc zero) m h = absurdly _ q h
+    go Unreached (Least z k) p q zero m h = absurdly _ p h
+    go Unreached (Least z k) p q (suc zero) m h =
+        let e = cost-is _ z k q h in
+        record { cost = z; start = k; reached = q; low = omega arith; tie = λ f. omega arith }
+    go (Least y r) Unreached p q zero m h =
+        let e = cost-is _ y r p h in
+        record { cost = y; start = r; reached = p; low = omega arith; tie = λ f. omega arith }
+    go (Least y r) Unreached p q (suc zero) m h = absurdly _ q h
+    go (Least y r) (Least z k) p q zero m h = by-cost y z r k p q (leb y z) refl 0 m h
+    go (Least y r) (Least z k) p q (suc zero) m h = by-cost y z r k p q (leb y z) refl 1 m h
+    go e f p q (suc (suc b)) m h = absurd (omega arith)
+
+module _ (g : Galley) (one : g .floats ≡ 1) where
+  -- The full place lies in the table, on each side that occurs.
+  pub full-within :
+      (c : ℕ) → Side (g .spec .sides) c → Within g (stop (place (g .stream 0 .size) (g .stream 1 .size)) c)
+  unfolding Within
+  full-within c side = rw (sizes-two g one) (record { long = refl; under = λ i. omega arith }, side)
+
+  -- A step to the end starts at the full place, on a side that occurs.
+  pub record Final (u : State) : Type 0 where
+    pub side : ℕ
+    pub occurs : Side (g .spec .sides) side
+    pub from : u ≡ stop (place (g .stream 0 .size) (g .stream 1 .size)) side
+
+  step-final : (u : State) → Step g u end → Final u
+  unfolding Step Within
+  step-final (stop w b) p =
+      record { side = b; occurs = p .within .1; from = ap (λ v. stop v b) (p .whole ∙ sizes-two g one) }
+  step-final end p = absurd p
+
+  module _ (t : Table) where
+    -- The entry of the full place on a side.
+    pub shown-full :
+        (c : ℕ) → tableAt g t (stop (place (g .stream 0 .size) (g .stream 1 .size)) c)
+        ≡ shown (g .spec .sides) c (t (g .stream 0 .size) (g .stream 1 .size) c)
+    unfolding tableAt count
+    shown-full c = refl
+
+    -- The end is right by the choice of the last side: the less dear of the two, then side 0.
+    pub end-right : Cell (pageGraph g) (tableAt g t) end (tableAt g t end)
+    unfolding Step Ahead Prefers price shown finished tableAt
+    end-right =
+        inner (λ e. let z : _≡_ {A = ℕ} 0 1 = cc in absurd (omega arith)) (record { offered = offered; best = best })
+      where
+        whole : Place
+        whole = place (g .stream 0 .size) (g .stream 1 .size)
+
+        last : ℕ
+        last = lastSide (g .spec .sides) t (g .stream 0 .size) (g .stream 1 .size)
+
+        offered : (c : ℕ) (u : State) → tableAt g t end ≡ graph.least c u → Offer (pageGraph g) (tableAt g t) All end c u
+        offered c u e =
+            let (s, h, from) = finished-least (stop whole last) (t (g .stream 0 .size) (g .stream 1 .size) last) c u e in
+            let finish : Step g (stop whole last) end = record {
+              within = full-within last (last-side (g .spec .sides) t (g .stream 0 .size) (g .stream 1 .size));
+              whole = sym (sizes-two g one);
+            } in
+            record {
+              among = tt;
+              may = rw from finish;
+              cost = c;
+              start = stop (place (s .line) (s .figure)) (before (g .spec .sides) last);
+              reached = ap (tableAt g t) from ∙ shown-full last ∙ ap (shown (g .spec .sides) last) h;
+              price = omega arith;
+            }
+
+        ahead : (b c : ℕ) → Leads t (g .stream 0 .size) (g .stream 1 .size) last b c
+            → Ahead (pageGraph g) (tableAt g t end) (graph.least c (stop whole b))
+        ahead b c l =
+            rw (l .reached) (l .low, λ e. (page-laws g .tie-refl (stop whole 0) .0, λ f. l .tie e))
+
+        best : (c : ℕ) (u : State) → Offer (pageGraph g) (tableAt g t) All end c u
+            → Ahead (pageGraph g) (tableAt g t end) (graph.least c u)
+        best c u o =
+            let f = step-final u (o .may) in
+            let b = f .side in
+            let at-full = sym (shown-full b) ∙ ap (tableAt g t) (sym (f .from)) ∙ o .reached in
+            let h = shown-least (g .spec .sides) b (t (g .stream 0 .size) (g .stream 1 .size) b) (o .cost) (o .start) at-full in
+            let e : c ≡ o .cost = omega (arith, o .price) in
+            rw (f .from, e)
+            (ahead b (o .cost)
+            (last-leads (g .spec .sides) t (g .stream 0 .size) (g .stream 1 .size) b (o .cost) (h .start) (f .occurs) (h .entry)))
