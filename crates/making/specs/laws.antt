@@ -9,3 +9,4 @@ pub mod Walk
 pub mod Heights
 pub mod Search
 pub mod Price
+pub mod Solved

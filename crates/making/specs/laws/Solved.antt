@@ -12,12 +12,16 @@ use lib.Seq.{take-at}
 use Rattle.model.specs.declared.answer.Answer.{Answer}
 use Rattle.model.specs.declared.answer.Answer.the-variants.{Refused}
 use Rattle.model.specs.Gather.{sum}
+use Rattle.model.specs.Galley as model
 use Rattle.model.specs.Galley.{Place, streams}
 use Rattle.model.specs.Answers.{wordsOf, countsOf, marked}
-use Rattle.model.specs.Best.{best, made, madeWords}
+use Rattle.model.specs.Best.{valid, best, made, madeWords}
+use Rattle.model.specs.laws.Lists.{_∈_}
 use Rattle.model.specs.laws.Words.{length-words}
 use Rattle.model.specs.laws.Valid.{valid-accepted}
 use Rattle.model.specs.laws.Best.{Least, Makes, makes, impossible, best-makes}
+use Rattle.theorems.specs.Cell.{Right}
+use Rattle.theorems.specs.PageGraph.{Within, pageGraph}
 use Rattle.theorems.specs.LeastTurns.{valid-counts}
 use Rattle.theorems.specs.Bounds.{allFloats, dearest, Limits, rate-limit}
 use Rattle.galley.specs.declared.Galley.{Galley}
@@ -33,6 +37,7 @@ use Rattle.places.specs.declared.Entry.the-variants.{Unreached, Least}
 use Rattle.making.specs.Search.{Table}
 use Rattle.making.specs.Filled.{Entered, Side, Filled}
 use Rattle.making.specs.Fill.{Words, tall, filled}
+use Rattle.making.specs.Shown.{tableAt}
 use Rattle.making.specs.Make.{workNeeded, listNeeded}
 use Rattle.making.specs.Back.{lastOf, pagesBack, wordsBack, Found}
 use Rattle.making.specs.Traceable.{sidesIn, tableIn, isReached, Lent, Traceable, Walkable, Writable}
@@ -40,7 +45,15 @@ use Rattle.making.specs.Solved.{Solved, Written}
 use Rattle.making.specs.laws.Shown.{last-side}
 use Rattle.making.specs.laws.Fill.{Room, held, length-filled, filled-all}
 use Rattle.making.specs.laws.Right.{table-right}
-use Rattle.making.specs.laws.Back.{back-none-best, back-best}
+use Rattle.making.specs.laws.Back.{back-none, back-best}
+
+-- The best list is valid.
+best-valid : (g : model.Galley) (ps : List Place) → best g ≡ some ps → ps ∈ valid g
+best-valid g ps e = go (best g) (best-makes g) e
+  where
+    go : (b : Option (List Place)) → Makes g b → b ≡ some ps → ps ∈ valid g
+    go none (impossible h) e = let z : _≡_ {A = ℕ} 0 1 = cc in absurd (omega arith)
+    go (some qs) (makes l) e = let q : qs ≡ ps = cc in rw q at (l .lawful)
 
 -- A galley that was read keeps document 01's ranges.
 pub reads-limits : (bytes : List ℕ) (g : Galley) → galleyOf bytes ≡ reads.Galley g → Limits (modelOf bytes g)
@@ -81,3 +94,71 @@ module _ (bytes : List ℕ) (g : Galley) (work list : List ℕ) (solved : Solved
   -- the last side occurs,
   pub solved-side : Side (sidesIn g) (lastOf (modelOf bytes g) (tableIn g work))
   solved-side = last-side (sidesIn g) (tableIn g work) (g .lines) (g .figures)
+
+  pub solved-walkable : Walkable g work (lastOf (modelOf bytes g) (tableIn g work))
+  solved-walkable = record { table = solved-traceable; side = solved-side }
+
+  -- and every entry is right.
+  right : Right (pageGraph (modelOf bytes g)) (tableAt (modelOf bytes g) (tableIn g work)) (Within (modelOf bytes g))
+  unfolding tall
+  right =
+      subst (λ w. Right (pageGraph (modelOf bytes g)) (tableAt (modelOf bytes g) (tableIn g w)) (Within (modelOf bytes g))) (sym (solved .is))
+      (table-right (modelOf bytes g) refl (solved .before) room)
+
+  last : Entry
+  last = tableIn g work (g .lines) (g .figures) (lastOf (modelOf bytes g) (tableIn g work))
+
+  -- Where the full place is not reached, making answers 11 and writes nothing.
+  pub solved-none : isReached (tableIn g work (g .lines) (g .figures) (lastOf (modelOf bytes g) (tableIn g work))) ≡ false
+      → Written bytes g list (Refused 11 0) list
+  unfolding made madeWords last
+  solved-none e =
+      let b = back-none (modelOf bytes g) (reads-sane bytes g (solved .reads)) refl (tableIn g work) right (unreached last e) in
+      record { answers = rw b; listed = rw b }
+    where
+      unreached : (x : Entry) → isReached x ≡ false → x ≡ Unreached
+      unreached Unreached h = refl
+      unreached (Least x s) h = let z : _≡_ {A = ℕ} 0 1 = cc in absurd (omega arith)
+
+  -- Where it is reached, the walk back finds the best list.
+  pub solved-some : isReached (tableIn g work (g .lines) (g .figures) (lastOf (modelOf bytes g) (tableIn g work))) ≡ true
+      → (x : ℕ) × (ps : List Place) × Found (modelOf bytes g) (tableIn g work) x ps
+  unfolding last
+  solved-some e = go last refl e
+    where
+      go : (y : Entry) → last ≡ y → isReached y ≡ true → (x : ℕ) × (ps : List Place) × Found (modelOf bytes g) (tableIn g work) x ps
+      go Unreached q h = let z : _≡_ {A = ℕ} 0 1 = cc in absurd (omega arith)
+      go (Least x s) q h =
+          let (ps, f) = back-best (modelOf bytes g) (reads-sane bytes g (solved .reads)) refl (tableIn g work) right x s q in
+          (x, ps, f)
+
+  -- Its pages fit the page list,
+  pub solved-room : isReached (tableIn g work (g .lines) (g .figures) (lastOf (modelOf bytes g) (tableIn g work))) ≡ true
+      → 2 * pagesBack (modelOf bytes g) (tableIn g work) ≤ length list
+  solved-room e = let (x, ps, f) = solved-some e in let h = solved .room in let k = f .few in omega arith
+
+  -- and marking what is written answers as making does.
+  pub solved-written : isReached (tableIn g work (g .lines) (g .figures) (lastOf (modelOf bytes g) (tableIn g work))) ≡ true
+      → (list′ : List ℕ) → list′ ≡ wordsBack (modelOf bytes g) (tableIn g work) list
+      → Written bytes g list (marked (modelOf bytes g) (take (2 * pagesBack (modelOf bytes g) (tableIn g work)) list′)) list′
+  unfolding made madeWords
+  solved-written e list′ is =
+      let (x, ps, f) = solved-some e in
+      let fit = solved-room e in
+      let words : list′ ≡ wordsOf ps ++ drop (2 * pagesBack (modelOf bytes g) (tableIn g work)) list = is ∙ f .words list fit in
+      let m = best-valid (modelOf bytes g) ps (f .best) in
+      let long : length (wordsOf ps) ≡ 2 * pagesBack (modelOf bytes g) (tableIn g work) = words-long ps m (f .pages) in
+      record {
+        answers =
+          ap (λ l. marked (modelOf bytes g) (take (2 * pagesBack (modelOf bytes g) (tableIn g work)) l)) words
+          ∙ ap (marked (modelOf bytes g)) (take-at (wordsOf ps) (drop (2 * pagesBack (modelOf bytes g) (tableIn g work)) list) (2 * pagesBack (modelOf bytes g) (tableIn g work)) long)
+          ∙ valid-counts (modelOf bytes g) ps m
+          ∙ rw (f .best) refl;
+        listed = words ∙ rw (f .best) (ap (λ n. wordsOf ps ++ drop n list) (sym long))
+      }
+    where
+      words-long : (ps : List Place) → ps ∈ valid (modelOf bytes g) → length ps ≡ pagesBack (modelOf bytes g) (tableIn g work)
+          → length (wordsOf ps) ≡ 2 * pagesBack (modelOf bytes g) (tableIn g work)
+      words-long ps m q =
+          let l = length-words 2 ps (unfold streams in valid-accepted (modelOf bytes g) ps .0 m .shaped) in
+          omega arith
