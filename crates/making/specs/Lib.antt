@@ -5,6 +5,7 @@ pub mod Fill
 pub mod Trace
 pub mod Shown
 pub mod Back
+pub mod Make
 pub mod Heights
 pub mod Asked
 pub mod laws

@@ -7,3 +7,4 @@ pub mod Right
 pub mod Back
 pub mod Heights
 pub mod Search
+pub mod Price

@@ -1,0 +1,96 @@
+-- Whether a page may end at a place and what it costs, by the number of figures cited so far.
+use Prim.Native.Nat.{ℕ, zero, suc, _+_, _-_, _*_, _≤_, _<_}
+use native.Mathlib.Nat.{mul-le-mul, mul-le-mul-left}
+use native.Mathlib.Decide.{decLe}
+use native.Mathlib.Omega.{arith}
+use mathlib.Core.Path.{_≡_, refl, sym, _∙_, ap}
+use mathlib.Core.Bool.{Bool, true, false, _&&_, _||_}
+use mathlib.Core.List.{List, [], _∷_}
+use lib.Dec.{eqb, leb, ltb}
+use borrow.Author.Tests.{leb-true, leb-false, le-leb, lt-leb, lt-ltb}
+use Rattle.model.specs.Gather.{pick, implies, sum, each}
+use Rattle.model.specs.Galley.{count}
+use Rattle.model.specs.Leaf.{ends, sidesOf}
+use Rattle.model.specs.Rules.{mayEnd, closes, cited}
+use Rattle.theorems.specs.Waiting.{waiting, pageCost}
+use Rattle.theorems.specs.PageGraph.{full}
+use Rattle.theorems.specs.Bounds.{allFloats, dearest}
+use Rattle.galley.specs.declared.Galley.{Galley}
+use Rattle.galley.specs.Model.{textOf, figuresOf, modelOf}
+use Rattle.galley.specs.Sound.{Sound}
+use Rattle.marking.specs.Parts.{Citing}
+use Rattle.marking.specs.laws.Two.{closes-two, full-two}
+use Rattle.marking.specs.laws.Citing.{waiting-two}
+use Rattle.making.specs.Search.{place, mayStop}
+use Rattle.making.specs.Asked.{allPlaced, priceOf, CitedBefore}
+
+-- All figures are cited, or the next is cited later, and so are those after it.
+pub citing-all : (bytes : List ℕ) (g : Galley) (i c : ℕ) → CitedBefore bytes g i c → g .figures ≤ c → Citing (figuresOf bytes g) i c
+citing-all bytes g i c h l = record { few = h .few; upto = h .upto; beyond = λ k p q. absurd (omega arith) }
+
+pub citing-next : (bytes : List ℕ) (g : Galley) (i c : ℕ) → CitedBefore bytes g i c → i < figuresOf bytes g .cite (c + 1)
+    → Citing (figuresOf bytes g) i c
+citing-next bytes g i c h l =
+    record {
+      few = h .few;
+      upto = h .upto;
+      beyond = λ k p q. let grow = h .sound .citesGrow (c + 1) k (omega arith) (omega arith) q in omega arith;
+    }
+
+-- One figure more is cited.
+pub cited-more : (bytes : List ℕ) (g : Galley) (i c : ℕ) → CitedBefore bytes g i c → c < g .figures
+    → figuresOf bytes g .cite (c + 1) ≤ i → CitedBefore bytes g i (c + 1)
+cited-more bytes g i c h l m =
+    record { sound = h .sound; few = omega arith; upto = λ k p q. go k p (decLe k c) q }
+  where
+    go : (k : ℕ) → 1 ≤ k → Dec (k ≤ c) → k ≤ c + 1 → figuresOf bytes g .cite k ≤ i
+    go k p (yes q) r = h .upto k p q
+    go k p (no q) r = let e : k ≡ c + 1 = omega arith in rw e m
+
+module _ (bytes : List ℕ) (g : Galley) (i j n : ℕ) (citing : Citing (figuresOf bytes g) i n) where
+  -- The last figure placed is cited by line i or earlier exactly where no more figures are placed than cited.
+  cited-last : j ≤ g .figures → implies (ltb 0 j) (leb (figuresOf bytes g .cite j) i) ≡ leb j n
+  cited-last h = go j h (leb j n) refl
+    where
+      go : (j : ℕ) → j ≤ g .figures → (b : Bool) → leb j n ≡ b → implies (ltb 0 j) (leb (figuresOf bytes g .cite j) i) ≡ b
+      go zero h true e = refl
+      go zero h false e = let l = leb-false 0 n e in absurd (omega arith)
+      go (suc j) h true e =
+          let some = lt-ltb 0 (suc j) (omega arith) in
+          rw some (le-leb (figuresOf bytes g .cite (suc j)) i (citing .upto (suc j) (omega arith) (leb-true (suc j) n e)))
+      go (suc j) h false e =
+          let some = lt-ltb 0 (suc j) (omega arith) in
+          rw some (lt-leb (figuresOf bytes g .cite (suc j)) i (citing .beyond (suc j) (leb-false (suc j) n e) h))
+
+  -- Rules 14 and 17.
+  pub may-stop-two : (c : ℕ) → j ≤ g .figures
+      → mayStop (modelOf bytes g) i j c
+      ≡ (mayEnd (textOf bytes g) i && implies (ends (sidesOf (g .spec .sides)) c || allPlaced g i j) (leb j n))
+  unfolding mayStop cited each count full
+  may-stop-two c h =
+      let e = closes-two bytes g i j in
+      let f = full-two bytes g i j in
+      let l = cited-last h in
+      rw (e, f, l)
+
+  -- The price.
+  pub price-two : (c : ℕ)
+      → pageCost (modelOf bytes g) c (full (modelOf bytes g) (place i j)) (place i j)
+      ≡ priceOf g (allPlaced g i j) (ends (sidesOf (g .spec .sides)) c) n j
+  unfolding pageCost full
+  price-two c =
+      let w = waiting-two bytes g i j n citing in
+      let f = full-two bytes g i j in
+      rw (f, w)
+
+-- No price passes the limit of α·n + β.
+pub dearest-light : (bytes : List ℕ) (g : Galley) → Sound bytes g → dearest (modelOf bytes g) ≤ 201000
+unfolding dearest allFloats sum
+dearest-light bytes g sound =
+    let few = sound .fewFigures in
+    let most = mul-le-mul {n₁ = g .spec .alpha} {m₁ = 0 + g .figures} {n₂ = 1000} {m₂ = 200} (sound .specRanged .alphas) (omega arith) in
+    omega (arith, sound .specRanged .betas)
+
+-- The product in a price is small.
+pub price-small : (alpha n : ℕ) → alpha ≤ 1000 → n ≤ 200 → alpha * n ≤ 200000
+price-small alpha n h l = mul-le-mul {n₁ = alpha} {m₁ = n} {n₂ = 1000} {m₂ = 200} h l
