@@ -8,5 +8,6 @@ pub mod Back
 pub mod Make
 pub mod Heights
 pub mod Asked
+pub mod Run
 pub mod laws
 mod Example

@@ -8,3 +8,4 @@ pub mod Back
 pub mod Heights
 pub mod Search
 pub mod Price
+pub mod Filling
