@@ -7,6 +7,6 @@ pub mod Place
 pub mod Whole
 pub mod Block
 pub mod Sound
-pub mod CaseA
 pub mod Laws
 pub mod Model
+mod CaseA

@@ -66,13 +66,16 @@ fn is_too_many(mark: Mark, lines: usize, figures: usize) -> bool
 pub fn unfit_for(mark: Mark, opened: bool, lines: usize, figures: usize) -> u32
     ensures { λ r. ⌜ r ≡ unfit mark opened lines figures ⌝ }
 {
-    if is_misplaced(mark, opened, figures) {
+    let misplaced = is_misplaced(mark, opened, figures);
+    let early = is_too_early(mark, lines);
+    let many = is_too_many(mark, lines, figures);
+    if misplaced {
         return 2;
     }
-    if is_too_early(mark, lines) {
+    if early {
         return 5;
     }
-    if is_too_many(mark, lines, figures) {
+    if many {
         return 4;
     }
     0

@@ -3,6 +3,7 @@ ghost use mathlib.Core.Path.{_≡_};
 ghost use Prim.Native.Nat.{_+_, _≤_};
 ghost use lib.ListN.{length};
 ghost use Rattle.galley.specs.Whole.{cited, ended, recordIn, blocks, galleyOf};
+
 use crate::Figure;
 use crate::Galley;
 use crate::Reading;
@@ -13,18 +14,15 @@ use crate::Spec;
 fn cited_figure(f: Figure, lines: usize, last: u32, at: usize) -> Record
     ensures { λ r. ⌜ r ≡ cited lines last at f ⌝ }
 {
-    let cite = f.cite;
-    if (cite == 0) | (lines < crate::word::size(cite)) {
-        return Record::Refused {
-            number: 6,
-            place: at,
-        };
+    let cite = crate::word::size(f.cite);
+    let before = crate::word::size(last);
+    let beyond = (cite == 0) | (lines < cite);
+    let falls = cite < before;
+    if beyond {
+        return Record::Refused { number: 6, place: at };
     }
-    if cite < last {
-        return Record::Refused {
-            number: 7,
-            place: at,
-        };
+    if falls {
+        return Record::Refused { number: 7, place: at };
     }
     Record::Figure(f)
 }
@@ -54,10 +52,7 @@ pub fn record_in(
     ensures { λ r. ⌜ r ≡ recordIn (now (s .entry)) at opened lines figures last ⌝ }
 {
     if crate::word::left_from(s, at) < 2 {
-        return Record::Refused {
-            number: 1,
-            place: at,
-        };
+        return Record::Refused { number: 1, place: at };
     }
     let mark = crate::place::kind_of(crate::word::mark_at(s, at));
     let number = crate::place::unfit_for(mark, opened, lines, figures);
@@ -124,18 +119,9 @@ pub fn read_galley(s: &[u8]) -> Reading
     let found = record_in(s, 0, false, 0, 0, 0);
     match found {
         Record::Spec(g) => read_blocks(s, g, 30),
-        Record::Line(_l) => Reading::Refused {
-            number: 2,
-            place: 0,
-        },
-        Record::Figure(_f) => Reading::Refused {
-            number: 2,
-            place: 0,
-        },
-        Record::End => Reading::Refused {
-            number: 2,
-            place: 0,
-        },
+        Record::Line(_l) => Reading::Refused { number: 2, place: 0 },
+        Record::Figure(_f) => Reading::Refused { number: 2, place: 0 },
+        Record::End => Reading::Refused { number: 2, place: 0 },
         Record::Refused { number, place } => Reading::Refused {
             number,
             place: place as u32,

@@ -5,6 +5,7 @@ pub mod Seen
 pub mod Fill
 pub mod Right
 pub mod Back
+pub mod Walk
 pub mod Heights
 pub mod Search
 pub mod Price

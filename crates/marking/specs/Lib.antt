@@ -1,5 +1,4 @@
 -- Marking, in the order of reading: definitions first, then the laws about them.
 pub mod Mark
-pub mod Ready
 pub mod Parts
 pub mod laws

@@ -1,13 +1,23 @@
 -- The parts of one page's test, as the functions of this crate divide it.
-use Prim.Native.Nat.{ℕ, suc, _+_, _*_, _-_, _≤_, _<_}
+use Prim.Native.Nat.{ℕ, suc, _+_, _*_, _-_, _/_, _≤_, _<_}
 use mathlib.Core.Bool.{Bool, _&&_}
 use mathlib.Core.List.{List, [], _∷_}
-use lib.Dec.{ltb}
-use lib.ListN.{drop}
+use lib.Dec.{ltb, eqb}
+use lib.ListN.{length, drop}
+use mathlib.Core.Path.{_≡_}
 use Rattle.model.specs.Gather.{pick}
 use Rattle.model.specs.Galley as model
 use Rattle.model.specs.Rules.{forward, closes}
+use Rattle.model.specs.Leaf.{leaf, ends, sidesOf}
+use Rattle.model.specs.declared.answer.Answer.{Answer}
+use Rattle.model.specs.declared.answer.Answer.the-variants.{Counted, Refused}
 use Rattle.model.specs.Answers.{chunks}
+use Rattle.galley.specs.declared.Galley.{Galley}
+use Rattle.galley.specs.Block.{HasLine, HasFigure}
+use Rattle.galley.specs.Sound.{Sound}
+use Rattle.galley.specs.Range.{SpecRanged}
+use Rattle.galley.specs.Model.{figuresOf}
+use Rattle.marking.specs.declared.pile.Pile.{Pile}
 
 -- Rules 13 and 14, which ask for no height: the number of the first that fails, or 0.
 unfoldable pub startFault : model.Galley → model.Place → model.Place → ℕ
@@ -21,9 +31,19 @@ endFault fills cited = pick fills (pick cited 0 17) 16
 unfoldable pub added : model.Stream → (ℕ → ℕ) → ℕ → ℕ → ℕ
 added st gap a k = st .ht (k + 1) + pick (ltb a k) (gap k) 0
 
+-- The pile with block k + 1 on it, at least and at greatest spaces.
+unfoldable pub onPile : model.Stream → Pile → ℕ → ℕ → Pile
+onPile st pile a k =
+    record { tight = pile .tight + added st (st .least) a k; loose = pile .loose + added st (st .most) a k }
+
 -- The separation of a page that has both kinds, else 0.
 unfoldable pub separation : Bool → Bool → ℕ → ℕ
 separation lines figures s = pick (lines && figures) s 0
+
+-- The pile of a page before its first block: its separations.
+unfoldable pub apartBy : Galley → Bool → Bool → Pile
+apartBy g lines figures =
+    record { tight = separation lines figures (g .spec .smin); loose = separation lines figures (g .spec .smax) }
 
 -- c figures, those of a stream's first, are cited by line a or earlier, and no other.
 pub record Citing (st : model.Stream) (a c : ℕ) : Type 0 where
@@ -34,3 +54,51 @@ pub record Citing (st : model.Stream) (a c : ℕ) : Type 0 where
 -- The pages of a list of words, two a page, after the first `done` of them.
 unfoldable pub rest : List ℕ → ℕ → ℕ → List model.Place
 rest ws pages done = chunks (pages - done) 2 (drop (2 * done) ws)
+
+-- A pile of lines a + 1 to k has room for line k + 1.
+pub record RoomForLine (bytes : List ℕ) (g : Galley) (pile : Pile) (a k : ℕ) : Type 0 where
+  pub sound : Sound bytes g
+  pub next : k < g .lines
+  pub tight : pile .tight ≤ 4000000000
+  pub loose : pile .loose ≤ 4000000000
+
+-- A pile of figures b + 1 to k has room for figure k + 1.
+pub record RoomForFigure (bytes : List ℕ) (g : Galley) (pile : Pile) (b k : ℕ) : Type 0 where
+  pub sound : Sound bytes g
+  pub next : k < g .figures
+  pub tight : pile .tight ≤ 4000000000
+  pub loose : pile .loose ≤ 4000000000
+
+-- What page q adds to X, which ends at figure j with c cited by then.
+unfoldable pub waitingAt : Galley → ℕ → ℕ → ℕ → ℕ
+waitingAt g q c j = pick (ends (sidesOf (g .spec .sides)) q) (c - j) 0
+
+-- The counts of p pages with X known.
+unfoldable pub counts : Galley → ℕ → ℕ → Answer
+counts g p x =
+    let y = leaf (sidesOf (g .spec .sides)) p - leaf (sidesOf (g .spec .sides)) 1 in
+    Counted p x y (g .spec .alpha * x + g .spec .beta * y)
+
+-- The answer once p pages are judged: 18 where the last does not end at the full place, else the counts.
+unfoldable pub finished : Galley → ℕ → ℕ → ℕ → ℕ → Answer
+finished g p a b x = pick (eqb a (g .lines) && eqb b (g .figures)) (counts g p x) (Refused 18 p)
+
+-- The first figures, `before` of them, are cited by line i or earlier.
+pub record CitedBefore (bytes : List ℕ) (g : Galley) (i before : ℕ) : Type 0 where
+  pub sound : Sound bytes g
+  pub few : before ≤ g .figures
+  pub upto : (k : ℕ) → 1 ≤ k → k ≤ before → figuresOf bytes g .cite k ≤ i
+
+-- Numbers of pages and of X, and weights, that keep T within 32 bits.
+pub record Few (g : Galley) (pages x : ℕ) : Type 0 where
+  pub some : 1 ≤ pages
+  pub few : pages ≤ 4200
+  pub most : x ≤ 200 * pages
+  pub ranged : SpecRanged (g .spec)
+
+-- A galley that was read and a list of 1 to 4,200 whole pages.
+pub record Listed (bytes : List ℕ) (g : Galley) (ws : List ℕ) : Type 0 where
+  pub sound : Sound bytes g
+  pub whole : length ws ≡ 2 * (length ws / 2)
+  pub some : 1 ≤ length ws / 2
+  pub few : length ws / 2 ≤ 4200

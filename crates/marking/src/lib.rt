@@ -1,1 +1,24 @@
-// Marking a page list: any bytes, any words.
+// Marking a page list: for any bytes and any words the counts of a pagination or one numbered refusal. Nothing is written.
+// Document 01, "Marking".
+ghost use mathlib.Core.Path.{_≡_};
+ghost use Rattle.marking.specs.Mark.{markOf};
+use galley::Reading;
+use model::answer::Answer;
+
+mod cites; // cites.rt: the figures cited so far, and those that wait
+mod counts; // counts.rt: the counts of a list whose pages were judged
+mod pages; // pages.rt: the loop over pages
+mod pile; // pile.rt: the height of a page, block by block
+mod rules; // rules.rt: rules 12, 13, 14, 16 and 17
+
+// The marking of any words for any bytes. A refused galley is refused alike; the time is proportional to the pages of the
+// list and the lines and figures on them.
+pub fn mark(galley: &[u8], list: &[u32]) -> Answer
+    ensures { λ r. ⌜ r ≡ markOf (now (galley .entry)) (now (list .entry)) ⌝ }
+{
+    let reading = galley::whole::read_galley(galley);
+    match reading {
+        Reading::Galley(g) => pages::mark_read(galley, g, list),
+        Reading::Refused { number, place } => Answer::Refused { number, place },
+    }
+}

@@ -1,21 +1,22 @@
 -- What making answers, in the definitions of the model alone: a list that marking accepts with the same counts and that no accepted
 -- list beats, or 11, exactly where marking accepts no list.
-use Prim.Native.Nat.{ℕ, _≤_}
+use Prim.Native.Nat.{ℕ, _*_, _≤_}
 use native.Mathlib.Omega.{arith}
 use mathlib.Core.Path.{_≡_, refl, sym, _∙_, ap, subst}
 use mathlib.Core.Logic.{_⊎_, inl, inr, _↔_}
 use mathlib.Core.Bool.{Bool, true, false}
 use mathlib.Core.List.{List, []}
+use lib.ListN.{length}
 use mathlib.Core.Option.{Option, none, some}
 use Rattle.model.specs.declared.answer.Answer.{Answer}
 use Rattle.model.specs.declared.answer.Answer.the-variants.{Counted, Refused}
-use Rattle.model.specs.Galley.{Galley, Place}
+use Rattle.model.specs.Galley.{Galley, Place, streams}
 use Rattle.model.specs.Turns.{turns}
 use Rattle.model.specs.Answers.{numbersOf, accepted, pagesOf, wordsOf, countsOf, marked}
 use Rattle.model.specs.Best.{valid, best, made, madeWords}
 use Rattle.model.specs.laws.Gather.{decide}
 use Rattle.model.specs.laws.Lists.{_∈_}
-use Rattle.model.specs.laws.Words.{pages-words}
+use Rattle.model.specs.laws.Words.{pages-words, length-words}
 use Rattle.model.specs.laws.Valid.{valid-accepted, accepted-valid, marked-counts}
 use Rattle.model.specs.laws.Best.{Least, Makes, impossible, makes, best-makes, least-turns}
 
@@ -29,7 +30,7 @@ module _ (g : Galley) where
   -- What the two possible answers of making say of the lists that marking accepts.
   pub data Making : Answer → List ℕ → Type 0 where
     no-list : ((ws : List ℕ) → accepted (marked g ws) ≡ false) → Making (Refused 11 0) []
-    best-list : {p x y t : ℕ} {ws : List ℕ} → marked g ws ≡ Counted p x y t
+    best-list : {p x y t : ℕ} {ws : List ℕ} → marked g ws ≡ Counted p x y t → length ws ≡ p * streams g
         → ((vs : List ℕ) → accepted (marked g vs) ≡ true → t ≤ numbersOf (marked g vs) .turns) → Making (Counted p x y t) ws
 
   -- Making answers one or the other.
@@ -55,4 +56,5 @@ module _ (g : Galley) where
       go : (b : Option (List Place)) → Makes g b
           → Making (elim b [ none ↦ Refused 11 0 | some ps ↦ countsOf g ps ]) (elim b [ none ↦ [] | some ps ↦ wordsOf ps ])
       go none (impossible empty) = no-list (none-accepted empty)
-      go (some ps) (makes l) = best-list (valid-counts ps (l .lawful)) (beats-none ps l)
+      go (some ps) (makes l) =
+          best-list (valid-counts ps (l .lawful)) (length-words (streams g) ps (valid-accepted g ps .0 (l .lawful) .shaped)) (beats-none ps l)

@@ -3,19 +3,15 @@ use Prim.Native.Nat.{ℕ, zero, suc, _+_, _*_, _≤_, _<_}
 use native.Mathlib.Omega.{arith}
 use native.Mathlib.Nat.{not-suc-le-zero, le-of-suc-le-suc}
 use native.Mathlib.Numerals.{add-one, add-two}
-use mathlib.Core.Path.{_≡_, refl, sym, _∙_, ap, subst}
-use mathlib.Core.Bool.{Bool, true, false}
+use mathlib.Core.Path.{_≡_, refl, sym, _∙_, ap}
 use mathlib.Core.List.{List, [], _∷_, _++_}
-use mathlib.Core.Option.{Option, none, some}
-use lib.Dec.{eqb}
+use mathlib.Core.Option.{none, some}
 use lib.ListN.{length, set, drop, length-set}
 use borrow.Author.Tests.{eq-eqb, ne-eqb}
-use Rattle.model.specs.Gather.{pick}
-use Rattle.model.specs.Galley.{Sides, Galley, Place, Sane, count, zeros}
+use Rattle.model.specs.Galley.{Galley, Place, Sane, count}
 use Rattle.model.specs.Answers.{wordsOf}
 use Rattle.model.specs.Turns.{turns}
 use Rattle.model.specs.Best as model
-use Rattle.model.specs.laws.Rules.{placed}
 use Rattle.theorems.specs.Graph as graph
 use Rattle.theorems.specs.Cell.{Right, Trace}
 use Rattle.theorems.specs.Optimality.{step-back, trace-length}
@@ -23,13 +19,12 @@ use Rattle.theorems.specs.PageGraph.{State, stop, end, Within, pageGraph, pages
 use Rattle.theorems.specs.PageLaws.{page-laws, domainOf, step-within, blocksAt}
 use Rattle.theorems.specs.PageTheorem.{table-none, table-best}
 use Rattle.places.specs.declared.Start.{Start}
-use Rattle.places.specs.declared.Entry.{Entry}
 use Rattle.places.specs.declared.Entry.the-variants.{Unreached, Least}
 use Rattle.making.specs.Search.{place, Table, before}
-use Rattle.making.specs.Trace.{startOf, lastSide, countBack, writeBack}
-use Rattle.making.specs.Shown.{shown, finished, tableAt}
-use Rattle.making.specs.Back.{lastOf, pagesBack, wordsBack, Found}
-use Rattle.making.specs.laws.Shown.{zeros-two, placed-two, Holds, shown-least, finished-least, last-side, full-within}
+use Rattle.making.specs.Trace.{startOf, countBack, writeBack}
+use Rattle.making.specs.Shown.{finished, tableAt}
+use Rattle.making.specs.Back.{lastOf, pagesBack, Found}
+use Rattle.making.specs.laws.Shown.{zeros-two, placed-two, shown-least, finished-least, last-side, full-within}
 
 -- Two words stored from offset k on stand before the rest.
 drop-pair :
@@ -71,9 +66,9 @@ module _ (g : Galley) (one : g .floats ≡ 1) (t : Table) (right : Right (pageGr
       }
 
   -- Nothing is placed at the origin.
-  back-none : (i j c : ℕ) → Trace (pageGraph g) (tableAt g t) [] (stop (place i j) c) → i + j ≡ 0
+  origin-empty : (i j c : ℕ) → Trace (pageGraph g) (tableAt g t) [] (stop (place i j) c) → i + j ≡ 0
   unfolding Trace
-  back-none i j c e =
+  origin-empty i j c e =
       let z = zeros-two g one in
       let a : i ≡ 0 = cc in
       let b : j ≡ 0 = cc in
@@ -86,7 +81,7 @@ module _ (g : Galley) (one : g .floats ≡ 1) (t : Table) (right : Right (pageGr
       → countBack (g .spec .sides) t most i j c p ≡ p + length us
   unfolding countBack startOf
   trace-count [] i j c zero p w r h = omega arith
-  trace-count [] i j c (suc most) p w r h = rw (eq-eqb (i + j) 0 (back-none i j c r)) (omega arith)
+  trace-count [] i j c (suc most) p w r h = rw (eq-eqb (i + j) 0 (origin-empty i j c r)) (omega arith)
   trace-count (u ∷ us) i j c zero p w r h = absurd (omega arith)
   trace-count (u ∷ us) i j c (suc most) p w r h =
       let b = back-one u us i j c w r in
@@ -139,9 +134,9 @@ module _
     (right : Right (pageGraph g) (tableAt g t) (Within g))
   where
     -- Where the table is right and the full place unreached, there is no best list.
-    pub back-none-best : t (g .stream 0 .size) (g .stream 1 .size) (lastOf g t) ≡ Unreached → model.best g ≡ none
+    pub back-none : t (g .stream 0 .size) (g .stream 1 .size) (lastOf g t) ≡ Unreached → model.best g ≡ none
     unfolding tableAt finished Within
-    back-none-best e =
+    back-none e =
         table-none g (Within g) (λ u v i. step-within g u v) (tableAt g t) right sane tt
         (ap (finished (stop (place (g .stream 0 .size) (g .stream 1 .size)) (lastOf g t))) e)
 

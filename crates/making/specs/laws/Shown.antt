@@ -1,19 +1,16 @@
 -- What the table of entries shows: places of one float stream, the better side of the full place, and that the end is right.
-use Prim.Native.Nat.{ℕ, zero, suc, _+_, _≤_, _<_}
+use Prim.Native.Nat.{ℕ, zero, suc, _+_, _≤_}
 use native.Mathlib.Omega.{arith}
 use mathlib.Core.Path.{_≡_, refl, sym, _∙_, ap}
 use mathlib.Core.Bool.{Bool, true, false}
-use mathlib.Core.List.{List, [], _∷_}
 use lib.Dec.{leb}
-use lib.ListN.{length, getD}
 use borrow.Author.Tests.{leb-true, leb-false}
 use Rattle.model.specs.Gather.{pick, sum, total, row}
 use Rattle.model.specs.Galley.{Sides, single, double, Galley, Place, count, streams, zeros, sizes}
 use Rattle.model.specs.Order.{oddly}
-use Rattle.model.specs.laws.Lists.{Inside}
 use Rattle.model.specs.laws.Rules.{placed}
 use Rattle.theorems.specs.Graph as graph
-use Rattle.theorems.specs.Cell.{All, Ahead, Offer, Seen, Cell, inner}
+use Rattle.theorems.specs.Cell.{All, Ahead, Offer, Cell, inner}
 use Rattle.theorems.specs.PageGraph.{State, stop, end, Within, Step, Prefers, price, pageGraph}
 use Rattle.theorems.specs.PageLaws.{page-laws}
 use Rattle.places.specs.declared.Start.{Start}

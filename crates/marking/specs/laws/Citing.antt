@@ -7,13 +7,14 @@ use mathlib.Core.Bool.{Bool, true, false, _&&_}
 use mathlib.Core.List.{List, [], _∷_}
 use lib.Dec.{leb, ltb}
 use borrow.Author.Tests.{ltb-true, ltb-false, lt-ltb, le-ltb, le-leb, lt-leb}
-use Rattle.model.specs.Gather.{one, sum}
+use Rattle.model.specs.Gather.{pick, one, sum}
 use Rattle.model.specs.Galley.{Stream, Sane, Block, count}
+use Rattle.model.specs.Leaf.{ends, sidesOf}
 use Rattle.theorems.specs.Waiting.{dangles, waitingIn, waiting}
 use Rattle.theorems.specs.Costs.{cite-mono}
 use Rattle.galley.specs.declared.Galley.{Galley}
 use Rattle.galley.specs.Model.{figuresOf, modelOf}
-use Rattle.marking.specs.Parts.{Citing}
+use Rattle.marking.specs.Parts.{Citing, waitingAt}
 
 module _ (st : Stream) (i j c : ℕ) (h : Citing st i c) where
   past : ℕ → ℕ
@@ -79,3 +80,31 @@ citing-stop bytes g sane i c l upto stop =
           (record { stream = omega arith; first = omega arith; last = q }) in
           omega arith;
     }
+
+-- Where no leaf ends, or every cited figure is placed, none is counted.
+pub waits-none : (e : Bool) (j c : ℕ) → (e && ltb j c) ≡ false → pick e (c - j) 0 ≡ 0
+waits-none true j c h = let l = ltb-false j c h in omega arith
+waits-none false j c h = refl
+
+-- One figure more is cited.
+pub upto-next : (f : ℕ → ℕ) (i c : ℕ) → ((k : ℕ) → 1 ≤ k → k ≤ c → f k ≤ i) → f (c + 1) ≤ i
+    → (k : ℕ) → 1 ≤ k → k ≤ c + 1 → f k ≤ i
+upto-next f i c upto here k p q = go (decLe k c)
+  where
+    go : Dec (k ≤ c) → f k ≤ i
+    go (yes l) = upto k p l
+    go (no l) = let e : k ≡ c + 1 = omega arith in rw e here
+
+-- Every figure is cited.
+pub citing-all : (bytes : List ℕ) (g : Galley) (i c : ℕ) → g .figures ≤ c → c ≤ g .figures
+    → ((k : ℕ) → 1 ≤ k → k ≤ c → figuresOf bytes g .cite k ≤ i) → Citing (figuresOf bytes g) i c
+citing-all bytes g i c l h upto = record { few = h; upto = upto; beyond = λ k p q. absurd (omega arith) }
+
+-- No more wait than are cited.
+pub waits-few : (g : Galley) (q c j : ℕ) → waitingAt g q c j ≤ c
+unfolding waitingAt
+waits-few g q c j = go (ends (sidesOf (g .spec .sides)) q)
+  where
+    go : (e : Bool) → pick e (c - j) 0 ≤ c
+    go true = omega arith
+    go false = omega arith

@@ -15,19 +15,20 @@ use Rattle.model.specs.Galley.{Place, Sane, count, zeros, sizes, streams}
 use Rattle.model.specs.Leaf.{leaf, ends, sidesOf}
 use Rattle.model.specs.Rules.{broken}
 use Rattle.model.specs.Turns.{xOf, yOf, turns}
-use Rattle.model.specs.Answers.{accepted, same, ended, refuse, judge, countsOf, pagesOf}
+use Rattle.model.specs.Answers.{accepted, same, ended, refuse, judge, counted, countsOf, pagesOf, marked}
 use Rattle.model.specs.Best.{allowed}
 use Rattle.model.specs.laws.Rules.{kept, Kept, forward-at}
 use Rattle.model.specs.laws.Judge.{accepts, judge-accepts}
-use Rattle.model.specs.laws.Words.{length-pages}
+use Rattle.model.specs.laws.Words.{length-pages, counted-at}
 use Rattle.theorems.specs.Waiting.{waiting, pageSum, atEnd}
 use Rattle.theorems.specs.Pages.{along, accepts-along}
 use Rattle.theorems.specs.LeafEnds.{Orderly, x-by-ends}
 use Rattle.theorems.specs.Costs.{orderly}
 use Rattle.galley.specs.declared.Galley.{Galley}
+use Rattle.galley.specs.Sound.{Sound}
 use Rattle.galley.specs.Model.{figuresOf, modelOf}
-use Rattle.marking.specs.Parts.{Citing, rest}
-use Rattle.marking.specs.laws.Two.{full-two, zeros-two}
+use Rattle.marking.specs.Parts.{Citing, Listed, rest, waitingAt, counts, finished}
+use Rattle.marking.specs.laws.Two.{full-two, zeros-two, blocks-two}
 use Rattle.marking.specs.laws.Citing.{waiting-two, citing-none}
 use Rattle.marking.specs.laws.Rest.{rest-all, rest-none, rest-next, rest-ended}
 
@@ -53,10 +54,6 @@ pub record Run (bytes : List ℕ) (g : Galley) (ws : List ℕ) (done a b c x : �
   pub judging : judged bytes g ws (done + 1) (a ∷ b ∷ []) (rest ws (length ws / 2) done) ≡ wholly bytes g ws
   pub waiting : x + waited bytes g (done + 1) (rest ws (length ws / 2) done) ≡ waited bytes g 1 (pagesOf (modelOf bytes g) ws)
 
--- What page q adds to X, which ends at figure j with c cited by then.
-unfoldable pub waitingAt : Galley → ℕ → ℕ → ℕ → ℕ
-waitingAt g q c j = pick (ends (sidesOf (g .spec .sides)) q) (c - j) 0
-
 -- The place where page `done` + 1 ends.
 abbrev pub pageAt : List ℕ → ℕ → Place
 pageAt ws done = getD ws (2 * done) 0 ∷ getD ws (2 * done + 1) 0 ∷ []
@@ -64,16 +61,6 @@ pageAt ws done = getD ws (2 * done) 0 ∷ getD ws (2 * done + 1) 0 ∷ []
 -- The first rule that this page breaks, or 0.
 abbrev pub brokenAt : List ℕ → Galley → List ℕ → ℕ → Place → ℕ
 brokenAt bytes g ws done u = broken (modelOf bytes g) (done + 1) (eqb (done + 1) (length ws / 2)) u (pageAt ws done)
-
--- The counts of p pages with X known.
-unfoldable pub counts : Galley → ℕ → ℕ → Answer
-counts g p x =
-    let y = leaf (sidesOf (g .spec .sides)) p - leaf (sidesOf (g .spec .sides)) 1 in
-    Counted p x y (g .spec .alpha * x + g .spec .beta * y)
-
--- The answer once p pages are judged: 18 where the last does not end at the full place, else the counts.
-unfoldable pub finished : Galley → ℕ → ℕ → ℕ → ℕ → Answer
-finished g p a b x = pick (eqb a (g .lines) && eqb b (g .figures)) (counts g p x) (Refused 18 p)
 
 refuse-some : (n q : ℕ) (after : Answer) → 0 < n → refuse n q after ≡ Refused n q
 unfolding refuse
@@ -119,18 +106,16 @@ module _ (bytes : List ℕ) (g : Galley) (sane : Sane (modelOf bytes g)) (ws : L
           let wait = waiting-two bytes g (getD ws (2 * done) 0) (getD ws (2 * done + 1) 0) c′ citing in
           rw (here, wait, s)
 
-      -- A page that breaks a rule ends the run.
-      pub run-refused : (n : ℕ) → n ≡ brokenAt bytes g ws done (a ∷ b ∷ []) → 0 < n → Refused n (done + 1) ≡ wholly bytes g ws
-      run-refused n e h =
+      refused-here : (n : ℕ) → n ≡ brokenAt bytes g ws done (a ∷ b ∷ []) → 0 < n → Refused n (done + 1) ≡ wholly bytes g ws
+      refused-here n e h =
           sym (refuse-some n (done + 1) after h) ∙ ap (λ n. refuse n (done + 1) after) e ∙ step
 
-      -- A page that breaks none goes on to the next.
-      pub run-next : brokenAt bytes g ws done (a ∷ b ∷ []) ≡ 0 → g .figures ≤ 200
+      next-here : brokenAt bytes g ws done (a ∷ b ∷ []) ≡ 0 → g .figures ≤ 200
           → (c′ : ℕ) → Citing (figuresOf bytes g) (getD ws (2 * done) 0) c′
           → Run bytes g ws (done + 1) (getD ws (2 * done) 0) (getD ws (2 * done + 1) 0) c′
           (x + waitingAt g (done + 1) c′ (getD ws (2 * done + 1) 0))
       unfolding refuse after count waitingAt allowed
-      run-next e few c′ citing =
+      next-here e few c′ citing =
           let goes = forward-at _ _ _ (kept (eq-eqb (brokenAt bytes g ws done (a ∷ b ∷ [])) 0 e) .rule13) in
           let most = run .most in
           let cited = citing .few in
@@ -151,6 +136,19 @@ module _ (bytes : List ℕ) (g : Galley) (sane : Sane (modelOf bytes g)) (ws : L
           waitingAt-most : (e : Bool) → pick e (c′ - getD ws (2 * done + 1) 0) 0 ≤ c′
           waitingAt-most true = omega arith
           waitingAt-most false = omega arith
+
+      module _ (i j : ℕ) (ei : i ≡ getD ws (2 * done) 0) (ej : j ≡ getD ws (2 * done + 1) 0) where
+        -- A page that breaks a rule ends the run.
+        pub run-refused : (n : ℕ)
+            → n ≡ broken (modelOf bytes g) (done + 1) (eqb (done + 1) (length ws / 2)) (a ∷ b ∷ []) (i ∷ j ∷ []) → 0 < n
+            → Refused n (done + 1) ≡ wholly bytes g ws
+        run-refused n e h = refused-here n (rw (ei, ej) at e) h
+
+        -- A page that breaks none goes on to the next.
+        pub run-next : broken (modelOf bytes g) (done + 1) (eqb (done + 1) (length ws / 2)) (a ∷ b ∷ []) (i ∷ j ∷ []) ≡ 0
+            → g .figures ≤ 200 → (c′ : ℕ) → Citing (figuresOf bytes g) i c′
+            → Run bytes g ws (done + 1) i j c′ (x + waitingAt g (done + 1) c′ j)
+        run-next e few c′ citing = rw (ei, ej) (next-here (rw (ei, ej) at e) few c′ (rw ei at citing))
 
     module _ (e : done ≡ length ws / 2) where
       none : rest ws (length ws / 2) done ≡ []
@@ -196,3 +194,25 @@ module _ (bytes : List ℕ) (g : Galley) (sane : Sane (modelOf bytes g)) (ws : L
               let good : countsOf (modelOf bytes g) (pagesOf (modelOf bytes g) ws) ≡ wholly bytes g ws = rw t at end in
               counts-are good ∙ good
           go false t = rw t at end
+
+-- The words that rule 12 lets pass are whole pages, and no more than there are blocks.
+pub counted-listed : (bytes : List ℕ) (g : Galley) → Sound bytes g → (ws : List ℕ) → counted (modelOf bytes g) ws ≡ true
+    → Listed bytes g ws
+unfolding streams
+counted-listed bytes g so ws h =
+    let w = counted-at (modelOf bytes g) ws h in
+    let n = blocks-two bytes g in
+    let whole = w .whole in
+    let few = w .few in
+    record { sound = so; whole = omega arith; some = w .some; few = omega arith }
+
+-- Rule 12 first, then the pages.
+pub marked-wholly : (bytes : List ℕ) (g : Galley) (ws : List ℕ) → counted (modelOf bytes g) ws ≡ true
+    → wholly bytes g ws ≡ marked (modelOf bytes g) ws
+unfolding wholly judged marked
+marked-wholly bytes g ws h = rw h
+
+pub marked-refused : (bytes : List ℕ) (g : Galley) (ws : List ℕ) → counted (modelOf bytes g) ws ≡ false
+    → Refused 12 0 ≡ marked (modelOf bytes g) ws
+unfolding marked
+marked-refused bytes g ws h = rw h

@@ -30,6 +30,10 @@ implies-true : (a : Bool) → implies a true ≡ true
 implies-true true = refl
 implies-true false = refl
 
+implies-and : (a b c : Bool) → implies a (implies b c) ≡ implies (a && b) c
+implies-and true b c = refl
+implies-and false b c = refl
+
 separated : (a b : Bool) (s : ℕ) → pred (one a + (0 + one b)) * s ≡ separation a b s
 unfolding separation
 separated true true s = omega arith
@@ -62,9 +66,9 @@ module _ (bytes : List ℕ) (g : Galley) where
   -- Rule 17.
   pub cited-two : (q : ℕ) (last : Bool) (i j : ℕ)
       → cited (modelOf bytes g) q last (i ∷ j ∷ [])
-      ≡ implies (ends (modelOf bytes g .spec .sides) q || last) (implies (ltb 0 j) (leb (figuresOf bytes g .cite j) i))
+      ≡ implies ((ends (modelOf bytes g .spec .sides) q || last) && ltb 0 j) (leb (figuresOf bytes g .cite j) i)
   unfolding cited each count
-  cited-two q last i j = refl
+  cited-two q last i j = implies-and (ends (modelOf bytes g .spec .sides) q || last) (ltb 0 j) (leb (figuresOf bytes g .cite j) i)
 
   -- The full place.
   pub full-two : (a b : ℕ) → same (a ∷ b ∷ []) (sizes (modelOf bytes g)) ≡ (eqb a (g .lines) && eqb b (g .figures))

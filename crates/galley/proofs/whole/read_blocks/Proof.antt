@@ -1,6 +1,7 @@
+use Rattle.galley.specs.declared.Record.the-variants as found
 use Rattle.galley.specs.Laws.Blocks.{blocks-line, blocks-figure, blocks-end, blocks-spec, blocks-refused}
 use Rattle.galley.specs.Laws.Whole.{line-placed, figure-placed, refused-placed}
-use Rattle.galley.specs.Whole.{dueAt, blocks}
+use Rattle.galley.specs.Whole.{recordIn, dueAt, blocks}
 use denote.Ref.{now}
 use native.Mathlib.Omega.{arith}
 use mathlib.Core.Bool.{true}
@@ -59,7 +60,8 @@ loop-less c =
     let a = c .before .before .before .before .before .before .args in
     let l = c .before .before .before .before .loop in
     let at = dueAt (a .first) (l .lines) (l .figures) in
-    let e = sym (c .before .before .before .record-in .ensures) ∙ c .before .found .given .1 in
+    let e : recordIn (now (a .s)) at true (l .lines) (l .figures) (l .last) ≡ found.Line _
+          = sym (c .before .before .before .record-in .ensures) ∙ c .before .found .given .1 in
     let p = line-placed (now (a .s)) at true (l .lines) (l .figures) (l .last) e in
     omega (arith, p .few, l .inv .1)
 
@@ -69,7 +71,8 @@ loop-again c =
     let a = c .before .before .before .before .before .before .args in
     let l = c .before .before .before .before .loop in
     let at = dueAt (a .first) (l .lines) (l .figures) in
-    let e = sym (c .before .before .before .record-in .ensures) ∙ c .before .found .given .1 in
+    let e : recordIn (now (a .s)) at true (l .lines) (l .figures) (l .last) ≡ found.Line _
+          = sym (c .before .before .before .record-in .ensures) ∙ c .before .found .given .1 in
     let p = line-placed (now (a .s)) at true (l .lines) (l .figures) (l .last) e in
     (omega (arith, p .few), l .inv .1, sym (blocks-line (now (a .s)) (a .spec) (a .first) (l .lines) (l .figures) (l .last) (omega (arith, l .inv .0, l .inv .1)) _ e) ∙ l .inv .2)
 
@@ -87,7 +90,8 @@ loop-less-2 c =
     let a = c .before .before .before .before .before .before .args in
     let l = c .before .before .before .before .loop in
     let at = dueAt (a .first) (l .lines) (l .figures) in
-    let e = sym (c .before .before .before .record-in .ensures) ∙ c .before .found2 .given .1 in
+    let e : recordIn (now (a .s)) at true (l .lines) (l .figures) (l .last) ≡ found.Figure _
+          = sym (c .before .before .before .record-in .ensures) ∙ c .before .found2 .given .1 in
     let p = figure-placed (now (a .s)) at true (l .lines) (l .figures) (l .last) e in
     omega (arith, p .few, l .inv .0)
 
@@ -97,7 +101,8 @@ loop-again-2 c =
     let a = c .before .before .before .before .before .before .args in
     let l = c .before .before .before .before .loop in
     let at = dueAt (a .first) (l .lines) (l .figures) in
-    let e = sym (c .before .before .before .record-in .ensures) ∙ c .before .found2 .given .1 in
+    let e : recordIn (now (a .s)) at true (l .lines) (l .figures) (l .last) ≡ found.Figure _
+          = sym (c .before .before .before .record-in .ensures) ∙ c .before .found2 .given .1 in
     let p = figure-placed (now (a .s)) at true (l .lines) (l .figures) (l .last) e in
     (l .inv .0, omega (arith, p .few), sym (blocks-figure (now (a .s)) (a .spec) (a .first) (l .lines) (l .figures) (l .last) (omega (arith, l .inv .0, l .inv .1)) _ e) ∙ l .inv .2)
 
@@ -111,7 +116,8 @@ returns c =
     let a = c .before .before .before .before .before .args in
     let l = c .before .before .before .loop in
     let at = dueAt (a .first) (l .lines) (l .figures) in
-    let e = sym (c .before .before .record-in .ensures) ∙ c .enum-told .given .1 in
+    let e : recordIn (now (a .s)) at true (l .lines) (l .figures) (l .last) ≡ found.End
+          = sym (c .before .before .record-in .ensures) ∙ c .enum-told .given .1 in
     sym (blocks-end (now (a .s)) (a .spec) (a .first) (l .lines) (l .figures) (l .last) (omega (arith, l .inv .0, l .inv .1)) e) ∙ l .inv .2
 
 -- src/whole.rt:96:26
@@ -128,7 +134,8 @@ returns-2 c =
     let a = c .before .before .before .before .before .before .args in
     let l = c .before .before .before .before .loop in
     let at = dueAt (a .first) (l .lines) (l .figures) in
-    let e = sym (c .before .before .before .record-in .ensures) ∙ c .before .found3 .given .1 in
+    let e : recordIn (now (a .s)) at true (l .lines) (l .figures) (l .last) ≡ found.Spec _
+          = sym (c .before .before .before .record-in .ensures) ∙ c .before .found3 .given .1 in
     sym (blocks-spec (now (a .s)) (a .spec) (a .first) (l .lines) (l .figures) (l .last) (omega (arith, l .inv .0, l .inv .1)) _ e) ∙ l .inv .2
 
 -- src/whole.rt:102:31
@@ -141,7 +148,8 @@ cast-t19 c =
     let a = c .before .before .before .before .before .before .args in
     let l = c .before .before .before .before .loop in
     let at = dueAt (a .first) (l .lines) (l .figures) in
-    let e = sym (c .before .before .before .record-in .ensures) ∙ c .before .found4 .given .1 in
+    let e : recordIn (now (a .s)) at true (l .lines) (l .figures) (l .last) ≡ found.Refused _ _
+          = sym (c .before .before .before .record-in .ensures) ∙ c .before .found4 .given .1 in
     let near = refused-placed (now (a .s)) at true (l .lines) (l .figures) (l .last) e in
     omega (arith, near, l .inv .0, l .inv .1)
 
@@ -151,7 +159,8 @@ returns-3 c =
     let a = c .before .before .before .before .before .before .args in
     let l = c .before .before .before .before .loop in
     let at = dueAt (a .first) (l .lines) (l .figures) in
-    let e = sym (c .before .before .before .record-in .ensures) ∙ c .before .found4 .given .1 in
+    let e : recordIn (now (a .s)) at true (l .lines) (l .figures) (l .last) ≡ found.Refused _ _
+          = sym (c .before .before .before .record-in .ensures) ∙ c .before .found4 .given .1 in
     sym (blocks-refused (now (a .s)) (a .spec) (a .first) (l .lines) (l .figures) (l .last) (omega (arith, l .inv .0, l .inv .1)) _ _ e) ∙ l .inv .2
 
 pub read-blocks-spec : {M : Type 1} → statement M

@@ -1,0 +1,43 @@
+use mathlib.Core.Path.{refl, sym, _∙_}
+use denote.Ref.{now}
+use Rattle.marking.specs.laws.Run.{counted-listed, marked-wholly, marked-refused}
+use borrow.Author.Needs.{needs}
+use Rattle.marking.proofs.pages.mark_read.Statement.{statement}
+use Rattle.marking.proofs.pages.mark_read.Tie as tie
+use Rattle.marking.proofs.pages.mark_read.Reads as reads
+use Rattle.marking.proofs.pages.mark_read.Lts as lts
+use Rattle.marking.proofs.pages.judge_pages.Reads as judge-pages-reads
+use Rattle.marking.proofs.rules.is_counted.Reads as is-counted-reads
+
+-- src/pages.rt:80:8
+is-counted-requires : tie.Need-is-counted-requires
+is-counted-requires c κs = search needs
+
+-- src/pages.rt:81:9
+judge-pages-requires : tie.Need-judge-pages-requires
+judge-pages-requires c κs =
+    let st = c .before .before .before .before in
+    let bytes = now (st .args .s) in
+    let ws = now (st .args .list) in
+    counted-listed bytes (st .args .g) (st .pre) ws
+    (sym (c .before .is-counted .ensures bytes ws refl) ∙ c .if1 .taken)
+
+-- src/pages.rt:81:9
+returns : tie.Need-returns
+returns c =
+    let st = c .before .before .before .before .before in
+    let bytes = now (st .args .s) in
+    let ws = now (st .args .list) in
+    c .judge-pages .ensures
+    ∙ marked-wholly bytes (st .args .g) ws (sym (c .before .before .is-counted .ensures bytes ws refl) ∙ c .before .if1 .taken)
+
+-- src/pages.rt:76:1
+returns-2 : tie.Need-returns-2
+returns-2 c =
+    let st = c .before .before .before .before in
+    let bytes = now (st .args .s) in
+    let ws = now (st .args .list) in
+    marked-refused bytes (st .args .g) ws (sym (c .before .is-counted .ensures bytes ws refl) ∙ c .if1 .left)
+
+pub mark-read-spec : {M : Type 1} → statement M
+mark-read-spec = tie.close (tie.spec is-counted-requires judge-pages-requires returns returns-2)

@@ -1,0 +1,19 @@
+use Rattle.marking.specs.Parts.{separation, apartBy}
+use borrow.Author.Needs.{needs}
+use Rattle.marking.proofs.pile.apart_by.Statement.{statement}
+use Rattle.marking.proofs.pile.apart_by.Tie as tie
+use Rattle.marking.proofs.pile.apart_by.Reads as reads
+use Rattle.marking.proofs.pile.apart_by.Lts as lts
+
+-- src/pile.rt:18:9
+returns : tie.Need-returns
+unfolding apartBy separation
+returns c = rw (c .if1 .taken)
+
+-- src/pile.rt:14:1
+returns-2 : tie.Need-returns-2
+unfolding apartBy separation
+returns-2 c = rw (c .if1 .left)
+
+pub apart-by-spec : {M : Type 1} → statement M
+apart-by-spec = tie.close (tie.spec returns returns-2)

@@ -1,0 +1,30 @@
+// The counts of a list whose pages were judged.
+ghost use mathlib.Core.Path.{_≡_};
+ghost use Prim.Native.Nat.{_≤_, _*_};
+ghost use Rattle.galley.specs.Range.{SpecRanged};
+ghost use Rattle.marking.specs.Parts.{Few, finished};
+use galley::Galley;
+use model::answer::Answer;
+use model::page::Page;
+
+// 18 where the last page does not end at the full place, else p, X, Y, T.
+pub fn finish(g: Galley, pages: u32, a: usize, b: usize, x: u32) -> Answer
+    requires { ⌜ Few g pages x ⌝ }
+    ensures { λ r. ⌜ r ≡ finished g pages a b x ⌝ }
+{
+    if (a == g.lines) & (b == g.figures) {
+        let first = model::page::spread_of(g.spec.sides, Page(1));
+        let last = model::page::spread_of(g.spec.sides, Page(pages));
+        let y = last.0 - first.0;
+        return Answer::Counted {
+            pages,
+            x,
+            y,
+            turns: g.spec.alpha * x + g.spec.beta * y,
+        };
+    }
+    Answer::Refused {
+        number: 18,
+        place: pages,
+    }
+}

@@ -1,0 +1,87 @@
+// The loop over pages.
+ghost use mathlib.Core.Path.{_≡_};
+ghost use Rattle.galley.specs.Model.{modelOf};
+ghost use Rattle.galley.specs.Sound.{Sound};
+ghost use Rattle.model.specs.Answers.{marked};
+ghost use Rattle.marking.specs.Parts.{Listed};
+ghost use Rattle.marking.specs.laws.Run.{wholly};
+use galley::Galley;
+use model::answer::Answer;
+use model::page::Page;
+
+// The answer for a list of whole pages: the first page that breaks a rule, and there the first of 13 to 17; then 18.
+fn judge_pages(s: &[u8], g: Galley, list: &[u32]) -> Answer
+    requires { ⌜ Listed (now s) g (now list) ⌝ }
+    ensures { λ r. ⌜ r ≡ wholly (now (s .entry)) g (now (list .entry)) ⌝ }
+{
+    let pages = list.len() / 2;
+    let mut done: usize = 0;
+    let mut a: usize = 0;
+    let mut b: usize = 0;
+    let mut cited: usize = 0;
+    let mut x: u32 = 0;
+    let answer = 'pages: loop {
+        if done == pages {
+            break 'pages crate::counts::finish(g, pages as u32, a, b, x);
+        }
+        let number = (done + 1) as u32;
+        let i = crate::rules::size(list[2 * done]);
+        let j = crate::rules::size(list[2 * done + 1]);
+        let start = crate::rules::start_fault(s, g, a, b, i, j);
+        if 0 < start {
+            break 'pages Answer::Refused {
+                number: start,
+                place: number,
+            };
+        }
+        let mut pile = crate::pile::apart_by(g, a < i, b < j);
+        let mut k = a;
+        let mut f = b;
+        loop {
+            if g.spec.htmax < pile.tight {
+                break 'pages Answer::Refused {
+                    number: 15,
+                    place: number,
+                };
+            }
+            if k < i {
+                pile = crate::pile::with_line(s, g, pile, a, k);
+                k += 1;
+            } else {
+                if f < j {
+                    pile = crate::pile::with_figure(s, g, pile, b, f);
+                    f += 1;
+                } else {
+                    break;
+                }
+            }
+        }
+        let end = crate::rules::end_fault(s, g, pile.loose, Page(number), done + 1 == pages, i, j);
+        if 0 < end {
+            break 'pages Answer::Refused {
+                number: end,
+                place: number,
+            };
+        }
+        cited = crate::cites::cited_through(s, g, i, cited);
+        x += crate::cites::waiting_at(g, Page(number), cited, j);
+        done += 1;
+        a = i;
+        b = j;
+    };
+    answer
+}
+
+// The answer for a galley that reads without refusal: 12 before any page, then the pages.
+pub fn mark_read(s: &[u8], g: Galley, list: &[u32]) -> Answer
+    requires { ⌜ Sound (now s) g ⌝ }
+    ensures { λ r. ⌜ r ≡ marked (modelOf (now (s .entry)) g) (now (list .entry)) ⌝ }
+{
+    if crate::rules::is_counted(g, list.len()) {
+        return judge_pages(s, g, list);
+    }
+    Answer::Refused {
+        number: 12,
+        place: 0,
+    }
+}

@@ -1,0 +1,94 @@
+// The rules of a list and of a page that ask for no height: 12, 13, 14, 17, and 16 for a height that is known.
+ghost use mathlib.Core.Path.{_≡_};
+ghost use mathlib.Core.Bool.{_||_};
+ghost use mathlib.Core.List.{List, [], _∷_};
+ghost use Prim.Native.Nat.{ℕ, _≤_};
+ghost use lib.ListN.{length};
+ghost use lib.Dec.{leb};
+ghost use Rattle.model.specs.Rules.{forward, mayEnd, cited};
+ghost use Rattle.model.specs.Answers.{counted};
+ghost use Rattle.galley.specs.Model.{textOf, modelOf};
+ghost use Rattle.galley.specs.Sound.{Sound};
+ghost use Rattle.marking.specs.Parts.{startFault, endFault};
+use galley::Galley;
+use model::page::Page;
+
+// A field as a count.
+pub fn size(x: u32) -> usize
+    ensures { λ r. ⌜ r ≡ x ⌝ }
+{
+    x as usize
+}
+
+// 12: there are words, whole pages of them, and no more pages than blocks.
+pub fn is_counted(g: Galley, words: usize) -> bool
+    requires { ⌜ (g .lines ≤ 4000) × (g .figures ≤ 200) ⌝ }
+    ensures { λ r. ⌜ ((bytes ws : List ℕ) → length ws ≡ words → r ≡ counted (modelOf bytes g) ws) ⌝ }
+{
+    (0 < words) & (words % 2 == 0) & (words <= 2 * (g.lines + g.figures))
+}
+
+// 13: no count falls or passes its stream's, and the page is not empty.
+fn is_forward(g: Galley, a: usize, b: usize, i: usize, j: usize) -> bool
+    ensures { λ r. ⌜ ((bytes : List ℕ) → r ≡ forward (modelOf bytes g) (a ∷ b ∷ []) (i ∷ j ∷ [])) ⌝ }
+{
+    (((a <= i) & (i <= g.lines)) & ((b <= j) & (j <= g.figures))) & ((a < i) | (b < j))
+}
+
+// 14: a page may end before the first line, after the last, or in a space that allows it.
+fn may_end(s: &[u8], g: Galley, i: usize) -> bool
+    requires { ⌜ Sound (now s) g ⌝ }
+    ensures { λ r. ⌜ r ≡ mayEnd (textOf (now (s .entry)) g) i ⌝ }
+{
+    if (0 < i) & (i < g.lines) {
+        return galley::block::line_legal(s, g, i) == 1;
+    }
+    true
+}
+
+// 17: where a leaf or the list ends, the last figure placed is cited by a line already placed.
+fn is_cited(s: &[u8], g: Galley, page: Page, last: bool, i: usize, j: usize) -> bool
+    requires { ⌜ (Sound (now s) g) × (j ≤ g .figures) ⌝ }
+    ensures { λ r. ⌜ r ≡ cited (modelOf (now (s .entry)) g) (page .0) last (i ∷ j ∷ []) ⌝ }
+{
+    if (model::page::ends_spread(g.spec.sides, page) | last) & (0 < j) {
+        return size(galley::block::figure_cite(s, g, j)) <= i;
+    }
+    true
+}
+
+// The first of 13 and 14 that a page from (a, b) to (i, j) breaks, or 0.
+pub fn start_fault(s: &[u8], g: Galley, a: usize, b: usize, i: usize, j: usize) -> u32
+    requires { ⌜ Sound (now s) g ⌝ }
+    ensures { λ r. ⌜ r ≡ startFault (modelOf (now (s .entry)) g) (a ∷ b ∷ []) (i ∷ j ∷ []) ⌝ }
+{
+    if is_forward(g, a, b, i, j) {
+        if may_end(s, g, i) {
+            return 0;
+        }
+        return 14;
+    }
+    13
+}
+
+// The first of 16 and 17 that a page of this loosest height breaks, or 0.
+pub fn end_fault(
+    s: &[u8],
+    g: Galley,
+    loose: u32,
+    page: Page,
+    last: bool,
+    i: usize,
+    j: usize,
+) -> u32
+    requires { ⌜ (Sound (now s) g) × (j ≤ g .figures) ⌝ }
+    ensures { λ r. ⌜ r ≡ endFault (last || leb (g .spec .htmin) loose) (cited (modelOf (now (s .entry)) g) (page .0) last (i ∷ j ∷ [])) ⌝ }
+{
+    if last | (g.spec.htmin <= loose) {
+        if is_cited(s, g, page, last, i, j) {
+            return 0;
+        }
+        return 17;
+    }
+    16
+}

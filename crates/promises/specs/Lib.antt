@@ -1,0 +1,2 @@
+-- The demands that the engine is held to, each a theorem about the contracts of making and marking.
+pub mod ReadNumbers
