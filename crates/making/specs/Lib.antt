@@ -12,6 +12,7 @@ pub mod Shown
 pub mod Back
 pub mod Heights
 pub mod Asked
+pub mod Run
 pub mod Traceable
 pub mod Solved
 pub mod laws

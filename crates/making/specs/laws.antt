@@ -10,3 +10,4 @@ pub mod Heights
 pub mod Search
 pub mod Price
 pub mod Solved
+pub mod Filling

@@ -5,7 +5,9 @@ use galley::Galley;
 use galley::Reading;
 use model::answer::Answer;
 
+mod fill; // fill.rt: the work area filled, column by column
 mod heights; // heights.rt: the heights of a page, gathered back from its end
+mod price; // price.rt: whether a page may end at a place, and what it costs
 mod search; // search.rt: the best start of a place
 mod trace; // trace.rt: the walk back from the last page
 
@@ -25,4 +27,44 @@ fn best_pages(s: &[u8], g: Galley, work: &[u32], pages: &mut [u32]) -> Answer
     trace::write_pages(g, work, side, p, pages);
     let words = 2 * p;
     marking::mark(s, &pages[..words])
+}
+
+// A galley that was read, made where the lent memory is long enough: 9, then 10.
+fn make_read(s: &[u8], g: Galley, work: &mut [u32], pages: &mut [u32]) -> Answer
+    requires { ⌜ Readable (now s) g ⌝ }
+    ensures {
+        λ r. ⌜ Made (now (s .entry)) (now (work .entry)) (now (pages .entry)) r (now (work .exit)) (now (pages .exit)) ⌝
+    }
+{
+    let needed = places::words_needed(g.lines, g.figures);
+    if work.len() < needed {
+        return Answer::Refused {
+            number: 9,
+            place: needed as u32,
+        };
+    }
+    let room = 2 * (g.lines + g.figures);
+    if pages.len() < room {
+        return Answer::Refused {
+            number: 10,
+            place: room as u32,
+        };
+    }
+    fill::fill(s, g, work);
+    let answer = best_pages(s, g, work, pages);
+    places::clear(work, needed);
+    answer
+}
+
+// The best pages of the galley that any bytes hold, or one refusal. Nothing that the work area holds beforehand matters.
+pub fn make(galley: &[u8], work: &mut [u32], pages: &mut [u32]) -> Answer
+    ensures {
+        λ r. ⌜ Made (now (galley .entry)) (now (work .entry)) (now (pages .entry)) r (now (work .exit)) (now (pages .exit)) ⌝
+    }
+{
+    let reading = galley::whole::read_galley(galley);
+    match reading {
+        Reading::Galley(g) => make_read(galley, g, work, pages),
+        Reading::Refused { number, place } => Answer::Refused { number, place },
+    }
 }

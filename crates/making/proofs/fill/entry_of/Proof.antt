@@ -1,0 +1,131 @@
+-- `entry_of` meets its contract: each answer is the case of `entryOf` for the tests before it. The entries before keep their
+-- costs low enough for the sum with the price to be a word.
+use mathlib.Core.Path.{_≡_, sym, ap, _∙_}
+use Prim.Native.Nat.{ℕ, suc, _+_, _≤_}
+use native.Mathlib.Omega.{arith}
+use borrow.Author.Tests.{not-true, not-false}
+use Rattle.model.specs.Leaf.{sidesOf}
+use Rattle.galley.specs.Model.{modelOf}
+use Rattle.places.specs.Table.{tableOf}
+use Rattle.making.specs.Search.{before, bestStart}
+use Rattle.making.specs.Asked.{searchOf}
+use Rattle.making.specs.laws.Entered.{side-low, side-before}
+use Rattle.making.specs.laws.Filling.{entry-nothing, entry-forbidden, entry-unreached, entry-least, cost-low}
+use borrow.Author.Needs.{needs}
+use Rattle.making.proofs.fill.entry_of.Statement.{statement}
+use Rattle.making.proofs.fill.entry_of.Tie as tie
+
+add-if1 : tie.Need-add-if1
+add-if1 c = search needs
+
+add-if1-2 : tie.Need-add-if1-2
+add-if1-2 c =
+    let start = c .before .before in
+    let a = start .args in
+    let low = side-low (sidesOf (a .g .spec .sides)) (a .c) (start .pre .side) in
+    omega (arith, start .pre .placed .line, start .pre .placed .figure, start .pre .placed .sound .fewLines, start .pre .placed .sound .fewFigures)
+
+returns : tie.Need-returns
+returns c =
+    let start = c .before .before .before in
+    let a = start .args in
+    sym (entry-nothing (modelOf (a .s .now) (a .g)) (tableOf (suc (a .g .lines)) (a .work .now)) (a .i) (a .j) (a .c) (c .if1 .taken))
+
+may-stop-requires : tie.Need-may-stop-requires
+may-stop-requires c κs =
+    let start = c .before .before .before in
+    let a = start .args in
+    let low = side-low (sidesOf (a .g .spec .sides)) (a .c) (start .pre .side) in
+    record { placed = start .pre .placed; either = low; citing = start .pre .citing }
+
+returns-2 : tie.Need-returns-2
+returns-2 c =
+    let start = c .before .before .before .before .before in
+    let a = start .args in
+    let may = sym (c .before .may-stop .ensures) ∙ not-true (c .before .may-stop .result) (c .if2 .taken) in
+    sym (entry-forbidden (modelOf (a .s .now) (a .g)) (tableOf (suc (a .g .lines)) (a .work .now)) (a .i) (a .j) (a .c) (c .before .before .if1 .left) may)
+
+side-before-requires : tie.Need-side-before-requires
+side-before-requires c κs =
+    let start = c .before .before .before .before .before in
+    let a = start .args in
+    let low = side-low (sidesOf (a .g .spec .sides)) (a .c) (start .pre .side) in
+    low
+
+best-start-requires : tie.Need-best-start-requires
+best-start-requires c κs =
+    let start = c .before .before .before .before .before .before in
+    let a = start .args in
+    let occurs = side-before (sidesOf (a .g .spec .sides)) (a .c) (start .pre .side) in
+    let low = side-low (sidesOf (a .g .spec .sides)) (before (sidesOf (a .g .spec .sides)) (a .c)) occurs in
+    record { placed = start .pre .placed; room = start .pre .room; either = omega (arith, low, c .side-before .ensures) }
+
+enum-known-best : tie.Need-enum-known-best
+enum-known-best c = search needs
+
+enum-told : tie.Need-enum-told
+enum-told c = search needs
+
+returns-3 : tie.Need-returns-3
+returns-3 c =
+    let start = c .before .before .before .before .before .before .before .before .before in
+    let a = start .args in
+    let may = sym (c .before .before .before .before .before .may-stop .ensures) ∙ not-false (c .before .before .before .before .before .may-stop .result) (c .before .before .before .before .if2 .left) in
+    let best =
+    sym (ap (λ (n : ℕ). bestStart (searchOf (a .s .now) (a .g) (a .work .now) (a .i) (a .j) n)) (c .before .before .before .side-before .ensures))
+    ∙ sym (c .before .before .best-start .ensures) ∙ c .enum-told .given .1 in
+    sym (entry-unreached (modelOf (a .s .now) (a .g)) (tableOf (suc (a .g .lines)) (a .work .now)) (a .i) (a .j) (a .c) (c .before .before .before .before .before .before .if1 .left) may best)
+
+price-requires : tie.Need-price-requires
+price-requires c κs =
+    let start = c .before .before .before .before .before .before .before .before .before .before in
+    let a = start .args in
+    let low = side-low (sidesOf (a .g .spec .sides)) (a .c) (start .pre .side) in
+    let few = start .pre .citing .few in
+    let spec = start .pre .placed .sound .specRanged in
+    record {
+      alphas = spec .alphas;
+      betas = spec .betas;
+      either = low;
+      few = omega (arith, start .pre .placed .sound .fewFigures);
+    }
+
+add-t17 : tie.Need-add-t17
+add-t17 c =
+    let start = c .before .before .before .before .before .before .before .before .before .before .before in
+    let a = start .args in
+    let best =
+    sym (ap (λ (n : ℕ). bestStart (searchOf (a .s .now) (a .g) (a .work .now) (a .i) (a .j) n)) (c .before .before .before .before .before .side-before .ensures))
+    ∙ sym (c .before .before .before .before .best-start .ensures) ∙ c .before .before .best .given .1 in
+    let low = cost-low (a .s .now) (a .g) (a .work .now) (a .i) (a .j) (a .c) (a .cited) (start .pre) _ _ best in
+    let price = c .price .ensures (a .s .now) (start .pre .citing) in
+    omega (arith, low, price)
+
+returns-4 : tie.Need-returns-4
+returns-4 c =
+    let start = c .before .before .before .before .before .before .before .before .before .before .before in
+    let a = start .args in
+    let may = sym (c .before .before .before .before .before .before .before .may-stop .ensures) ∙ not-false (c .before .before .before .before .before .before .before .may-stop .result) (c .before .before .before .before .before .before .if2 .left) in
+    let best =
+    sym (ap (λ (n : ℕ). bestStart (searchOf (a .s .now) (a .g) (a .work .now) (a .i) (a .j) n)) (c .before .before .before .before .before .side-before .ensures))
+    ∙ sym (c .before .before .before .before .best-start .ensures) ∙ c .before .before .best .given .1 in
+    rw (c .price .ensures (a .s .now) (start .pre .citing))
+    (sym (entry-least (modelOf (a .s .now) (a .g)) (tableOf (suc (a .g .lines)) (a .work .now)) (a .i) (a .j) (a .c) (c .before .before .before .before .before .before .before .before .if1 .left) may _ _ best))
+
+pub entry-of-spec : {M : Type 1} → statement M
+entry-of-spec =
+    tie.close
+    (tie.spec
+    add-if1
+    add-if1-2
+    returns
+    may-stop-requires
+    returns-2
+    side-before-requires
+    best-start-requires
+    enum-known-best
+    enum-told
+    returns-3
+    price-requires
+    add-t17
+    returns-4)
