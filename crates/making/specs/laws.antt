@@ -10,4 +10,5 @@ pub mod Heights
 pub mod Search
 pub mod Price
 pub mod Solved
+pub mod Made
 pub mod Filling

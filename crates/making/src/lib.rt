@@ -32,9 +32,7 @@ fn best_pages(s: &[u8], g: Galley, work: &[u32], pages: &mut [u32]) -> Answer
 // A galley that was read, made where the lent memory is long enough: 9, then 10.
 fn make_read(s: &[u8], g: Galley, work: &mut [u32], pages: &mut [u32]) -> Answer
     requires { ⌜ Readable (now s) g ⌝ }
-    ensures {
-        λ r. ⌜ Made (now (s .entry)) (now (work .entry)) (now (pages .entry)) r (now (work .exit)) (now (pages .exit)) ⌝
-    }
+    ensures { λ r. ⌜ Made (now (s .entry)) (now (work .entry)) (now (pages .entry)) r (now (work .exit)) (now (pages .exit)) ⌝ }
 {
     let needed = places::words_needed(g.lines, g.figures);
     if work.len() < needed {
@@ -58,9 +56,7 @@ fn make_read(s: &[u8], g: Galley, work: &mut [u32], pages: &mut [u32]) -> Answer
 
 // The best pages of the galley that any bytes hold, or one refusal. Nothing that the work area holds beforehand matters.
 pub fn make(galley: &[u8], work: &mut [u32], pages: &mut [u32]) -> Answer
-    ensures {
-        λ r. ⌜ Made (now (galley .entry)) (now (work .entry)) (now (pages .entry)) r (now (work .exit)) (now (pages .exit)) ⌝
-    }
+    ensures { λ r. ⌜ Made (now (galley .entry)) (now (work .entry)) (now (pages .entry)) r (now (work .exit)) (now (pages .exit)) ⌝ }
 {
     let reading = galley::whole::read_galley(galley);
     match reading {

@@ -35,10 +35,10 @@ write-pages-requires c κs =
 mul-words : tie.Need-mul-words
 mul-words c =
     let small =
-        walk-small _ _ _ _ (c .before .before .before .before .before .before .before .before .before .before .before .pre) _
-        (c .before .before .before .before .before .before .before .last-side .ensures) _
-        (c .before .before .before .before .before .before .reached .ensures) _
-        (c .before .before .before .before .count-pages .ensures) (not-false _ (c .before .before .before .before .before .if1 .left)) in
+    walk-small _ _ _ _ (c .before .before .before .before .before .before .before .before .before .before .before .pre) _
+    (c .before .before .before .before .before .before .before .last-side .ensures) _
+    (c .before .before .before .before .before .before .reached .ensures) _
+    (c .before .before .before .before .count-pages .ensures) (not-false _ (c .before .before .before .before .before .if1 .left)) in
     omega arith
 
 slice-reshare-prefix-mark : tie.Need-slice-reshare-prefix-mark

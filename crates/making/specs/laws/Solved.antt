@@ -114,7 +114,7 @@ module _ (bytes : List ℕ) (g : Galley) (work list : List ℕ) (solved : Solved
         lent = solved-lent;
         entered = λ a b c x s h k side e.
             (filled-all (modelOf bytes g) light (solved .before) room) .entered a b c x s (inl (omega arith)) h side
-            (ap (λ w. tableIn g w a b c) (sym (solved .is)) ∙ e)
+            (ap (λ w. tableIn g w a b c) (sym (solved .is)) ∙ e);
       }
 
   -- the last side occurs,
@@ -176,14 +176,14 @@ module _ (bytes : List ℕ) (g : Galley) (work list : List ℕ) (solved : Solved
       let long : length (wordsOf ps) ≡ 2 * pagesBack (modelOf bytes g) (tableIn g work) = words-long ps m (f .pages) in
       record {
         answers =
-          ap (λ l. marked (modelOf bytes g) (take (2 * pagesBack (modelOf bytes g) (tableIn g work)) l)) words
-          ∙ ap (marked (modelOf bytes g)) (take-at (wordsOf ps) (drop (2 * pagesBack (modelOf bytes g) (tableIn g work)) list) (2 * pagesBack (modelOf bytes g) (tableIn g work)) long)
-          ∙ valid-counts (modelOf bytes g) ps m
-          ∙ made-some (modelOf bytes g) ps (f .best) .0;
+            ap (λ l. marked (modelOf bytes g) (take (2 * pagesBack (modelOf bytes g) (tableIn g work)) l)) words
+            ∙ ap (marked (modelOf bytes g)) (take-at (wordsOf ps) (drop (2 * pagesBack (modelOf bytes g) (tableIn g work)) list) (2 * pagesBack (modelOf bytes g) (tableIn g work)) long)
+            ∙ valid-counts (modelOf bytes g) ps m
+            ∙ made-some (modelOf bytes g) ps (f .best) .0;
         listed =
-          words
-          ∙ ap (λ n. wordsOf ps ++ drop n list) (sym long)
-          ∙ sym (ap (λ l. l ++ drop (length l) list) (made-some (modelOf bytes g) ps (f .best) .1))
+            words
+            ∙ ap (λ n. wordsOf ps ++ drop n list) (sym long)
+            ∙ sym (ap (λ l. l ++ drop (length l) list) (made-some (modelOf bytes g) ps (f .best) .1));
       }
     where
       words-long : (ps : List Place) → ps ∈ valid (modelOf bytes g) → length ps ≡ pagesBack (modelOf bytes g) (tableIn g work)
@@ -236,11 +236,11 @@ module _ (bytes : List ℕ) (g : Galley) (work list : List ℕ) (solved : Solved
           unfolding markOf markRead
           walk-written answer told-answer =
               let w =
-                  solved-written (sym told-last ∙ e) list′
-                  (is ∙ ap (λ c. writeBack (sidesIn g) (tableIn g work) p (g .lines) (g .figures) c list) at-side
-                      ∙ ap (λ k. writeBack (sidesIn g) (tableIn g work) k (g .lines) (g .figures) (lastOf (modelOf bytes g) (tableIn g work)) list) all-pages) in
+              solved-written (sym told-last ∙ e) list′
+              (is ∙ ap (λ c. writeBack (sidesIn g) (tableIn g work) p (g .lines) (g .figures) c list) at-side
+              ∙ ap (λ k. writeBack (sidesIn g) (tableIn g work) k (g .lines) (g .figures) (lastOf (modelOf bytes g) (tableIn g work)) list) all-pages) in
               let m : answer ≡ marked (modelOf bytes g) (take (2 * p) list′) = told-answer ∙ ap (markRead bytes (take (2 * p) list′)) (solved .reads) in
               record {
                 answers = m ∙ ap (λ k. marked (modelOf bytes g) (take (2 * k) list′)) all-pages ∙ w .answers;
-                listed = w .listed
+                listed = w .listed;
               }
