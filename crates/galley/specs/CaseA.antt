@@ -32,10 +32,10 @@ caseA = specBytes ++ lineBytes ++ lineBytes ++ lineBytes ++ figureBytes ++ 69 âˆ
 abbrev galleyA : Galley
 galleyA =
     record {
-        spec = record { htmin = 30; htmax = 30; smin = 0; smax = 0; sides = 1; alpha = 1; beta = 1 };
-        lines = 3;
-        figures = 1;
-        first = 30
+      spec = record { htmin = 30; htmax = 30; smin = 0; smax = 0; sides = 1; alpha = 1; beta = 1 };
+      lines = 3;
+      figures = 1;
+      first = 30;
     }
 
 -- Case A reads without refusal.

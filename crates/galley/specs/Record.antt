@@ -20,33 +20,33 @@ use Rattle.galley.specs.declared.Record.the-variants as found
 unfoldable pub specOf : List ℕ → ℕ → Spec
 specOf bytes at =
     record {
-        htmin = wordAt bytes (at + 2);
-        htmax = wordAt bytes (at + 6);
-        smin = wordAt bytes (at + 10);
-        smax = wordAt bytes (at + 14);
-        sides = wordAt bytes (at + 18);
-        alpha = wordAt bytes (at + 22);
-        beta = wordAt bytes (at + 26)
+      htmin = wordAt bytes (at + 2);
+      htmax = wordAt bytes (at + 6);
+      smin = wordAt bytes (at + 10);
+      smax = wordAt bytes (at + 14);
+      sides = wordAt bytes (at + 18);
+      alpha = wordAt bytes (at + 22);
+      beta = wordAt bytes (at + 26);
     }
 
 -- The fields after a `TL`.
 unfoldable pub lineOf : List ℕ → ℕ → Line
 lineOf bytes at =
     record {
-        height = wordAt bytes (at + 2);
-        least = wordAt bytes (at + 6);
-        most = wordAt bytes (at + 10);
-        legal = wordAt bytes (at + 14)
+      height = wordAt bytes (at + 2);
+      least = wordAt bytes (at + 6);
+      most = wordAt bytes (at + 10);
+      legal = wordAt bytes (at + 14);
     }
 
 -- The fields after an `FG`.
 unfoldable pub figureOf : List ℕ → ℕ → Figure
 figureOf bytes at =
     record {
-        height = wordAt bytes (at + 2);
-        least = wordAt bytes (at + 6);
-        most = wordAt bytes (at + 10);
-        cite = wordAt bytes (at + 14)
+      height = wordAt bytes (at + 2);
+      least = wordAt bytes (at + 6);
+      most = wordAt bytes (at + 10);
+      cite = wordAt bytes (at + 14);
     }
 
 -- A record of some size: its fields are there (else 1) and in range (else 3).

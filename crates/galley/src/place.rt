@@ -2,7 +2,6 @@
 ghost use mathlib.Core.Path.{_≡_};
 ghost use Rattle.galley.specs.Mark.{kindOf};
 ghost use Rattle.galley.specs.Place.{misplaced, tooEarly, tooMany, unfit};
-
 use crate::Mark;
 
 // The kind of record that a mark opens.

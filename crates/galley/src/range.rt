@@ -1,7 +1,6 @@
 // The ranges of the fields.
 ghost use mathlib.Core.Path.{_≡_};
 ghost use Rattle.galley.specs.Range.{specInRange, lineInRange, figureInRange};
-
 use crate::Figure;
 use crate::Line;
 use crate::Spec;

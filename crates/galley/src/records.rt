@@ -4,7 +4,6 @@ ghost use Prim.Native.Nat.{_+_, _≤_};
 ghost use lib.ListN.{length};
 ghost use Rattle.galley.specs.Record.{specOf, lineOf, figureOf, openedBy, recordAt};
 ghost use Rattle.galley.specs.declared.Mark.the-variants as mark;
-
 use crate::Figure;
 use crate::Line;
 use crate::Mark;
@@ -58,13 +57,19 @@ fn spec_record(s: &[u8], at: usize) -> Record
     ensures { λ r. ⌜ r ≡ openedBy mark.Spec (now (s .entry)) at ⌝ }
 {
     if crate::word::left_from(s, at) < 30 {
-        return Record::Refused { number: 1, place: at };
+        return Record::Refused {
+            number: 1,
+            place: at,
+        };
     }
     let spec = spec_fields(s, at);
     if crate::range::spec_in_range(spec) {
         return Record::Spec(spec);
     }
-    Record::Refused { number: 3, place: at }
+    Record::Refused {
+        number: 3,
+        place: at,
+    }
 }
 
 // The line that a `TL` opens.
@@ -72,13 +77,19 @@ fn line_record(s: &[u8], at: usize) -> Record
     ensures { λ r. ⌜ r ≡ openedBy mark.Line (now (s .entry)) at ⌝ }
 {
     if crate::word::left_from(s, at) < 18 {
-        return Record::Refused { number: 1, place: at };
+        return Record::Refused {
+            number: 1,
+            place: at,
+        };
     }
     let line = line_fields(s, at);
     if crate::range::line_in_range(line) {
         return Record::Line(line);
     }
-    Record::Refused { number: 3, place: at }
+    Record::Refused {
+        number: 3,
+        place: at,
+    }
 }
 
 // The figure that an `FG` opens.
@@ -86,13 +97,19 @@ fn figure_record(s: &[u8], at: usize) -> Record
     ensures { λ r. ⌜ r ≡ openedBy mark.Figure (now (s .entry)) at ⌝ }
 {
     if crate::word::left_from(s, at) < 18 {
-        return Record::Refused { number: 1, place: at };
+        return Record::Refused {
+            number: 1,
+            place: at,
+        };
     }
     let figure = figure_fields(s, at);
     if crate::range::figure_in_range(figure) {
         return Record::Figure(figure);
     }
-    Record::Refused { number: 3, place: at }
+    Record::Refused {
+        number: 3,
+        place: at,
+    }
 }
 
 // The record at any offset, also past the end.
@@ -100,7 +117,10 @@ pub fn record_at(s: &[u8], at: usize) -> Record
     ensures { λ r. ⌜ r ≡ recordAt (now (s .entry)) at ⌝ }
 {
     if crate::word::left_from(s, at) < 2 {
-        return Record::Refused { number: 1, place: at };
+        return Record::Refused {
+            number: 1,
+            place: at,
+        };
     }
     let mark = crate::place::kind_of(crate::word::mark_at(s, at));
     match mark {
@@ -108,6 +128,9 @@ pub fn record_at(s: &[u8], at: usize) -> Record
         Mark::Line => line_record(s, at),
         Mark::Figure => figure_record(s, at),
         Mark::End => Record::End,
-        Mark::Unknown => Record::Refused { number: 2, place: at },
+        Mark::Unknown => Record::Refused {
+            number: 2,
+            place: at,
+        },
     }
 }

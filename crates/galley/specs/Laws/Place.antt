@@ -40,20 +40,22 @@ pub line-fits : (opened : Bool) (lines figures : ℕ) → Fits Line opened lines
     → (opened ≡ true) × (figures ≡ 0) × (lines < 4000)
 unfolding misplaced tooMany
 line-fits false lines figures fits = absurd (true≢false (fits .placed))
-line-fits true lines figures fits =
-    (refl,
-    omega (arith, ltb-false 0 figures (fits .placed)),
-    leb-false 4000 lines (fits .few))
+line-fits true lines figures fits = (
+  refl,
+  omega (arith, ltb-false 0 figures (fits .placed)),
+  leb-false 4000 lines (fits .few),
+)
 
 -- A figure comes after a line, and is no more than the 200th.
 pub figure-fits : (opened : Bool) (lines figures : ℕ) → Fits Figure opened lines figures
     → (opened ≡ true) × (1 ≤ lines) × (figures < 200)
 unfolding misplaced tooEarly tooMany
 figure-fits false lines figures fits = absurd (true≢false (fits .placed))
-figure-fits true lines figures fits =
-    (refl,
-    omega (arith, eqb-false lines 0 (fits .timely)),
-    leb-false 200 figures (fits .few))
+figure-fits true lines figures fits = (
+  refl,
+  omega (arith, eqb-false lines 0 (fits .timely)),
+  leb-false 200 figures (fits .few),
+)
 
 -- The end comes after a line.
 pub end-fits : (opened : Bool) (lines figures : ℕ) → Fits End opened lines figures → (opened ≡ true) × (1 ≤ lines)

@@ -25,15 +25,15 @@ spec-ranged g h =
     let i = and-true _ (leb (g .htmax) 100000) (f .0) in
     let j = and-true _ (leb 1 (g .htmax)) (i .0) in
     record {
-        htmins = leb-true _ _ (j .0);
-        htmaxSome = leb-true _ _ (j .1);
-        htmaxs = leb-true _ _ (i .1);
-        smins = leb-true _ _ (f .1);
-        smaxs = leb-true _ _ (e .1);
-        sidesSome = leb-true _ _ (d .1);
-        sidesTwo = leb-true _ _ (c .1);
-        alphas = leb-true _ _ (b .1);
-        betas = leb-true _ _ (a .1)
+      htmins = leb-true _ _ (j .0);
+      htmaxSome = leb-true _ _ (j .1);
+      htmaxs = leb-true _ _ (i .1);
+      smins = leb-true _ _ (f .1);
+      smaxs = leb-true _ _ (e .1);
+      sidesSome = leb-true _ _ (d .1);
+      sidesTwo = leb-true _ _ (c .1);
+      alphas = leb-true _ _ (b .1);
+      betas = leb-true _ _ (a .1);
     }
 
 pub line-ranged : (l : Line) → lineInRange l ≡ true → LineRanged l
@@ -43,10 +43,10 @@ line-ranged l h =
     let b = and-true _ (leb (l .most) 100000) (a .0) in
     let c = and-true (leb (l .height) 100000) _ (b .0) in
     record {
-        heights = leb-true _ _ (c .0);
-        leasts = leb-true _ _ (c .1);
-        mosts = leb-true _ _ (b .1);
-        legals = leb-true _ _ (a .1)
+      heights = leb-true _ _ (c .0);
+      leasts = leb-true _ _ (c .1);
+      mosts = leb-true _ _ (b .1);
+      legals = leb-true _ _ (a .1);
     }
 
 pub figure-ranged : (f : Figure) → figureInRange f ≡ true → FigureRanged f
@@ -59,30 +59,33 @@ figure-ranged f h =
 pub ranged-spec : (g : Spec) → SpecRanged g → specInRange g ≡ true
 unfolding specInRange
 ranged-spec g r =
-    simp
-    (le-leb (g .htmin) (g .htmax) (r .htmins),
-    le-leb 1 (g .htmax) (r .htmaxSome),
-    le-leb (g .htmax) 100000 (r .htmaxs),
-    le-leb (g .smin) (g .smax) (r .smins),
-    le-leb (g .smax) 100000 (r .smaxs),
-    le-leb 1 (g .sides) (r .sidesSome),
-    le-leb (g .sides) 2 (r .sidesTwo),
-    le-leb (g .alpha) 1000 (r .alphas),
-    le-leb (g .beta) 1000 (r .betas))
+    simp (
+      le-leb (g .htmin) (g .htmax) (r .htmins),
+      le-leb 1 (g .htmax) (r .htmaxSome),
+      le-leb (g .htmax) 100000 (r .htmaxs),
+      le-leb (g .smin) (g .smax) (r .smins),
+      le-leb (g .smax) 100000 (r .smaxs),
+      le-leb 1 (g .sides) (r .sidesSome),
+      le-leb (g .sides) 2 (r .sidesTwo),
+      le-leb (g .alpha) 1000 (r .alphas),
+      le-leb (g .beta) 1000 (r .betas),
+    )
 
 pub ranged-line : (l : Line) → LineRanged l → lineInRange l ≡ true
 unfolding lineInRange
 ranged-line l r =
-    simp
-    (le-leb (l .height) 100000 (r .heights),
-    le-leb (l .least) (l .most) (r .leasts),
-    le-leb (l .most) 100000 (r .mosts),
-    le-leb (l .legal) 1 (r .legals))
+    simp (
+      le-leb (l .height) 100000 (r .heights),
+      le-leb (l .least) (l .most) (r .leasts),
+      le-leb (l .most) 100000 (r .mosts),
+      le-leb (l .legal) 1 (r .legals),
+    )
 
 pub ranged-figure : (f : Figure) → FigureRanged f → figureInRange f ≡ true
 unfolding figureInRange
 ranged-figure f r =
-    simp
-    (le-leb (f .height) 100000 (r .heights),
-    le-leb (f .least) (f .most) (r .leasts),
-    le-leb (f .most) 100000 (r .mosts))
+    simp (
+      le-leb (f .height) 100000 (r .heights),
+      le-leb (f .least) (f .most) (r .leasts),
+      le-leb (f .most) 100000 (r .mosts),
+    )

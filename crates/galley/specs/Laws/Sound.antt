@@ -59,14 +59,14 @@ module _ (bytes : List ℕ) (spec : Spec) (first lines figures last : ℕ) where
   sofar-none : SoFar bytes (soFar spec first 0 0) 0
   sofar-none =
       record {
-          fewLines = omega arith;
-          fewFigures = omega arith;
-          lineRead = λ k one h. absurd (omega arith);
-          figureRead = λ k one h. absurd (omega arith);
-          citesSome = λ k one h. absurd (omega arith);
-          citesLine = λ k one h. absurd (omega arith);
-          citesLast = λ k one h. absurd (omega arith);
-          citesGrow = λ j k one less h. absurd (omega arith)
+        fewLines = omega arith;
+        fewFigures = omega arith;
+        lineRead = λ k one h. absurd (omega arith);
+        figureRead = λ k one h. absurd (omega arith);
+        citesSome = λ k one h. absurd (omega arith);
+        citesLine = λ k one h. absurd (omega arith);
+        citesLast = λ k one h. absurd (omega arith);
+        citesGrow = λ j k one less h. absurd (omega arith);
       }
 
   -- One line more: there is no figure yet.
@@ -78,17 +78,17 @@ module _ (bytes : List ℕ) (spec : Spec) (first lines figures last : ℕ) where
       let none = p .before in
       let here : dueAt first lines figures ≡ first + (lines + 1 - 1) * 18 = omega arith in
       let top : recordAt bytes (dueAt first lines figures) ≡ found.Line (lineOf bytes (dueAt first lines figures))
-              = p .read ∙ ap found.Line (line-same bytes _ (p .read)) in
+      = p .read ∙ ap found.Line (line-same bytes _ (p .read)) in
       record {
-          fewLines = omega (arith, p .few);
-          fewFigures = so .fewFigures;
-          lineRead = upto-more (λ k. recordAt bytes (first + (k - 1) * 18) ≡ found.Line (lineOf bytes (first + (k - 1) * 18)))
-              lines (so .lineRead) (rw here at top);
-          figureRead = λ k one h. absurd (omega arith);
-          citesSome = λ k one h. absurd (omega arith);
-          citesLine = λ k one h. absurd (omega arith);
-          citesLast = λ k one h. absurd (omega arith);
-          citesGrow = λ j k one less h. absurd (omega arith)
+        fewLines = omega (arith, p .few);
+        fewFigures = so .fewFigures;
+        lineRead = upto-more (λ k. recordAt bytes (first + (k - 1) * 18) ≡ found.Line (lineOf bytes (first + (k - 1) * 18)))
+            lines (so .lineRead) (rw here at top);
+        figureRead = λ k one h. absurd (omega arith);
+        citesSome = λ k one h. absurd (omega arith);
+        citesLine = λ k one h. absurd (omega arith);
+        citesLast = λ k one h. absurd (omega arith);
+        citesGrow = λ j k one less h. absurd (omega arith);
       }
 
   -- One figure more, which cites the last line cited.
@@ -100,31 +100,31 @@ module _ (bytes : List ℕ) (spec : Spec) (first lines figures last : ℕ) where
       let here : dueAt first lines figures ≡ first + lines * 18 + (figures + 1 - 1) * 18 = omega arith in
       let same = figure-same bytes _ (p .read) in
       let top : recordAt bytes (dueAt first lines figures) ≡ found.Figure (figureOf bytes (dueAt first lines figures))
-              = p .read ∙ ap found.Figure same in
+      = p .read ∙ ap found.Figure same in
       let cites : figureOf bytes (first + lines * 18 + (figures + 1 - 1) * 18) .cite ≡ f .cite
-                = rw (← here, ← same) in
+      = rw (← here, ← same) in
       let lasts : (k : ℕ) → 1 ≤ k → k ≤ figures + 1 → figureOf bytes (first + lines * 18 + (k - 1) * 18) .cite ≤ f .cite
-                = upto-more (λ k. figureOf bytes (first + lines * 18 + (k - 1) * 18) .cite ≤ f .cite) figures
-                  (λ k one h. omega (arith, so .citesLast k one h, p .grows)) (omega (arith, cites)) in
+      = upto-more (λ k. figureOf bytes (first + lines * 18 + (k - 1) * 18) .cite ≤ f .cite) figures
+      (λ k one h. omega (arith, so .citesLast k one h, p .grows)) (omega (arith, cites)) in
       record {
-          fewLines = so .fewLines;
-          fewFigures = omega (arith, p .few);
-          lineRead = so .lineRead;
-          figureRead = upto-more
-              (λ k. recordAt bytes (first + lines * 18 + (k - 1) * 18) ≡ found.Figure (figureOf bytes (first + lines * 18 + (k - 1) * 18)))
-              figures (so .figureRead) (rw here at top);
-          citesSome = upto-more (λ k. 1 ≤ figureOf bytes (first + lines * 18 + (k - 1) * 18) .cite) figures
-              (so .citesSome) (omega (arith, cites, p .some));
-          citesLine = upto-more (λ k. figureOf bytes (first + lines * 18 + (k - 1) * 18) .cite ≤ lines) figures
-              (so .citesLine) (omega (arith, cites, p .within));
-          citesLast = lasts;
-          citesGrow = λ j k one less h. ⊎-elim
-              (λ e.
-              let top : figureOf bytes (first + lines * 18 + (k - 1) * 18) .cite ≡ f .cite
-                      = ap (λ (i : ℕ). figureOf bytes (first + lines * 18 + (i - 1) * 18) .cite) e ∙ cites in
-              omega (arith, top, lasts j one (omega arith)))
-              (λ below. so .citesGrow j k one less (omega arith))
-              (eq-or-lt-of-le h)
+        fewLines = so .fewLines;
+        fewFigures = omega (arith, p .few);
+        lineRead = so .lineRead;
+        figureRead = upto-more
+            (λ k. recordAt bytes (first + lines * 18 + (k - 1) * 18) ≡ found.Figure (figureOf bytes (first + lines * 18 + (k - 1) * 18)))
+            figures (so .figureRead) (rw here at top);
+        citesSome = upto-more (λ k. 1 ≤ figureOf bytes (first + lines * 18 + (k - 1) * 18) .cite) figures
+            (so .citesSome) (omega (arith, cites, p .some));
+        citesLine = upto-more (λ k. figureOf bytes (first + lines * 18 + (k - 1) * 18) .cite ≤ lines) figures
+            (so .citesLine) (omega (arith, cites, p .within));
+        citesLast = lasts;
+        citesGrow = λ j k one less h. ⊎-elim
+            (λ e.
+            let top : figureOf bytes (first + lines * 18 + (k - 1) * 18) .cite ≡ f .cite
+            = ap (λ (i : ℕ). figureOf bytes (first + lines * 18 + (i - 1) * 18) .cite) e ∙ cites in
+            omega (arith, top, lasts j one (omega arith)))
+            (λ below. so .citesGrow j k one less (omega arith))
+            (eq-or-lt-of-le h);
       }
 
 -- The fields of a record that was read are in range.
@@ -145,19 +145,19 @@ sofar-end : (bytes : List ℕ) (g : Galley) (last : ℕ) → recordAt bytes 0 �
     → EndPlaced bytes (dueAt (g .first) (g .lines) (g .figures)) true (g .lines) → Sound bytes g
 sofar-end bytes g last spec so p =
     record {
-        someLines = p .after;
-        fewLines = so .fewLines;
-        fewFigures = so .fewFigures;
-        specRanged = spec-read-ranged bytes 0 spec;
-        specRead = spec;
-        lineRead = so .lineRead;
-        lineRanged = λ k one h. line-read-ranged bytes (lineOffset g k) (so .lineRead k one h);
-        figureRead = so .figureRead;
-        figureRanged = λ k one h. figure-read-ranged bytes (figureOffset g k) (so .figureRead k one h);
-        citesSome = so .citesSome;
-        citesLine = so .citesLine;
-        citesGrow = so .citesGrow;
-        ends = p .last
+      someLines = p .after;
+      fewLines = so .fewLines;
+      fewFigures = so .fewFigures;
+      specRanged = spec-read-ranged bytes 0 spec;
+      specRead = spec;
+      lineRead = so .lineRead;
+      lineRanged = λ k one h. line-read-ranged bytes (lineOffset g k) (so .lineRead k one h);
+      figureRead = so .figureRead;
+      figureRanged = λ k one h. figure-read-ranged bytes (figureOffset g k) (so .figureRead k one h);
+      citesSome = so .citesSome;
+      citesLine = so .citesLine;
+      citesGrow = so .citesGrow;
+      ends = p .last;
     }
 
 -- A run that gives a galley goes on after a line or a figure, or stops at the end.

@@ -71,13 +71,13 @@ module _ (bytes : List ℕ) (at : ℕ) (opened : Bool) (lines figures last : ℕ
       (λ _. omega arith) (λ grows.
       let w = or-false (eqb (f .cite) 0) (ltb lines (f .cite)) within in
       record {
-          read = e;
-          begun = fits .0;
-          after = fits .1;
-          few = fits .2;
-          some = omega (arith, eqb-false (f .cite) 0 (w .0));
-          within = ltb-false lines (f .cite) (w .1);
-          grows = ltb-false (f .cite) last grows
+        read = e;
+        begun = fits .0;
+        after = fits .1;
+        few = fits .2;
+        some = omega (arith, eqb-false (f .cite) 0 (w .0));
+        within = ltb-false lines (f .cite) (w .1);
+        grows = ltb-false (f .cite) last grows;
       }))
 
   ended-placed : recordAt bytes at ≡ found.End → at + 2 ≤ length bytes → (opened ≡ true) × (1 ≤ lines)
@@ -87,10 +87,10 @@ module _ (bytes : List ℕ) (at : ℕ) (opened : Bool) (lines figures last : ℕ
       pick-has (Placed bytes at opened lines figures last) (ltb 2 (length bytes - at)) _ _
       (λ _. omega arith) (λ none.
       record {
-          read = e;
-          begun = fits .0;
-          after = fits .1;
-          last = omega (arith, ltb-false 2 (length bytes - at) none)
+        read = e;
+        begun = fits .0;
+        after = fits .1;
+        last = omega (arith, ltb-false 2 (length bytes - at) none);
       })
 
   settled-placed : (r : Record) → recordAt bytes at ≡ r → Found bytes at r
