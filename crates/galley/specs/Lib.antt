@@ -7,5 +7,6 @@ pub mod Place
 pub mod Whole
 pub mod Block
 pub mod Sound
+pub mod Write
 pub mod CaseA
 pub mod Laws
