@@ -1,4 +1,5 @@
--- `galley_probe::galley_probe_line` meets its contract. Line k is there once its number is tested, since a galley that reads is sound.
+-- `galley_probe::galley_probe_line` meets its contract. Line k is there once its number is tested, since a galley
+-- that reads is sound.
 use mathlib.Core.Path.{sym, _∙_}
 use borrow.Author.Tests.{lt-ltb, le-ltb}
 use borrow.Author.Needs.{needs}
@@ -22,11 +23,20 @@ returns c = simp (sym (c .before .before .before .read-galley .ensures) ∙ c .b
 
 returns-2 : tie.Need-returns-2
 unfolding lineWords
-returns-2 c = simp (sym (c .before .before .before .before .before .read-galley .ensures) ∙ c .before .before .before .reading .given .1, lt-ltb _ _ (c .before .if1 .taken))
+returns-2 c =
+    simp (
+      sym (c .before .before .before .before .before .read-galley .ensures) ∙ c .before .before .before .reading .given .1,
+      lt-ltb _ _ (c .before .if1 .taken),
+    )
 
 returns-3 : tie.Need-returns-3
 unfolding lineWords
-returns-3 c = simp (sym (c .before .before .before .before .before .before .before .read-galley .ensures) ∙ c .before .before .before .before .before .reading .given .1, le-ltb _ _ (c .before .before .before .if1 .left), lt-ltb _ _ (c .before .if2 .taken))
+returns-3 c =
+    simp (
+      sym (c .before .before .before .before .before .before .before .read-galley .ensures) ∙ c .before .before .before .before .before .reading .given .1,
+      le-ltb _ _ (c .before .before .before .if1 .left),
+      lt-ltb _ _ (c .before .if2 .taken),
+    )
 
 line-height-requires : tie.Need-line-height-requires
 line-height-requires c κs =
@@ -62,7 +72,16 @@ line-legal-requires c κs =
 
 returns-4 : tie.Need-returns-4
 unfolding lineWords
-returns-4 c = simp (sym (c .before .before .before .before .before .before .before .before .before .before .before .read-galley .ensures) ∙ c .before .before .before .before .before .before .before .before .before .reading .given .1, le-ltb _ _ (c .before .before .before .before .before .before .before .if1 .left), le-ltb _ _ (c .before .before .before .before .before .if2 .left), ← c .before .before .before .before .line-height .ensures, ← c .before .before .before .line-least .ensures, ← c .before .before .line-most .ensures, ← c .before .line-legal .ensures)
+returns-4 c =
+    simp (
+      sym (c .before .before .before .before .before .before .before .before .before .before .before .read-galley .ensures) ∙ c .before .before .before .before .before .before .before .before .before .reading .given .1,
+      le-ltb _ _ (c .before .before .before .before .before .before .before .if1 .left),
+      le-ltb _ _ (c .before .before .before .before .before .if2 .left),
+      ← c .before .before .before .before .line-height .ensures,
+      ← c .before .before .before .line-least .ensures,
+      ← c .before .before .line-most .ensures,
+      ← c .before .line-legal .ensures,
+    )
 
 pub galley-probe-line-spec : {M : Type 1} → statement M
 galley-probe-line-spec =

@@ -1,4 +1,5 @@
--- `galley_probe::galley_probe_read` meets its contract. Each arm writes what the definition says of that reading; the counts fit, since a galley that reads is sound.
+-- `galley_probe::galley_probe_read` meets its contract. Each arm writes what the definition says of that reading; the
+-- counts fit, since a galley that reads is sound.
 use mathlib.Core.Path.{sym, _∙_}
 use native.Mathlib.Omega.{arith}
 use borrow.Author.Needs.{needs}
@@ -24,11 +25,15 @@ enum-known-reading-2 c = search needs
 
 returns : tie.Need-returns
 unfolding wordsOf
-returns c = simp (sym (c .before .before .before .before .before .before .before .read-galley .ensures) ∙ c .before .before .before .before .before .reading .given .1)
+returns c =
+    simp
+    (sym (c .before .before .before .before .before .before .before .read-galley .ensures) ∙ c .before .before .before .before .before .reading .given .1)
 
 returns-2 : tie.Need-returns-2
 unfolding wordsOf
-returns-2 c = simp (sym (c .before .before .before .before .read-galley .ensures) ∙ c .before .before .reading2 .given .1)
+returns-2 c =
+    simp
+    (sym (c .before .before .before .before .read-galley .ensures) ∙ c .before .before .reading2 .given .1)
 
 pub galley-probe-read-spec : {M : Type 1} → statement M
 galley-probe-read-spec =

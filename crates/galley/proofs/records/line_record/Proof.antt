@@ -1,4 +1,5 @@
--- `galley::records::line_record` meets its contract. Each return stands under the definition's answers: whether the fields are there, and whether they are in range.
+-- `galley::records::line_record` meets its contract. Each return stands under the definition's answers: whether the
+-- fields are there, and whether they are in range.
 use borrow.Author.Tests.{lt-ltb, le-ltb}
 use borrow.Author.Needs.{needs}
 use Rattle.galley.specs.Record.{whole, openedBy}
@@ -20,11 +21,25 @@ line-in-range-requires c κs = search needs
 
 returns-2 : tie.Need-returns-2
 unfolding whole openedBy
-returns-2 c = simp (← c .before .before .before .before .left-from .ensures, le-ltb _ _ (c .before .before .before .if1 .left), ← c .before .before .line-fields .ensures, ← c .before .line-in-range .ensures, c .if2 .taken)
+returns-2 c =
+    simp (
+      ← c .before .before .before .before .left-from .ensures,
+      le-ltb _ _ (c .before .before .before .if1 .left),
+      ← c .before .before .line-fields .ensures,
+      ← c .before .line-in-range .ensures,
+      c .if2 .taken,
+    )
 
 returns-3 : tie.Need-returns-3
 unfolding whole openedBy
-returns-3 c = simp (← c .before .before .before .before .left-from .ensures, le-ltb _ _ (c .before .before .before .if1 .left), ← c .before .before .line-fields .ensures, ← c .before .line-in-range .ensures, c .if2 .left)
+returns-3 c =
+    simp (
+      ← c .before .before .before .before .left-from .ensures,
+      le-ltb _ _ (c .before .before .before .if1 .left),
+      ← c .before .before .line-fields .ensures,
+      ← c .before .line-in-range .ensures,
+      c .if2 .left,
+    )
 
 pub line-record-spec : {M : Type 1} → statement M
 line-record-spec =

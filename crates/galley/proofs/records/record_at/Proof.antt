@@ -1,4 +1,5 @@
--- `galley::records::record_at` meets its contract. Where the mark is there, each arm is what the definition reads after that kind of mark.
+-- `galley::records::record_at` meets its contract. Where the mark is there, each arm is what the definition reads
+-- after that kind of mark.
 use borrow.Author.Tests.{lt-ltb, le-ltb}
 use borrow.Author.Needs.{needs}
 use Rattle.galley.specs.Record.{recordAt, openedBy}
@@ -44,23 +45,61 @@ enum-told-5 c = search needs
 
 returns-2 : tie.Need-returns-2
 unfolding recordAt
-returns-2 c = simp (← c .before .before .before .before .before .before .left-from .ensures, le-ltb _ _ (c .before .before .before .before .before .if1 .left), ← c .before .before .before .before .mark-at .ensures, ← c .before .before .before .kind-of .ensures, c .before .enum-told .given .1) (c .spec-record .ensures)
+returns-2 c =
+    simp (
+      ← c .before .before .before .before .before .before .left-from .ensures,
+      le-ltb _ _ (c .before .before .before .before .before .if1 .left),
+      ← c .before .before .before .before .mark-at .ensures,
+      ← c .before .before .before .kind-of .ensures,
+      c .before .enum-told .given .1,
+    )
+    (c .spec-record .ensures)
 
 returns-3 : tie.Need-returns-3
 unfolding recordAt
-returns-3 c = simp (← c .before .before .before .before .before .before .left-from .ensures, le-ltb _ _ (c .before .before .before .before .before .if1 .left), ← c .before .before .before .before .mark-at .ensures, ← c .before .before .before .kind-of .ensures, c .before .enum-told2 .given .1) (c .line-record .ensures)
+returns-3 c =
+    simp (
+      ← c .before .before .before .before .before .before .left-from .ensures,
+      le-ltb _ _ (c .before .before .before .before .before .if1 .left),
+      ← c .before .before .before .before .mark-at .ensures,
+      ← c .before .before .before .kind-of .ensures,
+      c .before .enum-told2 .given .1,
+    )
+    (c .line-record .ensures)
 
 returns-4 : tie.Need-returns-4
 unfolding recordAt
-returns-4 c = simp (← c .before .before .before .before .before .before .left-from .ensures, le-ltb _ _ (c .before .before .before .before .before .if1 .left), ← c .before .before .before .before .mark-at .ensures, ← c .before .before .before .kind-of .ensures, c .before .enum-told3 .given .1) (c .figure-record .ensures)
+returns-4 c =
+    simp (
+      ← c .before .before .before .before .before .before .left-from .ensures,
+      le-ltb _ _ (c .before .before .before .before .before .if1 .left),
+      ← c .before .before .before .before .mark-at .ensures,
+      ← c .before .before .before .kind-of .ensures,
+      c .before .enum-told3 .given .1,
+    )
+    (c .figure-record .ensures)
 
 returns-5 : tie.Need-returns-5
 unfolding recordAt openedBy
-returns-5 c = simp (← c .before .before .before .before .before .left-from .ensures, le-ltb _ _ (c .before .before .before .before .if1 .left), ← c .before .before .before .mark-at .ensures, ← c .before .before .kind-of .ensures, c .enum-told4 .given .1)
+returns-5 c =
+    simp (
+      ← c .before .before .before .before .before .left-from .ensures,
+      le-ltb _ _ (c .before .before .before .before .if1 .left),
+      ← c .before .before .before .mark-at .ensures,
+      ← c .before .before .kind-of .ensures,
+      c .enum-told4 .given .1,
+    )
 
 returns-6 : tie.Need-returns-6
 unfolding recordAt openedBy
-returns-6 c = simp (← c .before .before .before .before .before .left-from .ensures, le-ltb _ _ (c .before .before .before .before .if1 .left), ← c .before .before .before .mark-at .ensures, ← c .before .before .kind-of .ensures, c .enum-told5 .given .1)
+returns-6 c =
+    simp (
+      ← c .before .before .before .before .before .left-from .ensures,
+      le-ltb _ _ (c .before .before .before .before .if1 .left),
+      ← c .before .before .before .mark-at .ensures,
+      ← c .before .before .kind-of .ensures,
+      c .enum-told5 .given .1,
+    )
 
 pub record-at-spec : {M : Type 1} → statement M
 record-at-spec =

@@ -1,5 +1,6 @@
--- `galley::whole::read_blocks` meets its contract. The invariant: the run from here on gives what the whole run gives, with at most 4,000 lines and 200 figures read. One law for
--- each way a turn ends carries it on. The measure is how many records may still come.
+-- `galley::whole::read_blocks` meets its contract. The invariant: the run from here on gives what the whole run
+-- gives, with at most 4,000 lines and 200 figures read. One law for each way a turn ends carries it on. The measure
+-- is how many records may still come.
 use Prim.Native.Nat.{_+_, _-_, _≤_}
 use mathlib.Core.Bool.{true}
 use mathlib.Core.Path.{_≡_, sym, _∙_}
@@ -63,7 +64,10 @@ loop-again c =
     let e : recordIn (now (a .s)) at true (l .lines) (l .figures) (l .last) ≡ found.Line _
     = sym (c .before .before .before .record-in .ensures) ∙ c .before .found .given .1 in
     let p = line-placed (now (a .s)) at true (l .lines) (l .figures) (l .last) e in
-    (omega (arith, p .few), l .inv .1, sym (blocks-line (now (a .s)) (a .spec) (a .first) (l .lines) (l .figures) (l .last) (omega (arith, l .inv .0, l .inv .1)) _ e) ∙ l .inv .2)
+    let room : l .lines + l .figures ≤ 4200 = omega (arith, l .inv .0, l .inv .1) in
+    let run
+    = blocks-line (now (a .s)) (a .spec) (a .first) (l .lines) (l .figures) (l .last) room _ e in
+    (omega (arith, p .few), l .inv .1, sym run ∙ l .inv .2)
 
 enum-known-found-2 : tie.Need-enum-known-found-2 Inv-loop μ-loop
 enum-known-found-2 c = search needs
@@ -89,7 +93,10 @@ loop-again-2 c =
     let e : recordIn (now (a .s)) at true (l .lines) (l .figures) (l .last) ≡ found.Figure _
     = sym (c .before .before .before .record-in .ensures) ∙ c .before .found2 .given .1 in
     let p = figure-placed (now (a .s)) at true (l .lines) (l .figures) (l .last) e in
-    (l .inv .0, omega (arith, p .few), sym (blocks-figure (now (a .s)) (a .spec) (a .first) (l .lines) (l .figures) (l .last) (omega (arith, l .inv .0, l .inv .1)) _ e) ∙ l .inv .2)
+    let room : l .lines + l .figures ≤ 4200 = omega (arith, l .inv .0, l .inv .1) in
+    let run
+    = blocks-figure (now (a .s)) (a .spec) (a .first) (l .lines) (l .figures) (l .last) room _ e in
+    (l .inv .0, omega (arith, p .few), sym run ∙ l .inv .2)
 
 enum-told : tie.Need-enum-told Inv-loop μ-loop
 enum-told c = search needs
@@ -101,7 +108,10 @@ returns c =
     let at = dueAt (a .first) (l .lines) (l .figures) in
     let e : recordIn (now (a .s)) at true (l .lines) (l .figures) (l .last) ≡ found.End
     = sym (c .before .before .record-in .ensures) ∙ c .enum-told .given .1 in
-    sym (blocks-end (now (a .s)) (a .spec) (a .first) (l .lines) (l .figures) (l .last) (omega (arith, l .inv .0, l .inv .1)) e) ∙ l .inv .2
+    let room : l .lines + l .figures ≤ 4200 = omega (arith, l .inv .0, l .inv .1) in
+    let run
+    = blocks-end (now (a .s)) (a .spec) (a .first) (l .lines) (l .figures) (l .last) room e in
+    sym run ∙ l .inv .2
 
 enum-known-found-3 : tie.Need-enum-known-found-3 Inv-loop μ-loop
 enum-known-found-3 c = search needs
@@ -116,7 +126,10 @@ returns-2 c =
     let at = dueAt (a .first) (l .lines) (l .figures) in
     let e : recordIn (now (a .s)) at true (l .lines) (l .figures) (l .last) ≡ found.Spec _
     = sym (c .before .before .before .record-in .ensures) ∙ c .before .found3 .given .1 in
-    sym (blocks-spec (now (a .s)) (a .spec) (a .first) (l .lines) (l .figures) (l .last) (omega (arith, l .inv .0, l .inv .1)) _ e) ∙ l .inv .2
+    let room : l .lines + l .figures ≤ 4200 = omega (arith, l .inv .0, l .inv .1) in
+    let run
+    = blocks-spec (now (a .s)) (a .spec) (a .first) (l .lines) (l .figures) (l .last) room _ e in
+    sym run ∙ l .inv .2
 
 enum-known-found-4 : tie.Need-enum-known-found-4 Inv-loop μ-loop
 enum-known-found-4 c = search needs
@@ -138,7 +151,10 @@ returns-3 c =
     let at = dueAt (a .first) (l .lines) (l .figures) in
     let e : recordIn (now (a .s)) at true (l .lines) (l .figures) (l .last) ≡ found.Refused _ _
     = sym (c .before .before .before .record-in .ensures) ∙ c .before .found4 .given .1 in
-    sym (blocks-refused (now (a .s)) (a .spec) (a .first) (l .lines) (l .figures) (l .last) (omega (arith, l .inv .0, l .inv .1)) _ _ e) ∙ l .inv .2
+    let room : l .lines + l .figures ≤ 4200 = omega (arith, l .inv .0, l .inv .1) in
+    let run
+    = blocks-refused (now (a .s)) (a .spec) (a .first) (l .lines) (l .figures) (l .last) room _ _ e in
+    sym run ∙ l .inv .2
 
 pub read-blocks-spec : {M : Type 1} → statement M
 read-blocks-spec =

@@ -1,4 +1,5 @@
--- `galley::whole::read_galley` meets its contract. The first record is a specification, after which the loop gives the rest, or a refusal at most two bytes on.
+-- `galley::whole::read_galley` meets its contract. The first record is a specification, after which the loop gives
+-- the rest, or a refusal at most two bytes on.
 use mathlib.Core.Bool.{false}
 use mathlib.Core.Path.{sym, _∙_}
 use native.Mathlib.Omega.{arith}
@@ -39,7 +40,12 @@ cast-t9 c =
 
 returns : tie.Need-returns
 unfolding galleyOf opened
-returns c = simp (← c .before .before .before .before .record-in .ensures, c .before .before .found .given .1) (c .read-blocks .ensures)
+returns c =
+    simp (
+      ← c .before .before .before .before .record-in .ensures,
+      c .before .before .found .given .1,
+    )
+    (c .read-blocks .ensures)
 
 returns-2 : tie.Need-returns-2
 unfolding galleyOf opened

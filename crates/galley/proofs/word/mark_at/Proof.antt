@@ -1,4 +1,5 @@
--- `galley::word::mark_at` meets its contract. A mark is its two bytes: each is below 256, so the sum fits, and it is the definition's sum.
+-- `galley::word::mark_at` meets its contract. A mark is its two bytes: each is below 256, so the sum fits, and it is
+-- the definition's sum.
 use borrow.Author.Needs.{needs}
 use Rattle.galley.specs.Word.{markAt}
 use Rattle.galley.proofs.word.mark_at.Statement.{statement}

@@ -1,4 +1,5 @@
--- `galley::word::word_at` meets its contract. A field is its four bytes: each is below 256, so the sum fits, and it is the definition's sum.
+-- `galley::word::word_at` meets its contract. A field is its four bytes: each is below 256, so the sum fits, and it
+-- is the definition's sum.
 use borrow.Author.Needs.{needs}
 use Rattle.galley.specs.Word.{wordAt}
 use Rattle.galley.proofs.word.word_at.Statement.{statement}
