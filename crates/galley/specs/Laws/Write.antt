@@ -1,26 +1,22 @@
 -- What was written is read back: words, records, and where they stand.
-use Prim.Native.Nat.{ℕ, zero, suc, _+_, _-_, _*_, _/_, _%_, _≤_, _<_}
+use Prim.Native.Nat.{ℕ, _+_, _-_, _*_, _/_, _%_, _≤_, _<_}
 use native.Mathlib.Omega.{arith}
-use native.Mathlib.Nat.{add-assoc, add-zero}
-use mathlib.Core.Bool.{Bool, true, false}
-use mathlib.Core.List.{List, [], _∷_, _++_}
-use mathlib.Core.Path.{_≡_, refl, sym, ap, _∙_}
+use native.Mathlib.Nat.{add-assoc}
+use mathlib.Core.List.{List, _∷_, _++_}
+use mathlib.Core.Path.{_≡_, ap, _∙_}
 use lib.ListN.{length, getD, length-append}
-use lib.Seq.{getD-append-add, getD-append-seam}
-use lib.Dec.{ltb}
+use lib.Seq.{getD-append-add}
 use borrow.Author.Tests.{le-ltb}
-use Rattle.galley.specs.Pick.{pick}
-use Rattle.galley.specs.Word.{byteAt, wordAt, markAt}
+use Rattle.galley.specs.Word.{wordAt, markAt}
 use Rattle.galley.specs.Mark.{kindOf}
 use Rattle.galley.specs.Range.{SpecRanged, LineRanged, FigureRanged}
 use Rattle.galley.specs.Record.{specOf, lineOf, figureOf, whole, openedBy, recordAt}
-use Rattle.galley.specs.Write.{word, specBytes, lineBytes, figureBytes}
+use Rattle.galley.specs.Write.{specBytes, lineBytes, figureBytes}
 use Rattle.galley.specs.Laws.Range.{ranged-spec, ranged-line, ranged-figure}
 use Rattle.galley.specs.declared.Spec.{Spec}
 use Rattle.galley.specs.declared.Line.{Line}
 use Rattle.galley.specs.declared.Figure.{Figure}
 use Rattle.galley.specs.declared.Mark.the-variants as mark
-use Rattle.galley.specs.declared.Record.{Record}
 use Rattle.galley.specs.declared.Record.the-variants as found
 
 -- The four bytes of a number below 2 ^ 32 make it again.
