@@ -10,9 +10,7 @@ use Rattle.galley.specs.Place.{misplaced, tooEarly, tooMany, unfit}
 use Rattle.galley.specs.Record.{specOf, lineOf, figureOf, whole, openedBy, recordAt}
 use Rattle.galley.specs.Whole.{cited, ended, settled, recordIn, next, blocks, opened}
 use Rattle.galley.specs.Block.{lineAt, figureAt}
-use Rattle.galley.specs.declared.Spec.{Spec}
 use Rattle.galley.specs.declared.Galley.{Galley}
-use Rattle.galley.specs.declared.Reading.{Reading}
 use Rattle.galley.specs.declared.Reading.the-variants as reads
 
 abbrev specBytes : List ℕ

@@ -5,3 +5,5 @@ pub mod Place
 pub mod Whole
 pub mod Blocks
 pub mod Sound
+pub mod Write
+pub mod RoundTrip

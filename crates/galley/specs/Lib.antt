@@ -1,3 +1,4 @@
+-- A galley's bytes, in the order of reading: definitions first, then the laws about them.
 pub mod Pick
 pub mod Word
 pub mod Range
@@ -7,6 +8,7 @@ pub mod Place
 pub mod Whole
 pub mod Block
 pub mod Sound
-pub mod Laws
+pub mod Write
 pub mod Model
+pub mod Laws
 mod CaseA

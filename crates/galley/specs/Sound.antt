@@ -7,7 +7,6 @@ use Rattle.galley.specs.Record.{recordAt}
 use Rattle.galley.specs.Block.{lineOffset, figureOffset, lineAt, figureAt}
 use Rattle.galley.specs.Range.{SpecRanged, LineRanged, FigureRanged}
 use Rattle.galley.specs.declared.Galley.{Galley}
-use Rattle.galley.specs.declared.Record.{Record}
 use Rattle.galley.specs.declared.Record.the-variants as found
 
 -- The number of the line that figure k cites.

@@ -1,23 +1,23 @@
 // The fields of line k and of figure k of a galley that was read, k from 1, in constant time.
 ghost use mathlib.Core.Path.{_≡_};
-ghost use Prim.Native.Nat.{_+_, _*_, _^_, _≤_, _<_};
-ghost use Rattle.galley.specs.Block.{HasLine, HasFigure, lineOffset, figureOffset, lineAt, figureAt};
+ghost use Prim.Native.Nat.{_+_, _-_, _*_, _^_, _≤_, _<_};
+ghost use Rattle.galley.specs.Block.{HasLine, HasFigure, lineAt, figureAt};
 use crate::Galley;
 
 // The offset of line k.
-fn line_offset(g: Galley, k: usize) -> usize
-    requires { ⌜ (1 ≤ k) × (g .first + k * 18 < 2 ^ 64) ⌝ }
-    ensures { λ r. ⌜ r ≡ lineOffset g k ⌝ }
+fn line_offset(first: usize, k: usize) -> usize
+    requires { ⌜ (1 ≤ k) × (first + k * 18 < 2 ^ 64) ⌝ }
+    ensures { λ r. ⌜ r ≡ first + (k - 1) * 18 ⌝ }
 {
-    g.first + (k - 1) * 18
+    first + (k - 1) * 18
 }
 
 // The offset of figure k: figures follow all lines.
-fn figure_offset(g: Galley, k: usize) -> usize
-    requires { ⌜ (1 ≤ k) × (g .first + g .lines * 18 + k * 18 < 2 ^ 64) ⌝ }
-    ensures { λ r. ⌜ r ≡ figureOffset g k ⌝ }
+fn figure_offset(first: usize, lines: usize, k: usize) -> usize
+    requires { ⌜ (1 ≤ k) × (first + lines * 18 + k * 18 < 2 ^ 64) ⌝ }
+    ensures { λ r. ⌜ r ≡ first + lines * 18 + (k - 1) * 18 ⌝ }
 {
-    g.first + g.lines * 18 + (k - 1) * 18
+    first + lines * 18 + (k - 1) * 18
 }
 
 // The height of line k.
@@ -25,7 +25,7 @@ pub fn line_height(s: &[u8], g: Galley, k: usize) -> u32
     requires { ⌜ HasLine (now s) g k ⌝ }
     ensures { λ r. ⌜ r ≡ lineAt (now (s .entry)) g k .height ⌝ }
 {
-    crate::word::word_at(s, line_offset(g, k) + 2)
+    crate::word::word_at(s, line_offset(g.first, k) + 2)
 }
 
 // The least space after line k.
@@ -33,7 +33,7 @@ pub fn line_least(s: &[u8], g: Galley, k: usize) -> u32
     requires { ⌜ HasLine (now s) g k ⌝ }
     ensures { λ r. ⌜ r ≡ lineAt (now (s .entry)) g k .least ⌝ }
 {
-    crate::word::word_at(s, line_offset(g, k) + 6)
+    crate::word::word_at(s, line_offset(g.first, k) + 6)
 }
 
 // The greatest space after line k.
@@ -41,7 +41,7 @@ pub fn line_most(s: &[u8], g: Galley, k: usize) -> u32
     requires { ⌜ HasLine (now s) g k ⌝ }
     ensures { λ r. ⌜ r ≡ lineAt (now (s .entry)) g k .most ⌝ }
 {
-    crate::word::word_at(s, line_offset(g, k) + 10)
+    crate::word::word_at(s, line_offset(g.first, k) + 10)
 }
 
 // 1 where a page may end after line k, else 0.
@@ -49,7 +49,7 @@ pub fn line_legal(s: &[u8], g: Galley, k: usize) -> u32
     requires { ⌜ HasLine (now s) g k ⌝ }
     ensures { λ r. ⌜ r ≡ lineAt (now (s .entry)) g k .legal ⌝ }
 {
-    crate::word::word_at(s, line_offset(g, k) + 14)
+    crate::word::word_at(s, line_offset(g.first, k) + 14)
 }
 
 // The height of figure k.
@@ -57,7 +57,7 @@ pub fn figure_height(s: &[u8], g: Galley, k: usize) -> u32
     requires { ⌜ HasFigure (now s) g k ⌝ }
     ensures { λ r. ⌜ r ≡ figureAt (now (s .entry)) g k .height ⌝ }
 {
-    crate::word::word_at(s, figure_offset(g, k) + 2)
+    crate::word::word_at(s, figure_offset(g.first, g.lines, k) + 2)
 }
 
 // The least space after figure k.
@@ -65,7 +65,7 @@ pub fn figure_least(s: &[u8], g: Galley, k: usize) -> u32
     requires { ⌜ HasFigure (now s) g k ⌝ }
     ensures { λ r. ⌜ r ≡ figureAt (now (s .entry)) g k .least ⌝ }
 {
-    crate::word::word_at(s, figure_offset(g, k) + 6)
+    crate::word::word_at(s, figure_offset(g.first, g.lines, k) + 6)
 }
 
 // The greatest space after figure k.
@@ -73,7 +73,7 @@ pub fn figure_most(s: &[u8], g: Galley, k: usize) -> u32
     requires { ⌜ HasFigure (now s) g k ⌝ }
     ensures { λ r. ⌜ r ≡ figureAt (now (s .entry)) g k .most ⌝ }
 {
-    crate::word::word_at(s, figure_offset(g, k) + 10)
+    crate::word::word_at(s, figure_offset(g.first, g.lines, k) + 10)
 }
 
 // The number of the line that cites figure k.
@@ -81,5 +81,5 @@ pub fn figure_cite(s: &[u8], g: Galley, k: usize) -> u32
     requires { ⌜ HasFigure (now s) g k ⌝ }
     ensures { λ r. ⌜ r ≡ figureAt (now (s .entry)) g k .cite ⌝ }
 {
-    crate::word::word_at(s, figure_offset(g, k) + 14)
+    crate::word::word_at(s, figure_offset(g.first, g.lines, k) + 14)
 }

@@ -1,14 +1,13 @@
 -- What is known of a mark that fits its place.
 use Prim.Native.Nat.{ℕ, _≤_, _<_}
 use native.Mathlib.Omega.{arith}
-use mathlib.Core.Bool.{Bool, true, false, not, _||_, true≢false}
+use mathlib.Core.Bool.{Bool, true, false, true≢false}
 use mathlib.Core.Path.{_≡_, refl}
-use lib.Dec.{ltb, leb, eqb}
 use borrow.Author.Tests.{ltb-false, leb-false, eqb-false}
 use Rattle.galley.specs.Pick.{pick}
 use Rattle.galley.specs.Place.{misplaced, tooEarly, tooMany, unfit}
 use Rattle.galley.specs.declared.Mark.{Mark}
-use Rattle.galley.specs.declared.Mark.the-variants.{Spec, Line, Figure, End, Unknown}
+use Rattle.galley.specs.declared.Mark.the-variants.{Spec, Line, Figure, End}
 
 -- None of the three tests turns the mark away.
 pub record Fits (mark : Mark) (opened : Bool) (lines figures : ℕ) : Type 0 where

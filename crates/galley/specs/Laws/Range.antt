@@ -1,5 +1,4 @@
 -- The ranges as inequalities are what the tests decide.
-use Prim.Native.Nat.{ℕ, _≤_}
 use mathlib.Core.Bool.{Bool, true, false, _&&_, true≢false}
 use mathlib.Core.Path.{_≡_, refl, sym}
 use lib.Dec.{leb}

@@ -1,20 +1,19 @@
 -- A galley that reads without refusal is sound. Along the run what was read so far is: each block stands where its number
 -- says, and citations grow up to the last.
-use Prim.Native.Nat.{ℕ, zero, suc, _+_, _-_, _*_, _≤_, _<_}
+use Prim.Native.Nat.{ℕ, zero, suc, _+_, _-_, _*_, _≤_}
 use native.Mathlib.Omega.{arith}
 use native.Mathlib.Nat.{eq-or-lt-of-le}
-use mathlib.Core.Bool.{Bool, true, false}
+use mathlib.Core.Bool.{true, false}
 use mathlib.Core.List.{List}
 use mathlib.Core.Logic.{⊎-elim}
 use mathlib.Core.Path.{_≡_, refl, sym, ap, subst, _∙_}
-use lib.ListN.{length}
-use Rattle.galley.specs.Record.{specOf, lineOf, figureOf, recordAt}
+use Rattle.galley.specs.Record.{lineOf, figureOf, recordAt}
 use Rattle.galley.specs.Whole.{recordIn, dueAt, next, blocks, opened, galleyOf}
 use Rattle.galley.specs.Range.{SpecRanged, LineRanged, FigureRanged}
 use Rattle.galley.specs.Block.{lineOffset, figureOffset, lineAt, figureAt, Within}
 use Rattle.galley.specs.Sound.{citation, Sound}
 use Rattle.galley.specs.Laws.Range.{spec-ranged, line-ranged, figure-ranged}
-use Rattle.galley.specs.Laws.Record.{Stands, Found, found-at}
+use Rattle.galley.specs.Laws.Record.{Found, found-at}
 use Rattle.galley.specs.Laws.Whole.{LinePlaced, FigurePlaced, EndPlaced, spec-placed, line-placed, figure-placed, end-placed}
 use Rattle.galley.specs.declared.Spec.{Spec}
 use Rattle.galley.specs.declared.Line.{Line}

@@ -3,11 +3,10 @@ use Prim.Native.Nat.{ℕ, _+_, _-_, _≤_, _<_}
 use native.Mathlib.Omega.{arith}
 use mathlib.Core.Bool.{Bool, true, false, _||_}
 use mathlib.Core.List.{List}
-use mathlib.Core.Path.{_≡_, refl, subst}
+use mathlib.Core.Path.{_≡_, refl}
 use lib.ListN.{length}
 use lib.Dec.{ltb, eqb}
-use borrow.Author.Tests.{ltb-true, ltb-false, eqb-false}
-use Rattle.galley.specs.Pick.{pick}
+use borrow.Author.Tests.{ltb-false, eqb-false}
 use Rattle.galley.specs.Word.{markAt}
 use Rattle.galley.specs.Mark.{kindOf}
 use Rattle.galley.specs.Place.{unfit}
@@ -19,7 +18,6 @@ use Rattle.galley.specs.Laws.Record.{Found, found-at}
 use Rattle.galley.specs.declared.Spec.{Spec}
 use Rattle.galley.specs.declared.Line.{Line}
 use Rattle.galley.specs.declared.Figure.{Figure}
-use Rattle.galley.specs.declared.Mark.{Mark}
 use Rattle.galley.specs.declared.Record.{Record}
 use Rattle.galley.specs.declared.Record.the-variants as found
 

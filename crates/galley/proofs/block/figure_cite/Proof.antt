@@ -1,26 +1,19 @@
+-- `galley::block::figure_cite` meets its contract. The word read is that field of figure k.
+use borrow.Author.Needs.{needs}
 use Rattle.galley.specs.Record.{figureOf}
 use Rattle.galley.specs.Block.{figureAt}
-use borrow.Author.Needs.{needs}
 use Rattle.galley.proofs.block.figure_cite.Statement.{statement}
 use Rattle.galley.proofs.block.figure_cite.Tie as tie
-use Rattle.galley.proofs.block.figure_cite.Reads as reads
-use Rattle.galley.proofs.block.figure_cite.Lts as lts
-use Rattle.galley.proofs.block.figure_offset.Reads as figure-offset-reads
-use Rattle.galley.proofs.word.word_at.Reads as word-at-reads
 
--- src/block.rt:85:29
 figure-offset-requires : tie.Need-figure-offset-requires
 figure-offset-requires c κs = search needs
 
--- src/block.rt:85:29
 add-word-at : tie.Need-add-word-at
 add-word-at c = search needs
 
--- src/block.rt:85:5
 word-at-requires : tie.Need-word-at-requires
 word-at-requires c κs = search needs
 
--- src/block.rt:81:1
 returns : tie.Need-returns
 unfolding figureAt figureOf
 returns c = cc

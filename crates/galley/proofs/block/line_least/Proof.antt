@@ -1,26 +1,19 @@
+-- `galley::block::line_least` meets its contract. The word read is that field of line k.
+use borrow.Author.Needs.{needs}
 use Rattle.galley.specs.Record.{lineOf}
 use Rattle.galley.specs.Block.{lineAt}
-use borrow.Author.Needs.{needs}
 use Rattle.galley.proofs.block.line_least.Statement.{statement}
 use Rattle.galley.proofs.block.line_least.Tie as tie
-use Rattle.galley.proofs.block.line_least.Reads as reads
-use Rattle.galley.proofs.block.line_least.Lts as lts
-use Rattle.galley.proofs.block.line_offset.Reads as line-offset-reads
-use Rattle.galley.proofs.word.word_at.Reads as word-at-reads
 
--- src/block.rt:37:29
 line-offset-requires : tie.Need-line-offset-requires
 line-offset-requires c κs = search needs
 
--- src/block.rt:37:29
 add-word-at : tie.Need-add-word-at
 add-word-at c = search needs
 
--- src/block.rt:37:5
 word-at-requires : tie.Need-word-at-requires
 word-at-requires c κs = search needs
 
--- src/block.rt:33:1
 returns : tie.Need-returns
 unfolding lineAt lineOf
 returns c = cc

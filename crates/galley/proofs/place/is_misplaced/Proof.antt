@@ -1,51 +1,40 @@
-use Rattle.galley.specs.Place.{misplaced}
+-- `galley::place::is_misplaced` meets its contract. Each arm is the definition's clause for that kind of mark.
 use borrow.Author.Needs.{needs}
+use Rattle.galley.specs.Place.{misplaced}
 use Rattle.galley.proofs.place.is_misplaced.Statement.{statement}
 use Rattle.galley.proofs.place.is_misplaced.Tie as tie
-use Rattle.galley.proofs.place.is_misplaced.Reads as reads
-use Rattle.galley.proofs.place.is_misplaced.Lts as lts
 
--- src/place.rt:32:23
 enum-told : tie.Need-enum-told
 enum-told c = search needs
 
--- src/place.rt:33:23
 enum-told-2 : tie.Need-enum-told-2
 enum-told-2 c = search needs
 
--- src/place.rt:34:25
 enum-told-3 : tie.Need-enum-told-3
 enum-told-3 c = search needs
 
--- src/place.rt:35:22
 enum-told-4 : tie.Need-enum-told-4
 enum-told-4 c = search needs
 
--- src/place.rt:36:26
 enum-told-5 : tie.Need-enum-told-5
 enum-told-5 c = search needs
 
--- src/place.rt:28:1
 returns : tie.Need-returns
 unfolding misplaced
 returns c = simp (c .enum-told .given .1)
 
--- src/place.rt:28:1
 returns-2 : tie.Need-returns-2
 unfolding misplaced
 returns-2 c = simp (c .enum-told2 .given .1)
 
--- src/place.rt:28:1
 returns-3 : tie.Need-returns-3
 unfolding misplaced
 returns-3 c = simp (c .enum-told3 .given .1)
 
--- src/place.rt:28:1
 returns-4 : tie.Need-returns-4
 unfolding misplaced
 returns-4 c = simp (c .enum-told4 .given .1)
 
--- src/place.rt:28:1
 returns-5 : tie.Need-returns-5
 unfolding misplaced
 returns-5 c = simp (c .enum-told5 .given .1)

@@ -1,51 +1,40 @@
-use Rattle.galley.specs.Place.{tooEarly}
+-- `galley::place::is_too_early` meets its contract. Each arm is the definition's clause for that kind of mark.
 use borrow.Author.Needs.{needs}
+use Rattle.galley.specs.Place.{tooEarly}
 use Rattle.galley.proofs.place.is_too_early.Statement.{statement}
 use Rattle.galley.proofs.place.is_too_early.Tie as tie
-use Rattle.galley.proofs.place.is_too_early.Reads as reads
-use Rattle.galley.proofs.place.is_too_early.Lts as lts
 
--- src/place.rt:45:23
 enum-told : tie.Need-enum-told
 enum-told c = search needs
 
--- src/place.rt:46:23
 enum-told-2 : tie.Need-enum-told-2
 enum-told-2 c = search needs
 
--- src/place.rt:47:25
 enum-told-3 : tie.Need-enum-told-3
 enum-told-3 c = search needs
 
--- src/place.rt:48:22
 enum-told-4 : tie.Need-enum-told-4
 enum-told-4 c = search needs
 
--- src/place.rt:49:26
 enum-told-5 : tie.Need-enum-told-5
 enum-told-5 c = search needs
 
--- src/place.rt:41:1
 returns : tie.Need-returns
 unfolding tooEarly
 returns c = simp (c .enum-told .given .1)
 
--- src/place.rt:41:1
 returns-2 : tie.Need-returns-2
 unfolding tooEarly
 returns-2 c = simp (c .enum-told2 .given .1)
 
--- src/place.rt:41:1
 returns-3 : tie.Need-returns-3
 unfolding tooEarly
 returns-3 c = simp (c .enum-told3 .given .1)
 
--- src/place.rt:41:1
 returns-4 : tie.Need-returns-4
 unfolding tooEarly
 returns-4 c = simp (c .enum-told4 .given .1)
 
--- src/place.rt:41:1
 returns-5 : tie.Need-returns-5
 unfolding tooEarly
 returns-5 c = simp (c .enum-told5 .given .1)

@@ -1,35 +1,45 @@
+-- `galley::place::kind_of` meets its contract. At each return the tests before it say which mark the two bytes are.
 use borrow.Author.Tests.{eq-eqb, ne-eqb}
 use Rattle.galley.specs.Mark.{kindOf}
-use borrow.Author.Needs.{needs}
 use Rattle.galley.proofs.place.kind_of.Statement.{statement}
 use Rattle.galley.proofs.place.kind_of.Tie as tie
-use Rattle.galley.proofs.place.kind_of.Reads as reads
-use Rattle.galley.proofs.place.kind_of.Lts as lts
 
--- src/place.rt:13:9
 returns : tie.Need-returns
 unfolding kindOf
 returns c = simp (eq-eqb _ _ (c .if1 .taken))
 
--- src/place.rt:16:9
 returns-2 : tie.Need-returns-2
 unfolding kindOf
 returns-2 c = simp (ne-eqb _ _ (c .before .if1 .left), eq-eqb _ _ (c .if2 .taken))
 
--- src/place.rt:19:9
 returns-3 : tie.Need-returns-3
 unfolding kindOf
-returns-3 c = simp (ne-eqb _ _ (c .before .before .if1 .left), ne-eqb _ _ (c .before .if2 .left), eq-eqb _ _ (c .if3 .taken))
+returns-3 c =
+    simp (
+      ne-eqb _ _ (c .before .before .if1 .left),
+      ne-eqb _ _ (c .before .if2 .left),
+      eq-eqb _ _ (c .if3 .taken),
+    )
 
--- src/place.rt:22:9
 returns-4 : tie.Need-returns-4
 unfolding kindOf
-returns-4 c = simp (ne-eqb _ _ (c .before .before .before .if1 .left), ne-eqb _ _ (c .before .before .if2 .left), ne-eqb _ _ (c .before .if3 .left), eq-eqb _ _ (c .if4 .taken))
+returns-4 c =
+    simp (
+      ne-eqb _ _ (c .before .before .before .if1 .left),
+      ne-eqb _ _ (c .before .before .if2 .left),
+      ne-eqb _ _ (c .before .if3 .left),
+      eq-eqb _ _ (c .if4 .taken),
+    )
 
--- src/place.rt:9:1
 returns-5 : tie.Need-returns-5
 unfolding kindOf
-returns-5 c = simp (ne-eqb _ _ (c .before .before .before .if1 .left), ne-eqb _ _ (c .before .before .if2 .left), ne-eqb _ _ (c .before .if3 .left), ne-eqb _ _ (c .if4 .left))
+returns-5 c =
+    simp (
+      ne-eqb _ _ (c .before .before .before .if1 .left),
+      ne-eqb _ _ (c .before .before .if2 .left),
+      ne-eqb _ _ (c .before .if3 .left),
+      ne-eqb _ _ (c .if4 .left),
+    )
 
 pub kind-of-spec : {M : Type 1} → statement M
 kind-of-spec = tie.close (tie.spec returns returns-2 returns-3 returns-4 returns-5)

@@ -1,44 +1,33 @@
-use Rattle.galley.specs.Record.{figureOf}
+-- `galley::records::figure_fields` meets its contract. Each field is the word that the definition reads.
 use borrow.Author.Needs.{needs}
+use Rattle.galley.specs.Record.{figureOf}
 use Rattle.galley.proofs.records.figure_fields.Statement.{statement}
 use Rattle.galley.proofs.records.figure_fields.Tie as tie
-use Rattle.galley.proofs.records.figure_fields.Reads as reads
-use Rattle.galley.proofs.records.figure_fields.Lts as lts
-use Rattle.galley.proofs.word.word_at.Reads as word-at-reads
 
--- src/records.rt:49:41
 add-word-at : tie.Need-add-word-at
 add-word-at c = search needs
 
--- src/records.rt:49:17
 word-at-requires : tie.Need-word-at-requires
 word-at-requires c κs = search needs
 
--- src/records.rt:50:40
 add-word-at-2 : tie.Need-add-word-at-2
 add-word-at-2 c = search needs
 
--- src/records.rt:50:16
 word-at-requires-2 : tie.Need-word-at-requires-2
 word-at-requires-2 c κs = search needs
 
--- src/records.rt:51:39
 add-word-at-3 : tie.Need-add-word-at-3
 add-word-at-3 c = search needs
 
--- src/records.rt:51:15
 word-at-requires-3 : tie.Need-word-at-requires-3
 word-at-requires-3 c κs = search needs
 
--- src/records.rt:52:39
 add-word-at-4 : tie.Need-add-word-at-4
 add-word-at-4 c = search needs
 
--- src/records.rt:52:15
 word-at-requires-4 : tie.Need-word-at-requires-4
 word-at-requires-4 c κs = search needs
 
--- src/records.rt:44:1
 returns : tie.Need-returns
 unfolding figureOf
 returns c = cc

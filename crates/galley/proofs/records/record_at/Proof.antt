@@ -1,90 +1,105 @@
-use Rattle.galley.specs.Record.{recordAt, openedBy}
+-- `galley::records::record_at` meets its contract. Where the mark is there, each arm is what the definition reads
+-- after that kind of mark.
 use borrow.Author.Tests.{lt-ltb, le-ltb}
 use borrow.Author.Needs.{needs}
+use Rattle.galley.specs.Record.{recordAt, openedBy}
 use Rattle.galley.proofs.records.record_at.Statement.{statement}
 use Rattle.galley.proofs.records.record_at.Tie as tie
-use Rattle.galley.proofs.records.record_at.Reads as reads
-use Rattle.galley.proofs.records.record_at.Lts as lts
-use Rattle.galley.proofs.place.kind_of.Reads as kind-of-reads
-use Rattle.galley.proofs.records.figure_record.Reads as figure-record-reads
-use Rattle.galley.proofs.records.line_record.Reads as line-record-reads
-use Rattle.galley.proofs.records.spec_record.Reads as spec-record-reads
-use Rattle.galley.proofs.word.left_from.Reads as left-from-reads
-use Rattle.galley.proofs.word.mark_at.Reads as mark-at-reads
 
--- src/records.rt:102:8
 left-from-requires : tie.Need-left-from-requires
 left-from-requires c κs = search needs
 
--- src/records.rt:103:9
 returns : tie.Need-returns
 unfolding recordAt
 returns c = simp (← c .before .left-from .ensures, lt-ltb _ _ (c .if1 .taken))
 
--- src/records.rt:105:38
 mark-at-requires : tie.Need-mark-at-requires
 mark-at-requires c κs = search needs
 
--- src/records.rt:105:9
 kind-of-requires : tie.Need-kind-of-requires
 kind-of-requires c κs = search needs
 
--- src/records.rt:107:23
 enum-told : tie.Need-enum-told
 enum-told c = search needs
 
--- src/records.rt:107:23
 spec-record-requires : tie.Need-spec-record-requires
 spec-record-requires c κs = search needs
 
--- src/records.rt:108:23
 enum-told-2 : tie.Need-enum-told-2
 enum-told-2 c = search needs
 
--- src/records.rt:108:23
 line-record-requires : tie.Need-line-record-requires
 line-record-requires c κs = search needs
 
--- src/records.rt:109:25
 enum-told-3 : tie.Need-enum-told-3
 enum-told-3 c = search needs
 
--- src/records.rt:109:25
 figure-record-requires : tie.Need-figure-record-requires
 figure-record-requires c κs = search needs
 
--- src/records.rt:110:22
 enum-told-4 : tie.Need-enum-told-4
 enum-told-4 c = search needs
 
--- src/records.rt:111:26
 enum-told-5 : tie.Need-enum-told-5
 enum-told-5 c = search needs
 
--- src/records.rt:99:1
 returns-2 : tie.Need-returns-2
 unfolding recordAt
-returns-2 c = simp (← c .before .before .before .before .before .before .left-from .ensures, le-ltb _ _ (c .before .before .before .before .before .if1 .left), ← c .before .before .before .before .mark-at .ensures, ← c .before .before .before .kind-of .ensures, c .before .enum-told .given .1) (c .spec-record .ensures)
+returns-2 c =
+    simp (
+      ← c .before .before .before .before .before .before .left-from .ensures,
+      le-ltb _ _ (c .before .before .before .before .before .if1 .left),
+      ← c .before .before .before .before .mark-at .ensures,
+      ← c .before .before .before .kind-of .ensures,
+      c .before .enum-told .given .1,
+    )
+    (c .spec-record .ensures)
 
--- src/records.rt:99:1
 returns-3 : tie.Need-returns-3
 unfolding recordAt
-returns-3 c = simp (← c .before .before .before .before .before .before .left-from .ensures, le-ltb _ _ (c .before .before .before .before .before .if1 .left), ← c .before .before .before .before .mark-at .ensures, ← c .before .before .before .kind-of .ensures, c .before .enum-told2 .given .1) (c .line-record .ensures)
+returns-3 c =
+    simp (
+      ← c .before .before .before .before .before .before .left-from .ensures,
+      le-ltb _ _ (c .before .before .before .before .before .if1 .left),
+      ← c .before .before .before .before .mark-at .ensures,
+      ← c .before .before .before .kind-of .ensures,
+      c .before .enum-told2 .given .1,
+    )
+    (c .line-record .ensures)
 
--- src/records.rt:99:1
 returns-4 : tie.Need-returns-4
 unfolding recordAt
-returns-4 c = simp (← c .before .before .before .before .before .before .left-from .ensures, le-ltb _ _ (c .before .before .before .before .before .if1 .left), ← c .before .before .before .before .mark-at .ensures, ← c .before .before .before .kind-of .ensures, c .before .enum-told3 .given .1) (c .figure-record .ensures)
+returns-4 c =
+    simp (
+      ← c .before .before .before .before .before .before .left-from .ensures,
+      le-ltb _ _ (c .before .before .before .before .before .if1 .left),
+      ← c .before .before .before .before .mark-at .ensures,
+      ← c .before .before .before .kind-of .ensures,
+      c .before .enum-told3 .given .1,
+    )
+    (c .figure-record .ensures)
 
--- src/records.rt:99:1
 returns-5 : tie.Need-returns-5
 unfolding recordAt openedBy
-returns-5 c = simp (← c .before .before .before .before .before .left-from .ensures, le-ltb _ _ (c .before .before .before .before .if1 .left), ← c .before .before .before .mark-at .ensures, ← c .before .before .kind-of .ensures, c .enum-told4 .given .1)
+returns-5 c =
+    simp (
+      ← c .before .before .before .before .before .left-from .ensures,
+      le-ltb _ _ (c .before .before .before .before .if1 .left),
+      ← c .before .before .before .mark-at .ensures,
+      ← c .before .before .kind-of .ensures,
+      c .enum-told4 .given .1,
+    )
 
--- src/records.rt:99:1
 returns-6 : tie.Need-returns-6
 unfolding recordAt openedBy
-returns-6 c = simp (← c .before .before .before .before .before .left-from .ensures, le-ltb _ _ (c .before .before .before .before .if1 .left), ← c .before .before .before .mark-at .ensures, ← c .before .before .kind-of .ensures, c .enum-told5 .given .1)
+returns-6 c =
+    simp (
+      ← c .before .before .before .before .before .left-from .ensures,
+      le-ltb _ _ (c .before .before .before .before .if1 .left),
+      ← c .before .before .before .mark-at .ensures,
+      ← c .before .before .kind-of .ensures,
+      c .enum-told5 .given .1,
+    )
 
 pub record-at-spec : {M : Type 1} → statement M
 record-at-spec =

@@ -1,100 +1,134 @@
-use Rattle.galley.specs.Whole.{recordIn, settled}
+-- `galley::whole::record_in` meets its contract. The mark is there and fits, as the definition asks; each arm then is
+-- what the definition does with that kind of record.
 use borrow.Author.Tests.{lt-ltb, le-ltb}
 use borrow.Author.Needs.{needs}
+use Rattle.galley.specs.Whole.{recordIn, settled}
 use Rattle.galley.proofs.whole.record_in.Statement.{statement}
 use Rattle.galley.proofs.whole.record_in.Tie as tie
-use Rattle.galley.proofs.whole.record_in.Reads as reads
-use Rattle.galley.proofs.whole.record_in.Lts as lts
-use Rattle.galley.proofs.place.kind_of.Reads as kind-of-reads
-use Rattle.galley.proofs.place.unfit_for.Reads as unfit-for-reads
-use Rattle.galley.proofs.records.record_at.Reads as record-at-reads
-use Rattle.galley.proofs.whole.cited_figure.Reads as cited-figure-reads
-use Rattle.galley.proofs.whole.last_record.Reads as last-record-reads
-use Rattle.galley.proofs.word.left_from.Reads as left-from-reads
-use Rattle.galley.proofs.word.mark_at.Reads as mark-at-reads
 
--- src/whole.rt:51:8
 left-from-requires : tie.Need-left-from-requires
 left-from-requires c κs = search needs
 
--- src/whole.rt:52:9
 returns : tie.Need-returns
 unfolding recordIn settled
 returns c = simp (← c .before .left-from .ensures, lt-ltb _ _ (c .if1 .taken))
 
--- src/whole.rt:54:38
 mark-at-requires : tie.Need-mark-at-requires
 mark-at-requires c κs = search needs
 
--- src/whole.rt:54:9
 kind-of-requires : tie.Need-kind-of-requires
 kind-of-requires c κs = search needs
 
--- src/whole.rt:55:9
 unfit-for-requires : tie.Need-unfit-for-requires
 unfit-for-requires c κs = search needs
 
--- src/whole.rt:57:9
 returns-2 : tie.Need-returns-2
 unfolding recordIn settled
-returns-2 c = simp (← c .before .before .before .before .before .left-from .ensures, le-ltb _ _ (c .before .before .before .before .if1 .left), ← c .before .before .before .mark-at .ensures, ← c .before .before .kind-of .ensures, ← c .before .unfit-for .ensures, lt-ltb _ _ (c .if2 .taken))
+returns-2 c =
+    simp (
+      ← c .before .before .before .before .before .left-from .ensures,
+      le-ltb _ _ (c .before .before .before .before .if1 .left),
+      ← c .before .before .before .mark-at .ensures,
+      ← c .before .before .kind-of .ensures,
+      ← c .before .unfit-for .ensures,
+      lt-ltb _ _ (c .if2 .taken),
+    )
 
--- src/whole.rt:59:9
 record-at-requires : tie.Need-record-at-requires
 record-at-requires c κs = search needs
 
--- src/whole.rt:61:22
 enum-known-found : tie.Need-enum-known-found
 enum-known-found c = search needs
 
--- src/whole.rt:62:22
 enum-known-found-2 : tie.Need-enum-known-found-2
 enum-known-found-2 c = search needs
 
--- src/whole.rt:63:24
 enum-known-found-3 : tie.Need-enum-known-found-3
 enum-known-found-3 c = search needs
 
--- src/whole.rt:63:30
 cited-figure-requires : tie.Need-cited-figure-requires
 cited-figure-requires c κs = search needs
 
--- src/whole.rt:64:24
 enum-told : tie.Need-enum-told
 enum-told c = search needs
 
--- src/whole.rt:64:24
 last-record-requires : tie.Need-last-record-requires
 last-record-requires c κs = search needs
 
--- src/whole.rt:65:27
 enum-known-found-4 : tie.Need-enum-known-found-4
 enum-known-found-4 c = search needs
 
--- src/whole.rt:41:1
 returns-3 : tie.Need-returns-3
 unfolding recordIn settled
-returns-3 c = simp (← c .before .before .before .before .before .before .before .before .before .left-from .ensures, le-ltb _ _ (c .before .before .before .before .before .before .before .before .if1 .left), ← c .before .before .before .before .before .before .before .mark-at .ensures, ← c .before .before .before .before .before .before .kind-of .ensures, ← c .before .before .before .before .before .unfit-for .ensures, le-ltb _ _ (c .before .before .before .before .if2 .left), ← c .before .before .before .record-at .ensures, c .before .found .given .1)
+returns-3 c =
+    simp (
+      ← c .before .before .before .before .before .before .before .before .before .left-from .ensures,
+      le-ltb _ _ (c .before .before .before .before .before .before .before .before .if1 .left),
+      ← c .before .before .before .before .before .before .before .mark-at .ensures,
+      ← c .before .before .before .before .before .before .kind-of .ensures,
+      ← c .before .before .before .before .before .unfit-for .ensures,
+      le-ltb _ _ (c .before .before .before .before .if2 .left),
+      ← c .before .before .before .record-at .ensures,
+      c .before .found .given .1,
+    )
 
--- src/whole.rt:41:1
 returns-4 : tie.Need-returns-4
 unfolding recordIn settled
-returns-4 c = simp (← c .before .before .before .before .before .before .before .before .before .left-from .ensures, le-ltb _ _ (c .before .before .before .before .before .before .before .before .if1 .left), ← c .before .before .before .before .before .before .before .mark-at .ensures, ← c .before .before .before .before .before .before .kind-of .ensures, ← c .before .before .before .before .before .unfit-for .ensures, le-ltb _ _ (c .before .before .before .before .if2 .left), ← c .before .before .before .record-at .ensures, c .before .found2 .given .1)
+returns-4 c =
+    simp (
+      ← c .before .before .before .before .before .before .before .before .before .left-from .ensures,
+      le-ltb _ _ (c .before .before .before .before .before .before .before .before .if1 .left),
+      ← c .before .before .before .before .before .before .before .mark-at .ensures,
+      ← c .before .before .before .before .before .before .kind-of .ensures,
+      ← c .before .before .before .before .before .unfit-for .ensures,
+      le-ltb _ _ (c .before .before .before .before .if2 .left),
+      ← c .before .before .before .record-at .ensures,
+      c .before .found2 .given .1,
+    )
 
--- src/whole.rt:41:1
 returns-5 : tie.Need-returns-5
 unfolding recordIn settled
-returns-5 c = simp (← c .before .before .before .before .before .before .before .before .before .before .left-from .ensures, le-ltb _ _ (c .before .before .before .before .before .before .before .before .before .if1 .left), ← c .before .before .before .before .before .before .before .before .mark-at .ensures, ← c .before .before .before .before .before .before .before .kind-of .ensures, ← c .before .before .before .before .before .before .unfit-for .ensures, le-ltb _ _ (c .before .before .before .before .before .if2 .left), ← c .before .before .before .before .record-at .ensures, c .before .before .found3 .given .1) (c .cited-figure .ensures)
+returns-5 c =
+    simp (
+      ← c .before .before .before .before .before .before .before .before .before .before .left-from .ensures,
+      le-ltb _ _ (c .before .before .before .before .before .before .before .before .before .if1 .left),
+      ← c .before .before .before .before .before .before .before .before .mark-at .ensures,
+      ← c .before .before .before .before .before .before .before .kind-of .ensures,
+      ← c .before .before .before .before .before .before .unfit-for .ensures,
+      le-ltb _ _ (c .before .before .before .before .before .if2 .left),
+      ← c .before .before .before .before .record-at .ensures,
+      c .before .before .found3 .given .1,
+    )
+    (c .cited-figure .ensures)
 
--- src/whole.rt:41:1
 returns-6 : tie.Need-returns-6
 unfolding recordIn settled
-returns-6 c = simp (← c .before .before .before .before .before .before .before .before .before .left-from .ensures, le-ltb _ _ (c .before .before .before .before .before .before .before .before .if1 .left), ← c .before .before .before .before .before .before .before .mark-at .ensures, ← c .before .before .before .before .before .before .kind-of .ensures, ← c .before .before .before .before .before .unfit-for .ensures, le-ltb _ _ (c .before .before .before .before .if2 .left), ← c .before .before .before .record-at .ensures, c .before .enum-told .given .1) (c .last-record .ensures)
+returns-6 c =
+    simp (
+      ← c .before .before .before .before .before .before .before .before .before .left-from .ensures,
+      le-ltb _ _ (c .before .before .before .before .before .before .before .before .if1 .left),
+      ← c .before .before .before .before .before .before .before .mark-at .ensures,
+      ← c .before .before .before .before .before .before .kind-of .ensures,
+      ← c .before .before .before .before .before .unfit-for .ensures,
+      le-ltb _ _ (c .before .before .before .before .if2 .left),
+      ← c .before .before .before .record-at .ensures,
+      c .before .enum-told .given .1,
+    )
+    (c .last-record .ensures)
 
--- src/whole.rt:41:1
 returns-7 : tie.Need-returns-7
 unfolding recordIn settled
-returns-7 c = simp (← c .before .before .before .before .before .before .before .before .before .left-from .ensures, le-ltb _ _ (c .before .before .before .before .before .before .before .before .if1 .left), ← c .before .before .before .before .before .before .before .mark-at .ensures, ← c .before .before .before .before .before .before .kind-of .ensures, ← c .before .before .before .before .before .unfit-for .ensures, le-ltb _ _ (c .before .before .before .before .if2 .left), ← c .before .before .before .record-at .ensures, c .before .found4 .given .1)
+returns-7 c =
+    simp (
+      ← c .before .before .before .before .before .before .before .before .before .left-from .ensures,
+      le-ltb _ _ (c .before .before .before .before .before .before .before .before .if1 .left),
+      ← c .before .before .before .before .before .before .before .mark-at .ensures,
+      ← c .before .before .before .before .before .before .kind-of .ensures,
+      ← c .before .before .before .before .before .unfit-for .ensures,
+      le-ltb _ _ (c .before .before .before .before .if2 .left),
+      ← c .before .before .before .record-at .ensures,
+      c .before .found4 .given .1,
+    )
 
 pub record-in-spec : {M : Type 1} → statement M
 record-in-spec =

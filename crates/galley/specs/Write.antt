@@ -1,0 +1,60 @@
+-- A galley's bytes from its values: document 01, "The galley file".
+use Prim.Native.Nat.{ℕ, _/_, _%_, _≤_}
+use mathlib.Core.List.{List, [], _∷_}
+use lib.ListN.{length}
+use Rattle.galley.specs.Range.{SpecRanged, LineRanged, FigureRanged}
+use Rattle.galley.specs.declared.Spec.{Spec}
+use Rattle.galley.specs.declared.Line.{Line}
+use Rattle.galley.specs.declared.Figure.{Figure}
+
+-- A field in front of what follows it: four bytes, the most significant first.
+abbrev pub word : ℕ → List ℕ → List ℕ
+word w rest = w / 256 / 256 / 256 % 256 ∷ w / 256 / 256 % 256 ∷ w / 256 % 256 ∷ w % 256 ∷ rest
+
+-- A `GS` with its fields, in front of what follows it.
+abbrev pub specBytes : Spec → List ℕ → List ℕ
+specBytes g rest =
+    71 ∷ 83
+    ∷ word (g .htmin) (word (g .htmax) (word (g .smin) (word (g .smax) (word (g .sides) (word (g .alpha) (word (g .beta) rest))))))
+
+-- A `TL` with its fields.
+abbrev pub lineBytes : Line → List ℕ → List ℕ
+lineBytes l rest = 84 ∷ 76 ∷ word (l .height) (word (l .least) (word (l .most) (word (l .legal) rest)))
+
+-- An `FG` with its fields.
+abbrev pub figureBytes : Figure → List ℕ → List ℕ
+figureBytes f rest = 70 ∷ 71 ∷ word (f .height) (word (f .least) (word (f .most) (word (f .cite) rest)))
+
+-- Lines one after the other.
+unfoldable pub linesBytes : List Line → List ℕ → List ℕ
+linesBytes [] rest = rest
+linesBytes (l ∷ ls) rest = lineBytes l (linesBytes ls rest)
+
+-- Figures one after the other.
+unfoldable pub figuresBytes : List Figure → List ℕ → List ℕ
+figuresBytes [] rest = rest
+figuresBytes (f ∷ fs) rest = figureBytes f (figuresBytes fs rest)
+
+-- The specification, the lines, the figures and the end.
+unfoldable pub bytesOf : Spec → List Line → List Figure → List ℕ
+bytesOf g ls fs = specBytes g (linesBytes ls (figuresBytes fs (69 ∷ 68 ∷ [])))
+
+-- Every line is in range.
+unfoldable pub LinesRanged : List Line → Type 0
+LinesRanged [] = Unit {0}
+LinesRanged (l ∷ ls) = LineRanged l × LinesRanged ls
+
+-- Every figure is in range and cites one of m lines, none before the line cited last.
+unfoldable pub FiguresRanged : ℕ → ℕ → List Figure → Type 0
+FiguresRanged m last [] = Unit {0}
+FiguresRanged m last (f ∷ fs) =
+    FigureRanged f × (1 ≤ f .cite) × (f .cite ≤ m) × (last ≤ f .cite) × FiguresRanged m (f .cite) fs
+
+-- Values that a galley may have.
+pub record InRange (g : Spec) (ls : List Line) (fs : List Figure) : Type 0 where
+  pub spec : SpecRanged g
+  pub some : 1 ≤ length ls
+  pub fewLines : length ls ≤ 4000
+  pub fewFigures : length fs ≤ 200
+  pub lines : LinesRanged ls
+  pub figures : FiguresRanged (length ls) 0 fs

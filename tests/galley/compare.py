@@ -1,0 +1,187 @@
+"""The reader of galleys against the reference in Python, on the same byte strings.
+
+The proved reader is called through the library of crate galley_probe; the reference shares no code with it. The last line
+is 'N passed, M failed'.
+"""
+import ctypes
+import pathlib
+import random
+import struct
+import subprocess
+import sys
+
+ROOT = pathlib.Path(__file__).resolve().parents[2]
+sys.path.insert(0, str(ROOT / 'tests'))
+from reference import galley as reference  # noqa: E402
+
+SEED, RANDOM_GALLEYS, RANDOM_STRINGS = 20261115, 2_000, 2_000
+WORDS = (0, 1, 2, 3, 999, 1_000, 1_001, 99_999, 100_000, 100_001, 2**31, 2**32 - 1)
+MARKS = (b'GS', b'TL', b'FG', b'ED', b'SG', b'LT', b'GF', b'DE', b'gs', b'FO', b'G2', b'FK', b'TB', b'\0\0', b'\xff\xff')
+
+
+def library():
+    """The reader as a shared object, from its proved archive."""
+    subprocess.run(['rt', 'staticlib', 'galley_probe'], cwd=ROOT, check=True, stdout=subprocess.DEVNULL)
+    made = ROOT / 'target' / 'staticlib'
+    shared = made / 'libgalley_probe.so'
+    subprocess.run(['gcc', '-shared', '-Wl,--whole-archive', made / 'libgalley_probe.a', '-Wl,--no-whole-archive',
+                    '-o', shared], check=True)
+    return ctypes.CDLL(str(shared))
+
+
+READER = library()
+
+
+def words(function, data, count, *number):
+    out = (ctypes.c_uint32 * count)()
+    held = (ctypes.c_uint8 * max(1, len(data))).from_buffer_copy(data or b'\0')
+    function(held, ctypes.c_size_t(len(data)), *map(ctypes.c_size_t, number), out)
+    return tuple(out)
+
+
+def proved(data):
+    number, place, *rest = words(READER.galley_probe_read, data, 11)
+    if number:
+        return ('refused', number, place)
+    *spec, lines, figures = rest
+    return ('galley', tuple(spec),
+            [words(READER.galley_probe_line, data, 4, k) for k in range(1, lines + 1)],
+            [words(READER.galley_probe_figure, data, 4, k) for k in range(1, figures + 1)])
+
+
+def due(data):
+    answer = reference.read(data)
+    if answer[0] == 'refused':
+        return answer
+    held = answer[1]
+    return ('galley', tuple(held.spec), [tuple(line) for line in held.lines], [tuple(f) for f in held.figures])
+
+
+class Tally:
+    passed = failed = 0
+
+    def same(self, what, data, answer=None):
+        """Both readers answer alike and, where the answer is known beforehand, with that one."""
+        got, wanted = proved(data), due(data)
+        if got == wanted and (answer is None or got[:len(answer)] == answer):
+            self.passed += 1
+        else:
+            self.failed += 1
+            print(f'FAILED {what}: {str(got)[:200]}, due {str(answer or wanted)[:200]}')
+
+
+def record(mark, *fields):
+    return mark + struct.pack(f'>{len(fields)}I', *fields)
+
+
+SPEC = record(b'GS', 30, 30, 0, 0, 1, 1, 1)
+LINE = record(b'TL', 10, 0, 0, 1)
+FIGURE = record(b'FG', 20, 0, 0, 1)
+END = b'ED'
+A = SPEC + 3 * LINE + FIGURE + END
+
+
+def case_a(tally):
+    tally.same('case A', A, ('galley', (30, 30, 0, 0, 1, 1, 1), 3 * [(10, 0, 0, 1)], [(20, 0, 0, 1)]))
+    for at in range(len(A)):
+        for byte in range(256):
+            tally.same(f'case A with byte {at} set to {byte}', A[:at] + bytes([byte]) + A[at + 1:])
+
+
+def cuts(tally):
+    for parts in (A, SPEC + 2 * LINE + 3 * FIGURE + END, SPEC + LINE + END):
+        for at in range(len(parts)):
+            tally.same(f'cut at {at}', parts[:at], ('refused', 1))
+            tally.same(f'two bytes lost at {at}', parts[:at] + parts[at + 2:])
+        for more in range(1, 40):
+            tally.same(f'{more} bytes more', parts + more * b'E', ('refused', 8, len(parts)))
+
+
+def marks(tally):
+    parts = [SPEC, LINE, LINE, FIGURE, FIGURE, END]
+    for at in range(len(parts)):
+        before = b''.join(parts[:at])
+        for mark in MARKS:
+            tally.same(f'mark {mark} in record {at}', before + mark + parts[at][2:] + b''.join(parts[at + 1:]))
+            for size in (0, 4, 16, 28):
+                tally.same(f'mark {mark} for record {at}', before + mark + bytes(size) + b''.join(parts[at + 1:]))
+        for put in (SPEC, LINE, FIGURE, END):
+            tally.same(f'one record more at {at}', before + put + b''.join(parts[at:]))
+        for mark in range(0, 65_536, 251):
+            tally.same(f'mark {mark} in record {at}', before + mark.to_bytes(2, 'big') + parts[at][2:])
+
+
+def ranges(tally):
+    for kind, before, after, fields in ((b'GS', b'', LINE + END, (30, 40, 5, 6, 1, 1, 1)),
+                                        (b'TL', SPEC, END, (10, 5, 6, 1)),
+                                        (b'FG', SPEC + 3 * LINE, END, (10, 5, 6, 2))):
+        for at in range(len(fields)):
+            for word in WORDS:
+                changed = fields[:at] + (word,) + fields[at + 1:]
+                tally.same(f'{kind} field {at} of {word}', before + record(kind, *changed) + after)
+                for other in range(len(fields)):
+                    for second in WORDS:
+                        twice = changed[:other] + (second,) + changed[other + 1:]
+                        tally.same(f'{kind} fields {twice}', before + record(kind, *twice) + after)
+
+
+def citations(tally):
+    for m in (1, 2, 5):
+        for first in range(m + 3):
+            for second in range(m + 3):
+                figures = record(b'FG', 1, 0, 0, first) + record(b'FG', 1, 0, 0, second)
+                tally.same(f'{m} lines, cited {first}, {second}', SPEC + m * LINE + figures + END)
+    two = SPEC + 2 * LINE
+    tally.same('6 at 0', two + record(b'FG', 1, 0, 0, 0) + END, ('refused', 6, 66))
+    tally.same('6 before 7', two + record(b'FG', 1, 0, 0, 2) + record(b'FG', 1, 0, 0, 0) + END, ('refused', 6, 84))
+    tally.same('7', two + record(b'FG', 1, 0, 0, 2) + record(b'FG', 1, 0, 0, 1) + END, ('refused', 7, 84))
+    tally.same('3 before 6', two + record(b'FG', 100_001, 0, 0, 9) + END, ('refused', 3, 66))
+
+
+def limits(tally):
+    full = SPEC + 4_000 * LINE
+    tally.same('4,000 lines', full + END, ('galley',))
+    tally.same('4,001 lines', full + LINE + END, ('refused', 4, 72_030))
+    tally.same('a mark for line 4,001', full + b'TL', ('refused', 4, 72_030))
+    tally.same('200 figures', SPEC + LINE + 200 * FIGURE + END, ('galley',))
+    tally.same('201 figures', SPEC + LINE + 201 * FIGURE + END, ('refused', 4, 3_648))
+    tally.same('a mark for figure 201', SPEC + LINE + 200 * FIGURE + b'FG', ('refused', 4, 3_648))
+    tally.same('4,000 lines and 200 figures', full + 200 * FIGURE + END, ('galley',))
+    tally.same('line 4,001 after a figure', full + FIGURE + LINE + END, ('refused', 2, 72_048))
+    tally.same('no line', SPEC + END, ('refused', 5, 30))
+    tally.same('a figure before any line', SPEC + FIGURE + END, ('refused', 5, 30))
+    tally.same('no bytes', b'', ('refused', 1, 0))
+    tally.same('one byte', b'G', ('refused', 1, 0))
+
+
+def chance(tally):
+    draw = random.Random(SEED)
+    for _ in range(RANDOM_GALLEYS):
+        lines, figures = draw.randrange(6), draw.randrange(4)
+        data = bytearray(
+            record(b'GS', draw.randrange(40), draw.randrange(60), draw.randrange(3), draw.randrange(4), draw.randrange(1, 3),
+                   draw.randrange(1_002), draw.randrange(1_002))
+            + b''.join(record(b'TL', draw.randrange(100_001), draw.randrange(5), draw.randrange(3, 9), draw.randrange(2))
+                       for _ in range(lines))
+            + b''.join(record(b'FG', draw.randrange(100_001), 0, draw.randrange(9), cite)
+                       for cite in sorted(draw.randrange(1, 7) for _ in range(figures)))
+            + END)
+        for _ in range(draw.randrange(3)):
+            data[draw.randrange(len(data))] = draw.choice(b'\0\1GSTLFGED\xff')
+        tally.same('a random galley', bytes(data))
+    for _ in range(RANDOM_STRINGS):
+        tally.same('a random string', bytes(draw.choice(b'\0\1GSTLFGED') for _ in range(draw.randrange(80))))
+
+
+def main():
+    tally = Tally()
+    for group in (case_a, cuts, marks, ranges, citations, limits, chance):
+        began = tally.passed
+        group(tally)
+        print(f'{group.__name__}: {tally.passed - began} byte strings read alike')
+    print(f'{tally.passed} passed, {tally.failed} failed')
+    return 0 if tally.passed and not tally.failed else 1
+
+
+if __name__ == '__main__':
+    sys.exit(main())
