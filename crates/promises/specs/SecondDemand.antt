@@ -9,11 +9,11 @@ use mathlib.Core.List.{List}
 use Rattle.model.specs.declared.answer.Answer.{Answer}
 use Rattle.model.specs.declared.answer.Answer.the-variants.{Counted, Refused}
 use Rattle.model.specs.Gather.{sum}
-use Rattle.model.specs.Galley.{Sides, Block}
+use Rattle.model.specs.Galley.{Block}
 use Rattle.model.specs.Leaf.{leaf, sidesOf}
 use Rattle.model.specs.Answers.{accepted, marked, wordsOf}
 use Rattle.model.specs.Pagination.{Map, Pagination, listOn, xOn, turnsOn}
-use Rattle.theorems.specs.published.Theorem.{words-published, words-unique, words-counts}
+use Rattle.theorems.specs.published.Theorem.{words-published, words-unique, words-counts, turn-single, turn-double}
 use Rattle.galley.specs.declared.Galley.{Galley}
 use Rattle.galley.specs.declared.Reading.{Reading}
 use Rattle.galley.specs.declared.Reading.the-variants as reads
@@ -65,13 +65,6 @@ x-figures : (bytes : List ℕ) (g : Galley) (P : Map)
 unfolding xOn sum
 x-figures bytes g P = omega arith
 
--- Page count, X, Y and turns of a pagination, over leaves.
-report : List ℕ → Galley → ℕ → Map → Sides → Answer
-report bytes g p P sides =
-    let X = sum (g .figures) (λ f. leaf sides (P 1 f) - leaf sides (P 0 (citation bytes g f))) in
-    let Y = leaf sides p - leaf sides 1 in
-    Counted p X Y (g .spec .alpha * X + g .spec .beta * Y)
-
 module _ {bytes words : List ℕ} {g : Galley} {p : ℕ} {P : Map} (m : Paginates bytes words g p P) where
   -- The answer is its page count, X and Y over its leaves, and its turns.
   pub reports : markOf bytes words
@@ -82,24 +75,45 @@ module _ {bytes words : List ℕ} {g : Galley} {p : ℕ} {P : Map} (m : Paginate
       ∙ ap (marked (modelOf bytes g)) (sym (m .list))
       ∙ words-counts (modelOf bytes g) (reads-sane bytes g (m .says)) (m .pages)
 
-  reports-sides : markOf bytes words ≡ report bytes g p P (sidesOf (g .spec .sides))
-  unfolding turnsOn report
-  reports-sides = reports ∙ rw (x-figures bytes g P)
-
-  -- Single-sided, X is Σ (P(f) − P(R(f))), Y is p − 1, and the turns are the paper's Turn.S.
+  -- Single-sided: X is Σ (P(f) − P(R(f))), Y is p − 1, and the turns are the paper's Turn.S.
   pub reports-single : g .spec .sides ≡ 1
-      → (let X = sum (g .figures) (λ f. P 1 f - P 0 (citation bytes g f)) in
-      markOf bytes words ≡ Counted p X (p - 1) (g .spec .alpha * X + g .spec .beta * (p - 1)))
-  unfolding leaf sidesOf report
-  reports-single e = reports-sides ∙ ap (λ n. report bytes g p P (sidesOf n)) e
+      → markOf bytes words
+      ≡ Counted p (sum (g .figures) (λ f. P 1 f - P 0 (citation bytes g f))) (p - 1)
+      (sum (g .figures) (λ f. g .spec .alpha * (P 1 f - P 0 (citation bytes g f))) + g .spec .beta * (p - 1))
+  unfolding leaf sidesOf sum
+  reports-single e =
+      let M = modelOf bytes g in
+      let X = sum (g .figures) (λ f. P 1 f - P 0 (citation bytes g f)) in
+      let T = sum (g .figures) (λ f. g .spec .alpha * (P 1 f - P 0 (citation bytes g f))) + g .spec .beta * (p - 1) in
+      let ex : xOn M P ≡ X =
+      x-figures bytes g P
+      ∙ ap (λ n. sum (g .figures) (λ f. leaf (sidesOf n) (P 1 f) - leaf (sidesOf n) (P 0 (citation bytes g f)))) e in
+      let ey : leaf (sidesOf (g .spec .sides)) p - leaf (sidesOf (g .spec .sides)) 1 ≡ p - 1 =
+      ap (λ n. leaf (sidesOf n) p - leaf (sidesOf n) 1) e in
+      let paper = turn-single M p P (ap sidesOf e) in
+      let et : turnsOn M p P ≡ T = omega arith in
+      reports ∙ cc
 
-  -- Double-sided, with S(q) = q DIV 2 + 1 for pages, X is Σ (S(P(f)) − S(P(R(f)))), Y is S(p) − 1, and the turns are Turn.D.
+  -- Double-sided, with S(q) = q DIV 2 + 1: X is Σ (S(P(f)) − S(P(R(f)))), Y is S(p) − 1, and the turns are Turn.D.
   pub reports-double : g .spec .sides ≡ 2
       → (let S : ℕ → ℕ = λ q. q / 2 + 1 in
+      markOf bytes words
+      ≡ Counted p (sum (g .figures) (λ f. S (P 1 f) - S (P 0 (citation bytes g f)))) (S p - 1)
+      (sum (g .figures) (λ f. g .spec .alpha * (S (P 1 f) - S (P 0 (citation bytes g f)))) + g .spec .beta * (S p - 1)))
+  unfolding leaf sidesOf sum
+  reports-double e =
+      let M = modelOf bytes g in
+      let S : ℕ → ℕ = λ q. q / 2 + 1 in
       let X = sum (g .figures) (λ f. S (P 1 f) - S (P 0 (citation bytes g f))) in
-      markOf bytes words ≡ Counted p X (S p - 1) (g .spec .alpha * X + g .spec .beta * (S p - 1)))
-  unfolding leaf sidesOf report
-  reports-double e = reports-sides ∙ ap (λ n. report bytes g p P (sidesOf n)) e
+      let T = sum (g .figures) (λ f. g .spec .alpha * (S (P 1 f) - S (P 0 (citation bytes g f)))) + g .spec .beta * (S p - 1) in
+      let ex : xOn M P ≡ X =
+      x-figures bytes g P
+      ∙ ap (λ n. sum (g .figures) (λ f. leaf (sidesOf n) (P 1 f) - leaf (sidesOf n) (P 0 (citation bytes g f)))) e in
+      let ey : leaf (sidesOf (g .spec .sides)) p - leaf (sidesOf (g .spec .sides)) 1 ≡ S p - 1 =
+      ap (λ n. leaf (sidesOf n) p - leaf (sidesOf n) 1) e in
+      let paper = turn-double M p P (ap sidesOf e) in
+      let et : turnsOn M p P ≡ T = omega arith in
+      reports ∙ cc
 
   -- No other pagination of the galley has the same list.
   pub one-pagination : {p′ : ℕ} {P′ : Map} → Paginates bytes words g p′ P′
