@@ -1,7 +1,7 @@
 -- The parts of one page's test, as the functions of this crate divide it.
-use Prim.Native.Nat.{ℕ, suc, _+_, _*_, _-_, _/_, _≤_, _<_}
+use Prim.Native.Nat.{ℕ, _+_, _*_, _-_, _/_, _≤_, _<_}
 use mathlib.Core.Bool.{Bool, _&&_}
-use mathlib.Core.List.{List, [], _∷_}
+use mathlib.Core.List.{List}
 use lib.Dec.{ltb, eqb}
 use lib.ListN.{length, drop}
 use mathlib.Core.Path.{_≡_}
@@ -13,7 +13,6 @@ use Rattle.model.specs.declared.answer.Answer.{Answer}
 use Rattle.model.specs.declared.answer.Answer.the-variants.{Counted, Refused}
 use Rattle.model.specs.Answers.{chunks}
 use Rattle.galley.specs.declared.Galley.{Galley}
-use Rattle.galley.specs.Block.{HasLine, HasFigure}
 use Rattle.galley.specs.Sound.{Sound}
 use Rattle.galley.specs.Range.{SpecRanged}
 use Rattle.galley.specs.Model.{figuresOf}

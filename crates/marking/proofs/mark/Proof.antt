@@ -1,39 +1,30 @@
-use mathlib.Core.Path.{sym, _∙_}
+-- `mark` meets its contract: a galley that reads is sound, and each case of the reading is the clause of `markRead` for it.
+use borrow.Author.Needs.{needs}
 use denote.Ref.{now}
+use mathlib.Core.Path.{sym, _∙_}
 use Rattle.galley.specs.Laws.Sound.{sound}
 use Rattle.marking.specs.Mark.{markRead, markOf}
-use borrow.Author.Needs.{needs}
 use Rattle.marking.proofs.mark.Statement.{statement}
 use Rattle.marking.proofs.mark.Tie as tie
-use Rattle.marking.proofs.mark.Reads as reads
-use Rattle.marking.proofs.mark.Lts as lts
-use Rattle.galley.proofs.whole.read_galley.Reads as read-galley-reads
-use Rattle.marking.proofs.pages.mark_read.Reads as mark-read-reads
 
--- src/lib.rt:19:9
 read-galley-requires : tie.Need-read-galley-requires
 read-galley-requires c κs = search needs
 
--- src/lib.rt:21:25
 enum-known-reading : tie.Need-enum-known-reading
 enum-known-reading c = search needs
 
--- src/lib.rt:21:31
 mark-read-requires : tie.Need-mark-read-requires
 mark-read-requires c κs =
     sound (now (c .before .before .before .before .before .before .args .galley)) _ (sym (c .before .before .before .read-galley .ensures) ∙ c .before .reading .given .1)
 
--- src/lib.rt:22:28
 enum-known-reading-2 : tie.Need-enum-known-reading-2
 enum-known-reading-2 c = search needs
 
--- src/lib.rt:16:1
 returns : tie.Need-returns
 unfolding markOf markRead
 returns c =
     simp (← c .before .before .before .before .read-galley .ensures, c .before .before .reading .given .1) (c .mark-read .ensures)
 
--- src/lib.rt:16:1
 returns-2 : tie.Need-returns-2
 unfolding markOf markRead
 returns-2 c =

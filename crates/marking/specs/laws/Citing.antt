@@ -2,13 +2,13 @@
 use Prim.Native.Nat.{ℕ, zero, suc, _+_, _-_, _≤_, _<_}
 use native.Mathlib.Decide.{decLe}
 use native.Mathlib.Omega.{arith}
-use mathlib.Core.Path.{_≡_, refl, sym, _∙_, ap}
+use mathlib.Core.Path.{_≡_, refl, ap}
 use mathlib.Core.Bool.{Bool, true, false, _&&_}
 use mathlib.Core.List.{List, [], _∷_}
 use lib.Dec.{leb, ltb}
-use borrow.Author.Tests.{ltb-true, ltb-false, lt-ltb, le-ltb, le-leb, lt-leb}
+use borrow.Author.Tests.{ltb-true, ltb-false, le-leb, lt-leb}
 use Rattle.model.specs.Gather.{pick, one, sum}
-use Rattle.model.specs.Galley.{Stream, Sane, Block, count}
+use Rattle.model.specs.Galley.{Stream, Sane, count}
 use Rattle.model.specs.Leaf.{ends, sidesOf}
 use Rattle.theorems.specs.Waiting.{dangles, waitingIn, waiting}
 use Rattle.theorems.specs.Costs.{cite-mono}

@@ -1,5 +1,5 @@
 -- The counts of a list fit: within document 01's limits no sum or product of them passes 32 bits.
-use Prim.Native.Nat.{ℕ, suc, _+_, _-_, _*_, _/_, _≤_}
+use Prim.Native.Nat.{ℕ, _-_, _*_, _≤_}
 use native.Mathlib.Nat.{mul-le-mul}
 use native.Mathlib.Omega.{arith}
 use Rattle.model.specs.Galley.{Sides, single, double}

@@ -1,23 +1,22 @@
 -- The run over the pages: what holds after `done` of them, and how each way of leaving a page goes on.
 use Prim.Native.Nat.{ℕ, zero, suc, pred, _+_, _-_, _*_, _/_, _≤_, _<_}
-use native.Mathlib.Numerals.{add-one}
 use native.Mathlib.Omega.{arith}
-use mathlib.Core.Path.{_≡_, refl, sym, _∙_, ap, subst}
+use mathlib.Core.Path.{_≡_, refl, sym, _∙_, ap}
 use mathlib.Core.Bool.{Bool, true, false, _&&_}
 use mathlib.Core.List.{List, [], _∷_}
 use lib.ListN.{length, getD}
 use lib.Dec.{eqb}
 use borrow.Author.Tests.{eq-eqb}
 use Rattle.model.specs.declared.answer.Answer.{Answer}
-use Rattle.model.specs.declared.answer.Answer.the-variants.{Counted, Refused}
+use Rattle.model.specs.declared.answer.Answer.the-variants.{Refused}
 use Rattle.model.specs.Gather.{pick}
 use Rattle.model.specs.Galley.{Place, Sane, count, zeros, sizes, streams}
-use Rattle.model.specs.Leaf.{leaf, ends, sidesOf}
+use Rattle.model.specs.Leaf.{ends, sidesOf}
 use Rattle.model.specs.Rules.{broken}
 use Rattle.model.specs.Turns.{xOf, yOf, turns}
-use Rattle.model.specs.Answers.{accepted, same, ended, refuse, judge, counted, countsOf, pagesOf, marked}
+use Rattle.model.specs.Answers.{accepted, refuse, judge, counted, countsOf, pagesOf, marked}
 use Rattle.model.specs.Best.{allowed}
-use Rattle.model.specs.laws.Rules.{kept, Kept, forward-at}
+use Rattle.model.specs.laws.Rules.{kept, forward-at}
 use Rattle.model.specs.laws.Judge.{accepts, judge-accepts}
 use Rattle.model.specs.laws.Words.{length-pages, counted-at}
 use Rattle.theorems.specs.Waiting.{waiting, pageSum, atEnd}

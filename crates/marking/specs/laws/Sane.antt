@@ -1,5 +1,5 @@
 -- A galley that reads without refusal is one that the page model's theorems hold of.
-use Prim.Native.Nat.{ℕ, zero, suc, _+_, _≤_}
+use Prim.Native.Nat.{ℕ, zero, suc, _≤_}
 use native.Mathlib.Omega.{arith}
 use mathlib.Core.Path.{_≡_}
 use mathlib.Core.List.{List}
@@ -7,7 +7,7 @@ use Rattle.model.specs.Galley.{Sane, Block}
 use Rattle.galley.specs.declared.Galley.{Galley}
 use Rattle.galley.specs.declared.Reading.the-variants as reads
 use Rattle.galley.specs.Whole.{galleyOf}
-use Rattle.galley.specs.Model.{figuresOf, modelOf}
+use Rattle.galley.specs.Model.{modelOf}
 use Rattle.galley.specs.Sound.{Sound}
 use Rattle.galley.specs.Laws.Sound.{sound}
 

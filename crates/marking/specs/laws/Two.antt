@@ -1,20 +1,19 @@
 -- The model's tests of one page, for lines and figures: two streams, places of two counts.
-use Prim.Native.Nat.{ℕ, zero, suc, pred, _+_, _*_}
+use Prim.Native.Nat.{ℕ, pred, _+_, _*_}
 use native.Mathlib.Omega.{arith}
-use mathlib.Core.Path.{_≡_, refl, sym, _∙_, ap}
+use mathlib.Core.Path.{_≡_, refl}
 use mathlib.Core.Bool.{Bool, true, false, _&&_, _||_}
 use mathlib.Core.List.{List, [], _∷_}
 use lib.Dec.{leb, ltb, eqb}
-use lib.ListN.{getD}
-use Rattle.model.specs.Gather.{pick, implies, one, sum, total, each, every, row}
+use Rattle.model.specs.Gather.{implies, one, sum, total, each, every, row}
 use Rattle.model.specs.Galley.{count, streams, zeros, sizes, blocks, Stream}
-use Rattle.model.specs.Height.{has, kinds, stacked, height, tightest, loosest}
+use Rattle.model.specs.Height.{has, kinds, stacked, height}
 use Rattle.model.specs.Leaf.{ends}
-use Rattle.model.specs.Rules.{forward, mayEnd, closes, fits, fills, cited, firstBroken, broken}
-use Rattle.model.specs.Answers.{same, counted}
+use Rattle.model.specs.Rules.{forward, mayEnd, closes, cited}
+use Rattle.model.specs.Answers.{same}
 use Rattle.galley.specs.declared.Galley.{Galley}
 use Rattle.galley.specs.Model.{textOf, figuresOf, modelOf}
-use Rattle.marking.specs.Parts.{startFault, endFault, separation}
+use Rattle.marking.specs.Parts.{separation}
 
 some-kind : (a b : Bool) → ltb 0 (one a + (0 + one b)) ≡ (a || b)
 some-kind true true = refl

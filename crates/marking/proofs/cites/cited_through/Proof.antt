@@ -1,17 +1,15 @@
+-- `cited_through` meets its contract. The invariant: the figures passed are cited by line i or earlier; the count stops at the
+-- first that is not, since citations grow.
 use Prim.Native.Nat.{ℕ, _-_, _≤_}
-use native.Mathlib.Omega.{arith}
-use denote.Ref.{now}
-use Rattle.galley.specs.Model.{figuresOf}
-use Rattle.galley.specs.Laws.Sound.{sound-within}
-use Rattle.marking.specs.laws.Sane.{sound-sane}
-use Rattle.marking.specs.laws.Citing.{citing-stop, citing-all, upto-next}
 use borrow.Author.Needs.{needs}
+use denote.Ref.{now}
+use native.Mathlib.Omega.{arith}
+use Rattle.galley.specs.Laws.Sound.{sound-within}
+use Rattle.galley.specs.Model.{figuresOf}
+use Rattle.marking.specs.laws.Citing.{citing-stop, citing-all, upto-next}
+use Rattle.marking.specs.laws.Sane.{sound-sane}
 use Rattle.marking.proofs.cites.cited_through.Statement.{statement}
 use Rattle.marking.proofs.cites.cited_through.Tie as tie
-use Rattle.marking.proofs.cites.cited_through.Reads as reads
-use Rattle.marking.proofs.cites.cited_through.Lts as lts
-use Rattle.galley.proofs.block.figure_cite.Reads as figure-cite-reads
-use Rattle.marking.proofs.rules.size.Reads as size-reads
 
 abbrev Inv-loop : tie.InvT-loop
 Inv-loop s g i before c₀ c = (c ≤ g .figures) × ((k : ℕ) → 1 ≤ k → k ≤ c → figuresOf s g .cite k ≤ i)
@@ -19,25 +17,20 @@ Inv-loop s g i before c₀ c = (c ≤ g .figures) × ((k : ℕ) → 1 ≤ k → 
 abbrev μ-loop : tie.MeasureT-loop
 μ-loop s g i before c₀ c = g .figures - c
 
--- src/cites.rt:16:5
 loop-holds : tie.Need-loop-holds Inv-loop μ-loop
 loop-holds c = (c .before .pre .few, c .before .pre .upto)
 
--- src/cites.rt:17:68
 add-figure-cite : tie.Need-add-figure-cite Inv-loop μ-loop
 add-figure-cite c = search needs
 
--- src/cites.rt:17:35
 figure-cite-requires : tie.Need-figure-cite-requires Inv-loop μ-loop
 figure-cite-requires c κs =
     let so = c .before .before .before .before .pre .sound in
     record { within = sound-within _ _ so; low = omega arith; high = omega arith }
 
--- src/cites.rt:17:16
 size-requires : tie.Need-size-requires Inv-loop μ-loop
 size-requires c κs = search needs
 
--- src/cites.rt:18:13
 returns : tie.Need-returns Inv-loop μ-loop
 returns c =
     let a = c .before .before .before .before .before .before .before .args in
@@ -45,15 +38,12 @@ returns c =
     citing-stop (now (a .s)) (a .g) (sound-sane _ _ (c .before .before .before .before .before .before .before .pre .sound)) (a .i) (l .c) (c .before .before .before .if1 .taken) (l .inv .1)
     (omega (arith, c .before .size .ensures, c .before .before .figure-cite .ensures))
 
--- src/cites.rt:20:9
 add-c : tie.Need-add-c Inv-loop μ-loop
 add-c c = search needs
 
--- src/cites.rt:16:5
 loop-less : tie.Need-loop-less Inv-loop μ-loop
 loop-less c = search needs
 
--- src/cites.rt:16:5
 loop-again : tie.Need-loop-again Inv-loop μ-loop
 loop-again c =
     let a = c .before .before .before .before .before .before .before .args in
@@ -63,7 +53,6 @@ loop-again c =
           (omega (arith, c .before .size .ensures, c .before .before .figure-cite .ensures)),
     )
 
--- src/cites.rt:11:1
 returns-2 : tie.Need-returns-2 Inv-loop μ-loop
 returns-2 c =
     let a = c .before .before .before .before .args in

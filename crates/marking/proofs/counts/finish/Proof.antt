@@ -1,25 +1,20 @@
+-- `finish` meets its contract: within the limits no product or sum of the counts passes 32 bits (laws/Counts).
 use Prim.Native.Nat.{_-_, _*_}
-use native.Mathlib.Omega.{arith}
+use borrow.Author.Needs.{needs}
 use mathlib.Core.Path.{_≡_, ap}
-use Rattle.model.specs.Leaf.{leaf, sidesOf}
+use native.Mathlib.Omega.{arith}
 use Rattle.marking.specs.Parts.{counts, finished}
 use Rattle.marking.specs.laws.Counts.{few-bounded}
-use borrow.Author.Needs.{needs}
+use Rattle.model.specs.Leaf.{leaf, sidesOf}
 use Rattle.marking.proofs.counts.finish.Statement.{statement}
 use Rattle.marking.proofs.counts.finish.Tie as tie
-use Rattle.marking.proofs.counts.finish.Reads as reads
-use Rattle.marking.proofs.counts.finish.Lts as lts
-use Rattle.model.proofs.page.spread_of.Reads as spread-of-reads
 
--- src/counts.rt:16:13
 spread-of-requires : tie.Need-spread-of-requires
 spread-of-requires c κs = search needs
 
--- src/counts.rt:17:13
 spread-of-requires-2 : tie.Need-spread-of-requires-2
 spread-of-requires-2 c κs = search needs
 
--- src/counts.rt:18:17
 sub-y : tie.Need-sub-y
 sub-y c =
     let a = c .before .before .before .before .before .before .before .args in
@@ -28,13 +23,11 @@ sub-y c =
     let last = c .before .before .spread-of2 .ensures in
     omega arith
 
--- src/counts.rt:23:20
 mul-t13 : tie.Need-mul-t13
 mul-t13 c =
     let b = few-bounded (c .before .before .before .before .before .before .before .before .args .g) (c .before .before .before .before .before .before .before .before .args .pages) (c .before .before .before .before .before .before .before .before .args .x) (c .before .before .before .before .before .before .before .before .pre) in
     omega arith
 
--- src/counts.rt:23:39
 mul-t14 : tie.Need-mul-t14
 mul-t14 c =
     let a = c .before .before .before .before .before .before .before .before .before .args in
@@ -46,7 +39,6 @@ mul-t14 c =
     let part = ap (λ n. a .g .spec .beta * n) y in
     omega arith
 
--- src/counts.rt:23:20
 add-t15 : tie.Need-add-t15
 add-t15 c =
     let a = c .before .before .before .before .before .before .before .before .before .args in
@@ -58,12 +50,10 @@ add-t15 c =
     let part = ap (λ n. a .g .spec .beta * n) y in
     omega arith
 
--- src/counts.rt:19:9
 returns : tie.Need-returns
 unfolding finished counts
 returns c = rw (c .before .before .before .before .before .before .if1 .taken, ← c .before .before .before .before .spread-of2 .ensures, ← c .before .before .before .before .before .spread-of .ensures)
 
--- src/counts.rt:11:1
 returns-2 : tie.Need-returns-2
 unfolding finished
 returns-2 c = rw (c .if1 .left)

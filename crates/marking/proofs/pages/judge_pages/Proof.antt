@@ -1,26 +1,17 @@
+-- `judge_pages` meets its contract. The outer invariant is the run over the pages so far (laws/Run), the inner one the pile of the
+-- page's blocks so far (laws/Pile); each way of leaving a page is one law of laws/Page.
 use Prim.Native.Nat.{_+_, _-_}
-use native.Mathlib.Omega.{arith}
-use mathlib.Core.Path.{_≡_, refl, sym, _∙_, ap}
+use borrow.Author.Needs.{needs}
 use denote.Ref.{now}
-use Rattle.marking.specs.laws.Sane.{sound-sane}
+use mathlib.Core.Path.{_∙_}
+use native.Mathlib.Omega.{arith}
 use Rattle.marking.specs.laws.Citing.{waits-few}
+use Rattle.marking.specs.laws.Page.{begun, begun-refused, begun-onward, begun-over, begun-ended, begun-next, begun-cites}
 use Rattle.marking.specs.laws.Pile.{Piled, piled-start, piled-line, piled-figure}
 use Rattle.marking.specs.laws.Run.{Run, run-start, run-finish}
-use Rattle.marking.specs.laws.Page.{begun, begun-refused, begun-onward, begun-over, begun-ended, begun-next, begun-cites}
-use borrow.Author.Needs.{needs}
+use Rattle.marking.specs.laws.Sane.{sound-sane}
 use Rattle.marking.proofs.pages.judge_pages.Statement.{statement}
 use Rattle.marking.proofs.pages.judge_pages.Tie as tie
-use Rattle.marking.proofs.pages.judge_pages.Reads as reads
-use Rattle.marking.proofs.pages.judge_pages.Lts as lts
-use Rattle.marking.proofs.cites.cited_through.Reads as cited-through-reads
-use Rattle.marking.proofs.cites.waiting_at.Reads as waiting-at-reads
-use Rattle.marking.proofs.counts.finish.Reads as finish-reads
-use Rattle.marking.proofs.pile.apart_by.Reads as apart-by-reads
-use Rattle.marking.proofs.pile.with_figure.Reads as with-figure-reads
-use Rattle.marking.proofs.pile.with_line.Reads as with-line-reads
-use Rattle.marking.proofs.rules.end_fault.Reads as end-fault-reads
-use Rattle.marking.proofs.rules.size.Reads as size-reads
-use Rattle.marking.proofs.rules.start_fault.Reads as start-fault-reads
 
 abbrev Inv-loop : tie.InvT-loop
 Inv-loop s g list pages done a b cited x number i j start pile₀ k₀ f₀ pile k f = Piled s g a b i j k f pile
@@ -34,73 +25,56 @@ Inv-pages s g list pages done₀ a₀ b₀ cited₀ x₀ done a b cited x = Run 
 abbrev μ-pages : tie.MeasureT-pages
 μ-pages s g list pages done₀ a₀ b₀ cited₀ x₀ done a b cited x = pages - done
 
--- src/pages.rt:23:9
 pages-holds : tie.Need-pages-holds Inv-loop μ-loop Inv-pages μ-pages
 pages-holds c =
     let st = c .before .before in
     run-start (now (st .args .s)) (st .args .g) (sound-sane (now (st .args .s)) (st .args .g) (st .pre .sound)) (now (st .args .list))
 
--- src/pages.rt:25:51
 cast-finish : tie.Need-cast-finish Inv-loop μ-loop Inv-pages μ-pages
 cast-finish c = search needs
 
--- src/pages.rt:25:26
 finish-requires : tie.Need-finish-requires Inv-loop μ-loop Inv-pages μ-pages
 finish-requires c κs = search needs
 
--- src/pages.rt:27:23
 add-number : tie.Need-add-number Inv-loop μ-loop Inv-pages μ-pages
 add-number c = search needs
 
--- src/pages.rt:27:22
 cast-number : tie.Need-cast-number Inv-loop μ-loop Inv-pages μ-pages
 cast-number c = search needs
 
--- src/pages.rt:28:41
 mul-size : tie.Need-mul-size Inv-loop μ-loop Inv-pages μ-pages
 mul-size c = search needs
 
--- src/pages.rt:28:36
 mul-size-2 : tie.Need-mul-size-2 Inv-loop μ-loop Inv-pages μ-pages
 mul-size-2 c = search needs
 
--- src/pages.rt:28:36
 shared-slice-read-size : tie.Need-shared-slice-read-size Inv-loop μ-loop Inv-pages μ-pages
 shared-slice-read-size c = search needs
 
--- src/pages.rt:28:13
 size-requires : tie.Need-size-requires Inv-loop μ-loop Inv-pages μ-pages
 size-requires c κs = search needs
 
--- src/pages.rt:29:41
 mul-size-3 : tie.Need-mul-size-3 Inv-loop μ-loop Inv-pages μ-pages
 mul-size-3 c = search needs
 
--- src/pages.rt:29:41
 add-size : tie.Need-add-size Inv-loop μ-loop Inv-pages μ-pages
 add-size c = search needs
 
--- src/pages.rt:29:36
 mul-size-4 : tie.Need-mul-size-4 Inv-loop μ-loop Inv-pages μ-pages
 mul-size-4 c = search needs
 
--- src/pages.rt:29:36
 shared-slice-read-size-2 : tie.Need-shared-slice-read-size-2 Inv-loop μ-loop Inv-pages μ-pages
 shared-slice-read-size-2 c = search needs
 
--- src/pages.rt:29:13
 size-requires-2 : tie.Need-size-requires-2 Inv-loop μ-loop Inv-pages μ-pages
 size-requires-2 c κs = search needs
 
--- src/pages.rt:30:13
 start-fault-requires : tie.Need-start-fault-requires Inv-loop μ-loop Inv-pages μ-pages
 start-fault-requires c κs = search needs
 
--- src/pages.rt:37:13
 apart-by-requires : tie.Need-apart-by-requires Inv-loop μ-loop Inv-pages μ-pages
 apart-by-requires c κs = search needs
 
--- src/pages.rt:40:9
 loop-holds : tie.Need-loop-holds Inv-loop μ-loop Inv-pages μ-pages
 loop-holds c =
     let st = c .before .before .before .before .before .before .before .before .before .before .before in
@@ -115,7 +89,6 @@ loop-holds c =
     rw (c .apart-by .ensures)
     (piled-start (now (st .args .s)) (st .args .g) (st .pre .sound) (pg .a) (pg .b) _ _ (on .lines) (on .figures))
 
--- src/pages.rt:48:17
 with-line-requires : tie.Need-with-line-requires Inv-loop μ-loop Inv-pages μ-pages
 with-line-requires c κs =
     let st = c .before .before .before .before .before .before .before .before .before .before .before .before .before .before .before .before in
@@ -133,15 +106,12 @@ with-line-requires c κs =
     let so = st .pre .sound in
     record { sound = so; next = omega arith; tight = omega arith; loose = omega arith }
 
--- src/pages.rt:49:17
 add-k : tie.Need-add-k Inv-loop μ-loop Inv-pages μ-pages
 add-k c = search needs
 
--- src/pages.rt:40:9
 loop-less : tie.Need-loop-less Inv-loop μ-loop Inv-pages μ-pages
 loop-less c = search needs
 
--- src/pages.rt:40:9
 loop-again : tie.Need-loop-again Inv-loop μ-loop Inv-pages μ-pages
 loop-again c =
     let st = c .before .before .before .before .before .before .before .before .before .before .before .before .before .before .before .before .before in
@@ -158,7 +128,6 @@ loop-again c =
     rw (c .with-line .ensures)
     (piled-line (now (st .args .s)) (st .args .g) (st .pre .sound) (pg .a) (pg .b) _ _ piled (c .before .if4 .taken) (on .topLine))
 
--- src/pages.rt:52:21
 with-figure-requires : tie.Need-with-figure-requires Inv-loop μ-loop Inv-pages μ-pages
 with-figure-requires c κs =
     let st = c .before .before .before .before .before .before .before .before .before .before .before .before .before .before .before .before .before in
@@ -176,15 +145,12 @@ with-figure-requires c κs =
     let so = st .pre .sound in
     record { sound = so; next = omega arith; tight = omega arith; loose = omega arith }
 
--- src/pages.rt:53:21
 add-f : tie.Need-add-f Inv-loop μ-loop Inv-pages μ-pages
 add-f c = search needs
 
--- src/pages.rt:40:9
 loop-less-2 : tie.Need-loop-less-2 Inv-loop μ-loop Inv-pages μ-pages
 loop-less-2 c = search needs
 
--- src/pages.rt:40:9
 loop-again-2 : tie.Need-loop-again-2 Inv-loop μ-loop Inv-pages μ-pages
 loop-again-2 c =
     let st = c .before .before .before .before .before .before .before .before .before .before .before .before .before .before .before .before .before .before in
@@ -201,11 +167,9 @@ loop-again-2 c =
     rw (c .with-figure .ensures)
     (piled-figure (now (st .args .s)) (st .args .g) (st .pre .sound) (pg .a) (pg .b) _ _ piled (c .before .if5 .taken) (on .topFigure))
 
--- src/pages.rt:59:75
 add-end-fault : tie.Need-add-end-fault Inv-loop μ-loop Inv-pages μ-pages
 add-end-fault c = search needs
 
--- src/pages.rt:59:13
 end-fault-requires : tie.Need-end-fault-requires Inv-loop μ-loop Inv-pages μ-pages
 end-fault-requires c κs =
     let st = c .before .before .before .before .before .before .before .before .before .before .before .before .before .before .before .before .before in
@@ -219,7 +183,6 @@ end-fault-requires c κs =
     let on = begun-onward p fine in
     (st .pre .sound, on .topFigure)
 
--- src/pages.rt:66:9
 cited-through-requires : tie.Need-cited-through-requires Inv-loop μ-loop Inv-pages μ-pages
 cited-through-requires c κs =
     let st = c .before .before .before .before .before .before .before .before .before .before .before .before .before .before .before .before .before .before .before in
@@ -231,14 +194,12 @@ cited-through-requires c κs =
     (c .before .before .before .before .before .before .before .before .before .before .start-fault .ensures) in
     begun-cites p (c .before .before .before .before .before .before .before .before .before .if2 .left)
 
--- src/pages.rt:67:14
 waiting-at-requires : tie.Need-waiting-at-requires Inv-loop μ-loop Inv-pages μ-pages
 waiting-at-requires c κs =
     let few = c .cited-through .ensures .few in
     let most = c .before .before .before .before .before .before .before .before .before .before .before .before .before .before .before .before .before .before .before .before .pre .sound .fewFigures in
     omega arith
 
--- src/pages.rt:67:9
 add-x : tie.Need-add-x Inv-loop μ-loop Inv-pages μ-pages
 add-x c =
     let st = c .before .before .before .before .before .before .before .before .before .before .before .before .before .before .before .before .before .before .before .before .before in
@@ -252,7 +213,6 @@ add-x c =
     let added = c .waiting-at .ensures in
     omega arith
 
--- src/pages.rt:68:9
 add-done : tie.Need-add-done Inv-loop μ-loop Inv-pages μ-pages
 add-done c =
     let st = c .before .before .before .before .before .before .before .before .before .before .before .before .before .before .before .before .before .before .before .before .before in
@@ -261,7 +221,6 @@ add-done c =
     let within = pg .inv .within in
     omega arith
 
--- src/pages.rt:23:9
 pages-less : tie.Need-pages-less Inv-loop μ-loop Inv-pages μ-pages
 pages-less c =
     let st = c .before .before .before .before .before .before .before .before .before .before .before .before .before .before .before .before .before .before .before .before .before in
@@ -271,7 +230,6 @@ pages-less c =
     let more = c .before .before .before .before .before .before .before .before .before .before .before .before .before .before .before .before .before .if1 .left in
     omega arith
 
--- src/pages.rt:23:9
 pages-again : tie.Need-pages-again Inv-loop μ-loop Inv-pages μ-pages
 pages-again c =
     let st = c .before .before .before .before .before .before .before .before .before .before .before .before .before .before .before .before .before .before .before .before .before in
@@ -290,7 +248,6 @@ pages-again c =
     (begun-next p fine piled (c .before .before .before .before .before .before .if3 .left) (c .before .before .before .before .before .if4 .left) (c .before .before .before .before .if5 .left) (ef .result) (ef .ensures) (c .before .before .if6 .left)
     (c .before .cited-through .result) (c .before .cited-through .ensures))
 
--- src/pages.rt:13:1
 returns : tie.Need-returns Inv-loop μ-loop Inv-pages μ-pages
 returns c =
     let st = c .before .before .before .before .before in
@@ -299,7 +256,6 @@ returns c =
     ∙ run-finish (now (st .args .s)) (st .args .g) (sound-sane (now (st .args .s)) (st .args .g) (st .pre .sound)) (now (st .args .list))
     (st .pre .whole) (pg .inv) (c .before .if1 .taken)
 
--- src/pages.rt:13:1
 returns-2 : tie.Need-returns-2 Inv-loop μ-loop Inv-pages μ-pages
 returns-2 c =
     let st = c .before .before .before .before .before .before .before .before .before .before in
@@ -311,7 +267,6 @@ returns-2 c =
     (c .before .start-fault .ensures) in
     begun-refused p (c .if2 .taken)
 
--- src/pages.rt:13:1
 returns-3 : tie.Need-returns-3 Inv-loop μ-loop Inv-pages μ-pages
 returns-3 c =
     let st = c .before .before .before .before .before .before .before .before .before .before .before .before .before .before .before in
@@ -327,7 +282,6 @@ returns-3 c =
     let piled = lp .inv in
     begun-over p fine piled (c .if3 .taken)
 
--- src/pages.rt:13:1
 returns-4 : tie.Need-returns-4 Inv-loop μ-loop Inv-pages μ-pages
 returns-4 c =
     let st = c .before .before .before .before .before .before .before .before .before .before .before .before .before .before .before .before .before .before .before in

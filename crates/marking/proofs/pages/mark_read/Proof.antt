@@ -1,19 +1,14 @@
-use mathlib.Core.Path.{refl, sym, _∙_}
-use denote.Ref.{now}
-use Rattle.marking.specs.laws.Run.{counted-listed, marked-wholly, marked-refused}
+-- `mark_read` meets its contract: rule 12 is the model's test of the list's length, and then the pages are judged.
 use borrow.Author.Needs.{needs}
+use denote.Ref.{now}
+use mathlib.Core.Path.{refl, sym, _∙_}
+use Rattle.marking.specs.laws.Run.{counted-listed, marked-wholly, marked-refused}
 use Rattle.marking.proofs.pages.mark_read.Statement.{statement}
 use Rattle.marking.proofs.pages.mark_read.Tie as tie
-use Rattle.marking.proofs.pages.mark_read.Reads as reads
-use Rattle.marking.proofs.pages.mark_read.Lts as lts
-use Rattle.marking.proofs.pages.judge_pages.Reads as judge-pages-reads
-use Rattle.marking.proofs.rules.is_counted.Reads as is-counted-reads
 
--- src/pages.rt:80:8
 is-counted-requires : tie.Need-is-counted-requires
 is-counted-requires c κs = search needs
 
--- src/pages.rt:81:9
 judge-pages-requires : tie.Need-judge-pages-requires
 judge-pages-requires c κs =
     let st = c .before .before .before .before in
@@ -22,7 +17,6 @@ judge-pages-requires c κs =
     counted-listed bytes (st .args .g) (st .pre) ws
     (sym (c .before .is-counted .ensures bytes ws refl) ∙ c .if1 .taken)
 
--- src/pages.rt:81:9
 returns : tie.Need-returns
 returns c =
     let st = c .before .before .before .before .before in
@@ -31,7 +25,6 @@ returns c =
     c .judge-pages .ensures
     ∙ marked-wholly bytes (st .args .g) ws (sym (c .before .before .is-counted .ensures bytes ws refl) ∙ c .before .if1 .taken)
 
--- src/pages.rt:76:1
 returns-2 : tie.Need-returns-2
 returns-2 c =
     let st = c .before .before .before .before in

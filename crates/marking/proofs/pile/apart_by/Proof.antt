@@ -1,16 +1,12 @@
+-- `apart_by` meets its contract: its test is that of `separation`.
 use Rattle.marking.specs.Parts.{separation, apartBy}
-use borrow.Author.Needs.{needs}
 use Rattle.marking.proofs.pile.apart_by.Statement.{statement}
 use Rattle.marking.proofs.pile.apart_by.Tie as tie
-use Rattle.marking.proofs.pile.apart_by.Reads as reads
-use Rattle.marking.proofs.pile.apart_by.Lts as lts
 
--- src/pile.rt:18:9
 returns : tie.Need-returns
 unfolding apartBy separation
 returns c = rw (c .if1 .taken)
 
--- src/pile.rt:14:1
 returns-2 : tie.Need-returns-2
 unfolding apartBy separation
 returns-2 c = rw (c .if1 .left)

@@ -1,17 +1,13 @@
-use native.Mathlib.Omega.{arith}
-use lib.Dec.{ltb}
+-- `may_end` meets its contract: its test is the premise of `mayEnd`, and there is a line i where it holds.
 use borrow.Author.Tests.{ltb-true}
+use lib.Dec.{ltb}
+use native.Mathlib.Omega.{arith}
 use Rattle.galley.specs.Laws.Sound.{sound-within}
-use Rattle.model.specs.laws.Gather.{and-left, and-right}
 use Rattle.model.specs.Rules.{mayEnd}
-use borrow.Author.Needs.{needs}
+use Rattle.model.specs.laws.Gather.{and-left, and-right}
 use Rattle.marking.proofs.rules.may_end.Statement.{statement}
 use Rattle.marking.proofs.rules.may_end.Tie as tie
-use Rattle.marking.proofs.rules.may_end.Reads as reads
-use Rattle.marking.proofs.rules.may_end.Lts as lts
-use Rattle.galley.proofs.block.line_legal.Reads as line-legal-reads
 
--- src/rules.rt:44:16
 line-legal-requires : tie.Need-line-legal-requires
 line-legal-requires c κs =
     let a = c .before .before .before .args in
@@ -20,12 +16,10 @@ line-legal-requires c κs =
     let so = c .before .before .before .pre in
     record { within = sound-within _ _ so; low = low; high = omega arith }
 
--- src/rules.rt:44:9
 returns : tie.Need-returns
 unfolding mayEnd
 returns c = rw (c .before .if1 .taken, c .line-legal .ensures)
 
--- src/rules.rt:39:1
 returns-2 : tie.Need-returns-2
 unfolding mayEnd
 returns-2 c = rw (c .if1 .left)

@@ -1,24 +1,18 @@
+-- `start_fault` meets its contract: by its two tests, in the order of `startFault`.
+use borrow.Author.Needs.{needs}
 use denote.Ref.{now}
 use mathlib.Core.Path.{sym, _∙_}
 use Rattle.marking.specs.Parts.{startFault}
 use Rattle.marking.specs.laws.Two.{closes-two}
-use borrow.Author.Needs.{needs}
 use Rattle.marking.proofs.rules.start_fault.Statement.{statement}
 use Rattle.marking.proofs.rules.start_fault.Tie as tie
-use Rattle.marking.proofs.rules.start_fault.Reads as reads
-use Rattle.marking.proofs.rules.start_fault.Lts as lts
-use Rattle.marking.proofs.rules.is_forward.Reads as is-forward-reads
-use Rattle.marking.proofs.rules.may_end.Reads as may-end-reads
 
--- src/rules.rt:65:8
 is-forward-requires : tie.Need-is-forward-requires
 is-forward-requires c κs = search needs
 
--- src/rules.rt:66:12
 may-end-requires : tie.Need-may-end-requires
 may-end-requires c κs = search needs
 
--- src/rules.rt:67:13
 returns : tie.Need-returns
 unfolding startFault
 returns c =
@@ -30,7 +24,6 @@ returns c =
       c .if2 .taken,
     )
 
--- src/rules.rt:69:9
 returns-2 : tie.Need-returns-2
 unfolding startFault
 returns-2 c =
@@ -42,7 +35,6 @@ returns-2 c =
       c .if2 .left,
     )
 
--- src/rules.rt:61:1
 returns-3 : tie.Need-returns-3
 unfolding startFault
 returns-3 c = rw (sym (c .before .is-forward .ensures (now (c .before .before .before .args .s))) ∙ c .if1 .left)
