@@ -5,7 +5,6 @@ pub mod Search
 pub mod Fill
 pub mod Trace
 pub mod Make
-
 -- What is known of the work area on the way.
 pub mod Filled
 pub mod Shown

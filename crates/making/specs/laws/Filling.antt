@@ -1,13 +1,11 @@
 -- The entry of a place by what the code has tested, and the turns of the filling loops.
-use Prim.Native.Nat.{ℕ, zero, suc, _+_, _-_, _*_, _≤_, _<_}
+use Prim.Native.Nat.{ℕ, suc, _+_, _-_, _≤_, _<_}
 use native.Mathlib.Omega.{arith}
-use mathlib.Core.Path.{_≡_, refl, sym, _∙_, ap, subst}
-use mathlib.Core.Bool.{Bool, true, false}
+use mathlib.Core.Path.{_≡_, refl, _∙_, ap}
+use mathlib.Core.Bool.{true, false}
 use mathlib.Core.List.{List}
-use lib.Dec.{eqb}
 use lib.ListN.{length}
 use borrow.Author.Tests.{eq-eqb, ne-eqb}
-use Rattle.model.specs.Gather.{pick}
 use Rattle.model.specs.Galley as model
 use Rattle.model.specs.Galley.{Sides, single, double}
 use Rattle.model.specs.Leaf.{sidesOf}
@@ -17,19 +15,16 @@ use Rattle.theorems.specs.PageGraph.{full}
 use Rattle.theorems.specs.Bounds.{cost-le}
 use Rattle.galley.specs.declared.Galley.{Galley}
 use Rattle.galley.specs.Model.{figuresOf, modelOf}
-use Rattle.galley.specs.Sound.{Sound}
 use Rattle.marking.specs.Parts.{Citing}
 use Rattle.places.specs.declared.Start.{Start}
-use Rattle.places.specs.declared.Entry.{Entry}
 use Rattle.places.specs.declared.Entry.the-variants.{Unreached, Least}
-use Rattle.places.specs.Address.{wordsNeeded}
 use Rattle.places.specs.Table.{tableOf}
-use Rattle.making.specs.Search.{place, Table, before, Search, bestStart, priced, mayStop, entryOf}
-use Rattle.making.specs.Filled.{Side, Filled}
+use Rattle.making.specs.Search.{place, Table, before, bestStart, priced, mayStop, entryOf}
+use Rattle.making.specs.Filled.{Side}
 use Rattle.making.specs.Fill.{tall, fillSide, fillPlace, fillColumn, fillColumns, filled}
-use Rattle.making.specs.Asked.{searchOf, Placed, CitedBefore, SideAsked, PlaceAsked, ColumnAsked, FillAsked}
+use Rattle.making.specs.Asked.{searchOf, SideAsked, PlaceAsked, ColumnAsked, FillAsked}
 use Rattle.making.specs.Run.{ColumnRun, TableRun}
-use Rattle.making.specs.laws.Entered.{Found, best-entered, side-before}
+use Rattle.making.specs.laws.Entered.{best-entered, side-before}
 use Rattle.making.specs.laws.Fill.{Room, length-side, length-place, length-column, filled-keeps, filled-place, filled-column, filled-start, filled-to}
 use Rattle.making.specs.laws.Price.{dearest-light}
 

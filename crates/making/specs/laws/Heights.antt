@@ -2,11 +2,11 @@
 use Prim.Native.Nat.{ℕ, zero, suc, pred, _+_, _-_, _*_, _≤_, _<_}
 use native.Mathlib.Decide.{decLe}
 use native.Mathlib.Omega.{arith}
-use mathlib.Core.Path.{_≡_, refl, sym, _∙_, ap}
-use mathlib.Core.Bool.{Bool, true, false, _&&_}
+use mathlib.Core.Path.{_≡_, sym, _∙_, ap}
+use mathlib.Core.Bool.{_&&_}
 use mathlib.Core.List.{List}
-use lib.Dec.{leb, ltb}
-use Rattle.model.specs.Gather.{pick, sum, between}
+use lib.Dec.{ltb}
+use Rattle.model.specs.Gather.{sum, between}
 use Rattle.model.specs.Galley.{Stream}
 use Rattle.model.specs.Height.{stacked, height, tightest, loosest}
 use Rattle.model.specs.laws.Gather.{between-sum}

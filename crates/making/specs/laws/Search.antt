@@ -1,15 +1,14 @@
 -- One turn of each loop of the search, by what the loop has tested.
-use Prim.Native.Nat.{ℕ, zero, suc, _+_, _-_, _≤_, _<_}
+use Prim.Native.Nat.{ℕ, suc, _+_, _≤_, _<_}
 use native.Mathlib.Nat.{le-refl}
 use native.Mathlib.Numerals.{add-one}
 use native.Mathlib.Omega.{arith}
 use mathlib.Core.Path.{_≡_, refl, sym, _∙_, ap}
-use mathlib.Core.Bool.{Bool, true, false, _&&_, _||_}
+use mathlib.Core.Bool.{Bool, true, false, _&&_}
 use mathlib.Core.List.{List}
-use lib.Dec.{eqb, leb, ltb}
+use lib.Dec.{leb, ltb}
 use borrow.Author.Tests.{le-leb, lt-leb, le-ltb}
 use Rattle.model.specs.Gather.{pick}
-use Rattle.model.specs.Height.{tightest, loosest}
 use Rattle.model.specs.Rules.{fits, fills}
 use Rattle.theorems.specs.PageGraph.{full}
 use Rattle.galley.specs.declared.Galley.{Galley}
@@ -24,7 +23,7 @@ use Rattle.places.specs.Table.{tableOf}
 use Rattle.making.specs.declared.heights.Heights.{Heights}
 use Rattle.making.specs.Search.{place, better, offered, row, rows}
 use Rattle.making.specs.Heights.{Stacked, together}
-use Rattle.making.specs.Asked.{searchOf, allPlaced, worth}
+use Rattle.making.specs.Asked.{searchOf, worth}
 use Rattle.making.specs.laws.Heights.{together-tight, together-loose, stacked-nothing}
 
 and-false : (a : Bool) → (a && false) ≡ false

@@ -1,7 +1,7 @@
 -- `entry_of` meets its contract: each answer is the case of `entryOf` for the tests before it. The entries before keep their
 -- costs low enough for the sum with the price to be a word.
-use mathlib.Core.Path.{_≡_, sym, ap, _∙_}
-use Prim.Native.Nat.{ℕ, suc, _+_, _≤_}
+use mathlib.Core.Path.{sym, ap, _∙_}
+use Prim.Native.Nat.{ℕ, suc}
 use native.Mathlib.Omega.{arith}
 use borrow.Author.Tests.{not-true, not-false}
 use Rattle.model.specs.Leaf.{sidesOf}

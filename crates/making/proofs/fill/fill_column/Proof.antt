@@ -1,7 +1,6 @@
 -- `fill_column` meets its contract. The loop's invariant is `ColumnRun`: what is left of the column makes of the words what the
 -- whole column makes of those at the start.
 use Prim.Native.Nat.{_+_, _-_}
-use native.Mathlib.Omega.{arith}
 use Rattle.making.specs.Run.{ColumnRun}
 use Rattle.making.specs.laws.Filling.{column-start, column-place, column-next, column-end}
 use borrow.Author.Needs.{needs}

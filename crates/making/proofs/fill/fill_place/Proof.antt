@@ -1,5 +1,5 @@
 -- `fill_place` meets its contract: side 0 alone, or side 1 after it; storing one side leaves every earlier entry as it was.
-use mathlib.Core.Path.{_≡_, sym, ap, _∙_}
+use mathlib.Core.Path.{sym, ap, _∙_}
 use Rattle.galley.specs.Model.{modelOf}
 use Rattle.making.specs.Fill.{fillSide}
 use Rattle.making.specs.laws.Filling.{side-first, side-second, place-single, place-double}

@@ -1,7 +1,6 @@
 -- `figure_before` meets its contract: there is no figure to add, or it is the page's last, or it comes with the space after it; each is
 -- a law of heights that grow at the front, and the galley's limits keep the sums within a word.
-use mathlib.Core.Path.{_≡_}
-use Prim.Native.Nat.{_+_, _≤_, _<_}
+use Prim.Native.Nat.{_+_}
 use native.Mathlib.Omega.{arith}
 use borrow.Author.Needs.{needs}
 use Rattle.galley.specs.Model.{figuresOf}

@@ -29,9 +29,11 @@ add-b c = search needs
 
 loop-holds : tie.Need-loop-holds Inv-loop μ-loop
 loop-holds c =
-    let a = c .before .before .args in
-    (omega arith, stacked-nothing (figuresOf (a .s .now) (a .g)) (a .j + 1) (a .j) (omega arith),
-    ap (λ (n : ℕ). row (searchOf (a .s .now) (a .g) (a .work .now) (a .i) (a .j) (a .side)) (a .a) n (a .known)) (add-one (a .j)))
+    let a = c .before .before .args in (
+      omega arith,
+      stacked-nothing (figuresOf (a .s .now) (a .g)) (a .j + 1) (a .j) (omega arith),
+      ap (λ (n : ℕ). row (searchOf (a .s .now) (a .g) (a .work .now) (a .i) (a .j) (a .side)) (a .a) n (a .known)) (add-one (a .j)),
+    )
 
 sub-b : tie.Need-sub-b Inv-loop μ-loop
 sub-b c = search needs

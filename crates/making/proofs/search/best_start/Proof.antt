@@ -29,9 +29,11 @@ add-a c = search needs
 loop-holds : tie.Need-loop-holds Inv-loop μ-loop
 unfolding bestStart
 loop-holds c =
-    let a = c .before .before .args in
-    (omega arith, stacked-nothing (textOf (a .s .now) (a .g)) (a .i + 1) (a .i) (omega arith),
-    ap (λ (n : ℕ). rows (searchOf (a .s .now) (a .g) (a .work .now) (a .i) (a .j) (a .side)) n Unreached) (add-one (a .i)))
+    let a = c .before .before .args in (
+      omega arith,
+      stacked-nothing (textOf (a .s .now) (a .g)) (a .i + 1) (a .i) (omega arith),
+      ap (λ (n : ℕ). rows (searchOf (a .s .now) (a .g) (a .work .now) (a .i) (a .j) (a .side)) n Unreached) (add-one (a .i)),
+    )
 
 sub-a : tie.Need-sub-a Inv-loop μ-loop
 sub-a c = search needs
@@ -68,9 +70,11 @@ loop-again c =
     let st = c .before .before .before .before .before .before .loop in
     let some = c .before .before .before .before .before .loop-test .taken in
     let next : st .a ≡ suc (st .a - 1) = omega arith in
-    let best = ap (rows (searchOf (a .s .now) (a .g) (a .work .now) (a .i) (a .j) (a .side)) (st .a - 1)) (c .best-on-line .ensures) in
-    (omega arith, c .before .before .before .before .line-before .ensures,
-    best ∙ sym (rows-next (a .s .now) (a .g) (a .work .now) (a .i) (a .j) (a .side) (st .a - 1) _ (c .before .before .before .before .line-before .ensures) (st .a) next (st .best) (c .before .if1 .left)) ∙ st .inv .2)
+    let best = ap (rows (searchOf (a .s .now) (a .g) (a .work .now) (a .i) (a .j) (a .side)) (st .a - 1)) (c .best-on-line .ensures) in (
+      omega arith,
+      c .before .before .before .before .line-before .ensures,
+      best ∙ sym (rows-next (a .s .now) (a .g) (a .work .now) (a .i) (a .j) (a .side) (st .a - 1) _ (c .before .before .before .before .line-before .ensures) (st .a) next (st .best) (c .before .if1 .left)) ∙ st .inv .2,
+    )
 
 returns-2 : tie.Need-returns-2 Inv-loop μ-loop
 unfolding rows
