@@ -48,7 +48,8 @@ module _ (g : model.Galley) (t : Table) (i j c : ℕ) (some : i + j + c ≡ 0 �
     found = rw (ne-eqb (i + j + c) 0 some, may)
 
     -- Where no page starts, it is unreached too.
-    pub entry-unreached : bestStart (record { galley = g; table = t; i = i; j = j; side = before (g .spec .sides) c }) ≡ Unreached
+    pub entry-unreached : bestStart (record { galley = g; table = t; i = i; j = j; side = before (g .spec .sides) c })
+        ≡ Unreached
         → entryOf g t i j c ≡ Unreached
     unfolding priced
     entry-unreached b = found ∙ ap (priced (pageCost g c (full g (place i j)) (place i j))) b
@@ -61,7 +62,8 @@ module _ (g : model.Galley) (t : Table) (i j c : ℕ) (some : i + j + c ≡ 0 �
     entry-least x r b = found ∙ ap (priced (pageCost g c (full g (place i j)) (place i j))) b
 
 -- The cost of a start and the price of the page are a word.
-pub cost-low : (bytes : List ℕ) (g : Galley) (w : List ℕ) (i j c cited : ℕ) → SideAsked bytes g w i j c cited → (x : ℕ) (r : Start)
+pub cost-low : (bytes : List ℕ) (g : Galley) (w : List ℕ) (i j c cited : ℕ) → SideAsked bytes g w i j c cited
+    → (x : ℕ) (r : Start)
     → bestStart (searchOf bytes g w i j (before (sidesOf (g .spec .sides)) c)) ≡ Least x r
     → x + pageCost (modelOf bytes g) c (full (modelOf bytes g) (place i j)) (place i j) ≤ 1000000000
 cost-low bytes g w i j c cited asked x r e =
@@ -87,7 +89,8 @@ unfolding oddly sidesOf
 side-one n e = rw (eq-eqb n 2 e)
 
 -- The sides of a place, by the field that says how many there are.
-pub place-single : (g : model.Galley) (n i j : ℕ) (w : List ℕ) → (n ≡ 2 → ⊥) → fillPlace (sidesOf n) g i j w ≡ fillSide g i j 0 w
+pub place-single : (g : model.Galley) (n i j : ℕ) (w : List ℕ) → (n ≡ 2 → ⊥) → fillPlace (sidesOf n) g i j w
+    ≡ fillSide g i j 0 w
 unfolding sidesOf fillPlace
 place-single g n i j w e = rw (ne-eqb n 2 e)
 
@@ -108,7 +111,8 @@ side-first bytes g w i j cited asked =
       filled = asked .filled;
     }
 
-pub side-second : (bytes : List ℕ) (g : Galley) (w : List ℕ) (i j cited : ℕ) → PlaceAsked bytes g w i j cited → g .spec .sides ≡ 2
+pub side-second : (bytes : List ℕ) (g : Galley) (w : List ℕ) (i j cited : ℕ) → PlaceAsked bytes g w i j cited
+    → g .spec .sides ≡ 2
     → SideAsked bytes g (fillSide (modelOf bytes g) i j 0 w) i j 1 cited
 unfolding Room tall
 side-second bytes g w i j cited asked e =
@@ -137,7 +141,8 @@ module _ (bytes : List ℕ) (g : Galley) (w₀ : List ℕ) where
         }
 
     -- The next place of the column may be filled.
-    pub column-place : ColumnAsked bytes g w₀ j → (w : List ℕ) (cited i cited′ : ℕ) → ColumnRun bytes g w₀ w j cited i → i ≤ g .lines
+    pub column-place : ColumnAsked bytes g w₀ j → (w : List ℕ) (cited i cited′ : ℕ) → ColumnRun bytes g w₀ w j cited i
+        → i ≤ g .lines
         → Citing (figuresOf bytes g) i cited′ → PlaceAsked bytes g w i j cited′
     column-place asked w cited i cited′ r l citing =
         let long = r .sized in
@@ -149,7 +154,8 @@ module _ (bytes : List ℕ) (g : Galley) (w₀ : List ℕ) where
         }
 
     -- One place more is filled.
-    pub column-next : ColumnAsked bytes g w₀ j → (w : List ℕ) (cited i cited′ : ℕ) → ColumnRun bytes g w₀ w j cited i → i ≤ g .lines
+    pub column-next : ColumnAsked bytes g w₀ j → (w : List ℕ) (cited i cited′ : ℕ) → ColumnRun bytes g w₀ w j cited i
+        → i ≤ g .lines
         → Citing (figuresOf bytes g) i cited′ → (v : List ℕ) → v ≡ fillPlace (sidesOf (g .spec .sides)) (modelOf bytes g) i j w
         → ColumnRun bytes g w₀ v j cited′ (i + 1)
     unfolding Room tall fillColumn
@@ -159,7 +165,8 @@ module _ (bytes : List ℕ) (g : Galley) (w₀ : List ℕ) where
         let s : i + 1 ≡ suc i = omega arith in
         let n : suc (g .lines) - i ≡ suc (suc (g .lines) - suc i) = omega arith in
         let next =
-        filled-place (modelOf bytes g) (dearest-light bytes g (asked .sound)) i j l (asked .column) w (omega (arith, asked .room))
+        filled-place (modelOf bytes g) (dearest-light bytes g (asked .sound)) i j l (asked .column) w
+        (omega (arith, asked .room))
         (r .entries) in
         record {
           within = omega arith;
@@ -195,7 +202,8 @@ module _ (bytes : List ℕ) (g : Galley) (w₀ : List ℕ) where
       }
 
   -- The next column may be filled.
-  pub table-column : FillAsked bytes g w₀ → (w : List ℕ) (j : ℕ) → TableRun bytes g w₀ w j → j ≤ g .figures → ColumnAsked bytes g w j
+  pub table-column : FillAsked bytes g w₀ → (w : List ℕ) (j : ℕ) → TableRun bytes g w₀ w j → j ≤ g .figures
+      → ColumnAsked bytes g w j
   table-column asked w j r l =
       let long = r .sized in
       record { sound = asked .sound; column = l; room = omega (arith, asked .room); filled = r .entries }
@@ -212,7 +220,8 @@ module _ (bytes : List ℕ) (g : Galley) (w₀ : List ℕ) where
       let n : suc (g .figures) - j ≡ suc (suc (g .figures) - suc j) = omega arith in
       let whole =
       filled-to (modelOf bytes g) light j l (suc (g .lines)) 0 w (omega arith) (omega (arith, asked .room)) (r .entries) in
-      let next = filled-column (modelOf bytes g) light (tableOf (suc (g .lines)) (fillColumn (modelOf bytes g) j (suc (g .lines)) 0 w)) j whole in
+      let next = filled-column (modelOf bytes g) light
+      (tableOf (suc (g .lines)) (fillColumn (modelOf bytes g) j (suc (g .lines)) 0 w)) j whole in
       record { within = omega arith; sized = omega arith; entries = rw (s, e) next; run = rw (s, e) (rw n at (r .run)) }
 
   -- After the last column the table is filled.

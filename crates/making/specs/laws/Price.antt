@@ -64,7 +64,8 @@ pub dearest-light : (bytes : List ℕ) (g : Galley) → Sound bytes g → deares
 unfolding dearest allFloats sum
 dearest-light bytes g sound =
     let few = sound .fewFigures in
-    let most = mul-le-mul {n₁ = g .spec .alpha} {m₁ = 0 + g .figures} {n₂ = 1000} {m₂ = 200} (sound .specRanged .alphas) (omega arith) in
+    let most = mul-le-mul {n₁ = g .spec .alpha} {m₁ = 0 + g .figures} {n₂ = 1000} {m₂ = 200} (sound .specRanged .alphas)
+    (omega arith) in
     omega (arith, sound .specRanged .betas)
 
 -- The product in a price is small.

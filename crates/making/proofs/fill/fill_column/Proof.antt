@@ -28,7 +28,8 @@ fill-place-requires c κs =
     let start = c .before .before .before .before .before .before .before in
     let a = start .args in
     let st = c .before .before .before .before .loop in
-    column-place (a .s .now) (a .g) (a .work .now) (a .j) (start .pre) (st .work) (st .cited) (st .i) (c .before .cited-through .result)
+    column-place (a .s .now) (a .g) (a .work .now) (a .j) (start .pre) (st .work) (st .cited) (st .i)
+    (c .before .cited-through .result)
     (st .inv) (c .before .before .if1 .taken) (c .before .cited-through .ensures)
 
 add-i : tie.Need-add-i Inv-loop μ-loop
@@ -42,8 +43,10 @@ loop-again c =
     let start = c .before .before .before .before .before .before .before .before .before .before in
     let a = start .args in
     let st = c .before .before .before .before .before .before .before .loop in
-    column-next (a .s .now) (a .g) (a .work .now) (a .j) (start .pre) (st .work) (st .cited) (st .i) (c .before .before .before .before .cited-through .result)
-    (st .inv) (c .before .before .before .before .before .if1 .taken) (c .before .before .before .before .cited-through .ensures) _ (c .before .before .fill-place .ensures)
+    column-next (a .s .now) (a .g) (a .work .now) (a .j) (start .pre) (st .work) (st .cited) (st .i)
+    (c .before .before .before .before .cited-through .result)
+    (st .inv) (c .before .before .before .before .before .if1 .taken)
+    (c .before .before .before .before .cited-through .ensures) _ (c .before .before .fill-place .ensures)
 
 same-length : tie.Need-same-length Inv-loop μ-loop
 same-length c = search needs

@@ -49,9 +49,12 @@ unfolding fillSide tall
 returns c =
     let start = c .before .before .before .before .before .before .before .before .before .before in
     let a = start .args in
-    let at = c .before .before .before .before .address-of .ensures ∙ ap (λ (n : ℕ). address n (a .i) (a .j) (a .c)) (add-one (a .g .lines)) in
-    c .before .before .store .ensures ∙ ap (λ (n : ℕ). stored (a .work .now) n (c .before .before .before .before .before .before .entry-of .result)) at
-    ∙ ap (stored (a .work .now) (address (suc (a .g .lines)) (a .i) (a .j) (a .c))) (c .before .before .before .before .before .before .entry-of .ensures)
+    let at = c .before .before .before .before .address-of .ensures
+    ∙ ap (λ (n : ℕ). address n (a .i) (a .j) (a .c)) (add-one (a .g .lines)) in
+    c .before .before .store .ensures ∙ ap
+    (λ (n : ℕ). stored (a .work .now) n (c .before .before .before .before .before .before .entry-of .result)) at
+    ∙ ap (stored (a .work .now) (address (suc (a .g .lines)) (a .i) (a .j) (a .c)))
+    (c .before .before .before .before .before .before .entry-of .ensures)
 
 pub fill-side-spec : {M : Type 1} → statement M
 fill-side-spec =
