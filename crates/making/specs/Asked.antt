@@ -58,12 +58,6 @@ pub record Stopping (bytes : List ℕ) (g : Galley) (i j c cited : ℕ) : Type 0
   pub either : c ≤ 1
   pub citing : Citing (figuresOf bytes g) i cited
 
--- The first figures, `before` of them, are cited by line i or earlier.
-pub record CitedBefore (bytes : List ℕ) (g : Galley) (i before : ℕ) : Type 0 where
-  pub sound : Sound bytes g
-  pub few : before ≤ g .figures
-  pub upto : (k : ℕ) → 1 ≤ k → k ≤ before → figuresOf bytes g .cite k ≤ i
-
 -- Weights and figures that keep a price within a word.
 pub record Priceable (g : Galley) (c cited : ℕ) : Type 0 where
   pub alphas : g .spec .alpha ≤ 1000

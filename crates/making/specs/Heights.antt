@@ -5,13 +5,12 @@ use mathlib.Core.Bool.{Bool}
 use mathlib.Core.List.{List}
 use Rattle.model.specs.Gather.{pick}
 use Rattle.model.specs.Galley.{Stream}
-use Rattle.model.specs.Height.{stacked, tightest, loosest}
+use Rattle.model.specs.Height.{stacked}
 use Rattle.galley.specs.declared.Galley.{Galley}
 use Rattle.galley.specs.declared.Spec.{Spec}
-use Rattle.galley.specs.Model.{textOf, figuresOf, modelOf}
+use Rattle.galley.specs.Model.{textOf, figuresOf}
 use Rattle.galley.specs.Sound.{Sound}
 use Rattle.making.specs.declared.heights.Heights.{Heights}
-use Rattle.making.specs.Search.{place}
 
 -- h is the height of blocks a + 1 to b of a stream, at least and at greatest spaces.
 pub record Stacked (st : Stream) (a b : ℕ) (h : Heights) : Type 0 where

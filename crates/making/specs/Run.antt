@@ -5,10 +5,10 @@ use mathlib.Core.List.{List}
 use lib.ListN.{length}
 use Rattle.galley.specs.declared.Galley.{Galley}
 use Rattle.galley.specs.Model.{modelOf}
+use Rattle.marking.specs.Parts.{CitedBefore}
 use Rattle.places.specs.Table.{tableOf}
 use Rattle.making.specs.Fill.{fillColumn, fillColumns, filled}
 use Rattle.making.specs.Filled.{Filled}
-use Rattle.making.specs.Asked.{CitedBefore}
 
 -- Column j is filled above line i: the words are now w, and what is left of the column makes them what the whole makes of w₀.
 pub record ColumnRun (bytes : List ℕ) (g : Galley) (w₀ w : List ℕ) (j cited i : ℕ) : Type 0 where

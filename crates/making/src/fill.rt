@@ -5,7 +5,7 @@ ghost use Rattle.model.specs.Leaf.{sidesOf};
 ghost use Rattle.galley.specs.Model.{modelOf};
 ghost use Rattle.places.specs.Table.{tableOf};
 ghost use Rattle.making.specs.Search.{before, entryOf};
-ghost use Rattle.making.specs.Fill.{tall, fillSide, fillPlace, fillColumn, filled};
+ghost use Rattle.making.specs.Fill.{fillSide, fillPlace, fillColumn, filled};
 ghost use Rattle.making.specs.Asked.{SideAsked, PlaceAsked, ColumnAsked, FillAsked};
 use galley::Galley;
 use places::Entry;
@@ -70,7 +70,7 @@ fn fill_column(s: &[u8], g: Galley, work: &mut [u32], j: usize)
     let mut cited = 0;
     let mut i = 0;
     while i <= g.lines {
-        cited = crate::price::cited_through(s, g, i, cited);
+        cited = marking::cites::cited_through(s, g, i, cited);
         fill_place(s, g, work, i, j, cited);
         i += 1;
     }

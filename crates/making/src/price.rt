@@ -3,31 +3,14 @@ ghost use mathlib.Core.Path.{_≡_};
 ghost use mathlib.Core.List.{List};
 ghost use Prim.Native.Nat.{ℕ, _≤_};
 ghost use Rattle.model.specs.Leaf.{ends, sidesOf};
-ghost use Rattle.model.specs.Rules.{mayEnd};
 ghost use Rattle.theorems.specs.Waiting.{pageCost};
 ghost use Rattle.theorems.specs.PageGraph.{full};
-ghost use Rattle.galley.specs.Model.{textOf, figuresOf, modelOf};
-ghost use Rattle.galley.specs.Sound.{Sound};
+ghost use Rattle.galley.specs.Model.{figuresOf, modelOf};
 ghost use Rattle.marking.specs.Parts.{Citing};
 ghost use Rattle.making.specs.Search.{place, mayStop};
-ghost use Rattle.making.specs.Asked.{allPlaced, CitedBefore, Stopping, Priceable};
+ghost use Rattle.making.specs.Asked.{allPlaced, Stopping, Priceable};
 use galley::Galley;
 use model::page::Page;
-
-// How many figures are cited by line i or earlier, counted on from those cited by an earlier line.
-pub fn cited_through(s: &[u8], g: Galley, i: usize, before: usize) -> usize
-    requires { ⌜ CitedBefore (now s) g i before ⌝ }
-    ensures { λ r. ⌜ Citing (figuresOf (now (s .entry)) g) i r ⌝ }
-{
-    let mut c = before;
-    while c < g.figures {
-        if i < galley::block::figure_cite(s, g, c + 1) as usize {
-            return c;
-        }
-        c += 1;
-    }
-    c
-}
 
 // Whether every block is placed at (i, j): a page that ends there is the last.
 pub fn is_full(g: Galley, i: usize, j: usize) -> bool
@@ -44,23 +27,12 @@ fn ends_leaf(g: Galley, c: usize) -> bool
     model::page::ends_spread(g.spec.sides, Page(c as u32))
 }
 
-// Whether a page may end after line i: before the first line, after the last, or in a space that allows it.
-fn may_end(s: &[u8], g: Galley, i: usize) -> bool
-    requires { ⌜ Sound (now s) g ⌝ }
-    ensures { λ r. ⌜ r ≡ mayEnd (textOf (now (s .entry)) g) i ⌝ }
-{
-    if (0 < i) & (i < g.lines) {
-        return galley::block::line_legal(s, g, i) == 1;
-    }
-    true
-}
-
 // Whether a page on side c may end at (i, j): where a leaf or the list ends, no figure is placed that is not cited.
 pub fn may_stop(s: &[u8], g: Galley, i: usize, j: usize, c: usize, cited: usize) -> bool
     requires { ⌜ Stopping (now s) g i j c cited ⌝ }
     ensures { λ r. ⌜ r ≡ mayStop (modelOf (now (s .entry)) g) i j c ⌝ }
 {
-    may_end(s, g, i) & (!(ends_leaf(g, c) | is_full(g, i, j)) | (j <= cited))
+    marking::rules::may_end(s, g, i) & (!(ends_leaf(g, c) | is_full(g, i, j)) | (j <= cited))
 }
 
 // What a page on side c costs that ends at (i, j), with so many figures cited by line i or earlier: where it ends its leaf

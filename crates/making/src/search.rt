@@ -1,9 +1,9 @@
 // The best start of a page that ends at a place: starts from the latest to the earliest, later lines first, then later
 // figures, and a mind changed only for a strictly smaller cost. Document 01, "Making".
 ghost use mathlib.Core.Path.{_≡_};
-ghost use Prim.Native.Nat.{suc, _≤_};
+ghost use Prim.Native.Nat.{suc};
 ghost use Rattle.places.specs.declared.Start.{Start as StartOf};
-ghost use Rattle.places.specs.declared.Entry.the-variants.{Unreached as unreached, Least as least};
+ghost use Rattle.places.specs.declared.Entry.the-variants.{Least as least};
 ghost use Rattle.making.specs.Search.{better, row, bestStart};
 ghost use Rattle.making.specs.Asked.{searchOf, worth, Searched, RowAsked, Startable};
 use crate::heights::Heights;

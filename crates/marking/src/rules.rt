@@ -36,7 +36,7 @@ fn is_forward(g: Galley, a: usize, b: usize, i: usize, j: usize) -> bool
 }
 
 // 14: a page may end before the first line, after the last, or in a space that allows it.
-fn may_end(s: &[u8], g: Galley, i: usize) -> bool
+pub fn may_end(s: &[u8], g: Galley, i: usize) -> bool
     requires { ⌜ Sound (now s) g ⌝ }
     ensures { λ r. ⌜ r ≡ mayEnd (textOf (now (s .entry)) g) i ⌝ }
 {

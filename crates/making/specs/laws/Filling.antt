@@ -1,13 +1,11 @@
 -- The entry of a place by what the code has tested, and the turns of the filling loops.
-use Prim.Native.Nat.{ℕ, zero, suc, _+_, _-_, _*_, _≤_, _<_}
+use Prim.Native.Nat.{ℕ, suc, _+_, _-_, _≤_, _<_}
 use native.Mathlib.Omega.{arith}
-use mathlib.Core.Path.{_≡_, refl, sym, _∙_, ap, subst}
-use mathlib.Core.Bool.{Bool, true, false}
+use mathlib.Core.Path.{_≡_, refl, _∙_, ap}
+use mathlib.Core.Bool.{true, false}
 use mathlib.Core.List.{List}
-use lib.Dec.{eqb}
 use lib.ListN.{length}
 use borrow.Author.Tests.{eq-eqb, ne-eqb}
-use Rattle.model.specs.Gather.{pick}
 use Rattle.model.specs.Galley as model
 use Rattle.model.specs.Galley.{Sides, single, double}
 use Rattle.model.specs.Leaf.{sidesOf}
@@ -17,19 +15,16 @@ use Rattle.theorems.specs.PageGraph.{full}
 use Rattle.theorems.specs.Bounds.{cost-le}
 use Rattle.galley.specs.declared.Galley.{Galley}
 use Rattle.galley.specs.Model.{figuresOf, modelOf}
-use Rattle.galley.specs.Sound.{Sound}
 use Rattle.marking.specs.Parts.{Citing}
 use Rattle.places.specs.declared.Start.{Start}
-use Rattle.places.specs.declared.Entry.{Entry}
 use Rattle.places.specs.declared.Entry.the-variants.{Unreached, Least}
-use Rattle.places.specs.Address.{wordsNeeded}
 use Rattle.places.specs.Table.{tableOf}
-use Rattle.making.specs.Search.{place, Table, before, Search, bestStart, priced, mayStop, entryOf}
-use Rattle.making.specs.Filled.{Side, Filled}
+use Rattle.making.specs.Search.{place, Table, before, bestStart, priced, mayStop, entryOf}
+use Rattle.making.specs.Filled.{Side}
 use Rattle.making.specs.Fill.{tall, fillSide, fillPlace, fillColumn, fillColumns, filled}
-use Rattle.making.specs.Asked.{searchOf, Placed, CitedBefore, SideAsked, PlaceAsked, ColumnAsked, FillAsked}
+use Rattle.making.specs.Asked.{searchOf, SideAsked, PlaceAsked, ColumnAsked, FillAsked}
 use Rattle.making.specs.Run.{ColumnRun, TableRun}
-use Rattle.making.specs.laws.Entered.{Found, best-entered, side-before}
+use Rattle.making.specs.laws.Entered.{best-entered, side-before}
 use Rattle.making.specs.laws.Fill.{Room, length-side, length-place, length-column, filled-keeps, filled-place, filled-column, filled-start, filled-to}
 use Rattle.making.specs.laws.Price.{dearest-light}
 
@@ -53,7 +48,8 @@ module _ (g : model.Galley) (t : Table) (i j c : ℕ) (some : i + j + c ≡ 0 �
     found = rw (ne-eqb (i + j + c) 0 some, may)
 
     -- Where no page starts, it is unreached too.
-    pub entry-unreached : bestStart (record { galley = g; table = t; i = i; j = j; side = before (g .spec .sides) c }) ≡ Unreached
+    pub entry-unreached : bestStart (record { galley = g; table = t; i = i; j = j; side = before (g .spec .sides) c })
+        ≡ Unreached
         → entryOf g t i j c ≡ Unreached
     unfolding priced
     entry-unreached b = found ∙ ap (priced (pageCost g c (full g (place i j)) (place i j))) b
@@ -66,7 +62,8 @@ module _ (g : model.Galley) (t : Table) (i j c : ℕ) (some : i + j + c ≡ 0 �
     entry-least x r b = found ∙ ap (priced (pageCost g c (full g (place i j)) (place i j))) b
 
 -- The cost of a start and the price of the page are a word.
-pub cost-low : (bytes : List ℕ) (g : Galley) (w : List ℕ) (i j c cited : ℕ) → SideAsked bytes g w i j c cited → (x : ℕ) (r : Start)
+pub cost-low : (bytes : List ℕ) (g : Galley) (w : List ℕ) (i j c cited : ℕ) → SideAsked bytes g w i j c cited
+    → (x : ℕ) (r : Start)
     → bestStart (searchOf bytes g w i j (before (sidesOf (g .spec .sides)) c)) ≡ Least x r
     → x + pageCost (modelOf bytes g) c (full (modelOf bytes g) (place i j)) (place i j) ≤ 1000000000
 cost-low bytes g w i j c cited asked x r e =
@@ -92,7 +89,8 @@ unfolding oddly sidesOf
 side-one n e = rw (eq-eqb n 2 e)
 
 -- The sides of a place, by the field that says how many there are.
-pub place-single : (g : model.Galley) (n i j : ℕ) (w : List ℕ) → (n ≡ 2 → ⊥) → fillPlace (sidesOf n) g i j w ≡ fillSide g i j 0 w
+pub place-single : (g : model.Galley) (n i j : ℕ) (w : List ℕ) → (n ≡ 2 → ⊥) → fillPlace (sidesOf n) g i j w
+    ≡ fillSide g i j 0 w
 unfolding sidesOf fillPlace
 place-single g n i j w e = rw (ne-eqb n 2 e)
 
@@ -113,7 +111,8 @@ side-first bytes g w i j cited asked =
       filled = asked .filled;
     }
 
-pub side-second : (bytes : List ℕ) (g : Galley) (w : List ℕ) (i j cited : ℕ) → PlaceAsked bytes g w i j cited → g .spec .sides ≡ 2
+pub side-second : (bytes : List ℕ) (g : Galley) (w : List ℕ) (i j cited : ℕ) → PlaceAsked bytes g w i j cited
+    → g .spec .sides ≡ 2
     → SideAsked bytes g (fillSide (modelOf bytes g) i j 0 w) i j 1 cited
 unfolding Room tall
 side-second bytes g w i j cited asked e =
@@ -142,7 +141,8 @@ module _ (bytes : List ℕ) (g : Galley) (w₀ : List ℕ) where
         }
 
     -- The next place of the column may be filled.
-    pub column-place : ColumnAsked bytes g w₀ j → (w : List ℕ) (cited i cited′ : ℕ) → ColumnRun bytes g w₀ w j cited i → i ≤ g .lines
+    pub column-place : ColumnAsked bytes g w₀ j → (w : List ℕ) (cited i cited′ : ℕ) → ColumnRun bytes g w₀ w j cited i
+        → i ≤ g .lines
         → Citing (figuresOf bytes g) i cited′ → PlaceAsked bytes g w i j cited′
     column-place asked w cited i cited′ r l citing =
         let long = r .sized in
@@ -154,7 +154,8 @@ module _ (bytes : List ℕ) (g : Galley) (w₀ : List ℕ) where
         }
 
     -- One place more is filled.
-    pub column-next : ColumnAsked bytes g w₀ j → (w : List ℕ) (cited i cited′ : ℕ) → ColumnRun bytes g w₀ w j cited i → i ≤ g .lines
+    pub column-next : ColumnAsked bytes g w₀ j → (w : List ℕ) (cited i cited′ : ℕ) → ColumnRun bytes g w₀ w j cited i
+        → i ≤ g .lines
         → Citing (figuresOf bytes g) i cited′ → (v : List ℕ) → v ≡ fillPlace (sidesOf (g .spec .sides)) (modelOf bytes g) i j w
         → ColumnRun bytes g w₀ v j cited′ (i + 1)
     unfolding Room tall fillColumn
@@ -164,7 +165,8 @@ module _ (bytes : List ℕ) (g : Galley) (w₀ : List ℕ) where
         let s : i + 1 ≡ suc i = omega arith in
         let n : suc (g .lines) - i ≡ suc (suc (g .lines) - suc i) = omega arith in
         let next =
-        filled-place (modelOf bytes g) (dearest-light bytes g (asked .sound)) i j l (asked .column) w (omega (arith, asked .room))
+        filled-place (modelOf bytes g) (dearest-light bytes g (asked .sound)) i j l (asked .column) w
+        (omega (arith, asked .room))
         (r .entries) in
         record {
           within = omega arith;
@@ -200,7 +202,8 @@ module _ (bytes : List ℕ) (g : Galley) (w₀ : List ℕ) where
       }
 
   -- The next column may be filled.
-  pub table-column : FillAsked bytes g w₀ → (w : List ℕ) (j : ℕ) → TableRun bytes g w₀ w j → j ≤ g .figures → ColumnAsked bytes g w j
+  pub table-column : FillAsked bytes g w₀ → (w : List ℕ) (j : ℕ) → TableRun bytes g w₀ w j → j ≤ g .figures
+      → ColumnAsked bytes g w j
   table-column asked w j r l =
       let long = r .sized in
       record { sound = asked .sound; column = l; room = omega (arith, asked .room); filled = r .entries }
@@ -217,7 +220,8 @@ module _ (bytes : List ℕ) (g : Galley) (w₀ : List ℕ) where
       let n : suc (g .figures) - j ≡ suc (suc (g .figures) - suc j) = omega arith in
       let whole =
       filled-to (modelOf bytes g) light j l (suc (g .lines)) 0 w (omega arith) (omega (arith, asked .room)) (r .entries) in
-      let next = filled-column (modelOf bytes g) light (tableOf (suc (g .lines)) (fillColumn (modelOf bytes g) j (suc (g .lines)) 0 w)) j whole in
+      let next = filled-column (modelOf bytes g) light
+      (tableOf (suc (g .lines)) (fillColumn (modelOf bytes g) j (suc (g .lines)) 0 w)) j whole in
       record { within = omega arith; sized = omega arith; entries = rw (s, e) next; run = rw (s, e) (rw n at (r .run)) }
 
   -- After the last column the table is filled.

@@ -2,11 +2,11 @@
 use Prim.Native.Nat.{ℕ, zero, suc, pred, _+_, _-_, _*_, _≤_, _<_}
 use native.Mathlib.Decide.{decLe}
 use native.Mathlib.Omega.{arith}
-use mathlib.Core.Path.{_≡_, refl, sym, _∙_, ap}
-use mathlib.Core.Bool.{Bool, true, false, _&&_}
+use mathlib.Core.Path.{_≡_, sym, _∙_, ap}
+use mathlib.Core.Bool.{_&&_}
 use mathlib.Core.List.{List}
-use lib.Dec.{leb, ltb}
-use Rattle.model.specs.Gather.{pick, sum, between}
+use lib.Dec.{ltb}
+use Rattle.model.specs.Gather.{sum, between}
 use Rattle.model.specs.Galley.{Stream}
 use Rattle.model.specs.Height.{stacked, height, tightest, loosest}
 use Rattle.model.specs.laws.Gather.{between-sum}
@@ -120,7 +120,8 @@ module _ (bytes : List ℕ) (g : Galley) (sound : Sound bytes g) (a b : ℕ) (h 
 
 -- No block, whatever heights are 0.
 pub stacked-nothing : (st : Stream) (a b : ℕ) → b ≤ a → Stacked st a b (record { tight = 0; loose = 0 })
-stacked-nothing st a b h = record { tight = sym (stacked-none st (st .least) a b h); loose = sym (stacked-none st (st .most) a b h) }
+stacked-nothing st a b h = record
+    { tight = sym (stacked-none st (st .least) a b h); loose = sym (stacked-none st (st .most) a b h) }
 
 -- Before all blocks of the page there is nothing to add.
 pub front-none : (st : Stream) (a b : ℕ) (h : Heights) → b ≤ a → Stacked st (a + 1) b h → Stacked st a b h
@@ -131,7 +132,8 @@ front-none st a b h m s =
     }
 
 -- The last block of the page, without the space after it.
-pub front-one : (st : Stream) (a b ht : ℕ) → b ≡ a + 1 → ht ≡ st .ht (a + 1) → Stacked st a b (record { tight = ht; loose = ht })
+pub front-one : (st : Stream) (a b ht : ℕ) → b ≡ a + 1 → ht ≡ st .ht (a + 1)
+    → Stacked st a b (record { tight = ht; loose = ht })
 front-one st a b ht m e =
     record { tight = e ∙ sym (stacked-one st (st .least) a b m); loose = e ∙ sym (stacked-one st (st .most) a b m) }
 
@@ -149,7 +151,8 @@ front-more st a b h ht least most m s e f k =
 -- Lines and figures of known heights make a page of known height.
 module _ (bytes : List ℕ) (g : Galley) (a b i j : ℕ) (lines figures : Heights) (text : Stacked (textOf bytes g) a i lines)
     (floats : Stacked (figuresOf bytes g) b j figures) where
-  pub together-tight : together (g .spec) (ltb a i && ltb b j) lines figures .tight ≡ tightest (modelOf bytes g) (place a b) (place i j)
+  pub together-tight : together (g .spec) (ltb a i && ltb b j) lines figures .tight
+      ≡ tightest (modelOf bytes g) (place a b) (place i j)
   unfolding tightest separation
   together-tight =
       let t = text .tight in
@@ -157,7 +160,8 @@ module _ (bytes : List ℕ) (g : Galley) (a b i j : ℕ) (lines figures : Height
       let e = height-two bytes g (λ st. st .least) (g .spec .smin) a b i j in
       omega arith
 
-  pub together-loose : together (g .spec) (ltb a i && ltb b j) lines figures .loose ≡ loosest (modelOf bytes g) (place a b) (place i j)
+  pub together-loose : together (g .spec) (ltb a i && ltb b j) lines figures .loose
+      ≡ loosest (modelOf bytes g) (place a b) (place i j)
   unfolding loosest separation
   together-loose =
       let t = text .loose in

@@ -1,15 +1,14 @@
 -- One turn of each loop of the search, by what the loop has tested.
-use Prim.Native.Nat.{ℕ, zero, suc, _+_, _-_, _≤_, _<_}
+use Prim.Native.Nat.{ℕ, suc, _+_, _≤_, _<_}
 use native.Mathlib.Nat.{le-refl}
 use native.Mathlib.Numerals.{add-one}
 use native.Mathlib.Omega.{arith}
 use mathlib.Core.Path.{_≡_, refl, sym, _∙_, ap}
-use mathlib.Core.Bool.{Bool, true, false, _&&_, _||_}
+use mathlib.Core.Bool.{Bool, true, false, _&&_}
 use mathlib.Core.List.{List}
-use lib.Dec.{eqb, leb, ltb}
+use lib.Dec.{leb, ltb}
 use borrow.Author.Tests.{le-leb, lt-leb, le-ltb}
 use Rattle.model.specs.Gather.{pick}
-use Rattle.model.specs.Height.{tightest, loosest}
 use Rattle.model.specs.Rules.{fits, fills}
 use Rattle.theorems.specs.PageGraph.{full}
 use Rattle.galley.specs.declared.Galley.{Galley}
@@ -24,7 +23,7 @@ use Rattle.places.specs.Table.{tableOf}
 use Rattle.making.specs.declared.heights.Heights.{Heights}
 use Rattle.making.specs.Search.{place, better, offered, row, rows}
 use Rattle.making.specs.Heights.{Stacked, together}
-use Rattle.making.specs.Asked.{searchOf, allPlaced, worth}
+use Rattle.making.specs.Asked.{searchOf, worth}
 use Rattle.making.specs.laws.Heights.{together-tight, together-loose, stacked-nothing}
 
 and-false : (a : Bool) → (a && false) ≡ false
@@ -37,8 +36,10 @@ pub table-read : (g : Galley) (w : List ℕ) (a b side at : ℕ) → at ≡ addr
 unfolding tableOf
 table-read g w a b side at e = rw (e, add-one)
 
-module _ (bytes : List ℕ) (g : Galley) (w : List ℕ) (i j side a : ℕ) (lines : Heights) (text : Stacked (textOf bytes g) a i lines) where
-  module _ (top b : ℕ) (next : top ≡ suc b) (figures : Heights) (floats : Stacked (figuresOf bytes g) b j figures) (page : Heights)
+module _ (bytes : List ℕ) (g : Galley) (w : List ℕ) (i j side a : ℕ) (lines : Heights)
+    (text : Stacked (textOf bytes g) a i lines) where
+  module _ (top b : ℕ) (next : top ≡ suc b) (figures : Heights) (floats : Stacked (figuresOf bytes g) b j figures)
+      (page : Heights)
       (whole : page ≡ together (g .spec) (ltb a i && ltb b j) lines figures) where
     fits-page : fits (modelOf bytes g) (place a b) (place i j) ≡ leb (page .tight) (g .spec .htmax)
     unfolding fits
@@ -83,7 +84,8 @@ module _ (bytes : List ℕ) (g : Galley) (w : List ℕ) (i j side a : ℕ) (line
           turn ∙ ap (row (searchOf bytes g w i j side) a b) o
 
       -- A start that is reached is weighed against the best so far.
-      pub row-weighed : worth g a b i j (page .loose) ≡ true → (x : ℕ) (r : Start) → tableOf (suc (g .lines)) w a b side ≡ Least x r
+      pub row-weighed : worth g a b i j (page .loose) ≡ true → (x : ℕ) (r : Start) → tableOf (suc (g .lines)) w a b side
+          ≡ Least x r
           → row (searchOf bytes g w i j side) a top best
           ≡ row (searchOf bytes g w i j side) a b (better (Least x r) a b best)
       row-weighed t x r u =
@@ -94,7 +96,8 @@ module _ (bytes : List ℕ) (g : Galley) (w : List ℕ) (i j side a : ℕ) (line
   fits-lines : fits (modelOf bytes g) (place a j) (place i j) ≡ leb (lines .tight) (g .spec .htmax)
   fits-lines =
       let none : Heights = record { tight = 0; loose = 0 } in
-      let e = fits-page (suc j) j refl none (stacked-nothing (figuresOf bytes g) j j (le-refl j)) (together (g .spec) (ltb a i && ltb j j) lines none) refl in
+      let e = fits-page (suc j) j refl none (stacked-nothing (figuresOf bytes g) j j (le-refl j))
+      (together (g .spec) (ltb a i && ltb j j) lines none) refl in
       let f = and-false (ltb a i) in
       let n : lines .tight + 0 + 0 ≡ lines .tight = omega arith in
       rw (le-ltb j j (le-refl j), f, n) at e

@@ -1,7 +1,7 @@
 -- `entry_of` meets its contract: each answer is the case of `entryOf` for the tests before it. The entries before keep their
 -- costs low enough for the sum with the price to be a word.
-use mathlib.Core.Path.{_≡_, sym, ap, _∙_}
-use Prim.Native.Nat.{ℕ, suc, _+_, _≤_}
+use mathlib.Core.Path.{sym, ap, _∙_}
+use Prim.Native.Nat.{ℕ, suc}
 use native.Mathlib.Omega.{arith}
 use borrow.Author.Tests.{not-true, not-false}
 use Rattle.model.specs.Leaf.{sidesOf}
@@ -22,14 +22,16 @@ add-if1-2 : tie.Need-add-if1-2
 add-if1-2 c =
     let start = c .before .before in
     let a = start .args in
+    let placed = start .pre .placed in
     let low = side-low (sidesOf (a .g .spec .sides)) (a .c) (start .pre .side) in
-    omega (arith, start .pre .placed .line, start .pre .placed .figure, start .pre .placed .sound .fewLines, start .pre .placed .sound .fewFigures)
+    omega (arith, placed .line, placed .figure, placed .sound .fewLines, placed .sound .fewFigures)
 
 returns : tie.Need-returns
 returns c =
     let start = c .before .before .before in
     let a = start .args in
-    sym (entry-nothing (modelOf (a .s .now) (a .g)) (tableOf (suc (a .g .lines)) (a .work .now)) (a .i) (a .j) (a .c) (c .if1 .taken))
+    sym (entry-nothing (modelOf (a .s .now) (a .g)) (tableOf (suc (a .g .lines)) (a .work .now)) (a .i) (a .j) (a .c)
+    (c .if1 .taken))
 
 may-stop-requires : tie.Need-may-stop-requires
 may-stop-requires c κs =
@@ -42,8 +44,9 @@ returns-2 : tie.Need-returns-2
 returns-2 c =
     let start = c .before .before .before .before .before in
     let a = start .args in
-    let may = sym (c .before .may-stop .ensures) ∙ not-true (c .before .may-stop .result) (c .if2 .taken) in
-    sym (entry-forbidden (modelOf (a .s .now) (a .g)) (tableOf (suc (a .g .lines)) (a .work .now)) (a .i) (a .j) (a .c) (c .before .before .if1 .left) may)
+    let forbidden = sym (c .before .may-stop .ensures) ∙ not-true (c .before .may-stop .result) (c .if2 .taken) in
+    sym (entry-forbidden (modelOf (a .s .now) (a .g)) (tableOf (suc (a .g .lines)) (a .work .now)) (a .i) (a .j) (a .c)
+    (c .before .before .if1 .left) forbidden)
 
 side-before-requires : tie.Need-side-before-requires
 side-before-requires c κs =
@@ -68,13 +71,20 @@ enum-told c = search needs
 
 returns-3 : tie.Need-returns-3
 returns-3 c =
-    let start = c .before .before .before .before .before .before .before .before .before in
+    let found = c .before .before in
+    let side = found .before in
+    let may = side .before .before in
+    let start = may .before .before .before .before in
     let a = start .args in
-    let may = sym (c .before .before .before .before .before .may-stop .ensures) ∙ not-false (c .before .before .before .before .before .may-stop .result) (c .before .before .before .before .if2 .left) in
+    let allowed = sym (may .may-stop .ensures) ∙ not-false (may .may-stop .result) (side .before .if2 .left) in
+    let some = may .before .if1 .left in
     let best =
-    sym (ap (λ (n : ℕ). bestStart (searchOf (a .s .now) (a .g) (a .work .now) (a .i) (a .j) n)) (c .before .before .before .side-before .ensures))
-    ∙ sym (c .before .before .best-start .ensures) ∙ c .enum-told .given .1 in
-    sym (entry-unreached (modelOf (a .s .now) (a .g)) (tableOf (suc (a .g .lines)) (a .work .now)) (a .i) (a .j) (a .c) (c .before .before .before .before .before .before .if1 .left) may best)
+    sym
+    (ap (λ (n : ℕ). bestStart (searchOf (a .s .now) (a .g) (a .work .now) (a .i) (a .j) n)) (side .side-before .ensures))
+    ∙ sym (found .best-start .ensures)
+    ∙ c .enum-told .given .1 in
+    sym (entry-unreached (modelOf (a .s .now) (a .g)) (tableOf (suc (a .g .lines)) (a .work .now)) (a .i) (a .j) (a .c) some
+    allowed best)
 
 price-requires : tie.Need-price-requires
 price-requires c κs =
@@ -92,25 +102,38 @@ price-requires c κs =
 
 add-t17 : tie.Need-add-t17
 add-t17 c =
-    let start = c .before .before .before .before .before .before .before .before .before .before .before in
+    let found = c .before .before .before .before in
+    let side = found .before in
+    let may = side .before .before in
+    let start = may .before .before .before .before in
     let a = start .args in
     let best =
-    sym (ap (λ (n : ℕ). bestStart (searchOf (a .s .now) (a .g) (a .work .now) (a .i) (a .j) n)) (c .before .before .before .before .before .side-before .ensures))
-    ∙ sym (c .before .before .before .before .best-start .ensures) ∙ c .before .before .best .given .1 in
-    let low = cost-low (a .s .now) (a .g) (a .work .now) (a .i) (a .j) (a .c) (a .cited) (start .pre) _ _ best in
+    sym
+    (ap (λ (n : ℕ). bestStart (searchOf (a .s .now) (a .g) (a .work .now) (a .i) (a .j) n)) (side .side-before .ensures))
+    ∙ sym (found .best-start .ensures)
+    ∙ c .before .before .best .given .1 in
+    let low =
+    cost-low (a .s .now) (a .g) (a .work .now) (a .i) (a .j) (a .c) (a .cited) (start .pre) _ _ best in
     let price = c .price .ensures (a .s .now) (start .pre .citing) in
     omega (arith, low, price)
 
 returns-4 : tie.Need-returns-4
 returns-4 c =
-    let start = c .before .before .before .before .before .before .before .before .before .before .before in
+    let found = c .before .before .before .before in
+    let side = found .before in
+    let may = side .before .before in
+    let start = may .before .before .before .before in
     let a = start .args in
-    let may = sym (c .before .before .before .before .before .before .before .may-stop .ensures) ∙ not-false (c .before .before .before .before .before .before .before .may-stop .result) (c .before .before .before .before .before .before .if2 .left) in
+    let allowed = sym (may .may-stop .ensures) ∙ not-false (may .may-stop .result) (side .before .if2 .left) in
+    let some = may .before .if1 .left in
     let best =
-    sym (ap (λ (n : ℕ). bestStart (searchOf (a .s .now) (a .g) (a .work .now) (a .i) (a .j) n)) (c .before .before .before .before .before .side-before .ensures))
-    ∙ sym (c .before .before .before .before .best-start .ensures) ∙ c .before .before .best .given .1 in
+    sym
+    (ap (λ (n : ℕ). bestStart (searchOf (a .s .now) (a .g) (a .work .now) (a .i) (a .j) n)) (side .side-before .ensures))
+    ∙ sym (found .best-start .ensures)
+    ∙ c .before .before .best .given .1 in
     rw (c .price .ensures (a .s .now) (start .pre .citing))
-    (sym (entry-least (modelOf (a .s .now) (a .g)) (tableOf (suc (a .g .lines)) (a .work .now)) (a .i) (a .j) (a .c) (c .before .before .before .before .before .before .before .before .if1 .left) may _ _ best))
+    (sym (entry-least (modelOf (a .s .now) (a .g)) (tableOf (suc (a .g .lines)) (a .work .now)) (a .i) (a .j) (a .c) some
+    allowed _ _ best))
 
 pub entry-of-spec : {M : Type 1} → statement M
 entry-of-spec =

@@ -1,5 +1,5 @@
--- `fill` meets its contract. The loop's invariant is `TableRun`: what is left of the columns makes of the words what all columns
--- make of those at the start.
+-- `fill` meets its contract. The loop's invariant is `TableRun`: what is left of the columns makes of the words what all
+-- columns make of those at the start.
 use Prim.Native.Nat.{_+_, _-_}
 use Rattle.making.specs.Run.{TableRun}
 use Rattle.making.specs.laws.Filling.{table-start, table-column, table-next, table-end}
@@ -38,7 +38,8 @@ loop-again c =
     let start = c .before .before .before .before .before .before .before .before .before in
     let a = start .args in
     let st = c .before .before .before .before .before .before .loop in
-    table-next (a .s .now) (a .g) (a .work .now) (start .pre) (st .work) (st .j) (st .inv) (c .before .before .before .before .if1 .taken) _
+    table-next (a .s .now) (a .g) (a .work .now) (start .pre) (st .work) (st .j) (st .inv)
+    (c .before .before .before .before .if1 .taken) _
     (c .before .before .fill-column .ensures)
 
 same-length : tie.Need-same-length Inv-loop μ-loop

@@ -1,7 +1,6 @@
 -- `fill_column` meets its contract. The loop's invariant is `ColumnRun`: what is left of the column makes of the words what the
 -- whole column makes of those at the start.
 use Prim.Native.Nat.{_+_, _-_}
-use native.Mathlib.Omega.{arith}
 use Rattle.making.specs.Run.{ColumnRun}
 use Rattle.making.specs.laws.Filling.{column-start, column-place, column-next, column-end}
 use borrow.Author.Needs.{needs}
@@ -29,7 +28,8 @@ fill-place-requires c κs =
     let start = c .before .before .before .before .before .before .before in
     let a = start .args in
     let st = c .before .before .before .before .loop in
-    column-place (a .s .now) (a .g) (a .work .now) (a .j) (start .pre) (st .work) (st .cited) (st .i) (c .before .cited-through .result)
+    column-place (a .s .now) (a .g) (a .work .now) (a .j) (start .pre) (st .work) (st .cited) (st .i)
+    (c .before .cited-through .result)
     (st .inv) (c .before .before .if1 .taken) (c .before .cited-through .ensures)
 
 add-i : tie.Need-add-i Inv-loop μ-loop
@@ -43,8 +43,10 @@ loop-again c =
     let start = c .before .before .before .before .before .before .before .before .before .before in
     let a = start .args in
     let st = c .before .before .before .before .before .before .before .loop in
-    column-next (a .s .now) (a .g) (a .work .now) (a .j) (start .pre) (st .work) (st .cited) (st .i) (c .before .before .before .before .cited-through .result)
-    (st .inv) (c .before .before .before .before .before .if1 .taken) (c .before .before .before .before .cited-through .ensures) _ (c .before .before .fill-place .ensures)
+    column-next (a .s .now) (a .g) (a .work .now) (a .j) (start .pre) (st .work) (st .cited) (st .i)
+    (c .before .before .before .before .cited-through .result)
+    (st .inv) (c .before .before .before .before .before .if1 .taken)
+    (c .before .before .before .before .cited-through .ensures) _ (c .before .before .fill-place .ensures)
 
 same-length : tie.Need-same-length Inv-loop μ-loop
 same-length c = search needs

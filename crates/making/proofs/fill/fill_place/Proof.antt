@@ -1,5 +1,5 @@
 -- `fill_place` meets its contract: side 0 alone, or side 1 after it; storing one side leaves every earlier entry as it was.
-use mathlib.Core.Path.{_≡_, sym, ap, _∙_}
+use mathlib.Core.Path.{sym, ap, _∙_}
 use Rattle.galley.specs.Model.{modelOf}
 use Rattle.making.specs.Fill.{fillSide}
 use Rattle.making.specs.laws.Filling.{side-first, side-second, place-single, place-double}
@@ -20,13 +20,15 @@ returns : tie.Need-returns
 returns c =
     let start = c .before .before .before .before .before .before .before .before in
     let a = start .args in
-    c .before .before .before .before .fill-side .ensures ∙ sym (place-single (modelOf (a .s .now) (a .g)) (a .g .spec .sides) (a .i) (a .j) (a .work .now) (c .if1 .taken))
+    c .before .before .before .before .fill-side .ensures ∙ sym
+    (place-single (modelOf (a .s .now) (a .g)) (a .g .spec .sides) (a .i) (a .j) (a .work .now) (c .if1 .taken))
 
 fill-side-requires-2 : tie.Need-fill-side-requires-2
 fill-side-requires-2 c κs =
     let start = c .before .before .before .before .before .before .before .before .before in
     let a = start .args in
-    rw (c .before .before .before .before .before .fill-side .ensures) (side-second (a .s .now) (a .g) (a .work .now) (a .i) (a .j) (a .cited) (start .pre) (c .before .if1 .left))
+    rw (c .before .before .before .before .before .fill-side .ensures)
+    (side-second (a .s .now) (a .g) (a .work .now) (a .i) (a .j) (a .cited) (start .pre) (c .before .if1 .left))
 
 same-length-2 : tie.Need-same-length-2
 same-length-2 c = search needs
@@ -35,8 +37,10 @@ returns-2 : tie.Need-returns-2
 returns-2 c =
     let start = c .before .before .before .before .before .before .before .before .before .before .before .before in
     let a = start .args in
-    c .before .before .fill-side2 .ensures ∙ ap (fillSide (modelOf (a .s .now) (a .g)) (a .i) (a .j) 1) (c .before .before .before .before .before .before .before .before .fill-side .ensures)
-    ∙ sym (place-double (modelOf (a .s .now) (a .g)) (a .g .spec .sides) (a .i) (a .j) (a .work .now) (c .before .before .before .before .if1 .left))
+    c .before .before .fill-side2 .ensures ∙ ap (fillSide (modelOf (a .s .now) (a .g)) (a .i) (a .j) 1)
+    (c .before .before .before .before .before .before .before .before .fill-side .ensures)
+    ∙ sym (place-double (modelOf (a .s .now) (a .g)) (a .g .spec .sides) (a .i) (a .j) (a .work .now)
+    (c .before .before .before .before .if1 .left))
 
 pub fill-place-spec : {M : Type 1} → statement M
 fill-place-spec =

@@ -1,6 +1,6 @@
 -- `fill_side` meets its contract: the entry is stored at the place's address, which lies within the words needed.
-use mathlib.Core.Path.{_≡_, sym, ap, _∙_}
-use Prim.Native.Nat.{ℕ, suc, _+_, _≤_}
+use mathlib.Core.Path.{ap, _∙_}
+use Prim.Native.Nat.{ℕ, suc}
 use native.Mathlib.Numerals.{add-one}
 use native.Mathlib.Omega.{arith}
 use Rattle.model.specs.Leaf.{sidesOf}
@@ -49,9 +49,12 @@ unfolding fillSide tall
 returns c =
     let start = c .before .before .before .before .before .before .before .before .before .before in
     let a = start .args in
-    let at = c .before .before .before .before .address-of .ensures ∙ ap (λ (n : ℕ). address n (a .i) (a .j) (a .c)) (add-one (a .g .lines)) in
-    c .before .before .store .ensures ∙ ap (λ (n : ℕ). stored (a .work .now) n (c .before .before .before .before .before .before .entry-of .result)) at
-    ∙ ap (stored (a .work .now) (address (suc (a .g .lines)) (a .i) (a .j) (a .c))) (c .before .before .before .before .before .before .entry-of .ensures)
+    let at = c .before .before .before .before .address-of .ensures
+    ∙ ap (λ (n : ℕ). address n (a .i) (a .j) (a .c)) (add-one (a .g .lines)) in
+    c .before .before .store .ensures ∙ ap
+    (λ (n : ℕ). stored (a .work .now) n (c .before .before .before .before .before .before .entry-of .result)) at
+    ∙ ap (stored (a .work .now) (address (suc (a .g .lines)) (a .i) (a .j) (a .c)))
+    (c .before .before .before .before .before .before .entry-of .ensures)
 
 pub fill-side-spec : {M : Type 1} → statement M
 fill-side-spec =

@@ -1,7 +1,6 @@
--- `figure_before` meets its contract: there is no figure to add, or it is the page's last, or it comes with the space after it; each is
--- a law of heights that grow at the front, and the galley's limits keep the sums within a word.
-use mathlib.Core.Path.{_≡_}
-use Prim.Native.Nat.{_+_, _≤_, _<_}
+-- `figure_before` meets its contract: there is no figure to add, or it is the page's last, or it comes with the space after
+-- it; each is a law of heights that grow at the front, and the galley's limits keep the sums within a word.
+use Prim.Native.Nat.{_+_}
 use native.Mathlib.Omega.{arith}
 use borrow.Author.Needs.{needs}
 use Rattle.galley.specs.Model.{figuresOf}
@@ -94,7 +93,8 @@ returns-3 c =
     let a = start .args in
     let more = c .before .before .before .before .before .before .if1 .left in
     let other = c .before .before .before .before .if2 .left in
-    front-more (figuresOf (a .s .now) (a .g)) (a .b) (a .j) (a .h) (c .before .before .before .before .before .figure-height .result)
+    front-more (figuresOf (a .s .now) (a .g)) (a .b) (a .j) (a .h)
+    (c .before .before .before .before .before .figure-height .result)
     (c .before .before .before .figure-least .result) (c .before .before .figure-most .result) (omega arith) (start .pre .after)
     (c .before .before .before .before .before .figure-height .ensures) (c .before .before .before .figure-least .ensures)
     (c .before .before .figure-most .ensures)

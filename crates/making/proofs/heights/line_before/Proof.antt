@@ -1,7 +1,6 @@
--- `line_before` meets its contract: there is no line to add, or it is the page's last, or it comes with the space after it; each is
--- a law of heights that grow at the front, and the galley's limits keep the sums within a word.
-use mathlib.Core.Path.{_≡_}
-use Prim.Native.Nat.{_+_, _≤_, _<_}
+-- `line_before` meets its contract: there is no line to add, or it is the page's last, or it comes with the space after it;
+-- each is a law of heights that grow at the front, and the galley's limits keep the sums within a word.
+use Prim.Native.Nat.{_+_}
 use native.Mathlib.Omega.{arith}
 use borrow.Author.Needs.{needs}
 use Rattle.galley.specs.Model.{textOf}

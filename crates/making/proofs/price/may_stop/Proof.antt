@@ -17,7 +17,8 @@ returns : tie.Need-returns
 returns c =
     let start = c .before .before .before .before in
     let a = start .args in
-    let law = may-stop-two (a .s .now) (a .g) (a .i) (a .j) (a .cited) (start .pre .citing) (a .c) (start .pre .placed .figure) in
+    let law = may-stop-two (a .s .now) (a .g) (a .i) (a .j) (a .cited) (start .pre .citing) (a .c) (start .pre .placed .figure)
+    in
     cc
 
 pub may-stop-spec : {M : Type 1} → statement M

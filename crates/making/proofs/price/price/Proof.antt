@@ -27,7 +27,13 @@ returns-2 c =
     λ bytes citing.
     let a = c .before .before .before .before .args in
     let law = price-two bytes (a .g) (a .i) (a .j) (a .cited) citing (a .c) in
-    rw (law, ← c .before .before .before .is-full .ensures, c .before .before .if1 .left, ← c .before .ends-leaf .ensures, not-true (c .before .ends-leaf .result) (c .if2 .taken))
+    rw (
+      law,
+      ← c .before .before .before .is-full .ensures,
+      c .before .before .if1 .left,
+      ← c .before .ends-leaf .ensures,
+      not-true (c .before .ends-leaf .result) (c .if2 .taken),
+    )
 
 returns-3 : tie.Need-returns-3
 returns-3 c =
@@ -35,7 +41,15 @@ returns-3 c =
     let a = c .before .before .before .before .before .args in
     let law = price-two bytes (a .g) (a .i) (a .j) (a .cited) citing (a .c) in
     let none : a .cited - a .j ≡ 0 = omega (arith, c .if3 .taken) in
-    rw (law, ← c .before .before .before .before .is-full .ensures, c .before .before .before .if1 .left, ← c .before .before .ends-leaf .ensures, not-false (c .before .before .ends-leaf .result) (c .before .if2 .left), none) (omega arith)
+    rw (
+      law,
+      ← c .before .before .before .before .is-full .ensures,
+      c .before .before .before .if1 .left,
+      ← c .before .before
+          .ends-leaf .ensures,
+      not-false (c .before .before .ends-leaf .result) (c .before .if2 .left),
+      none,
+    ) (omega arith)
 
 sub-result : tie.Need-sub-result
 sub-result c = search needs
@@ -64,7 +78,15 @@ returns-4 c =
     λ bytes citing.
     let a = c .before .before .before .before .before .before .before .args in
     let law = price-two bytes (a .g) (a .i) (a .j) (a .cited) citing (a .c) in
-    rw (law, ← c .before .before .before .before .before .before .is-full .ensures, c .before .before .before .before .before .if1 .left, ← c .before .before .before .before .ends-leaf .ensures, not-false (c .before .before .before .before .ends-leaf .result) (c .before .before .before .if2 .left))
+    rw (
+      law,
+      ← c .before .before .before .before .before .before .is-full .ensures,
+      c .before .before .before .before .before
+          .if1 .left,
+      ← c .before .before .before .before .ends-leaf .ensures,
+      not-false
+          (c .before .before .before .before .ends-leaf .result) (c .before .before .before .if2 .left),
+    )
 
 pub price-spec : {M : Type 1} → statement M
 price-spec =

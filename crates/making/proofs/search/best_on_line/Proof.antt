@@ -32,7 +32,8 @@ loop-holds c =
     let a = c .before .before .args in (
       omega arith,
       stacked-nothing (figuresOf (a .s .now) (a .g)) (a .j + 1) (a .j) (omega arith),
-      ap (λ (n : ℕ). row (searchOf (a .s .now) (a .g) (a .work .now) (a .i) (a .j) (a .side)) (a .a) n (a .known)) (add-one (a .j)),
+      ap (λ (n : ℕ). row (searchOf (a .s .now) (a .g) (a .work .now) (a .i) (a .j) (a .side)) (a .a) n (a .known))
+          (add-one (a .j)),
     )
 
 sub-b : tie.Need-sub-b Inv-loop μ-loop
@@ -72,15 +73,19 @@ page-heights-requires c κs =
 
 returns : tie.Need-returns Inv-loop μ-loop
 returns c =
-    let start = c .before .before .before .before .before .before .before .before .before in
+    let page = c .before .before .before in
+    let inside = page .before .before in
+    let st = inside .before .loop in
+    let start = inside .before .before .before .before in
     let a = start .args in
-    let st = c .before .before .before .before .before .before .loop in
-    let some = c .before .before .before .before .before .loop-test .taken in
+    let some = inside .loop-test .taken in
     let next : st .b ≡ suc (st .b - 1) = omega arith in
-    let text = start .pre .text in
-    let floats = c .before .before .before .before .figure-before .ensures in
-    let whole = c .before .before .before .page-heights .ensures in
-    sym (row-high (a .s .now) (a .g) (a .work .now) (a .i) (a .j) (a .side) (a .a) (a .lines) text (st .b) (st .b - 1) next _ floats _ whole (st .best) (c .if1 .taken)) ∙ st .inv .2
+    let floats = page .before .figure-before .ensures in
+    let whole = page .page-heights .ensures in
+    sym
+    (row-high (a .s .now) (a .g) (a .work .now) (a .i) (a .j) (a .side) (a .a) (a .lines) (start .pre .text) (st .b) (st .b - 1)
+    next _ floats _ whole (st .best) (c .if1 .taken))
+    ∙ st .inv .2
 
 counts-requires : tie.Need-counts-requires Inv-loop μ-loop
 counts-requires c κs = search needs
@@ -90,19 +95,28 @@ loop-less c = search needs
 
 loop-again : tie.Need-loop-again Inv-loop μ-loop
 loop-again c =
-    let start = c .before .before .before .before .before .before .before .before .before .before .before in
+    let counts = c .before in
+    let low = counts .before in
+    let page = low .before .before .before in
+    let inside = page .before .before in
+    let st = inside .before .loop in
+    let start = inside .before .before .before .before in
     let a = start .args in
-    let st = c .before .before .before .before .before .before .before .before .loop in
-    let some = c .before .before .before .before .before .before .before .loop-test .taken in
+    let some = inside .loop-test .taken in
     let next : st .b ≡ suc (st .b - 1) = omega arith in
-    let text = start .pre .text in
-    let floats = c .before .before .before .before .before .before .figure-before .ensures in
-    let whole = c .before .before .before .before .before .page-heights .ensures in
-    let passed = sym (c .before .counts .ensures) ∙ not-true _ (c .if2 .taken) in
-    (omega arith, floats, sym (row-passed (a .s .now) (a .g) (a .work .now) (a .i) (a .j) (a .side) (a .a) (a .lines) text (st .b) (st .b - 1) next _ floats _ whole (st .best) (c .before .before .if1 .left) passed) ∙ st .inv .2)
+    let floats = page .before .figure-before .ensures in
+    let whole = page .page-heights .ensures in
+    let passed = sym (counts .counts .ensures) ∙ not-true _ (c .if2 .taken) in
+    let turn =
+    row-passed (a .s .now) (a .g) (a .work .now) (a .i) (a .j) (a .side) (a .a) (a .lines) (start .pre .text) (st .b)
+    (st .b - 1)
+    next _ floats _ whole (st .best) (low .if1 .left) passed in
+    (omega arith, floats, sym turn ∙ st .inv .2)
 
 add-address-of : tie.Need-add-address-of Inv-loop μ-loop
-add-address-of c = omega (arith, c .before .before .before .before .before .before .before .before .before .before .before .before .pre .searched .placed .sound .fewLines)
+add-address-of c =
+    let start = c .before .before .before .before .before .before .before .before .before .before .before .before in
+    omega (arith, start .pre .searched .placed .sound .fewLines)
 
 address-of-requires : tie.Need-address-of-requires Inv-loop μ-loop
 address-of-requires c κs =
@@ -138,25 +152,37 @@ loop-less-2 c = search needs
 
 loop-again-2 : tie.Need-loop-again-2 Inv-loop μ-loop
 loop-again-2 c =
-    let start = c .before .before .before .before .before .before .before .before .before .before .before .before .before .before .before .before in
+    let at = c .before .before .before in
+    let weighed = at .before .before in
+    let counts = weighed .before in
+    let low = counts .before in
+    let page = low .before .before .before in
+    let inside = page .before .before in
+    let st = inside .before .loop in
+    let start = inside .before .before .before .before in
     let a = start .args in
-    let st = c .before .before .before .before .before .before .before .before .before .before .before .before .before .loop in
-    let some = c .before .before .before .before .before .before .before .before .before .before .before .before .loop-test .taken in
+    let some = inside .loop-test .taken in
     let next : st .b ≡ suc (st .b - 1) = omega arith in
-    let text = start .pre .text in
-    let floats = c .before .before .before .before .before .before .before .before .before .before .before .figure-before .ensures in
-    let whole = c .before .before .before .before .before .before .before .before .before .before .page-heights .ensures in
-    let counts = sym (c .before .before .before .before .before .before .counts .ensures) ∙ not-false _ (c .before .before .before .before .before .if2 .left) in
+    let floats = page .before .figure-before .ensures in
+    let whole = page .page-heights .ensures in
+    let worthy = sym (counts .counts .ensures) ∙ not-false _ (weighed .if2 .left) in
     let read =
-    table-read (a .g) (a .work .now) (a .a) (st .b - 1) (a .side) (c .before .before .before .address-of .result) (c .before .before .before .address-of .ensures)
-    ∙ sym (c .before .before .entry-at .ensures) ∙ c .enum-told .given .1 in
-    (omega arith, floats, sym (row-unreached (a .s .now) (a .g) (a .work .now) (a .i) (a .j) (a .side) (a .a) (a .lines) text (st .b) (st .b - 1) next _ floats _ whole (st .best) (c .before .before .before .before .before .before .before .if1 .left) counts read) ∙ st .inv .2)
+    table-read (a .g) (a .work .now) (a .a) (st .b - 1) (a .side) (at .address-of .result) (at .address-of .ensures)
+    ∙ sym (c .before .before .entry-at .ensures)
+    ∙ c .enum-told .given .1 in
+    let turn =
+    row-unreached (a .s .now) (a .g) (a .work .now) (a .i) (a .j) (a .side) (a .a) (a .lines) (start .pre .text) (st .b)
+    (st .b - 1)
+    next _ floats _ whole (st .best) (low .if1 .left) worthy read in
+    (omega arith, floats, sym turn ∙ st .inv .2)
 
 cheaper-requires : tie.Need-cheaper-requires Inv-loop μ-loop
 cheaper-requires c κs =
-    let start = c .before .before .before .before .before .before .before .before .before .before .before .before .before .before .before .before .before in
+    let start = c .before .before .before .before .before .before .before .before .before .before .before .before .before
+    .before .before .before .before in
     let placed = start .pre .searched .placed in
-    let st = c .before .before .before .before .before .before .before .before .before .before .before .before .before .before .loop in
+    let st = c .before .before .before .before .before .before .before .before .before .before .before .before .before .before
+    .loop in
     record {
       line = omega (arith, start .pre .start, placed .line, placed .sound .fewLines);
       figure = omega (arith, st .inv .0, placed .figure, placed .sound .fewFigures);
@@ -167,20 +193,32 @@ loop-less-3 c = search needs
 
 loop-again-3 : tie.Need-loop-again-3 Inv-loop μ-loop
 loop-again-3 c =
-    let start = c .before .before .before .before .before .before .before .before .before .before .before .before .before .before .before .before .before .before in
+    let reached = c .before .before in
+    let at = reached .before .before .before in
+    let weighed = at .before .before in
+    let counts = weighed .before in
+    let low = counts .before in
+    let page = low .before .before .before in
+    let inside = page .before .before in
+    let st = inside .before .loop in
+    let start = inside .before .before .before .before in
     let a = start .args in
-    let st = c .before .before .before .before .before .before .before .before .before .before .before .before .before .before .before .loop in
-    let some = c .before .before .before .before .before .before .before .before .before .before .before .before .before .before .loop-test .taken in
+    let some = inside .loop-test .taken in
     let next : st .b ≡ suc (st .b - 1) = omega arith in
-    let text = start .pre .text in
-    let floats = c .before .before .before .before .before .before .before .before .before .before .before .before .before .figure-before .ensures in
-    let whole = c .before .before .before .before .before .before .before .before .before .before .before .before .page-heights .ensures in
-    let counts = sym (c .before .before .before .before .before .before .before .before .counts .ensures) ∙ not-false _ (c .before .before .before .before .before .before .before .if2 .left) in
+    let floats = page .before .figure-before .ensures in
+    let whole = page .page-heights .ensures in
+    let worthy = sym (counts .counts .ensures) ∙ not-false _ (weighed .if2 .left) in
     let read =
-    table-read (a .g) (a .work .now) (a .a) (st .b - 1) (a .side) (c .before .before .before .before .before .address-of .result) (c .before .before .before .before .before .address-of .ensures)
-    ∙ sym (c .before .before .before .before .entry-at .ensures) ∙ c .before .before .entry .given .1 in
-    let best = ap (row (searchOf (a .s .now) (a .g) (a .work .now) (a .i) (a .j) (a .side)) (a .a) (st .b - 1)) (c .cheaper .ensures _) in
-    (omega arith, floats, best ∙ sym (row-weighed (a .s .now) (a .g) (a .work .now) (a .i) (a .j) (a .side) (a .a) (a .lines) text (st .b) (st .b - 1) next _ floats _ whole (st .best) (c .before .before .before .before .before .before .before .before .before .if1 .left) counts _ _ read) ∙ st .inv .2)
+    table-read (a .g) (a .work .now) (a .a) (st .b - 1) (a .side) (at .address-of .result) (at .address-of .ensures)
+    ∙ sym (reached .before .before .entry-at .ensures)
+    ∙ reached .entry .given .1 in
+    let turn =
+    row-weighed (a .s .now) (a .g) (a .work .now) (a .i) (a .j) (a .side) (a .a) (a .lines) (start .pre .text) (st .b)
+    (st .b - 1)
+    next _ floats _ whole (st .best) (low .if1 .left) worthy _ _ read in
+    let best =
+    ap (row (searchOf (a .s .now) (a .g) (a .work .now) (a .i) (a .j) (a .side)) (a .a) (st .b - 1)) (c .cheaper .ensures _) in
+    (omega arith, floats, best ∙ sym turn ∙ st .inv .2)
 
 returns-2 : tie.Need-returns-2 Inv-loop μ-loop
 unfolding row

@@ -53,12 +53,18 @@ returns c =
     let st = c .before .before .before .before .before .loop in
     let some = c .before .before .before .before .loop-test .taken in
     let next : st .a ≡ suc (st .a - 1) = omega arith in
-    sym (rows-high (a .s .now) (a .g) (a .work .now) (a .i) (a .j) (a .side) (st .a - 1) _ (c .before .before .before .line-before .ensures) (st .a) next (st .best) (c .if1 .taken)) ∙ st .inv .2
+    sym (rows-high (a .s .now) (a .g) (a .work .now) (a .i) (a .j) (a .side) (st .a - 1) _
+    (c .before .before .before .line-before .ensures) (st .a) next (st .best) (c .if1 .taken)) ∙ st .inv .2
 
 best-on-line-requires : tie.Need-best-on-line-requires Inv-loop μ-loop
 best-on-line-requires c κs =
     let start = c .before .before .before .before .before .before .before .before in
-    record { searched = start .pre; start = omega (arith, c .before .before .before .before .before .loop .inv .0); text = c .before .before .before .line-before .ensures }
+    record {
+      searched = start .pre;
+      start = omega (arith, c .before .before .before .before .before .loop .inv .0);
+      text = c
+          .before .before .before .line-before .ensures;
+    }
 
 loop-less : tie.Need-loop-less Inv-loop μ-loop
 loop-less c = search needs
@@ -70,10 +76,12 @@ loop-again c =
     let st = c .before .before .before .before .before .before .loop in
     let some = c .before .before .before .before .before .loop-test .taken in
     let next : st .a ≡ suc (st .a - 1) = omega arith in
-    let best = ap (rows (searchOf (a .s .now) (a .g) (a .work .now) (a .i) (a .j) (a .side)) (st .a - 1)) (c .best-on-line .ensures) in (
+    let best = ap (rows (searchOf (a .s .now) (a .g) (a .work .now) (a .i) (a .j) (a .side)) (st .a - 1))
+    (c .best-on-line .ensures) in (
       omega arith,
       c .before .before .before .before .line-before .ensures,
-      best ∙ sym (rows-next (a .s .now) (a .g) (a .work .now) (a .i) (a .j) (a .side) (st .a - 1) _ (c .before .before .before .before .line-before .ensures) (st .a) next (st .best) (c .before .if1 .left)) ∙ st .inv .2,
+      best ∙ sym (rows-next (a .s .now) (a .g) (a .work .now) (a .i) (a .j) (a .side) (st .a - 1) _
+          (c .before .before .before .before .line-before .ensures) (st .a) next (st .best) (c .before .if1 .left)) ∙ st .inv .2,
     )
 
 returns-2 : tie.Need-returns-2 Inv-loop μ-loop
@@ -82,7 +90,8 @@ returns-2 c =
     let st = c .before .loop in
     let a = c .before .before .before .before .args in
     let none : st .a ≡ 0 = omega (arith, c .loop-test .left) in
-    sym (ap (λ (n : ℕ). rows (searchOf (a .s .now) (a .g) (a .work .now) (a .i) (a .j) (a .side)) n (st .best)) none) ∙ st .inv .2
+    sym (ap (λ (n : ℕ). rows (searchOf (a .s .now) (a .g) (a .work .now) (a .i) (a .j) (a .side)) n (st .best)) none)
+    ∙ st .inv .2
 
 pub best-start-spec : {M : Type 1} → statement M
 best-start-spec =
