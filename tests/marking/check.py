@@ -7,7 +7,7 @@ import sys
 import time
 
 sys.path.insert(0, str(pathlib.Path(__file__).resolve().parents[1]))
-import probe  # noqa: E402
+import engine  # noqa: E402
 from reference import cases, galley, marking, sample, search  # noqa: E402
 
 GALLEYS, SEED = 2_400, 20261115
@@ -33,7 +33,7 @@ def compare(name, found, expected, wrong):
 
 
 def main():
-    mark = probe.marker(probe.build())
+    mark = engine.marker(engine.build())
     wrong, tried, kinds = [], 0, collections.Counter()
     for name, g, words, expected in cases.MARKED + cases.MARKED_LONG:
         tried += compare(name, mark(galley.write(g), words), expected, wrong)

@@ -1,0 +1,92 @@
+"""The proved making, compiled, against a search of all lists in Python: the answer, the list, and every word of lent memory.
+The last line is 'N passed, M failed'."""
+import collections
+import pathlib
+import random
+import sys
+
+sys.path.insert(0, str(pathlib.Path(__file__).resolve().parents[1]))
+import engine  # noqa: E402
+from reference import cases, galley, marking, sample, search  # noqa: E402
+
+GALLEYS, LARGER, SEED = 2_400, 60, 20261116
+HIGHEST = 2**32 - 1
+
+
+def needed(g):
+    m, n = len(g.lines), len(g.figures)
+    return 8 * (m + 1) * (n + 1), 2 * (m + n)
+
+
+def due(g, best, work, pages):
+    """What making owes: its answer, the work area and the page list afterwards."""
+    work_needed, list_needed = needed(g)
+    if len(work) < work_needed:
+        return ('refused', 9, work_needed), work, pages
+    if len(pages) < list_needed:
+        return ('refused', 10, list_needed), work, pages
+    cleared = (0,) * work_needed + work[work_needed:]
+    if best is None:
+        return ('refused', 11, 0), cleared, pages
+    return marking.mark(g, best), cleared, tuple(best) + pages[len(best):]
+
+
+def dirty(rng, length):
+    return tuple(rng.choice((0, 1, 2, HIGHEST, rng.randint(0, HIGHEST))) for _ in range(length))
+
+
+def lendings(rng, g):
+    """Lent memory of exact and of greater lengths, and now and then too short, with any contents."""
+    work_needed, list_needed = needed(g)
+    yield dirty(rng, work_needed), dirty(rng, list_needed)
+    yield dirty(rng, work_needed + rng.randint(1, 9)), dirty(rng, list_needed + rng.randint(1, 5))
+    if rng.random() < 0.3:
+        yield dirty(rng, rng.randint(0, work_needed - 1)), dirty(rng, rng.choice((0, list_needed)))
+        yield dirty(rng, work_needed), dirty(rng, rng.randint(0, list_needed - 1))
+
+
+def main():
+    make = engine.maker(engine.build())
+    wrong, tried, kinds = [], 0, collections.Counter()
+
+    def compare(name, found, expected):
+        nonlocal tried
+        tried += 1
+        if found != expected:
+            wrong.append(f'{name}: {str(found)[:300]}, not {str(expected)[:300]}')
+
+    rng = random.Random(SEED)
+
+    def try_all(name, g, best):
+        for work, pages in lendings(rng, g):
+            expected = due(g, best, work, pages)
+            kinds[expected[0][1] if expected[0][0] == 'refused' else f'sides {g.spec.sides}'] += 1
+            compare(name, make(galley.write(g), work, pages), expected)
+
+    for name, g, words, counts in cases.MADE:
+        if len(g.lines) < 50:
+            try_all(name, g, words)
+    for number, g in enumerate(sample.galleys(SEED, GALLEYS, 5, 3)):
+        try_all(f'galley {number}', g, search.best(g))
+    for number, g in enumerate(sample.galleys(SEED + 1, LARGER, 40, 8)):
+        try_all(f'larger galley {number}', g, search.best_by_table(g))
+    for number, g in enumerate(sample.galleys(SEED + 2, 400, 5, 3)):
+        data = bytearray(galley.write(g))
+        data[rng.randrange(len(data))] ^= 1 << rng.randrange(8)
+        broken = bytes(data[:rng.choice((len(data), rng.randrange(len(data))))])
+        read = galley.read(broken)
+        if read[0] == 'refused':
+            work, pages = dirty(rng, 40), dirty(rng, 10)
+            kinds['refused galley'] += 1
+            compare(f'broken galley {number}', make(broken, work, pages), (read, work, pages))
+    for kind in (9, 10, 11, 'sides 1', 'sides 2', 'refused galley'):
+        compare(f'answers of kind {kind}', kinds[kind] >= 20, True)
+    print('makings by answer:', dict(sorted(kinds.items(), key=str)))
+    for line in wrong[:20]:
+        print('FAILED', line)
+    print(f'{tried - len(wrong)} passed, {len(wrong)} failed')
+    return 1 if wrong else 0
+
+
+if __name__ == '__main__':
+    sys.exit(main())
