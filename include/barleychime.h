@@ -44,6 +44,9 @@
 #define BARLEYCHIME_MOST_WORK_WORDS BARLEYCHIME_WORK_WORDS(4000, 200)
 #define BARLEYCHIME_MOST_LIST_WORDS BARLEYCHIME_LIST_WORDS(4000, 200)
 
+/* Bytes of the longest galley. Whatever is longer is refused, and its first bytes, one more than these, decide how. */
+#define BARLEYCHIME_LONGEST_GALLEY ((size_t)30 + 4200 * 18 + 2)
+
 /* What the six words of an answer are. */
 enum {
     BARLEYCHIME_NUMBER = 0, /* 0, or the number of the refusal */

@@ -2,8 +2,8 @@
 
 import subprocess
 
-from reference import cases, refusals, sample, search
-from reference.galley import write
+from reference import cases, marking, refusals, sample, search
+from reference.galley import Figure, Galley, Line, Spec, write
 
 COMMANDS = {'make': 1, 'mark': 2, 'explain': 2, 'pack': 1, 'unpack': 1}
 MENDERS = [(range(1, 9), "the galley's writer"), (range(9, 11), 'the host program'), (range(11, 12), 'the designer'),
@@ -130,6 +130,30 @@ def making(tally, command, folder):
     tally.group('command: making')
 
 
+def full_size(tally, command, folder):
+    """The longest galley, and what may come after its last figure: no more than one byte past its length is read."""
+    spec = Spec(50_000, 55_000, 1_600, 2_200, 2, 1, 1)
+    lines = tuple(Line(1_200, 0, 20 + 600 * (k % 5 == 0), int(k % 5 > 1)) for k in range(1, 4_001))
+    largest = Galley(spec, lines, tuple(Figure(9_000 + 1_000 * (k % 13), 1_000, 1_400, 20 * k) for k in range(1, 201)))
+    data = write(largest)
+    path = file(folder, 'largest.galley', data)
+    status, output, remarks = command.text('make', path)
+    measure, *pages = [tuple(map(int, line.split())) for line in output.splitlines()]
+    words = tuple(word for page in pages for word in page[1:])
+    tally.same('made', (status, remarks, marking.mark(largest, words)), (0, '', ('accepted', *measure)))
+    tally.same('marked', command.text('mark', path, '-', given=output.encode()), (0, output.split('\n')[0] + '\n', ''))
+    status, text, _ = command.text('explain', path, '-', given=output.encode())
+    tally.same('explained', (status, text.endswith('no list has fewer turns\n')), (0, True))
+    open_end = data[:-2]
+    for name, after, due in [('no end', b'', 'R 1 75630'), ('half a mark', b'E', 'R 1 75630'), ('a byte', b'ED?', 'R 8 75632'),
+                             ('many bytes', b'ED' + bytes(100_000), 'R 8 75632'), ('an unknown mark', b'??', 'R 2 75630'),
+                             ('a line', open_end[30:48], 'R 2 75630'), ('figure 201', open_end[-18:], 'R 4 75630'),
+                             ('half of figure 201', b'FG\0', 'R 4 75630')]:
+        status, output, _ = command.text('make', '-', given=open_end + after)
+        tally.same(f'the longest galley with {name}', (status, output), (1, due + '\n'))
+    tally.group('command: full size')
+
+
 def outputs(tally, command, folder):
     """An output that is full is an error; one that is closed needs no remark."""
     galley = file(folder, 'a.galley', write(cases.A))
@@ -164,5 +188,5 @@ def help_with_11(tally, command, folder):
 
 def run(tally, command, folder):
     usage(tally, command)
-    for group in (bad_files, lists, making, outputs, help_with_11):
+    for group in (bad_files, lists, making, full_size, outputs, help_with_11):
         group(tally, command, folder)

@@ -17,6 +17,7 @@ sys.path.insert(0, str(ROOT / 'tests' / 'host'))
 import archive  # noqa: E402
 import c_interface  # noqa: E402
 import command_line  # noqa: E402
+import examples  # noqa: E402
 import explained  # noqa: E402
 import round_trips  # noqa: E402
 import samples  # noqa: E402
@@ -40,6 +41,7 @@ def main():
         command_line.run(tally, command, folder)
         round_trips.run(tally, command, ROOT, folder)
         explained.run(tally, command, folder)
+        examples.run(tally, command, ROOT, library, folder)
         samples.run(tally, command, ROOT, folder)
         table.run(tally, command, ROOT)
     print(f'{tally.passed} passed, {tally.failed} failed')
