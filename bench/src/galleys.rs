@@ -12,8 +12,14 @@ pub struct Shape {
     pub figure_height: (u32, u32),
 }
 
-const HANDBOOK: Shape =
-    Shape { name: "handbook", lines: 4_000, figures: 200, sides: 2, line_height: 1_200, figure_height: (8_000, 24_000) };
+const HANDBOOK: Shape = Shape {
+    name: "handbook",
+    lines: 4_000,
+    figures: 200,
+    sides: 2,
+    line_height: 1_200,
+    figure_height: (8_000, 24_000),
+};
 
 /// Handbooks of both sidednesses, pages of many short lines, pages of many small figures.
 pub const SHAPES: [Shape; 4] = [

@@ -27,7 +27,7 @@ pub fn against_best(bytes: &[u8], measure: Measure) -> String {
         Ok((best, _)) => {
             let more = measure.turns.saturating_sub(best.turns);
             format!("the fewest turns are {}; this list has {more} more\n", best.turns)
-        },
+        }
         Err(refusal) => format!("the engine makes no list: {refusal}\n"),
     }
 }
@@ -167,5 +167,9 @@ fn broken_length(galley: &Galley, list: &[u32]) -> String {
 }
 
 fn counted(number: usize, what: &str) -> String {
-    if number == 1 { format!("1 {what}") } else { format!("{number} {what}s") }
+    if number == 1 {
+        format!("1 {what}")
+    } else {
+        format!("{number} {what}s")
+    }
 }

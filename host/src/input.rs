@@ -22,14 +22,19 @@ pub fn text(name: &str) -> Result<String, String> {
     }
     let line = |at: usize| bytes[..at].iter().filter(|&&byte| byte == b'\n').count() + 1;
     match std::str::from_utf8(&bytes) {
-        Ok(text) => Ok(text.to_owned()),
+        // Some editors open a text with this mark.
+        Ok(text) => Ok(text.strip_prefix('\u{feff}').unwrap_or(text).to_owned()),
         Err(error) => Err(format!("{}: line {}: not text", title(name), line(error.valid_up_to()))),
     }
 }
 
 /// What messages call the input.
 pub fn title(name: &str) -> &str {
-    if name == "-" { "standard input" } else { name }
+    if name == "-" {
+        "standard input"
+    } else {
+        name
+    }
 }
 
 fn bytes(name: &str, most: u64) -> Result<Vec<u8>, String> {

@@ -65,5 +65,9 @@ pub fn whole_number(field: &str) -> Option<u32> {
 /// A field as an error quotes it: one line, not too long, nothing that a terminal would obey.
 pub fn shown(field: &str) -> String {
     let quoted: String = field.chars().take(24).map(|c| if c.is_control() { '?' } else { c }).collect();
-    if field.chars().count() > 24 { format!("`{quoted}...`") } else { format!("`{quoted}`") }
+    if field.chars().count() > 24 {
+        format!("`{quoted}...`")
+    } else {
+        format!("`{quoted}`")
+    }
 }

@@ -3,9 +3,10 @@
 
 mod commands;
 mod help;
+mod output;
 
 use commands::Outcome;
-use std::io::{self, Write};
+use output::{say, Output};
 use std::process::ExitCode;
 
 const REFUSED: u8 = 1;
@@ -19,8 +20,7 @@ fn main() -> ExitCode {
             Err(argument) => return failed(&format!("{}: a name in UTF-8 is wanted", argument.display())),
         }
     }
-    let mut out = io::stdout().lock();
-    match run(&arguments, &mut out).and_then(|outcome| out.flush().map_err(unwritten).map(|()| outcome)) {
+    match run(&arguments, &mut Output::new()) {
         Ok(Outcome::Success) => ExitCode::SUCCESS,
         Ok(Outcome::Refused) => ExitCode::from(REFUSED),
         Ok(Outcome::Failed) => ExitCode::from(FAILED),
@@ -28,28 +28,20 @@ fn main() -> ExitCode {
     }
 }
 
-/// An output that nobody reads any more needs no message.
 fn failed(message: &str) -> ExitCode {
     if !message.is_empty() {
-        commands::say(message);
+        say(message);
     }
     ExitCode::from(FAILED)
 }
 
-fn unwritten(error: io::Error) -> String {
-    match error.kind() {
-        io::ErrorKind::BrokenPipe => String::new(),
-        _ => format!("standard output: {error}"),
-    }
-}
-
-fn run(arguments: &[String], out: &mut dyn Write) -> Result<Outcome, String> {
+fn run(arguments: &[String], output: &mut Output) -> Result<Outcome, String> {
     let Some((command, rest)) = arguments.split_first() else {
         return Err("a command is wanted; `barleychime --help` names them".into());
     };
     let help = match command.as_str() {
-        "--help" | "-h" => return print(out, &help::whole()),
-        "--version" | "-V" => return print(out, concat!("barleychime ", env!("CARGO_PKG_VERSION"), "\n")),
+        "--help" | "-h" => return told(output, &help::whole()),
+        "--version" | "-V" => return told(output, concat!("barleychime ", env!("CARGO_PKG_VERSION"), "\n")),
         "make" => help::MAKE,
         "mark" => help::MARK,
         "explain" => help::EXPLAIN,
@@ -57,23 +49,22 @@ fn run(arguments: &[String], out: &mut dyn Write) -> Result<Outcome, String> {
         "unpack" => help::UNPACK,
         _ => return Err(format!("{command}: no such command; `barleychime --help` names them")),
     };
-    let Some(names) = names(rest)? else { return print(out, help) };
+    let Some(names) = names(rest)? else { return told(output, help) };
     if names.iter().filter(|&&name| name == "-").count() > 1 {
         return Err("standard input can be read only once".into());
     }
-    let text = match (command.as_str(), names.as_slice()) {
-        ("make", [galley]) => commands::make(galley)?,
-        ("mark", [galley, lists @ ..]) if !lists.is_empty() => {
-            return commands::mark(galley, lists, &mut |line| out.write_all(line.as_bytes()).map_err(unwritten))
-        }
-        ("explain", [galley, list]) => commands::explain(galley, list)?,
-        ("pack", [text]) => commands::pack(text)?,
-        ("unpack", [galley]) => commands::unpack(galley)?,
-        _ => return Err(format!("usage: {}", help.lines().next().unwrap_or(""))),
-    };
-    out.write_all(&text.bytes).and_then(|()| out.flush()).map_err(unwritten)?;
-    text.notes.iter().for_each(|note| commands::say(note));
-    Ok(text.outcome)
+    match (command.as_str(), names.as_slice()) {
+        ("make", [galley]) => commands::make(galley, output),
+        ("mark", [galley, lists @ ..]) if !lists.is_empty() => commands::mark(galley, lists, output),
+        ("explain", [galley, list]) => commands::explain(galley, list, output),
+        ("pack", [text]) => commands::pack(text, output),
+        ("unpack", [galley]) => commands::unpack(galley, output),
+        _ => Err(format!("usage: {}", help.lines().next().unwrap_or(""))),
+    }
+}
+
+fn told(output: &mut Output, text: &str) -> Result<Outcome, String> {
+    output.print(text).map(|()| Outcome::Success)
 }
 
 /// The file names among a command's arguments; none if help is wanted instead.
@@ -85,15 +76,10 @@ fn names(arguments: &[String]) -> Result<Option<Vec<&str>>, String> {
             "--" if options => options = false,
             "--help" | "-h" if options => return Ok(None),
             option if options && option.starts_with('-') && option != "-" => {
-                return Err(format!("{option}: no such option"))
+                return Err(format!("{option}: no such option"));
             }
             name => names.push(name),
         }
     }
     Ok(Some(names))
-}
-
-fn print(out: &mut dyn Write, text: &str) -> Result<Outcome, String> {
-    out.write_all(text.as_bytes()).map_err(unwritten)?;
-    Ok(Outcome::Success)
 }

@@ -56,5 +56,9 @@ fn heights<'a>(blocks: impl Iterator<Item = &'a Block>) -> (u64, u64) {
 
 /// The spread of page q in double-sided work; single-sided, each page is one by itself.
 pub fn spread(double_sided: bool, page: usize) -> usize {
-    if double_sided { page / 2 + 1 } else { page }
+    if double_sided {
+        page / 2 + 1
+    } else {
+        page
+    }
 }

@@ -35,7 +35,11 @@ const MEANINGS: [Meaning; 19] = [
     meaning(9, Place::Words, "the work area that was lent is too short"),
     meaning(10, Place::Words, "the page list that was lent is too short"),
     meaning(11, Place::Nothing, "no pagination of this galley meets its page specification"),
-    meaning(12, Place::Nothing, "the list has no words, an odd number of them, or more than two for each line and figure"),
+    meaning(
+        12,
+        Place::Nothing,
+        "the list has no words, an odd number of them, or more than two for each line and figure",
+    ),
     meaning(13, Place::Page, "a count falls or passes what the galley has, or the page is empty"),
     meaning(14, Place::Page, "the page ends after a line whose space forbids it"),
     meaning(15, Place::Page, "the page is higher than htMax even at its tightest"),
@@ -88,8 +92,8 @@ pub fn sentence(refusal: Refusal) -> String {
 
 /// All of them, a line each.
 pub fn table() -> String {
-    let lines = MEANINGS.iter().map(|meaning| {
-        format!("  {:2}  {} ({})\n", meaning.number, meaning.sentence, mender(meaning.number))
-    });
+    let lines = MEANINGS
+        .iter()
+        .map(|meaning| format!("  {:2}  {} ({})\n", meaning.number, meaning.sentence, mender(meaning.number)));
     lines.collect()
 }

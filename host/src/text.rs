@@ -82,7 +82,7 @@ pub fn field_at_fault(number: u32, record: &Record) -> String {
     }
 }
 
-/// The records of a galley file as text, and how many bytes at its end are no whole record.
+/// The records of a galley file as text, and where the last whole one ends.
 pub fn unpack(galley: &[u8]) -> (String, usize) {
     let mut text = String::new();
     let mut rest = galley;
@@ -94,5 +94,5 @@ pub fn unpack(galley: &[u8]) -> (String, usize) {
         text += "\n";
         rest = after;
     }
-    (text, rest.len())
+    (text, galley.len() - rest.len())
 }

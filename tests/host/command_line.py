@@ -96,6 +96,7 @@ def lists(tally, command, folder):
             tally.same(f'{arguments[0]} with {name}', (status, output, f'{junk}: ' in remarks and told in remarks, plain),
                        (2, '', True, True))
     for name, data in [('comments', b'# mine\n\n 1\t1 # page 1\n3 1'), ('carriage returns', b'1 1\r\n3 1\r\n'),
+                       ('a mark of byte order', b'\xef\xbb\xbf1 1\n3 1\n'),
                        ('as made', b'2 0 1 1\n1 1 1\n2 3 1\n'), ('as made, with a wrong measure', b'2 9 9 9\n1 1 1\n2 3 1')]:
         tally.same(f'mark with {name}', command.text('mark', galley, file(folder, 'list', data)), (0, '2 0 1 1\n', ''))
     several(tally, command, folder, galley, best)
@@ -145,10 +146,10 @@ def full_size(tally, command, folder):
     status, text, _ = command.text('explain', path, '-', given=output.encode())
     tally.same('explained', (status, text.endswith('no list has fewer turns\n')), (0, True))
     open_end = data[:-2]
-    for name, after, due in [('no end', b'', 'R 1 75630'), ('half a mark', b'E', 'R 1 75630'), ('a byte', b'ED?', 'R 8 75632'),
-                             ('many bytes', b'ED' + bytes(100_000), 'R 8 75632'), ('an unknown mark', b'??', 'R 2 75630'),
-                             ('a line', open_end[30:48], 'R 2 75630'), ('figure 201', open_end[-18:], 'R 4 75630'),
-                             ('half of figure 201', b'FG\0', 'R 4 75630')]:
+    for name, after, due in [('no end', b'', 'R 1 75630'), ('half a mark', b'E', 'R 1 75630'),
+                             ('a byte', b'ED?', 'R 8 75632'), ('many bytes', b'ED' + bytes(100_000), 'R 8 75632'),
+                             ('an unknown mark', b'??', 'R 2 75630'), ('a line', open_end[30:48], 'R 2 75630'),
+                             ('figure 201', open_end[-18:], 'R 4 75630'), ('half of it', b'FG\0', 'R 4 75630')]:
         status, output, _ = command.text('make', '-', given=open_end + after)
         tally.same(f'the longest galley with {name}', (status, output), (1, due + '\n'))
     tally.group('command: full size')
@@ -160,6 +161,13 @@ def outputs(tally, command, folder):
     with open('/dev/full', 'wb') as full:
         done = subprocess.run([command.program, 'make', galley], stdout=full, stderr=subprocess.PIPE, check=False)
     tally.same('a full output', (done.returncode, b'standard output' in done.stderr), (2, True))
+    with open('/dev/full', 'wb') as full:
+        done = subprocess.run([command.program, 'make', folder / 'nowhere'], stderr=full, check=False)
+    tally.same('nowhere to complain', done.returncode, 2)
+    text = file(folder, 'a.txt', b'GS 30 30 0 0 1 1 1\nTL 10 0 0 1\nED\n')
+    for name in ('make', 'unpack'):
+        status, _, remarks = command.text(name, text)
+        tally.same(f'{name} with a text', (status, '`barleychime pack`' in remarks), (1, True))
     shell = f'{command.program} unpack {file(folder, "long.galley", write(cases.LONGEST))} | head -n 1'
     done = subprocess.run(shell, shell=True, capture_output=True, check=False)
     tally.same('a closed output', (done.stdout, done.stderr), (b'GS 0 1 0 0 1 1000 1000\n', b''))

@@ -1,4 +1,4 @@
-"""What `explain` says in numbers, against the reference: heights, spreads, turns of each figure, and how a rule is broken."""
+"""What `explain` says, against the reference: heights, spreads, turns of each figure, and the numbers that break a rule."""
 
 import random
 import re
@@ -8,7 +8,8 @@ from reference.galley import write
 
 PAGE = re.compile(r'page (\d+), (?:spread (\d+), (left|right)|a spread by itself): ')
 HEIGHT = re.compile(r'    height (\d+) to (\d+); ')
-FIGURE = re.compile(r'    figure (\d+), cited by line (\d+) on page (\d+): (?:(\d+) turns?, costs (\d+)·\d+ = (\d+)|the same )')
+FIGURE = re.compile(r'    figure (\d+), cited by line (\d+) on page (\d+): '
+                    r'(?:(\d+) turns?, costs (\d+)·\d+ = (\d+)|the same )')
 
 
 def listed(words):

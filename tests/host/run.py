@@ -1,7 +1,10 @@
 """Tests of what people use: the archive behind the C header, the command, the samples, the table of real chapters.
 
 BARLEYCHIME_LIB names the archive; without it target/staticlib/libbarleychime.a is taken. The last line is
-'N passed, M failed'.
+'N passed, M failed'. To try the tests themselves without the proved archive, over the plain Rust of bench/native:
+
+    cargo build --release --offline --manifest-path tests/host/standin/Cargo.toml
+    BARLEYCHIME_LIB=tests/host/standin/target/release/libbarleychime.a python3 tests/host/run.py
 """
 
 import os
@@ -51,7 +54,7 @@ def main():
 if __name__ == '__main__':
     try:
         sys.exit(main())
-    except subprocess.CalledProcessError as error:
+    except (OSError, subprocess.SubprocessError) as error:
         print(f'FAILED {error}')
         print('0 passed, 1 failed')
         sys.exit(1)

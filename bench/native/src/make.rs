@@ -68,7 +68,11 @@ fn store(galley: &Galley, work: &mut [u32], place: (usize, usize), side: usize, 
 
 /// The side of the page before one of this side.
 fn side_before(sides: u32, side: usize) -> usize {
-    if sides == 2 { ENDS - side } else { side }
+    if sides == 2 {
+        ENDS - side
+    } else {
+        side
+    }
 }
 
 /// Nothing placed: before page 1, which ends its spread.

@@ -38,7 +38,11 @@ pub fn height_of(galley: &Galley, (a, b): (usize, usize), (i, j): (usize, usize)
 
 /// The page, or its spread in double-sided work.
 pub fn leaf(sides: u32, page: usize) -> u32 {
-    if sides == 2 { (page / 2 + 1) as u32 } else { page as u32 }
+    if sides == 2 {
+        (page / 2 + 1) as u32
+    } else {
+        page as u32
+    }
 }
 
 pub fn ends_leaf(sides: u32, page: usize) -> bool {
