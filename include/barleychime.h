@@ -9,28 +9,33 @@
  *
  * Refusals: the call returns the number, answer[0] is the number, answer[1] the place, the rest of the answer is 0.
  *
- *   number  meaning                                                      place                        who can mend it
- *    1      the file ends inside a record or before ED                   byte offset of the record    the galley's writer
- *    2      unknown or misplaced mark                                    the same                     the galley's writer
- *    3      field outside its range                                      the same                     the galley's writer
- *    4      line 4,001 or figure 201                                     the same                     the galley's writer
- *    5      FG or ED before any line                                     the same                     the galley's writer
- *    6      citation is 0 or above m                                     the same                     the galley's writer
- *    7      citation below the previous figure's                         the same                     the galley's writer
- *    8      bytes after ED                                               offset of the first of them  the galley's writer
- *    9      work area too short (making)                                 words needed                 the calling program
- *   10      page list too short (making)                                 words needed                 the calling program
- *   11      no valid list exists (making)                                0                            the designer
- *   12      no words, an odd number, or more than 2*(m+n) (marking)      0                            the list's author
- *   13      a count falls or passes m or n, or the page is empty         page, counted from 1         the list's author
- *   14      a page ends where the line's space forbids it                page                         the list's author
- *   15      tightest height above htMax                                  page                         the list's author
- *   16      loosest height below htMin, and not the last page            page                         the list's author
- *   17      a figure on a spread that ends before the citing line        page                         the list's author
- *   18      the last page does not end at (m, n)                         number of pages              the list's author
+ * The galley's writer can mend these. Place: byte offset of the record's mark, or where one was due; for 8, of what follows.
+ *    1  the galley stops short, inside a record or without its ED
+ *    2  a mark is unknown, or known but out of place
+ *    3  the value of a field is not allowed
+ *    4  there is a line too many (4,000 is the most) or a figure too many (200)
+ *    5  figures or the end come before the first line
+ *    6  a figure names a citing line that the galley does not have
+ *    7  a figure is cited earlier than the figure in front of it
+ *    8  something follows ED
+ * The host program can mend these, which only making answers. Place: words needed.
+ *    9  the work area that is lent is not long enough
+ *   10  the page list that is lent is not long enough
+ * The designer can mend this, which only making answers. Place: 0.
+ *   11  no pagination of this galley meets its page specification
+ * Whoever handed in the list can mend these, which only marking answers. Place: page, counted from 1; for 12, 0; for 18, the
+ * number of pages.
+ *   12  the list is empty, ends in half a page, or is longer than any of this galley can be
+ *   13  the page goes backwards, goes past what the galley has, or is empty
+ *   14  the page ends after a line that must not end a page
+ *   15  the page is higher than htMax even at its tightest
+ *   16  the page is lower than htMin even at its loosest, and it is not the last
+ *   17  a figure stands on a spread that ends before the line that cites it
+ *   18  the list ends before everything is placed
  *
- * A galley that is refused (1 to 8) is refused alike by making and marking, before anything else is looked at. Making then
- * tests 9 before 10, and 11 after both. Marking stops at the first page that breaks a rule, and there at the first rule.
+ * Both calls read the galley first and answer 1 to 8 in the same way. Making then looks at the lengths, 9 before 10, and
+ * searches only where both suffice. Of several broken rules marking answers the one on the earliest page, and there the
+ * lowest number.
  */
 #ifndef BARLEYCHIME_H
 #define BARLEYCHIME_H

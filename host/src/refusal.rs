@@ -24,29 +24,25 @@ const fn meaning(number: u32, place: Place, sentence: &'static str) -> Meaning {
 }
 
 const MEANINGS: [Meaning; 19] = [
-    meaning(1, Place::Byte, "the file ends inside a record or before its `ED`"),
-    meaning(2, Place::Byte, "a mark is unknown or stands where it may not"),
-    meaning(3, Place::Byte, "a field is outside its range"),
-    meaning(4, Place::Byte, "there are more than 4,000 lines or more than 200 figures"),
-    meaning(5, Place::Byte, "a figure or the end comes before any line"),
-    meaning(6, Place::Byte, "a figure is cited by line 0 or by a line that is not there"),
-    meaning(7, Place::Byte, "a figure is cited before the figure in front of it"),
-    meaning(8, Place::Byte, "there are bytes after `ED`"),
-    meaning(9, Place::Words, "the work area that was lent is too short"),
-    meaning(10, Place::Words, "the page list that was lent is too short"),
+    meaning(1, Place::Byte, "the galley stops short, inside a record or without its `ED`"),
+    meaning(2, Place::Byte, "a mark is unknown, or known but out of place"),
+    meaning(3, Place::Byte, "the value of a field is not allowed"),
+    meaning(4, Place::Byte, "there is a line too many (4,000 is the most) or a figure too many (200)"),
+    meaning(5, Place::Byte, "figures or the end come before the first line"),
+    meaning(6, Place::Byte, "a figure names a citing line that the galley does not have"),
+    meaning(7, Place::Byte, "a figure is cited earlier than the figure in front of it"),
+    meaning(8, Place::Byte, "something follows `ED`"),
+    meaning(9, Place::Words, "the work area that is lent is not long enough"),
+    meaning(10, Place::Words, "the page list that is lent is not long enough"),
     meaning(11, Place::Nothing, "no pagination of this galley meets its page specification"),
-    meaning(
-        12,
-        Place::Nothing,
-        "the list has no words, an odd number of them, or more than two for each line and figure",
-    ),
-    meaning(13, Place::Page, "a count falls or passes what the galley has, or the page is empty"),
-    meaning(14, Place::Page, "the page ends after a line whose space forbids it"),
+    meaning(12, Place::Nothing, "the list is empty, ends in half a page, or is longer than any of this galley can be"),
+    meaning(13, Place::Page, "the page goes backwards, goes past what the galley has, or is empty"),
+    meaning(14, Place::Page, "the page ends after a line that must not end a page"),
     meaning(15, Place::Page, "the page is higher than htMax even at its tightest"),
     meaning(16, Place::Page, "the page is lower than htMin even at its loosest, and it is not the last"),
     meaning(17, Place::Page, "a figure stands on a spread that ends before the line that cites it"),
     meaning(18, Place::Pages, "the list ends before everything is placed"),
-    meaning(19, Place::Bytes, "there are more bytes of input than the small program takes"),
+    meaning(19, Place::Bytes, "the input is longer than the small program takes"),
 ];
 
 /// Who can mend it, by document 01's groups.

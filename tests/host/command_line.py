@@ -1,5 +1,6 @@
 """The command end to end: options, names, standard input, statuses, bad files, lists with junk, help where 11 is due."""
 
+import re
 import subprocess
 
 from reference import cases, marking, refusals, sample, search
@@ -39,7 +40,22 @@ def file(folder, name, data):
     return path
 
 
-def usage(tally, command):
+def documented(root, number, mender, told):
+    """The documents that say something else about a refusal than the command."""
+    sentence = told.split(None, 1)[1].removesuffix(f' ({mender})')
+    row = re.compile(rf'^\| {number} \| (.*?) \| .* \| (.*?) \|$', re.M)
+    papers = [path for path in (root / 'README.md', root / 'docs/USING.md') if path.is_file()]
+    rows = {path.name: row.findall(path.read_text()) for path in papers}
+    wrong = [name for name, found in rows.items() if any(what != (sentence, mender) for what in found)]
+    if not any(rows.values()):
+        wrong.append('nowhere documented')
+    header = (root / 'include/barleychime.h').read_text()
+    if number != 19 and f' *   {number:2}  {sentence.replace("`", "")}\n' not in header:
+        wrong.append('barleychime.h')
+    return wrong
+
+
+def usage(tally, command, root):
     for arguments in [(), ('mend',), ('--mend',), ('make', '--mend'), ('make',), ('make', 'a', 'b'), ('mark', 'a'),
                       ('explain', 'a'), ('explain', 'a', 'b', 'c'), ('pack',), ('unpack', 'a', 'b'),
                       ('mark', '-', '-'), ('explain', '-', '-'), ('make', '')]:
@@ -55,6 +71,7 @@ def usage(tally, command):
         for number in numbers:
             told = [line for line in output.splitlines() if line.split()[:1] == [str(number)]]
             tally.same(f'{number} in --help', [mender in line for line in told], [True])
+            tally.same(f'{number} in the documents', documented(root, number, mender, told[0]), [])
     status, output, remarks = command.text('--version')
     tally.same('--version', (status, output.split()[0], remarks), (0, 'barleychime', ''))
     tally.group('command: usage')
@@ -194,7 +211,7 @@ def help_with_11(tally, command, folder):
     tally.group('command: help where no pagination exists')
 
 
-def run(tally, command, folder):
-    usage(tally, command)
+def run(tally, command, root, folder):
+    usage(tally, command, root)
     for group in (bad_files, lists, making, full_size, outputs, help_with_11):
         group(tally, command, folder)

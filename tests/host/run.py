@@ -41,7 +41,7 @@ def main():
         folder = Path(name)
         c_interface.run(tally, ROOT, library, folder)
         archive.run(tally, library, folder)
-        command_line.run(tally, command, folder)
+        command_line.run(tally, command, ROOT, folder)
         round_trips.run(tally, command, ROOT, folder)
         explained.run(tally, command, folder)
         examples.run(tally, command, ROOT, library, folder)
