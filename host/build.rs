@@ -16,7 +16,9 @@ fn main() {
     };
     println!("cargo:rerun-if-changed={}", archive.display());
     if archive.file_name() != Some(ARCHIVE.as_ref()) || !archive.is_file() {
-        panic!("{} is not there: `rt staticlib barleychime` makes it, or BARLEYCHIME_LIB names it", archive.display());
+        let hint = "`rt staticlib barleychime` makes it, or BARLEYCHIME_LIB names it";
+        println!("cargo::error={} is not there: {hint}", archive.display());
+        return;
     }
     let folder = archive.parent().unwrap_or(Path::new("."));
     println!("cargo:rustc-link-search=native={}", folder.canonicalize().expect("the archive's folder").display());
