@@ -1,7 +1,9 @@
 //! Galleys read, marked and made in plain Rust.
 //!
-//! Written from document 01 alone, without a look at the proved engine, so that the two can be compared: in their answers
-//! and in their speed. The algorithm is the engine's first one, a plain search of the starts of every place and side.
+//! It shares no code with the proved engine and was written without a look at it, so that the two can be compared, in their
+//! answers and in their speed. The rules are document 01's. The algorithm is the engine's first one as its design describes
+//! it, a plain search of the starts of every place and side, and its author knew the reference in Python: that the three
+//! agree tells of slips, less of a sentence in the papers that all of them might misread.
 //! Like the engine it allocates nothing: galley, work area and page list are lent.
 #![no_std]
 #![forbid(unsafe_code)]
