@@ -1,0 +1,114 @@
+//! The engine: the two functions of `include/barleychime.h`, safe to call. All unsafe code is here.
+
+#[allow(unsafe_code)]
+mod c {
+    extern "C" {
+        pub fn barleychime_make(
+            galley: *const u8,
+            galley_len: usize,
+            work: *mut u32,
+            work_len: usize,
+            pages: *mut u32,
+            pages_len: usize,
+            answer: *mut [u32; 6],
+        ) -> u32;
+        pub fn barleychime_mark(
+            galley: *const u8,
+            galley_len: usize,
+            pages: *const u32,
+            pages_len: usize,
+            answer: *mut [u32; 6],
+        ) -> u32;
+    }
+}
+
+/// What a valid list comes to.
+#[derive(Clone, Copy, Debug, PartialEq, Eq)]
+pub struct Measure {
+    pub pages: u32,
+    pub x: u32,
+    pub y: u32,
+    pub turns: u32,
+}
+
+/// Why work is turned away: document 01's number and place.
+#[derive(Clone, Copy, Debug, PartialEq, Eq)]
+pub struct Refusal {
+    pub number: u32,
+    pub place: u32,
+}
+
+/// Makes a galley's pages in lent memory: 8·(m + 1)·(n + 1) words of work, 2·(m + n) words of list, of any contents.
+#[allow(unsafe_code)]
+pub fn make_in(galley: &[u8], work: &mut [u32], pages: &mut [u32]) -> Result<Measure, Refusal> {
+    let mut answer = [0; 6];
+    // The areas are those of slices that the borrow checker keeps apart, and the engine reads and writes nothing else.
+    unsafe {
+        c::barleychime_make(
+            galley.as_ptr(),
+            galley.len(),
+            work.as_mut_ptr(),
+            work.len(),
+            pages.as_mut_ptr(),
+            pages.len(),
+            &mut answer,
+        );
+    }
+    result(answer)
+}
+
+/// Marks a page list.
+#[allow(unsafe_code)]
+pub fn mark(galley: &[u8], pages: &[u32]) -> Result<Measure, Refusal> {
+    let mut answer = [0; 6];
+    // As above.
+    unsafe {
+        c::barleychime_mark(galley.as_ptr(), galley.len(), pages.as_ptr(), pages.len(), &mut answer);
+    }
+    result(answer)
+}
+
+fn result([number, place, pages, x, y, turns]: [u32; 6]) -> Result<Measure, Refusal> {
+    match number {
+        0 => Ok(Measure { pages, x, y, turns }),
+        _ => Err(Refusal { number, place }),
+    }
+}
+
+/// Memory for making, kept from one galley to the next. It grows to what the engine asks for.
+#[derive(Default)]
+pub struct Desk {
+    work: Vec<u32>,
+    pages: Vec<u32>,
+}
+
+impl Desk {
+    pub fn new() -> Self {
+        Self::default()
+    }
+
+    /// Makes a galley's pages: the measure, and two words a page.
+    pub fn make(&mut self, galley: &[u8]) -> Result<(Measure, &[u32]), Refusal> {
+        loop {
+            match make_in(galley, &mut self.work, &mut self.pages) {
+                Ok(measure) => return Ok((measure, &self.pages[..2 * measure.pages as usize])),
+                Err(Refusal { number: 9, place }) if place as usize > self.work.len() => {
+                    self.work.resize(place as usize, 0)
+                }
+                Err(Refusal { number: 10, place }) if place as usize > self.pages.len() => {
+                    self.pages.resize(place as usize, 0)
+                }
+                Err(refusal) => return Err(refusal),
+            }
+        }
+    }
+}
+
+/// Whether the galley reads without refusal; otherwise one of 1 to 8.
+pub fn read(galley: &[u8]) -> Result<(), Refusal> {
+    // A galley is read before its list, and a list without words breaks rule 12 and no other.
+    match mark(galley, &[]) {
+        Err(refusal) if refusal.number <= 8 => Err(refusal),
+        _ => Ok(()),
+    }
+}

@@ -1,0 +1,175 @@
+//! A page list in words: page by page, and for a refused one the rule that it breaks with the numbers that break it.
+
+use crate::engine::{Desk, Measure, Refusal};
+use crate::galley::Galley;
+use crate::page::{spread, Page};
+use crate::record::Record;
+use crate::refusal::{mender, sentence};
+use crate::text::field_at_fault;
+
+/// An accepted list.
+pub fn accepted(galley: &Galley, list: &[u32], measure: Measure) -> String {
+    let pages = Page::all(list);
+    let mut text = opening(galley);
+    for page in &pages {
+        text += &page_in_words(galley, &pages, page);
+    }
+    let spec = &galley.spec;
+    let Measure { x, y, turns, .. } = measure;
+    text += &format!("accepted: {}, X {x}, Y {y}, ", counted(pages.len(), "page"));
+    text + &format!("T = alpha·X + beta·Y = {}·{x} + {}·{y} = {turns}\n", spec.alpha, spec.beta)
+}
+
+/// How the list compares with the engine's own.
+pub fn against_best(bytes: &[u8], measure: Measure) -> String {
+    match Desk::new().make(bytes) {
+        Ok((best, _)) if best.turns == measure.turns => "no list has fewer turns\n".into(),
+        Ok((best, _)) => {
+            let more = measure.turns.saturating_sub(best.turns);
+            format!("the fewest turns are {}; this list has {more} more\n", best.turns)
+        }
+        Err(refusal) => format!("the engine makes no list: {refusal}\n"),
+    }
+}
+
+/// A list that breaks one of 12 to 18, up to the page that does.
+pub fn refused(galley: &Galley, list: &[u32], refusal: Refusal) -> String {
+    let pages = Page::all(list);
+    let mut text = opening(galley);
+    for page in pages.iter().take(refusal.place as usize) {
+        text += &page_in_words(galley, &pages, page);
+    }
+    let numbers = match pages.get((refusal.place as usize).wrapping_sub(1)) {
+        Some(page) => broken_in_numbers(galley, page, refusal.number),
+        None => broken_length(galley, list),
+    };
+    text + &format!("refused, {refusal}: {}\n{numbers}\n", sentence(refusal))
+}
+
+/// A galley that is refused itself: the record, and its field if one is at fault.
+pub fn refused_galley(bytes: &[u8], refusal: Refusal) -> String {
+    let record = bytes.get(refusal.place as usize..).and_then(Record::take);
+    let field = record.map_or(String::new(), |(record, _)| field_at_fault(refusal.number, &record));
+    format!("refused, {refusal}: {field}{}\n", sentence(refusal))
+}
+
+fn opening(galley: &Galley) -> String {
+    let spec = &galley.spec;
+    format!(
+        "galley: {}, {}; height {} to {}, separation {} to {}; {}; alpha {}, beta {}\n",
+        counted(galley.lines.len(), "line"),
+        counted(galley.figures.len(), "figure"),
+        spec.ht_min,
+        spec.ht_max,
+        spec.s_min,
+        spec.s_max,
+        if spec.double_sided { "double-sided" } else { "single-sided" },
+        spec.alpha,
+        spec.beta
+    )
+}
+
+fn page_in_words(galley: &Galley, pages: &[Page], page: &Page) -> String {
+    let mut text = format!("page {}, {}: ", page.number, spread_in_words(galley, page.number));
+    if !page.is_sound(galley) {
+        return text + &format!("from {:?} to {:?}\n", page.start, page.end);
+    }
+    text += &holdings(page);
+    let (tight, loose) = page.heights(galley);
+    let spec = &galley.spec;
+    let last = page.number == pages.len();
+    text += &match last {
+        true => format!("\n    height {tight} to {loose}; at most {} is asked of the last page\n", spec.ht_max),
+        false => format!("\n    height {tight} to {loose}; {} to {} is asked\n", spec.ht_min, spec.ht_max),
+    };
+    for figure in page.start.1 + 1..=page.end.1 {
+        text += &figure_in_words(galley, pages, page, figure);
+    }
+    text
+}
+
+fn spread_in_words(galley: &Galley, page: usize) -> String {
+    match (galley.spec.double_sided, page % 2) {
+        (false, _) => "a spread by itself".into(),
+        (true, 0) => format!("spread {}, left", spread(true, page)),
+        (true, _) => format!("spread {}, right", spread(true, page)),
+    }
+}
+
+fn holdings(page: &Page) -> String {
+    let ((a, b), (i, j)) = (page.start, page.end);
+    let kinds = [range("line", a, i), range("figure", b, j)];
+    kinds.into_iter().flatten().collect::<Vec<_>>().join(", ")
+}
+
+fn range(kind: &str, before: usize, last: usize) -> Option<String> {
+    match last - before {
+        0 => None,
+        1 => Some(format!("{kind} {last}")),
+        _ => Some(format!("{kind}s {} to {last}", before + 1)),
+    }
+}
+
+/// The turns that a figure costs: from the spread of its citation to its own.
+fn figure_in_words(galley: &Galley, pages: &[Page], page: &Page, figure: usize) -> String {
+    let double_sided = galley.spec.double_sided;
+    let citation = galley.figures[figure - 1].citation;
+    let cited_on = pages.iter().find(|page| page.end.0 >= citation).map(|page| page.number);
+    let opening = format!("    figure {figure}, cited by line {citation}");
+    let Some(cited_on) = cited_on else {
+        return format!("{opening}, which no page places\n");
+    };
+    let (there, here) = (spread(double_sided, cited_on), spread(double_sided, page.number));
+    let cost = match here.checked_sub(there) {
+        None => "before its citation".into(),
+        Some(0) if cited_on == page.number => "the same page, no turn".into(),
+        Some(0) => "the same spread, no turn".into(),
+        Some(turns) => {
+            let alpha = u64::from(galley.spec.alpha);
+            format!("{}, costs {alpha}·{turns} = {}", counted(turns, "turn"), alpha * turns as u64)
+        }
+    };
+    format!("{opening} on page {cited_on}: {cost}\n")
+}
+
+/// The numbers by which the page breaks the rule.
+fn broken_in_numbers(galley: &Galley, page: &Page, rule: u32) -> String {
+    let ((a, b), (i, j)) = (page.start, page.end);
+    let (m, n) = (galley.lines.len(), galley.figures.len());
+    let spec = &galley.spec;
+    match rule {
+        13 if i < a => format!("    lines placed so far fall from {a} to {i}"),
+        13 if j < b => format!("    figures placed so far fall from {b} to {j}"),
+        13 if i > m => format!("    it claims {i} lines, but the galley has {m}"),
+        13 if j > n => format!("    it claims {j} figures, but the galley has {n}"),
+        13 => format!("    it ends where it starts, after {} and {}", counted(i, "line"), counted(j, "figure")),
+        14 => format!("    line {i} forbids a page end in the space after it"),
+        15 => {
+            let (tight, _) = page.heights(galley);
+            format!("    {tight} is above htMax {} by {}", spec.ht_max, tight.saturating_sub(spec.ht_max.into()))
+        }
+        16 => {
+            let (_, loose) = page.heights(galley);
+            format!("    {loose} is below htMin {} by {}", spec.ht_min, u64::from(spec.ht_min).saturating_sub(loose))
+        }
+        17 => {
+            let citation = galley.figures[j - 1].citation;
+            format!("    figure {j} is cited by line {citation}, and the spread ends after line {i}")
+        }
+        18 => format!("    the list ends at {i} {j}, and everything is placed at {m} {n}"),
+        _ => format!("    {} can mend it", mender(rule)),
+    }
+}
+
+fn broken_length(galley: &Galley, list: &[u32]) -> String {
+    let most = 2 * (galley.lines.len() + galley.figures.len());
+    format!("    it has {}; 2 to {most} and an even number are asked", counted(list.len(), "word"))
+}
+
+fn counted(number: usize, what: &str) -> String {
+    if number == 1 {
+        format!("1 {what}")
+    } else {
+        format!("{number} {what}s")
+    }
+}

@@ -1,0 +1,64 @@
+//! What `--help` says.
+
+use barleychime::refusal;
+
+pub fn whole() -> String {
+    format!("{WHOLE}\nRefusals, with who can mend them:\n{}", refusal::table())
+}
+
+const WHOLE: &str = "\
+Makes the pages of a galley with the fewest page turns, and marks page lists.
+
+  barleychime make GALLEY            the best page list
+  barleychime mark GALLEY LIST...    pages and turns of page lists, or what they break
+  barleychime explain GALLEY LIST    a page list in words, page by page
+  barleychime pack TEXT              a galley written as text, as a galley file
+  barleychime unpack GALLEY          a galley file as text
+  barleychime COMMAND --help         more about a command
+  barleychime --version
+
+A file called - is standard input. Exit status: 0 success, 1 refused, 2 an error.
+";
+
+pub const MAKE: &str = "\
+barleychime make GALLEY
+
+Prints `p X Y T` (pages, turns to figures, turns from first page to last, weighted turns), then `q i j` for each page q:
+lines and figures placed so far. A refusal is printed as `R number place`, and in words on standard error. Where no
+pagination exists (11) the greatest htMin at which one does is printed there too; the galley is not changed.
+";
+
+pub const MARK: &str = "\
+barleychime mark GALLEY LIST...
+
+Prints `p X Y T` for a valid list, else `R number place`; of several lists a line for each, followed by its name. The
+reason of a refusal is given in words on standard error. A LIST is what `barleychime make` prints, or a line `i j` for
+each page: lines and figures placed so far. `#` opens a comment.
+";
+
+pub const EXPLAIN: &str = "\
+barleychime explain GALLEY LIST
+
+Says page by page what it holds, its heights and those that are asked, its spread, and the turns that each figure costs.
+For a refused list it says which page breaks which rule, with the numbers. Heights are in hundredths of a point.
+";
+
+pub const PACK: &str = "\
+barleychime pack TEXT > GALLEY
+
+Writes a galley file from a text with one record a line; `#` opens a comment. Lengths are in hundredths of a point.
+
+  GS htMin htMax sMin sMax sides alpha beta    page heights, separation of text and figures, 1 or 2 sides, weights
+  TL height least most end                     a line, the space after it, 1 if a page may end there (else 0)
+  FG height least most line                    a figure, the space after it, the line that cites it (from 1)
+  ED                                           the end
+
+First GS, then all lines, then all figures. Nothing is written if the galley would be refused.
+";
+
+pub const UNPACK: &str = "\
+barleychime unpack GALLEY > TEXT
+
+Writes a galley file as text, one record a line; `barleychime pack` gives the same bytes back. Of a galley that is
+refused the whole records are written as they stand, and the exit status is 1.
+";

@@ -1,0 +1,85 @@
+//! The command `barleychime`.
+#![forbid(unsafe_code)]
+
+mod commands;
+mod help;
+mod output;
+
+use commands::Outcome;
+use output::{say, Output};
+use std::process::ExitCode;
+
+const REFUSED: u8 = 1;
+const FAILED: u8 = 2;
+
+fn main() -> ExitCode {
+    let mut arguments = Vec::new();
+    for argument in std::env::args_os().skip(1) {
+        match argument.into_string() {
+            Ok(argument) => arguments.push(argument),
+            Err(argument) => return failed(&format!("{}: a name in UTF-8 is wanted", argument.display())),
+        }
+    }
+    match run(&arguments, &mut Output::new()) {
+        Ok(Outcome::Success) => ExitCode::SUCCESS,
+        Ok(Outcome::Refused) => ExitCode::from(REFUSED),
+        Ok(Outcome::Failed) => ExitCode::from(FAILED),
+        Err(message) => failed(&message),
+    }
+}
+
+fn failed(message: &str) -> ExitCode {
+    if !message.is_empty() {
+        say(message);
+    }
+    ExitCode::from(FAILED)
+}
+
+fn run(arguments: &[String], output: &mut Output) -> Result<Outcome, String> {
+    let Some((command, rest)) = arguments.split_first() else {
+        return Err("a command is wanted; `barleychime --help` names them".into());
+    };
+    let help = match command.as_str() {
+        "--help" | "-h" => return told(output, &help::whole()),
+        "--version" | "-V" => return told(output, concat!("barleychime ", env!("CARGO_PKG_VERSION"), "\n")),
+        "make" => help::MAKE,
+        "mark" => help::MARK,
+        "explain" => help::EXPLAIN,
+        "pack" => help::PACK,
+        "unpack" => help::UNPACK,
+        _ => return Err(format!("{command}: no such command; `barleychime --help` names them")),
+    };
+    let Some(names) = names(rest)? else { return told(output, help) };
+    if names.iter().filter(|&&name| name == "-").count() > 1 {
+        return Err("standard input can be read only once".into());
+    }
+    match (command.as_str(), names.as_slice()) {
+        ("make", [galley]) => commands::make(galley, output),
+        ("mark", [galley, lists @ ..]) if !lists.is_empty() => commands::mark(galley, lists, output),
+        ("explain", [galley, list]) => commands::explain(galley, list, output),
+        ("pack", [text]) => commands::pack(text, output),
+        ("unpack", [galley]) => commands::unpack(galley, output),
+        _ => Err(format!("usage: {}", help.lines().next().unwrap_or(""))),
+    }
+}
+
+fn told(output: &mut Output, text: &str) -> Result<Outcome, String> {
+    output.print(text).map(|()| Outcome::Success)
+}
+
+/// The file names among a command's arguments; none if help is wanted instead.
+fn names(arguments: &[String]) -> Result<Option<Vec<&str>>, String> {
+    let mut names = Vec::new();
+    let mut options = true;
+    for argument in arguments {
+        match argument.as_str() {
+            "--" if options => options = false,
+            "--help" | "-h" if options => return Ok(None),
+            option if options && option.starts_with('-') && option != "-" => {
+                return Err(format!("{option}: no such option"));
+            }
+            name => names.push(name),
+        }
+    }
+    Ok(Some(names))
+}

@@ -1,0 +1,57 @@
+//! The records of a galley file: their marks and fields, in bytes and in words of a text.
+
+/// A kind of record: its mark, and the names of its fields as people call them.
+#[derive(Debug, PartialEq, Eq)]
+pub struct Kind {
+    pub mark: &'static str,
+    pub fields: &'static [&'static str],
+}
+
+pub const SPEC: Kind = Kind { mark: "GS", fields: &["htMin", "htMax", "sMin", "sMax", "sides", "alpha", "beta"] };
+pub const LINE: Kind = Kind { mark: "TL", fields: &["height", "least space", "greatest space", "page end"] };
+pub const FIGURE: Kind = Kind { mark: "FG", fields: &["height", "least space", "greatest space", "citation"] };
+pub const END: Kind = Kind { mark: "ED", fields: &[] };
+
+pub fn kind_of(mark: &[u8]) -> Option<&'static Kind> {
+    [&SPEC, &LINE, &FIGURE, &END].into_iter().find(|kind| kind.mark.as_bytes() == mark)
+}
+
+#[derive(Clone, Debug, PartialEq, Eq)]
+pub struct Record {
+    pub kind: &'static Kind,
+    pub fields: Vec<u32>,
+}
+
+impl Record {
+    /// The record that opens these bytes, if it is whole, and the bytes after it.
+    pub fn take(bytes: &[u8]) -> Option<(Record, &[u8])> {
+        let (mark, rest) = bytes.split_at_checked(2)?;
+        let kind = kind_of(mark)?;
+        let (fields, rest) = rest.split_at_checked(4 * kind.fields.len())?;
+        let fields = fields.chunks_exact(4).map(|field| u32::from_be_bytes([field[0], field[1], field[2], field[3]]));
+        Some((Record { kind, fields: fields.collect() }, rest))
+    }
+
+    pub fn put(&self, bytes: &mut Vec<u8>) {
+        bytes.extend_from_slice(self.kind.mark.as_bytes());
+        for field in &self.fields {
+            bytes.extend_from_slice(&field.to_be_bytes());
+        }
+    }
+
+    /// Which field is outside its range, counted from 0, and the range in words: what lies behind refusal 3.
+    pub fn out_of_range(&self) -> Option<(usize, String)> {
+        const LONGEST: u32 = 100_000;
+        let ranges: Vec<(u32, u32)> = match (self.kind.mark, self.fields.as_slice()) {
+            ("GS", &[_, ht_max, _, s_max, ..]) => {
+                vec![(0, ht_max), (1, LONGEST), (0, s_max), (0, LONGEST), (1, 2), (0, 1_000), (0, 1_000)]
+            }
+            ("TL", &[_, _, most, _]) => vec![(0, LONGEST), (0, most), (0, LONGEST), (0, 1)],
+            ("FG", &[_, _, most, _]) => vec![(0, LONGEST), (0, most), (0, LONGEST)],
+            _ => vec![],
+        };
+        let outside = |(&field, &(least, most)): (&u32, &(u32, u32))| field < least || field > most;
+        let at = self.fields.iter().zip(&ranges).position(outside)?;
+        Some((at, format!("{} to {}", ranges[at].0, ranges[at].1)))
+    }
+}

@@ -1,0 +1,95 @@
+//! Every refusal in one sentence, with who can mend it.
+
+use crate::engine::Refusal;
+use std::fmt;
+
+/// What a refusal's place counts.
+enum Place {
+    Byte,
+    Words,
+    Nothing,
+    Page,
+    Pages,
+    Bytes,
+}
+
+struct Meaning {
+    number: u32,
+    sentence: &'static str,
+    place: Place,
+}
+
+const fn meaning(number: u32, place: Place, sentence: &'static str) -> Meaning {
+    Meaning { number, sentence, place }
+}
+
+const MEANINGS: [Meaning; 19] = [
+    meaning(1, Place::Byte, "the galley stops short, inside a record or without its `ED`"),
+    meaning(2, Place::Byte, "a mark is unknown, or known but out of place"),
+    meaning(3, Place::Byte, "the value of a field is not allowed"),
+    meaning(4, Place::Byte, "there is a line too many (4,000 is the most) or a figure too many (200)"),
+    meaning(5, Place::Byte, "figures or the end come before the first line"),
+    meaning(6, Place::Byte, "a figure names a citing line that the galley does not have"),
+    meaning(7, Place::Byte, "a figure is cited earlier than the figure in front of it"),
+    meaning(8, Place::Byte, "something follows `ED`"),
+    meaning(9, Place::Words, "the work area that is lent is not long enough"),
+    meaning(10, Place::Words, "the page list that is lent is not long enough"),
+    meaning(11, Place::Nothing, "no pagination of this galley meets its page specification"),
+    meaning(12, Place::Nothing, "the list is empty, ends in half a page, or is longer than any of this galley can be"),
+    meaning(13, Place::Page, "the page goes backwards, goes past what the galley has, or is empty"),
+    meaning(14, Place::Page, "the page ends after a line that must not end a page"),
+    meaning(15, Place::Page, "the page is higher than htMax even at its tightest"),
+    meaning(16, Place::Page, "the page is lower than htMin even at its loosest, and it is not the last"),
+    meaning(17, Place::Page, "a figure stands on a spread that ends before the line that cites it"),
+    meaning(18, Place::Pages, "the list ends before everything is placed"),
+    meaning(19, Place::Bytes, "the input is longer than the small program takes"),
+];
+
+/// Who can mend it, by document 01's groups.
+pub fn mender(number: u32) -> &'static str {
+    match number {
+        1..=8 => "the galley's writer",
+        9 | 10 => "the host program",
+        11 => "the designer",
+        12..=18 => "whoever handed in the list",
+        _ => "the person at the program",
+    }
+}
+
+impl Refusal {
+    fn meaning(&self) -> Option<&'static Meaning> {
+        MEANINGS.iter().find(|meaning| meaning.number == self.number)
+    }
+}
+
+/// `R number place`, as the program prints it.
+impl fmt::Display for Refusal {
+    fn fmt(&self, out: &mut fmt::Formatter) -> fmt::Result {
+        write!(out, "R {} {}", self.number, self.place)
+    }
+}
+
+/// The refusal in one sentence.
+pub fn sentence(refusal: Refusal) -> String {
+    let Some(Meaning { sentence, place, .. }) = refusal.meaning() else {
+        return format!("refusal {} is not known to this version of the command", refusal.number);
+    };
+    let count = refusal.place;
+    let place = match place {
+        Place::Byte => format!("at byte {count}: "),
+        Place::Words => format!("{count} words are needed: "),
+        Place::Nothing => String::new(),
+        Place::Page => format!("page {count}: "),
+        Place::Pages => format!("page {count}, the last: "),
+        Place::Bytes => format!("more than {count} bytes: "),
+    };
+    format!("{place}{sentence}; {} can mend it", mender(refusal.number))
+}
+
+/// All of them, a line each.
+pub fn table() -> String {
+    let lines = MEANINGS
+        .iter()
+        .map(|meaning| format!("  {:2}  {} ({})\n", meaning.number, meaning.sentence, mender(meaning.number)));
+    lines.collect()
+}

@@ -1,0 +1,99 @@
+/* Barleychime: page make-up and marking for galleys with figures.
+ *
+ * Making gives the pagination with the fewest page turns that a galley's page specification allows; marking judges a
+ * pagination that is handed in. Both work on lent memory alone: they allocate nothing, keep nothing between calls, call
+ * nothing and print nothing. Calls on memory that is not shared may run at the same time.
+ *
+ * A galley has m lines (1 to 4,000) and n figures (0 to 200). A page list has two words a page: the lines placed so far and
+ * the figures placed so far. A word is 32 bits in the machine's own byte order; the galley's bytes are the same everywhere.
+ *
+ * Refusals: the call returns the number, answer[0] is the number, answer[1] the place, the rest of the answer is 0.
+ *
+ * The galley's writer can mend these. Place: byte offset of the record's mark, or where one was due; for 8, of what follows.
+ *    1  the galley stops short, inside a record or without its ED
+ *    2  a mark is unknown, or known but out of place
+ *    3  the value of a field is not allowed
+ *    4  there is a line too many (4,000 is the most) or a figure too many (200)
+ *    5  figures or the end come before the first line
+ *    6  a figure names a citing line that the galley does not have
+ *    7  a figure is cited earlier than the figure in front of it
+ *    8  something follows ED
+ * The host program can mend these, which only making answers. Place: words needed.
+ *    9  the work area that is lent is not long enough
+ *   10  the page list that is lent is not long enough
+ * The designer can mend this, which only making answers. Place: 0.
+ *   11  no pagination of this galley meets its page specification
+ * Whoever handed in the list can mend these, which only marking answers. Place: page, counted from 1; for 12, 0; for 18, the
+ * number of pages.
+ *   12  the list is empty, ends in half a page, or is longer than any of this galley can be
+ *   13  the page goes backwards, goes past what the galley has, or is empty
+ *   14  the page ends after a line that must not end a page
+ *   15  the page is higher than htMax even at its tightest
+ *   16  the page is lower than htMin even at its loosest, and it is not the last
+ *   17  a figure stands on a spread that ends before the line that cites it
+ *   18  the list ends before everything is placed
+ *
+ * Both calls read the galley first and answer 1 to 8 in the same way. Making then looks at the lengths, 9 before 10, and
+ * searches only where both suffice. Of several broken rules marking answers the one on the earliest page, and there the
+ * lowest number.
+ */
+#ifndef BARLEYCHIME_H
+#define BARLEYCHIME_H
+
+#include <stddef.h>
+#include <stdint.h>
+
+/* Words of work area and of page list that making needs for m lines and n figures; no galley needs more than the most. */
+#define BARLEYCHIME_WORK_WORDS(m, n) ((size_t)8 * ((size_t)(m) + 1) * ((size_t)(n) + 1))
+#define BARLEYCHIME_LIST_WORDS(m, n) ((size_t)2 * ((size_t)(m) + (size_t)(n)))
+#define BARLEYCHIME_MOST_WORK_WORDS BARLEYCHIME_WORK_WORDS(4000, 200)
+#define BARLEYCHIME_MOST_LIST_WORDS BARLEYCHIME_LIST_WORDS(4000, 200)
+
+/* Bytes of the longest galley. Whatever is longer is refused, and its first bytes, one more than these, decide how. */
+#define BARLEYCHIME_LONGEST_GALLEY ((size_t)30 + 4200 * 18 + 2)
+
+/* What the six words of an answer are. */
+enum {
+    BARLEYCHIME_NUMBER = 0, /* 0, or the number of the refusal */
+    BARLEYCHIME_PLACE = 1,  /* 0, or the refusal's place */
+    BARLEYCHIME_PAGES = 2,  /* p: pages */
+    BARLEYCHIME_X = 3,      /* pages, or spreads, between citations and their figures, summed over the figures */
+    BARLEYCHIME_Y = 4,      /* turns from the first page to the last */
+    BARLEYCHIME_TURNS = 5   /* T = alpha * X + beta * Y */
+};
+
+#ifdef __cplusplus
+extern "C" {
+#endif
+
+/* Makes the pages of a galley.
+ *
+ * The caller owns all memory and lends it for the length of the call. The areas must not overlap. A pointer whose length
+ * is 0 is not read, but must not be null.
+ *   galley      galley_len bytes, only read
+ *   work        at least BARLEYCHIME_WORK_WORDS(m, n) words, of any contents
+ *   pages       at least BARLEYCHIME_LIST_WORDS(m, n) words, of any contents
+ *   answer      6 words, always written: number, place, p, X, Y, T
+ * Longer areas are fine. To learn the lengths without reading the galley, call with both lengths 0: 9 answers with the
+ * words of work area, and with enough of that 10 with the words of page list.
+ *
+ * Returns 0 for success. Afterwards:
+ *   success         2*p words of pages hold the list, the rest of it is as before; the work area's first
+ *                   BARLEYCHIME_WORK_WORDS(m, n) words are 0, the rest is as before
+ *   11              pages is as before; the work area is as after success
+ *   other refusals  pages and work area are as before
+ */
+uint32_t barleychime_make(const uint8_t *galley, size_t galley_len, uint32_t *work, size_t work_len, uint32_t *pages,
+                          size_t pages_len, uint32_t answer[6]);
+
+/* Marks a page list of pages_len words for a galley. Reads both, writes the answer and nothing else.
+ * Returns 0 if the list is a valid pagination, with p, X, Y, T in the answer.
+ */
+uint32_t barleychime_mark(const uint8_t *galley, size_t galley_len, const uint32_t *pages, size_t pages_len,
+                          uint32_t answer[6]);
+
+#ifdef __cplusplus
+}
+#endif
+
+#endif

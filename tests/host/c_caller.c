@@ -1,0 +1,79 @@
+/* Case A through the C interface: makes it, prints what the program prints, marks two lists, and tries too little memory. */
+#include <barleychime.h>
+#include <stdio.h>
+#include <string.h>
+
+#define LINES 3
+#define FIGURES 1
+#define WORK BARLEYCHIME_WORK_WORDS(LINES, FIGURES)
+#define LIST BARLEYCHIME_LIST_WORDS(LINES, FIGURES)
+
+static uint8_t galley[30 + (LINES + FIGURES) * 18 + 2];
+static size_t galley_len = 0;
+
+static void put(const char *mark, const uint32_t *fields, size_t count)
+{
+    memcpy(galley + galley_len, mark, 2);
+    galley_len += 2;
+    for (size_t k = 0; k < count; k++) {
+        for (int shift = 24; shift >= 0; shift -= 8) {
+            galley[galley_len++] = (uint8_t)(fields[k] >> shift);
+        }
+    }
+}
+
+static void write_case_a(void)
+{
+    const uint32_t spec[7] = {30, 30, 0, 0, 1, 1, 1}, line[4] = {10, 0, 0, 1}, figure[4] = {20, 0, 0, 1};
+    put("GS", spec, 7);
+    for (int k = 0; k < LINES; k++) {
+        put("TL", line, 4);
+    }
+    put("FG", figure, 4);
+    put("ED", NULL, 0);
+}
+
+static void print_answer(const uint32_t answer[6])
+{
+    if (answer[BARLEYCHIME_NUMBER] != 0) {
+        printf("R %u %u\n", (unsigned)answer[BARLEYCHIME_NUMBER], (unsigned)answer[BARLEYCHIME_PLACE]);
+    } else {
+        printf("%u %u %u %u\n", (unsigned)answer[BARLEYCHIME_PAGES], (unsigned)answer[BARLEYCHIME_X],
+               (unsigned)answer[BARLEYCHIME_Y], (unsigned)answer[BARLEYCHIME_TURNS]);
+    }
+}
+
+int main(void)
+{
+    static uint32_t work[WORK + 1], pages[LIST + 1];
+    const uint32_t too_long[4] = {3, 0, 3, 1}, too_high[4] = {2, 1, 3, 1};
+    uint32_t answer[6];
+
+    write_case_a();
+    work[WORK] = pages[LIST] = 7;
+    if (barleychime_make(galley, galley_len, work, WORK, pages, LIST, answer) != answer[BARLEYCHIME_NUMBER]) {
+        return 1;
+    }
+    print_answer(answer);
+    for (uint32_t page = 0; page < answer[BARLEYCHIME_PAGES]; page++) {
+        printf("%u %u %u\n", (unsigned)page + 1, (unsigned)pages[2 * page], (unsigned)pages[2 * page + 1]);
+    }
+    for (size_t k = 0; k < WORK; k++) {
+        if (work[k] != 0) {
+            return 1;
+        }
+    }
+    if (work[WORK] != 7 || pages[LIST] != 7) {
+        return 1;
+    }
+
+    barleychime_mark(galley, galley_len, too_long, 4, answer);
+    print_answer(answer);
+    barleychime_mark(galley, galley_len, too_high, 4, answer);
+    print_answer(answer);
+    barleychime_make(galley, galley_len, work, 0, pages, LIST, answer);
+    print_answer(answer);
+    barleychime_make(galley, galley_len, work, WORK, pages, 0, answer);
+    print_answer(answer);
+    return 0;
+}

@@ -1,0 +1,27 @@
+"""A C program against the header and the archive, without a warning; then the same as C++."""
+
+import shutil
+import subprocess
+
+DUE = ('2 0 1 1\n1 1 1\n2 3 1\n'  # made
+       '2 1 1 2\nR 15 1\n'  # marked
+       'R 9 64\nR 10 8\n')  # too little memory lent
+STRICT = ['-Wall', '-Wextra', '-Werror', '-pedantic']
+
+
+def run(tally, root, library, folder):
+    caller = root / 'tests/host/c_caller.c'
+    ways = [('C', ['cc', '-std=c99']), ('C, newer', ['cc', '-std=c17'])]
+    if shutil.which('c++'):
+        ways.append(('C++', ['c++', '-x', 'c++', '-std=c++11']))
+    for name, compiler in ways:
+        # The compiler is told the language, so the archive goes to the linker in a second step.
+        program, compiled = folder / 'c_caller', folder / 'c_caller.o'
+        built = subprocess.run([*compiler, *STRICT, '-I', root / 'include', '-c', caller, '-o', compiled],
+                               capture_output=True, text=True)
+        tally.same(f'{name}: compiled without a warning', (built.returncode, built.stderr), (0, ''))
+        linked = subprocess.run([compiler[0], compiled, library, '-o', program], capture_output=True, text=True)
+        tally.same(f'{name}: linked', (linked.returncode, linked.stderr), (0, ''))
+        ran = subprocess.run([program], capture_output=True, text=True)
+        tally.same(f'{name}: case A', (ran.returncode, ran.stdout), (0, DUE))
+    tally.group('C interface')

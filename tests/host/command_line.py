@@ -1,0 +1,217 @@
+"""The command end to end: options, names, standard input, statuses, bad files, lists with junk, help where 11 is due."""
+
+import re
+import subprocess
+
+from reference import cases, marking, refusals, sample, search
+from reference.galley import Figure, Galley, Line, Spec, write
+
+COMMANDS = {'make': 1, 'mark': 2, 'explain': 2, 'pack': 1, 'unpack': 1}
+MENDERS = [(range(1, 9), "the galley's writer"), (range(9, 11), 'the host program'), (range(11, 12), 'the designer'),
+           (range(12, 19), 'whoever handed in the list'), (range(19, 20), 'the person at the program')]
+
+# Name, bytes of a list for case A, and a part of the remark that must name line and field.
+JUNK = [
+    ('a word', b'1 1\nthree 1\n', 'line 2: field 1'),
+    ('a sign', b'1 -1\n', 'line 1: field 2'),
+    ('a plus', b'+1 1\n', 'line 1: field 1'),
+    ('a fraction', b'1 1\n\n3.0 1\n', 'line 3: field 1'),
+    ('a number of 33 bits', b'4294967296 1\n', 'line 1: field 1'),
+    ('a very long number', b'9' * 5_000 + b' 1\n', 'line 1: field 1'),
+    ('one number', b'1 1\n3\n', 'line 2'),
+    ('three numbers', b'1 1\n2 3 1\n', 'line 2'),
+    ('three numbers at once', b'1 1 1\n', 'line 1'),
+    ('five numbers', b'1 1 1 1 1\n', 'line 1'),
+    ('four numbers later on', b'1 1\n2 0 1 1\n', 'line 2'),
+    ('a page number out of turn', b'2 0 1 1\n1 1 1\n3 3 1\n', 'line 3: field 1'),
+    ('a page too few', b'2 0 1 1\n1 1 1\n', '2 pages'),
+    ('a page too many', b'1 0 1 1\n1 1 1\n2 3 1\n', '1 pages'),
+    ('two numbers after a measure', b'2 0 1 1\n1 1\n', 'line 2'),
+    ('a refusal', b'R 11 0\n', 'line 1'),
+    ('no text', b'1 1\n\xff\xfe 1\n', 'line 2'),
+    ('a zero byte', b'1 \x001\n', 'line 1: field 2'),
+    ('an escape', b'1 \x1b[2J\n', 'line 1: field 2'),
+]
+
+
+def file(folder, name, data):
+    path = folder / name
+    path.write_bytes(data)
+    return path
+
+
+def documented(root, number, mender, told):
+    """The documents that say something else about a refusal than the command."""
+    sentence = told.split(None, 1)[1].removesuffix(f' ({mender})')
+    row = re.compile(rf'^\| {number} \| (.*?) \| .* \| (.*?) \|$', re.M)
+    papers = [path for path in (root / 'README.md', root / 'docs/USING.md') if path.is_file()]
+    rows = {path.name: row.findall(path.read_text()) for path in papers}
+    wrong = [name for name, found in rows.items() if any(what != (sentence, mender) for what in found)]
+    if not any(rows.values()):
+        wrong.append('nowhere documented')
+    header = (root / 'include/barleychime.h').read_text()
+    if number != 19 and f' *   {number:2}  {sentence.replace("`", "")}\n' not in header:
+        wrong.append('barleychime.h')
+    return wrong
+
+
+def usage(tally, command, root):
+    for arguments in [(), ('mend',), ('--mend',), ('make', '--mend'), ('make',), ('make', 'a', 'b'), ('mark', 'a'),
+                      ('explain', 'a'), ('explain', 'a', 'b', 'c'), ('pack',), ('unpack', 'a', 'b'),
+                      ('mark', '-', '-'), ('explain', '-', '-'), ('make', '')]:
+        status, output, remarks = command.text(*arguments)
+        tally.same(f'{arguments}', (status, output, remarks.count('\n')), (2, '', 1))
+    for name in COMMANDS:
+        for option in ('--help', '-h'):
+            status, output, remarks = command.text(name, option)
+            tally.same(f'{name} {option}', (status, output.split()[:2], remarks), (0, ['barleychime', name], ''))
+    status, output, remarks = command.text('--help')
+    tally.same('--help', (status, remarks), (0, ''))
+    for numbers, mender in MENDERS:
+        for number in numbers:
+            told = [line for line in output.splitlines() if line.split()[:1] == [str(number)]]
+            tally.same(f'{number} in --help', [mender in line for line in told], [True])
+            tally.same(f'{number} in the documents', documented(root, number, mender, told[0]), [])
+    status, output, remarks = command.text('--version')
+    tally.same('--version', (status, output.split()[0], remarks), (0, 'barleychime', ''))
+    tally.group('command: usage')
+
+
+def bad_files(tally, command, folder):
+    galley = file(folder, 'a.galley', write(cases.A))
+    for name, count in COMMANDS.items():
+        for bad in (folder / 'nowhere', folder):
+            for at in range(count):
+                arguments = [galley] * count
+                arguments[at] = bad
+                status, output, remarks = command.text(name, *arguments)
+                tally.same(f'{name} with {bad} at {at}', (status, output, str(bad) in remarks), (2, '', True))
+    empty, best = file(folder, 'empty', b''), file(folder, 'best.list', b'1 1\n3 1\n')
+    for arguments, due in [(('make', empty), 'R 1 0\n'), (('mark', empty, best), 'R 1 0\n'), (('unpack', empty), ''),
+                           (('pack', empty), ''), (('mark', galley, empty), 'R 12 0\n'), (('make', '/dev/zero'), 'R 2 0\n')]:
+        status, output, remarks = command.text(*arguments)
+        tally.same(f'{arguments}', (status, output, remarks.count('\n')), (1, due, 1))
+    for name, data, number, place in refusals.files():
+        due = f'R {number} {place}'
+        bad = file(folder, 'bad.galley', data)
+        for arguments in [('make', bad), ('mark', bad, best)]:
+            status, output, remarks = command.text(*arguments)
+            told = f'{bad}: {due}: ' in remarks and "the galley's writer can mend it" in remarks
+            tally.same(f'{arguments[0]} {name}', (status, output, told), (1, f'{due}\n', True))
+        status, output, _ = command.text('explain', bad, best)
+        tally.same(f'explain {name}', (status, output.startswith(f'refused, {due}: ')), (1, True))
+    tally.group('command: bad files')
+
+
+def lists(tally, command, folder):
+    galley, best = file(folder, 'a.galley', write(cases.A)), file(folder, 'best.list', b'1 1\n3 1\n')
+    for name, data, told in JUNK:
+        junk = file(folder, 'junk.list', data)
+        for arguments in [('mark', galley, junk), ('explain', galley, junk)]:
+            status, output, remarks = command.text(*arguments)
+            plain = all(character.isprintable() or character == '\n' for character in remarks) and len(remarks) < 500
+            tally.same(f'{arguments[0]} with {name}', (status, output, f'{junk}: ' in remarks and told in remarks, plain),
+                       (2, '', True, True))
+    for name, data in [('comments', b'# mine\n\n 1\t1 # page 1\n3 1'), ('carriage returns', b'1 1\r\n3 1\r\n'),
+                       ('a mark of byte order', b'\xef\xbb\xbf1 1\n3 1\n'),
+                       ('as made', b'2 0 1 1\n1 1 1\n2 3 1\n'), ('as made, with a wrong measure', b'2 9 9 9\n1 1 1\n2 3 1')]:
+        tally.same(f'mark with {name}', command.text('mark', galley, file(folder, 'list', data)), (0, '2 0 1 1\n', ''))
+    several(tally, command, folder, galley, best)
+    tally.group('command: lists')
+
+
+def several(tally, command, folder, galley, best):
+    longer, high = file(folder, 'longer', b'3 0\n3 1\n'), file(folder, 'high', b'2 1\n3 1\n')
+    junk = file(folder, 'junk', b'?')
+    tally.same('two lists', command.text('mark', galley, best, longer), (0, f'2 0 1 1 {best}\n2 1 1 2 {longer}\n', ''))
+    status, output, remarks = command.text('mark', galley, high, best)
+    tally.same('one of two refused', (status, output), (1, f'R 15 1 {high}\n2 0 1 1 {best}\n'))
+    tally.same('why', (str(high) in remarks, 'whoever handed in the list can mend it' in remarks), (True, True))
+    status, output, _ = command.text('mark', galley, junk, high, folder / 'nowhere', best)
+    tally.same('junk does not stop the rest', (status, output), (2, f'R 15 1 {high}\n2 0 1 1 {best}\n'))
+
+
+def making(tally, command, folder):
+    for name, galley, best, measure in cases.MADE:
+        data = write(galley)
+        lines = [measure, *((q, *end) for q, end in enumerate(zip(best[::2], best[1::2]), 1))] if best else [('R', 11, 0)]
+        due = ''.join(' '.join(map(str, line)) + '\n' for line in lines)
+        status, output, _ = command.text('make', '-', given=data)
+        tally.same(f'make {name}', (status, output), (0 if best else 1, due))
+        if best:
+            path = file(folder, 'made.galley', data)
+            tally.same(f'mark what was made of {name}', command.text('mark', path, '-', given=due.encode()),
+                       (0, ' '.join(map(str, measure)) + '\n', ''))
+    dashed = file(folder, '-a', write(cases.A))
+    done = subprocess.run([command.program, 'make', '--', dashed.name], cwd=folder, capture_output=True, check=False)
+    tally.same('a name with a dash', (done.returncode, done.stdout), (0, b'2 0 1 1\n1 1 1\n2 3 1\n'))
+    tally.group('command: making')
+
+
+def full_size(tally, command, folder):
+    """The longest galley, and what may come after its last figure: no more than one byte past its length is read."""
+    spec = Spec(50_000, 55_000, 1_600, 2_200, 2, 1, 1)
+    lines = tuple(Line(1_200, 0, 20 + 600 * (k % 5 == 0), int(k % 5 > 1)) for k in range(1, 4_001))
+    largest = Galley(spec, lines, tuple(Figure(9_000 + 1_000 * (k % 13), 1_000, 1_400, 20 * k) for k in range(1, 201)))
+    data = write(largest)
+    path = file(folder, 'largest.galley', data)
+    status, output, remarks = command.text('make', path)
+    measure, *pages = [tuple(map(int, line.split())) for line in output.splitlines()]
+    words = tuple(word for page in pages for word in page[1:])
+    tally.same('made', (status, remarks, marking.mark(largest, words)), (0, '', ('accepted', *measure)))
+    tally.same('marked', command.text('mark', path, '-', given=output.encode()), (0, output.split('\n')[0] + '\n', ''))
+    status, text, _ = command.text('explain', path, '-', given=output.encode())
+    tally.same('explained', (status, text.endswith('no list has fewer turns\n')), (0, True))
+    open_end = data[:-2]
+    for name, after, due in [('no end', b'', 'R 1 75630'), ('half a mark', b'E', 'R 1 75630'),
+                             ('a byte', b'ED?', 'R 8 75632'), ('many bytes', b'ED' + bytes(100_000), 'R 8 75632'),
+                             ('an unknown mark', b'??', 'R 2 75630'), ('a line', open_end[30:48], 'R 2 75630'),
+                             ('figure 201', open_end[-18:], 'R 4 75630'), ('half of it', b'FG\0', 'R 4 75630')]:
+        status, output, _ = command.text('make', '-', given=open_end + after)
+        tally.same(f'the longest galley with {name}', (status, output), (1, due + '\n'))
+    tally.group('command: full size')
+
+
+def outputs(tally, command, folder):
+    """An output that is full is an error; one that is closed needs no remark."""
+    galley = file(folder, 'a.galley', write(cases.A))
+    with open('/dev/full', 'wb') as full:
+        done = subprocess.run([command.program, 'make', galley], stdout=full, stderr=subprocess.PIPE, check=False)
+    tally.same('a full output', (done.returncode, b'standard output' in done.stderr), (2, True))
+    with open('/dev/full', 'wb') as full:
+        done = subprocess.run([command.program, 'make', folder / 'nowhere'], stderr=full, check=False)
+    tally.same('nowhere to complain', done.returncode, 2)
+    text = file(folder, 'a.txt', b'GS 30 30 0 0 1 1 1\nTL 10 0 0 1\nED\n')
+    for name in ('make', 'unpack'):
+        status, _, remarks = command.text(name, text)
+        tally.same(f'{name} with a text', (status, '`barleychime pack`' in remarks), (1, True))
+    shell = f'{command.program} unpack {file(folder, "long.galley", write(cases.LONGEST))} | head -n 1'
+    done = subprocess.run(shell, shell=True, capture_output=True, check=False)
+    tally.same('a closed output', (done.stdout, done.stderr), (b'GS 0 1 0 0 1 1000 1000\n', b''))
+    tally.group('command: outputs')
+
+
+def greatest_ht_min(galley):
+    """By trying every value; None if there is no pagination at any."""
+    tried = (ht for ht in range(galley.spec.htmin, -1, -1) if search.best_by_table(cases.respec(galley, htmin=ht)))
+    return next(tried, None)
+
+
+def help_with_11(tally, command, folder):
+    some = [galley for galley in sample.galleys(104, 400, 6, 3) if not search.best_by_table(galley)][:60]
+    kinds = set()
+    for galley in [cases.A_TALL, cases.respec(cases.B, htmin=21), *some]:
+        path, due = file(folder, 'none.galley', write(galley)), greatest_ht_min(galley)
+        status, output, remarks = command.text('make', path)
+        told = 'even at htMin 0' if due is None else f'a pagination exists is {due} ('
+        tally.same(f'help with {galley}', (status, output, told in remarks), (1, 'R 11 0\n', True))
+        tally.same('the galley is as before', path.read_bytes(), write(galley))
+        kinds.add(due is None)
+    tally.same('both kinds of help', kinds, {True, False})
+    tally.group('command: help where no pagination exists')
+
+
+def run(tally, command, root, folder):
+    usage(tally, command, root)
+    for group in (bad_files, lists, making, full_size, outputs, help_with_11):
+        group(tally, command, folder)

@@ -1,0 +1,64 @@
+"""What the documents have people copy: the C program, the Rust program, the series on all cores."""
+
+import os
+import re
+import shutil
+import subprocess
+
+from c_interface import STRICT
+from reference import cases
+from reference.galley import write
+
+
+def blocks(document, language):
+    return re.findall(rf'^```{language}\n(.*?)^```$', document, re.M | re.S)
+
+
+def run(tally, command, root, library, folder):
+    galley = folder / 'example.galley'
+    galley.write_bytes(write(cases.A))
+    found = {'c': 0, 'rust': 0, 'sh': 0}
+    for path in [root / 'README.md', *sorted((root / 'docs').glob('*.md'))]:
+        document = path.read_text()
+        for language, example in (('c', in_c), ('rust', in_rust), ('sh', series)):
+            for source in blocks(document, language):
+                found[language] += 1
+                example(tally, f'{path.name}, {language}', source, command, root, library, folder, galley)
+    tally.same('examples found', {language: count > 0 for language, count in found.items()}, dict.fromkeys(found, True))
+    tally.group('examples')
+
+
+def in_c(tally, what, source, _command, root, library, folder, galley):
+    file, program = folder / 'example.c', folder / 'example'
+    file.write_text(source)
+    built = subprocess.run(['cc', '-std=c99', *STRICT, '-I', root / 'include', file, library, '-o', program],
+                           capture_output=True, text=True)
+    tally.same(f'{what}: built', (built.returncode, built.stderr), (0, ''))
+    ran = subprocess.run([program], input=galley.read_bytes(), capture_output=True)
+    tally.same(f'{what}: case A', (ran.returncode, ran.stdout), (0, b'1 1\n3 1\n'))
+    ran = subprocess.run([program], input=b'', capture_output=True)
+    tally.same(f'{what}: no bytes', (ran.returncode, ran.stdout), (1, b'R 1 0\n'))
+
+
+def in_rust(tally, what, source, command, _root, _library, folder, galley):
+    file, program, release = folder / 'example.rs', folder / 'example', command.program.parent
+    file.write_text(source)
+    built = subprocess.run(['rustc', '--edition', '2021', '-D', 'warnings', '--extern',
+                            f'barleychime={release / "libbarleychime.rlib"}', file, '-o', program],
+                           capture_output=True, text=True)
+    tally.same(f'{what}: built', (built.returncode, built.stderr), (0, ''))
+    ran = subprocess.run([program, galley], capture_output=True, text=True)
+    tally.same(f'{what}: case A', (ran.returncode, ran.stdout), (0, '1 turns, [1, 1, 3, 1], true\n'))
+
+
+def series(tally, what, source, command, root, _library, folder, _galley):
+    """The command line on a copy of the real chapters, with a name that a careless one would split."""
+    shutil.rmtree(folder / 'series', ignore_errors=True)
+    shutil.copytree(root / 'samples/real', folder / 'series')
+    (folder / 'series/gretl-p046.galley').rename(folder / 'series/two words.galley')
+    path = f'{command.program.parent}{os.pathsep}{os.environ["PATH"]}'
+    ran = subprocess.run(source, shell=True, cwd=folder, capture_output=True, env={**os.environ, 'PATH': path})
+    tally.same(f'{what}: status', ran.returncode, 123)
+    for galley in sorted((folder / 'series').glob('*.galley')):
+        made = galley.with_suffix('.list')
+        tally.same(f'{what}: {made.name}', made.is_file() and made.read_text(), command.text('make', galley)[1])

@@ -1,0 +1,85 @@
+"""What `explain` says, against the reference: heights, spreads, turns of each figure, and the numbers that break a rule."""
+
+import random
+import re
+
+from reference import marking, sample, search
+from reference.galley import write
+
+PAGE = re.compile(r'page (\d+), (?:spread (\d+), (left|right)|a spread by itself): ')
+HEIGHT = re.compile(r'    height (\d+) to (\d+); ')
+FIGURE = re.compile(r'    figure (\d+), cited by line (\d+) on page (\d+): '
+                    r'(?:(\d+) turns?, costs (\d+)·\d+ = (\d+)|the same )')
+
+
+def listed(words):
+    return ''.join(f'{i} {j}\n' for i, j in marking.pairs(words)).encode()
+
+
+def accepted(galley, words, text):
+    """Whether every number in the text is the reference's."""
+    ends, spec = marking.pairs(words), galley.spec
+    starts = [(0, 0), *ends[:-1]]
+    pages, heights, figures = PAGE.findall(text), HEIGHT.findall(text), FIGURE.findall(text)
+    spreads = [('', '') if spec.sides == 1 else (str(q // 2 + 1), ('left', 'right')[q % 2]) for q in range(1, len(ends) + 1)]
+    turns = sum(int(figure[3] or 0) for figure in figures)
+    _, p, x, y, t = marking.mark(galley, words)
+    return (pages == [(str(q), *spread) for q, spread in enumerate(spreads, 1)]
+            and heights == [(str(marking.tightest(galley, *page)), str(marking.loosest(galley, *page)))
+                            for page in zip(starts, ends)]
+            and [int(figure[0]) for figure in figures] == list(range(1, len(galley.figures) + 1))
+            and turns == x and sum(int(figure[5] or 0) for figure in figures) == spec.alpha * x
+            and f'X {x}, Y {y}, T = alpha·X + beta·Y = {spec.alpha}·{x} + {spec.beta}·{y} = {t}\n' in text)
+
+
+def refused(galley, words, number, page, text):
+    """Whether the last line gives numbers that do break the rule."""
+    said = text.splitlines()[-1]
+    ends = [(0, 0), *marking.pairs(words)]
+    (a, b), (i, j) = (ends[page - 1], ends[page]) if page else ((0, 0), (0, 0))
+    m, n = len(galley.lines), len(galley.figures)
+    numbers = [int(number) for number in re.findall(r'\d+', said)]
+    if number == 12:
+        return numbers[0] == len(words) and numbers[2] == 2 * (m + n)
+    if number == 13:
+        return ('fall' in said and numbers in ([a, i], [b, j]) and numbers[0] > numbers[1]
+                or 'claims' in said and numbers in ([i, m], [j, n]) and numbers[0] > numbers[1]
+                or 'ends where it starts' in said and (a, b) == (i, j) and numbers == [i, j])
+    if number == 14:
+        return numbers == [i] and galley.lines[i - 1].legal == 0
+    if number == 15:
+        height = marking.tightest(galley, (a, b), (i, j))
+        return numbers == [height, galley.spec.htmax, height - galley.spec.htmax] and numbers[2] > 0
+    if number == 16:
+        height = marking.loosest(galley, (a, b), (i, j))
+        return numbers == [height, galley.spec.htmin, galley.spec.htmin - height] and numbers[2] > 0
+    if number == 17:
+        return numbers == [j, galley.figures[j - 1].cite, i] and numbers[1] > i
+    return number == 18 and numbers == [i, j, m, n] and (i, j) != (m, n)
+
+
+def run(tally, command, folder):
+    rng, path, met = random.Random(7), folder / 'explained.galley', set()
+    for galley in sample.galleys(106, 120, 8, 5):
+        path.write_bytes(write(galley))
+        best = search.best_by_table(galley)
+        lists = [sample.page_list(rng, galley), (), (1, 1) * (len(galley.lines) + len(galley.figures) + 1)]
+        lists += [best, *(sample.mutated(rng, best) for _ in range(5))] if best else []
+        for words in lists:
+            if len(words) % 2:
+                continue
+            status, text, remarks = command.text('explain', path, '-', given=listed(words))
+            marked = marking.mark(galley, words)
+            met.add(marked[1] if marked[0] == 'refused' else 0)
+            if marked[0] == 'accepted':
+                fewest = marking.mark(galley, best)[4]
+                more = ('no list has fewer turns' if fewest == marked[4]
+                        else f'the fewest turns are {fewest}; this list has {marked[4] - fewest} more')
+                right = accepted(galley, words, text) and text.endswith(f'\n{more}\n')
+                tally.same(f'{words} for {galley}', (status, right, remarks), (0, True, ''))
+            else:
+                told = (f'refused, R {marked[1]} {marked[2]}: ' in text and refused(galley, words, *marked[1:], text)
+                        and 'whoever handed in the list can mend it' in text)
+                tally.same(f'{words} for {galley}: {text}', (status, told, remarks), (1, True, ''))
+    tally.same('rules explained', met, {0, *range(12, 19)})
+    tally.group('lists explained')

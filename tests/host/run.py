@@ -1,0 +1,60 @@
+"""Tests of what people use: the archive behind the C header, the command, the samples, the table of real chapters.
+
+BARLEYCHIME_LIB names the archive; without it target/staticlib/libbarleychime.a is taken. The last line is
+'N passed, M failed'. To try the tests themselves without the proved archive, over the plain Rust of bench/native:
+
+    cargo build --release --offline --manifest-path tests/host/standin/Cargo.toml
+    BARLEYCHIME_LIB=tests/host/standin/target/release/libbarleychime.a python3 tests/host/run.py
+"""
+
+import os
+import subprocess
+import sys
+import tempfile
+from pathlib import Path
+
+ROOT = Path(__file__).resolve().parents[2]
+sys.path.insert(0, str(ROOT / 'tests'))
+sys.path.insert(0, str(ROOT / 'tests' / 'host'))
+
+import archive  # noqa: E402
+import c_interface  # noqa: E402
+import command_line  # noqa: E402
+import examples  # noqa: E402
+import explained  # noqa: E402
+import round_trips  # noqa: E402
+import samples  # noqa: E402
+import table  # noqa: E402
+from command import Command  # noqa: E402
+from reference.check import Tally  # noqa: E402
+
+
+def main():
+    tally = Tally()
+    library = Path(os.environ.get('BARLEYCHIME_LIB') or ROOT / 'target/staticlib/libbarleychime.a').resolve()
+    if not library.is_file():
+        print(f'FAILED {library} is not there')
+        print('0 passed, 1 failed')
+        return 1
+    command = Command.built(ROOT, library)
+    with tempfile.TemporaryDirectory() as name:
+        folder = Path(name)
+        c_interface.run(tally, ROOT, library, folder)
+        archive.run(tally, library, folder)
+        command_line.run(tally, command, ROOT, folder)
+        round_trips.run(tally, command, ROOT, folder)
+        explained.run(tally, command, folder)
+        examples.run(tally, command, ROOT, library, folder)
+        samples.run(tally, command, ROOT, folder)
+        table.run(tally, command, ROOT)
+    print(f'{tally.passed} passed, {tally.failed} failed')
+    return 0 if tally.failed == 0 and tally.passed > 0 else 1
+
+
+if __name__ == '__main__':
+    try:
+        sys.exit(main())
+    except (OSError, subprocess.SubprocessError) as error:
+        print(f'FAILED {error}')
+        print('0 passed, 1 failed')
+        sys.exit(1)

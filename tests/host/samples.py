@@ -1,0 +1,42 @@
+"""The samples: what README and samples/README.md have people run, and the real chapters against the reference."""
+
+from reference import marking, search
+from reference.galley import read
+
+SMALL = 6_000  # bytes of a galley that the reference makes in a moment
+
+
+def run(tally, command, root, folder):
+    lists, expected = root / 'samples/lists', root / 'tests/host/expected'
+    for case in 'ac':
+        _, data, _ = command.run('pack', root / f'samples/case-{case}.txt')
+        galley = folder / f'{case}.galley'
+        galley.write_bytes(data)
+        texts = {'make': command.text('make', galley)[1]}
+        for path in sorted(lists.glob(f'{case}-*.list')):
+            texts[f'mark-{path.stem}'] = command.text('mark', galley, path)[1]
+            texts[f'explain-{path.stem}'] = command.text('explain', galley, path)[1]
+        for name, text in texts.items():
+            name = name if case in name.split('-') else f'{name}-{case}'
+            tally.same(name, text, (expected / f'{name}.txt').read_text())
+    tally.group('samples')
+    for path in sorted((root / 'samples/real').glob('*.galley')):
+        real(tally, command, path)
+    tally.group('real chapters')
+
+
+def real(tally, command, path):
+    """The list made is valid by the reference, with these numbers, and the best where the reference can say."""
+    kind, galley = read(path.read_bytes())
+    tally.same(f'{path.name} reads', kind, 'galley')
+    status, text, _ = command.text('make', path)
+    best = search.best_by_table(galley) if path.stat().st_size < SMALL else None
+    if status == 1:
+        tally.same(f'{path.name} has no pagination', (text, best), ('R 11 0\n', None))
+        return
+    measure, *pages = [tuple(map(int, line.split())) for line in text.splitlines()]
+    words = tuple(word for page in pages for word in page[1:])
+    tally.same(f'{path.name} marked', marking.mark(galley, words), ('accepted', *measure))
+    tally.same(f'{path.name} numbered', [page[0] for page in pages], list(range(1, measure[0] + 1)))
+    if path.stat().st_size < SMALL:
+        tally.same(f'{path.name} best', words, best)

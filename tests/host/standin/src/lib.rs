@@ -1,0 +1,42 @@
+//! The two functions of `include/barleychime.h` over the plain Rust implementation. Never shipped: it lets the command,
+//! the tests and the benchmark be tried without the proved archive.
+
+use core::slice::{from_raw_parts, from_raw_parts_mut};
+
+/// # Safety
+/// As `include/barleychime.h` says.
+#[no_mangle]
+pub unsafe extern "C" fn barleychime_make(
+    galley: *const u8,
+    galley_len: usize,
+    work: *mut u32,
+    work_len: usize,
+    pages: *mut u32,
+    pages_len: usize,
+    answer: *mut u32,
+) -> u32 {
+    let (galley, work, pages) = unsafe {
+        (from_raw_parts(galley, galley_len), from_raw_parts_mut(work, work_len), from_raw_parts_mut(pages, pages_len))
+    };
+    unsafe { put(answer, native::make(galley, work, pages)) }
+}
+
+/// # Safety
+/// As `include/barleychime.h` says.
+#[no_mangle]
+pub unsafe extern "C" fn barleychime_mark(
+    galley: *const u8,
+    galley_len: usize,
+    pages: *const u32,
+    pages_len: usize,
+    answer: *mut u32,
+) -> u32 {
+    let (galley, pages) = unsafe { (from_raw_parts(galley, galley_len), from_raw_parts(pages, pages_len)) };
+    unsafe { put(answer, native::mark(galley, pages)) }
+}
+
+unsafe fn put(answer: *mut u32, made: native::Answer) -> u32 {
+    let words = [made.number, made.place, made.p, made.x, made.y, made.t];
+    unsafe { from_raw_parts_mut(answer, 6) }.copy_from_slice(&words);
+    made.number
+}
