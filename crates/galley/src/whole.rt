@@ -3,7 +3,6 @@ ghost use mathlib.Core.Path.{_≡_};
 ghost use Prim.Native.Nat.{_+_, _≤_};
 ghost use lib.ListN.{length};
 ghost use Rattle.galley.specs.Whole.{cited, ended, recordIn, blocks, galleyOf};
-
 use crate::Figure;
 use crate::Galley;
 use crate::Reading;
@@ -19,10 +18,16 @@ fn cited_figure(f: Figure, lines: usize, last: u32, at: usize) -> Record
     let beyond = (cite == 0) | (lines < cite);
     let falls = cite < before;
     if beyond {
-        return Record::Refused { number: 6, place: at };
+        return Record::Refused {
+            number: 6,
+            place: at,
+        };
     }
     if falls {
-        return Record::Refused { number: 7, place: at };
+        return Record::Refused {
+            number: 7,
+            place: at,
+        };
     }
     Record::Figure(f)
 }
@@ -52,7 +57,10 @@ pub fn record_in(
     ensures { λ r. ⌜ r ≡ recordIn (now (s .entry)) at opened lines figures last ⌝ }
 {
     if crate::word::left_from(s, at) < 2 {
-        return Record::Refused { number: 1, place: at };
+        return Record::Refused {
+            number: 1,
+            place: at,
+        };
     }
     let mark = crate::place::kind_of(crate::word::mark_at(s, at));
     let number = crate::place::unfit_for(mark, opened, lines, figures);
@@ -119,9 +127,18 @@ pub fn read_galley(s: &[u8]) -> Reading
     let found = record_in(s, 0, false, 0, 0, 0);
     match found {
         Record::Spec(g) => read_blocks(s, g, 30),
-        Record::Line(_l) => Reading::Refused { number: 2, place: 0 },
-        Record::Figure(_f) => Reading::Refused { number: 2, place: 0 },
-        Record::End => Reading::Refused { number: 2, place: 0 },
+        Record::Line(_l) => Reading::Refused {
+            number: 2,
+            place: 0,
+        },
+        Record::Figure(_f) => Reading::Refused {
+            number: 2,
+            place: 0,
+        },
+        Record::End => Reading::Refused {
+            number: 2,
+            place: 0,
+        },
         Record::Refused { number, place } => Reading::Refused {
             number,
             place: place as u32,

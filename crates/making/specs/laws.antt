@@ -9,4 +9,6 @@ pub mod Walk
 pub mod Heights
 pub mod Search
 pub mod Price
+pub mod Solved
+pub mod Made
 pub mod Filling

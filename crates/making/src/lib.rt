@@ -1,6 +1,66 @@
-// Making
+// Making: the pagination with the fewest turns, for any bytes and any lent memory. Document 01, "Making".
+ghost use Rattle.making.specs.Make.{Made};
+ghost use Rattle.making.specs.Solved.{Readable, Solved, Written};
+use galley::Galley;
+use galley::Reading;
+use model::answer::Answer;
+
 mod fill; // fill.rt: the work area filled, column by column
 mod heights; // heights.rt: the heights of a page, gathered back from its end
 mod price; // price.rt: whether a page may end at a place, and what it costs
 mod search; // search.rt: the best start of a place
-pub mod trace; // trace.rt: the walk back from the last page
+mod trace; // trace.rt: the walk back from the last page
+
+// The best list out of a filled work area: written to the page list, and counted by marking it.
+fn best_pages(s: &[u8], g: Galley, work: &[u32], pages: &mut [u32]) -> Answer
+    requires { ⌜ Solved (now s) g (now work) (now pages) ⌝ }
+    ensures { λ r. ⌜ Written (now (s .entry)) g (now (pages .entry)) r (now (pages .exit)) ⌝ }
+{
+    let side = trace::last_side(g, work);
+    if !trace::reached(g, work, side) {
+        return Answer::Refused {
+            number: 11,
+            place: 0,
+        };
+    }
+    let p = trace::count_pages(g, work, side);
+    trace::write_pages(g, work, side, p, pages);
+    let words = 2 * p;
+    marking::mark(s, &pages[..words])
+}
+
+// A galley that was read, made where the lent memory is long enough: 9, then 10.
+fn make_read(s: &[u8], g: Galley, work: &mut [u32], pages: &mut [u32]) -> Answer
+    requires { ⌜ Readable (now s) g ⌝ }
+    ensures { λ r. ⌜ Made (now (s .entry)) (now (work .entry)) (now (pages .entry)) r (now (work .exit)) (now (pages .exit)) ⌝ }
+{
+    let needed = places::words_needed(g.lines, g.figures);
+    if work.len() < needed {
+        return Answer::Refused {
+            number: 9,
+            place: needed as u32,
+        };
+    }
+    let room = 2 * (g.lines + g.figures);
+    if pages.len() < room {
+        return Answer::Refused {
+            number: 10,
+            place: room as u32,
+        };
+    }
+    fill::fill(s, g, work);
+    let answer = best_pages(s, g, work, pages);
+    places::clear(work, needed);
+    answer
+}
+
+// The best pages of the galley that any bytes hold, or one refusal. Nothing that the work area holds beforehand matters.
+pub fn make(galley: &[u8], work: &mut [u32], pages: &mut [u32]) -> Answer
+    ensures { λ r. ⌜ Made (now (galley .entry)) (now (work .entry)) (now (pages .entry)) r (now (work .exit)) (now (pages .exit)) ⌝ }
+{
+    let reading = galley::whole::read_galley(galley);
+    match reading {
+        Reading::Galley(g) => make_read(galley, g, work, pages),
+        Reading::Refused { number, place } => Answer::Refused { number, place },
+    }
+}

@@ -72,15 +72,7 @@ pub fn start_fault(s: &[u8], g: Galley, a: usize, b: usize, i: usize, j: usize) 
 }
 
 // The first of 16 and 17 that a page of this loosest height breaks, or 0.
-pub fn end_fault(
-    s: &[u8],
-    g: Galley,
-    loose: u32,
-    page: Page,
-    last: bool,
-    i: usize,
-    j: usize,
-) -> u32
+pub fn end_fault(s: &[u8], g: Galley, loose: u32, page: Page, last: bool, i: usize, j: usize) -> u32
     requires { ⌜ (Sound (now s) g) × (j ≤ g .figures) ⌝ }
     ensures { λ r. ⌜ r ≡ endFault (last || leb (g .spec .htmin) loose) (cited (modelOf (now (s .entry)) g) (page .0) last (i ∷ j ∷ [])) ⌝ }
 {

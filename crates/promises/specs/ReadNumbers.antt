@@ -73,7 +73,7 @@ low-cited lines last at f =
     (pick (ltb (f .cite) last) (found.Refused 7 at) (found.Figure f))
     (λ _. low-refused 6 at (omega arith) (omega arith))
     (λ _. pick-has Low (ltb (f .cite) last) (found.Refused 7 at) (found.Figure f)
-        (λ _. low-refused 7 at (omega arith) (omega arith)) (λ _. low-figure f))
+    (λ _. low-refused 7 at (omega arith) (omega arith)) (λ _. low-figure f))
 
 low-ended : (bytes : List ℕ) (at : ℕ) → Low (ended bytes at)
 unfolding ended
@@ -107,11 +107,11 @@ low-in bytes at opened lines figures last =
     (pick (ltb 0 number) (found.Refused number at) (settled bytes at lines last (recordAt bytes at)))
     (λ _. low-refused 1 at (omega arith) (omega arith))
     (λ _. pick-has Low (ltb 0 number) (found.Refused number at) (settled bytes at lines last (recordAt bytes at))
-        (λ t.
-            let l = ltb-true 0 number t in
-            let u = unfit-low (kindOf (markAt bytes at)) opened lines figures in
-            low-refused number at (omega arith) (omega arith))
-        (λ _. low-settled bytes at lines last (recordAt bytes at) (low-record bytes at)))
+    (λ t.
+    let l = ltb-true 0 number t in
+    let u = unfit-low (kindOf (markAt bytes at)) opened lines figures in
+    low-refused number at (omega arith) (omega arith))
+    (λ _. low-settled bytes at lines last (recordAt bytes at) (low-record bytes at)))
 
 -- The reading, if it is a refusal, has such a number.
 abbrev pub Refusal : Reading → Type 0

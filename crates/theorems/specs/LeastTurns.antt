@@ -22,7 +22,7 @@ use Rattle.model.specs.laws.Best.{Least, Makes, impossible, makes, best-makes, 
 
 module _ (g : Galley) where
   -- The words of a valid list are accepted with its counts.
-  valid-counts : (ps : List Place) → ps ∈ valid g → marked g (wordsOf ps) ≡ countsOf g ps
+  pub valid-counts : (ps : List Place) → ps ∈ valid g → marked g (wordsOf ps) ≡ countsOf g ps
   valid-counts ps m =
       marked-counts g (wordsOf ps) (accepted-valid g (wordsOf ps) .1 (ps, m, refl))
       ∙ ap (countsOf g) (pages-words g ps (valid-accepted g ps .0 m .shaped))

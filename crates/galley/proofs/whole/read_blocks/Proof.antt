@@ -61,7 +61,7 @@ loop-less c =
     let l = c .before .before .before .before .loop in
     let at = dueAt (a .first) (l .lines) (l .figures) in
     let e : recordIn (now (a .s)) at true (l .lines) (l .figures) (l .last) ≡ found.Line _
-          = sym (c .before .before .before .record-in .ensures) ∙ c .before .found .given .1 in
+    = sym (c .before .before .before .record-in .ensures) ∙ c .before .found .given .1 in
     let p = line-placed (now (a .s)) at true (l .lines) (l .figures) (l .last) e in
     omega (arith, p .few, l .inv .1)
 
@@ -72,7 +72,7 @@ loop-again c =
     let l = c .before .before .before .before .loop in
     let at = dueAt (a .first) (l .lines) (l .figures) in
     let e : recordIn (now (a .s)) at true (l .lines) (l .figures) (l .last) ≡ found.Line _
-          = sym (c .before .before .before .record-in .ensures) ∙ c .before .found .given .1 in
+    = sym (c .before .before .before .record-in .ensures) ∙ c .before .found .given .1 in
     let p = line-placed (now (a .s)) at true (l .lines) (l .figures) (l .last) e in
     (omega (arith, p .few), l .inv .1, sym (blocks-line (now (a .s)) (a .spec) (a .first) (l .lines) (l .figures) (l .last) (omega (arith, l .inv .0, l .inv .1)) _ e) ∙ l .inv .2)
 
@@ -91,7 +91,7 @@ loop-less-2 c =
     let l = c .before .before .before .before .loop in
     let at = dueAt (a .first) (l .lines) (l .figures) in
     let e : recordIn (now (a .s)) at true (l .lines) (l .figures) (l .last) ≡ found.Figure _
-          = sym (c .before .before .before .record-in .ensures) ∙ c .before .found2 .given .1 in
+    = sym (c .before .before .before .record-in .ensures) ∙ c .before .found2 .given .1 in
     let p = figure-placed (now (a .s)) at true (l .lines) (l .figures) (l .last) e in
     omega (arith, p .few, l .inv .0)
 
@@ -102,7 +102,7 @@ loop-again-2 c =
     let l = c .before .before .before .before .loop in
     let at = dueAt (a .first) (l .lines) (l .figures) in
     let e : recordIn (now (a .s)) at true (l .lines) (l .figures) (l .last) ≡ found.Figure _
-          = sym (c .before .before .before .record-in .ensures) ∙ c .before .found2 .given .1 in
+    = sym (c .before .before .before .record-in .ensures) ∙ c .before .found2 .given .1 in
     let p = figure-placed (now (a .s)) at true (l .lines) (l .figures) (l .last) e in
     (l .inv .0, omega (arith, p .few), sym (blocks-figure (now (a .s)) (a .spec) (a .first) (l .lines) (l .figures) (l .last) (omega (arith, l .inv .0, l .inv .1)) _ e) ∙ l .inv .2)
 
@@ -117,7 +117,7 @@ returns c =
     let l = c .before .before .before .loop in
     let at = dueAt (a .first) (l .lines) (l .figures) in
     let e : recordIn (now (a .s)) at true (l .lines) (l .figures) (l .last) ≡ found.End
-          = sym (c .before .before .record-in .ensures) ∙ c .enum-told .given .1 in
+    = sym (c .before .before .record-in .ensures) ∙ c .enum-told .given .1 in
     sym (blocks-end (now (a .s)) (a .spec) (a .first) (l .lines) (l .figures) (l .last) (omega (arith, l .inv .0, l .inv .1)) e) ∙ l .inv .2
 
 -- src/whole.rt:96:26
@@ -135,7 +135,7 @@ returns-2 c =
     let l = c .before .before .before .before .loop in
     let at = dueAt (a .first) (l .lines) (l .figures) in
     let e : recordIn (now (a .s)) at true (l .lines) (l .figures) (l .last) ≡ found.Spec _
-          = sym (c .before .before .before .record-in .ensures) ∙ c .before .found3 .given .1 in
+    = sym (c .before .before .before .record-in .ensures) ∙ c .before .found3 .given .1 in
     sym (blocks-spec (now (a .s)) (a .spec) (a .first) (l .lines) (l .figures) (l .last) (omega (arith, l .inv .0, l .inv .1)) _ e) ∙ l .inv .2
 
 -- src/whole.rt:102:31
@@ -149,7 +149,7 @@ cast-t19 c =
     let l = c .before .before .before .before .loop in
     let at = dueAt (a .first) (l .lines) (l .figures) in
     let e : recordIn (now (a .s)) at true (l .lines) (l .figures) (l .last) ≡ found.Refused _ _
-          = sym (c .before .before .before .record-in .ensures) ∙ c .before .found4 .given .1 in
+    = sym (c .before .before .before .record-in .ensures) ∙ c .before .found4 .given .1 in
     let near = refused-placed (now (a .s)) at true (l .lines) (l .figures) (l .last) e in
     omega (arith, near, l .inv .0, l .inv .1)
 
@@ -160,7 +160,7 @@ returns-3 c =
     let l = c .before .before .before .before .loop in
     let at = dueAt (a .first) (l .lines) (l .figures) in
     let e : recordIn (now (a .s)) at true (l .lines) (l .figures) (l .last) ≡ found.Refused _ _
-          = sym (c .before .before .before .record-in .ensures) ∙ c .before .found4 .given .1 in
+    = sym (c .before .before .before .record-in .ensures) ∙ c .before .found4 .given .1 in
     sym (blocks-refused (now (a .s)) (a .spec) (a .first) (l .lines) (l .figures) (l .last) (omega (arith, l .inv .0, l .inv .1)) _ _ e) ∙ l .inv .2
 
 pub read-blocks-spec : {M : Type 1} → statement M

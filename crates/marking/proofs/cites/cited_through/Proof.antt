@@ -29,7 +29,7 @@ add-figure-cite c = search needs
 
 -- src/cites.rt:17:35
 figure-cite-requires : tie.Need-figure-cite-requires Inv-loop μ-loop
-figure-cite-requires c κs = 
+figure-cite-requires c κs =
     let so = c .before .before .before .before .pre .sound in
     record { within = sound-within _ _ so; low = omega arith; high = omega arith }
 
@@ -39,7 +39,7 @@ size-requires c κs = search needs
 
 -- src/cites.rt:18:13
 returns : tie.Need-returns Inv-loop μ-loop
-returns c = 
+returns c =
     let a = c .before .before .before .before .before .before .before .args in
     let l = c .before .before .before .before .before .loop in
     citing-stop (now (a .s)) (a .g) (sound-sane _ _ (c .before .before .before .before .before .before .before .pre .sound)) (a .i) (l .c) (c .before .before .before .if1 .taken) (l .inv .1)
@@ -55,15 +55,17 @@ loop-less c = search needs
 
 -- src/cites.rt:16:5
 loop-again : tie.Need-loop-again Inv-loop μ-loop
-loop-again c = 
+loop-again c =
     let a = c .before .before .before .before .before .before .before .args in
-    let l = c .before .before .before .before .before .loop in
-    (omega arith, upto-next (λ k. figuresOf (now (a .s)) (a .g) .cite k) (a .i) (l .c) (l .inv .1)
-    (omega (arith, c .before .size .ensures, c .before .before .figure-cite .ensures)))
+    let l = c .before .before .before .before .before .loop in (
+      omega arith,
+      upto-next (λ k. figuresOf (now (a .s)) (a .g) .cite k) (a .i) (l .c) (l .inv .1)
+          (omega (arith, c .before .size .ensures, c .before .before .figure-cite .ensures)),
+    )
 
 -- src/cites.rt:11:1
 returns-2 : tie.Need-returns-2 Inv-loop μ-loop
-returns-2 c = 
+returns-2 c =
     let a = c .before .before .before .before .args in
     let l = c .before .before .loop in
     citing-all (now (a .s)) (a .g) (a .i) (l .c) (c .if1 .left) (l .inv .0) (l .inv .1)

@@ -18,7 +18,7 @@ ends-spread-requires c κs = search needs
 
 -- src/cites.rt:31:17
 sub-result : tie.Need-sub-result
-sub-result c = 
+sub-result c =
     let a = c .before .before .args in
     let l = ltb-true (a .j) (a .c) (and-right (c .before .ends-spread .result) (ltb (a .j) (a .c)) (c .if1 .taken)) in
     omega arith
@@ -30,14 +30,14 @@ cast-result c = search needs
 -- src/cites.rt:31:9
 returns : tie.Need-returns
 unfolding waitingAt
-returns c = 
+returns c =
     let a = c .before .before .args in
     rw (← c .before .ends-spread .ensures, and-left (c .before .ends-spread .result) (ltb (a .j) (a .c)) (c .if1 .taken))
 
 -- src/cites.rt:26:1
 returns-2 : tie.Need-returns-2
 unfolding waitingAt
-returns-2 c = 
+returns-2 c =
     let a = c .before .before .args in
     rw (← c .before .ends-spread .ensures) (sym (waits-none (c .before .ends-spread .result) (a .j) (a .c) (c .if1 .left)))
 

@@ -21,7 +21,7 @@ spread-of-requires-2 c κs = search needs
 
 -- src/counts.rt:18:17
 sub-y : tie.Need-sub-y
-sub-y c = 
+sub-y c =
     let a = c .before .before .before .before .before .before .before .args in
     let b = few-bounded (a .g) (a .pages) (a .x) (c .before .before .before .before .before .before .before .pre) in
     let first = c .before .before .before .spread-of .ensures in
@@ -30,31 +30,31 @@ sub-y c =
 
 -- src/counts.rt:23:20
 mul-t13 : tie.Need-mul-t13
-mul-t13 c = 
+mul-t13 c =
     let b = few-bounded (c .before .before .before .before .before .before .before .before .args .g) (c .before .before .before .before .before .before .before .before .args .pages) (c .before .before .before .before .before .before .before .before .args .x) (c .before .before .before .before .before .before .before .before .pre) in
     omega arith
 
 -- src/counts.rt:23:39
 mul-t14 : tie.Need-mul-t14
-mul-t14 c = 
+mul-t14 c =
     let a = c .before .before .before .before .before .before .before .before .before .args in
     let b = few-bounded (a .g) (a .pages) (a .x) (c .before .before .before .before .before .before .before .before .before .pre) in
     let first = c .before .before .before .before .before .spread-of .ensures in
     let last = c .before .before .before .before .spread-of2 .ensures in
     let y : c .before .before .before .before .spread-of2 .result .0 - c .before .before .before .before .before .spread-of .result .0
-        ≡ leaf (sidesOf (a .g .spec .sides)) (a .pages) - leaf (sidesOf (a .g .spec .sides)) 1 = omega arith in
+    ≡ leaf (sidesOf (a .g .spec .sides)) (a .pages) - leaf (sidesOf (a .g .spec .sides)) 1 = omega arith in
     let part = ap (λ n. a .g .spec .beta * n) y in
     omega arith
 
 -- src/counts.rt:23:20
 add-t15 : tie.Need-add-t15
-add-t15 c = 
+add-t15 c =
     let a = c .before .before .before .before .before .before .before .before .before .args in
     let b = few-bounded (a .g) (a .pages) (a .x) (c .before .before .before .before .before .before .before .before .before .pre) in
     let first = c .before .before .before .before .before .spread-of .ensures in
     let last = c .before .before .before .before .spread-of2 .ensures in
     let y : c .before .before .before .before .spread-of2 .result .0 - c .before .before .before .before .before .spread-of .result .0
-        ≡ leaf (sidesOf (a .g .spec .sides)) (a .pages) - leaf (sidesOf (a .g .spec .sides)) 1 = omega arith in
+    ≡ leaf (sidesOf (a .g .spec .sides)) (a .pages) - leaf (sidesOf (a .g .spec .sides)) 1 = omega arith in
     let part = ap (λ n. a .g .spec .beta * n) y in
     omega arith
 

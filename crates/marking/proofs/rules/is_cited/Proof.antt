@@ -20,7 +20,7 @@ ends-spread-requires c κs = search needs
 
 -- src/rules.rt:55:21
 figure-cite-requires : tie.Need-figure-cite-requires
-figure-cite-requires c κs = 
+figure-cite-requires c κs =
     let a = c .before .before .before .args in
     let both : Bool = c .before .ends-spread .result || a .last in
     let low = ltb-true 0 (a .j) (and-right both (ltb 0 (a .j)) (c .if1 .taken)) in
@@ -33,15 +33,19 @@ size-requires c κs = search needs
 
 -- src/rules.rt:55:9
 returns : tie.Need-returns
-returns c = 
+returns c =
     let a = c .before .before .before .before .before .args in
-    rw
-    (cited-two (now (a .s)) (a .g) (a .page .0) (a .last) (a .i) (a .j), ← c .before .before .before .ends-spread .ensures,
-    c .before .before .if1 .taken, ← c .before .figure-cite .ensures, c .size .ensures)
+    rw (
+      cited-two (now (a .s)) (a .g) (a .page .0) (a .last) (a .i) (a .j),
+      ← c .before .before .before .ends-spread .ensures,
+      c .before .before .if1 .taken,
+      ← c .before .figure-cite .ensures,
+      c .size .ensures,
+    )
 
 -- src/rules.rt:50:1
 returns-2 : tie.Need-returns-2
-returns-2 c = 
+returns-2 c =
     let a = c .before .before .before .args in
     rw
     (cited-two (now (a .s)) (a .g) (a .page .0) (a .last) (a .i) (a .j), ← c .before .ends-spread .ensures, c .if1 .left)

@@ -13,7 +13,7 @@ use Rattle.galley.proofs.block.line_legal.Reads as line-legal-reads
 
 -- src/rules.rt:44:16
 line-legal-requires : tie.Need-line-legal-requires
-line-legal-requires c κs = 
+line-legal-requires c κs =
     let a = c .before .before .before .args in
     let low = ltb-true 0 (a .i) (and-left (ltb 0 (a .i)) (ltb (a .i) (a .g .lines)) (c .if1 .taken)) in
     let high = ltb-true (a .i) (a .g .lines) (and-right (ltb 0 (a .i)) (ltb (a .i) (a .g .lines)) (c .if1 .taken)) in

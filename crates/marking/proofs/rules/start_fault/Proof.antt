@@ -21,20 +21,26 @@ may-end-requires c κs = search needs
 -- src/rules.rt:67:13
 returns : tie.Need-returns
 unfolding startFault
-returns c = 
+returns c =
     let a = c .before .before .before .before .before .args in
-    rw
-    (sym (c .before .before .before .is-forward .ensures (now (a .s))) ∙ c .before .before .if1 .taken, closes-two (now (a .s)) (a .g) (a .i) (a .j),
-    ← c .before .may-end .ensures, c .if2 .taken)
+    rw (
+      sym (c .before .before .before .is-forward .ensures (now (a .s))) ∙ c .before .before .if1 .taken,
+      closes-two (now (a .s)) (a .g) (a .i) (a .j),
+      ← c .before .may-end .ensures,
+      c .if2 .taken,
+    )
 
 -- src/rules.rt:69:9
 returns-2 : tie.Need-returns-2
 unfolding startFault
-returns-2 c = 
+returns-2 c =
     let a = c .before .before .before .before .before .args in
-    rw
-    (sym (c .before .before .before .is-forward .ensures (now (a .s))) ∙ c .before .before .if1 .taken, closes-two (now (a .s)) (a .g) (a .i) (a .j),
-    ← c .before .may-end .ensures, c .if2 .left)
+    rw (
+      sym (c .before .before .before .is-forward .ensures (now (a .s))) ∙ c .before .before .if1 .taken,
+      closes-two (now (a .s)) (a .g) (a .i) (a .j),
+      ← c .before .may-end .ensures,
+      c .if2 .left,
+    )
 
 -- src/rules.rt:61:1
 returns-3 : tie.Need-returns-3

@@ -1,0 +1,95 @@
+-- `best_pages` meets its contract: the walk back over the filled work area writes the best list, and marking it gives its counts; or
+-- the full place is not reached, and there is none.
+use borrow.Author.Needs.{needs}
+use borrow.Author.Tests.{not-true, not-false}
+use native.Mathlib.Omega.{arith}
+use lib.Seq.{length-take-le}
+use mathlib.Core.Path.{sym}
+use Rattle.making.specs.laws.Solved.{solved-lent, walk-low, walk-able, walk-none, walk-room, walk-small, walk-writable, walk-long, walk-written}
+use Rattle.making.proofs.best_pages.Statement.{statement}
+use Rattle.making.proofs.best_pages.Tie as tie
+
+last-side-requires : tie.Need-last-side-requires
+last-side-requires c κs = solved-lent _ _ _ _ (c .before .before .before .pre)
+
+reached-requires : tie.Need-reached-requires
+reached-requires c κs =
+    let p = c .before .before .before .before .pre in
+    (solved-lent _ _ _ _ p, walk-low _ _ _ _ p _ (c .last-side .ensures))
+
+returns : tie.Need-returns
+returns c =
+    walk-none _ _ _ _ (c .before .before .before .before .before .before .pre) _ (c .before .before .last-side .ensures) _
+    (c .before .reached .ensures) (not-true _ (c .if1 .taken))
+
+count-pages-requires : tie.Need-count-pages-requires
+count-pages-requires c κs =
+    walk-able _ _ _ _ (c .before .before .before .before .before .before .pre) _ (c .before .before .last-side .ensures)
+
+write-pages-requires : tie.Need-write-pages-requires
+write-pages-requires c κs =
+    walk-writable _ _ _ _ (c .before .before .before .before .before .before .before .before .pre) _
+    (c .before .before .before .before .last-side .ensures) _ (c .before .before .before .reached .ensures) _
+    (c .before .count-pages .ensures) (not-false _ (c .before .before .if1 .left))
+
+mul-words : tie.Need-mul-words
+mul-words c =
+    let small =
+    walk-small _ _ _ _ (c .before .before .before .before .before .before .before .before .before .before .before .pre) _
+    (c .before .before .before .before .before .before .before .last-side .ensures) _
+    (c .before .before .before .before .before .before .reached .ensures) _
+    (c .before .before .before .before .count-pages .ensures) (not-false _ (c .before .before .before .before .before .if1 .left)) in
+    omega arith
+
+slice-reshare-prefix-mark : tie.Need-slice-reshare-prefix-mark
+slice-reshare-prefix-mark c =
+    let p = c .before .before .before .before .before .before .before .before .before .before .before .pre in
+    let side = c .before .before .before .before .before .before .before .last-side .ensures in
+    let told = c .before .before .before .before .before .before .reached .ensures in
+    let pages = c .before .before .before .before .count-pages .ensures in
+    let e = not-false _ (c .before .before .before .before .before .if1 .left) in
+    let room = walk-room _ _ _ _ p _ side _ told _ pages e in
+    let long = walk-long _ _ _ _ p _ side _ told _ pages e _ (c .before .before .write-pages .ensures) in
+    omega arith
+
+slice-aggregate-mark : tie.Need-slice-aggregate-mark
+slice-aggregate-mark c =
+    let p = c .before .before .before .before .before .before .before .before .before .before .before .before .pre in
+    let side = c .before .before .before .before .before .before .before .before .last-side .ensures in
+    let told = c .before .before .before .before .before .before .before .reached .ensures in
+    let pages = c .before .before .before .before .before .count-pages .ensures in
+    let e = not-false _ (c .before .before .before .before .before .before .if1 .left) in
+    let room = walk-room _ _ _ _ p _ side _ told _ pages e in
+    let long = walk-long _ _ _ _ p _ side _ told _ pages e _ (c .before .before .before .write-pages .ensures) in
+    sym (length-take-le _ _ (omega arith))
+
+mark-requires : tie.Need-mark-requires
+mark-requires c κs = search needs
+
+same-length : tie.Need-same-length
+same-length c = search needs
+
+returns-2 : tie.Need-returns-2
+returns-2 c =
+    walk-written _ _ _ _ (c .before .before .before .before .before .before .before .before .before .before .before .before .before .pre) _
+    (c .before .before .before .before .before .before .before .before .before .last-side .ensures) _
+    (c .before .before .before .before .before .before .before .before .reached .ensures) _
+    (c .before .before .before .before .before .before .count-pages .ensures)
+    (not-false _ (c .before .before .before .before .before .before .before .if1 .left)) _
+    (c .before .before .before .before .write-pages .ensures) _ (c .mark .ensures)
+
+pub best-pages-spec : {M : Type 1} → statement M
+best-pages-spec =
+    tie.close
+    (tie.spec
+    last-side-requires
+    reached-requires
+    returns
+    count-pages-requires
+    write-pages-requires
+    mul-words
+    slice-reshare-prefix-mark
+    slice-aggregate-mark
+    mark-requires
+    same-length
+    returns-2)
