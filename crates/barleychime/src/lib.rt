@@ -21,18 +21,16 @@ pub extern "C" fn barleychime_make(
     pages: &mut [u32],
     answer: &mut [u32; 6],
 ) -> u32
-    ensures {
-        λ r. ⌜
-            Exported
-            (now (galley .entry))
-            (now (work .entry))
-            (now (pages .entry))
-            r
-            (now (work .exit))
-            (now (pages .exit))
-            (now (answer .exit))
-        ⌝
-    }
+    ensures { λ r. ⌜
+        Exported
+        (now (galley .entry))
+        (now (work .entry))
+        (now (pages .entry))
+        r
+        (now (work .exit))
+        (now (pages .exit))
+        (now (answer .exit))
+        ⌝ }
 {
     let made = making::make(galley, work, pages);
     tell(made, answer)
@@ -41,12 +39,10 @@ pub extern "C" fn barleychime_make(
 // The marking of a page list: marking's answer. No lent memory but `answer` is written.
 #[no_mangle]
 pub extern "C" fn barleychime_mark(galley: &[u8], pages: &[u32], answer: &mut [u32; 6]) -> u32
-    ensures {
-        λ r. ⌜
-            (r ≡ numberOf (markOf (now (galley .entry)) (now (pages .entry))))
-            × (now (answer .exit) ≡ sixOf (markOf (now (galley .entry)) (now (pages .entry))))
-        ⌝
-    }
+    ensures { λ r. ⌜
+        (r ≡ numberOf (markOf (now (galley .entry)) (now (pages .entry))))
+        × (now (answer .exit) ≡ sixOf (markOf (now (galley .entry)) (now (pages .entry))))
+        ⌝ }
 {
     let mark = marking::mark(galley, pages);
     tell(mark, answer)

@@ -36,7 +36,7 @@ pick-ends : (b : Bool) (x y : Answer) → Ends x → Ends y → Ends (pick b x y
 pick-ends true x y p q = p
 pick-ends false x y p q = q
 
-broken-low : (a b c d e : Bool) → firstBroken a b c d e ≤ 17
+broken-low : (a b c d e : Bool) → firstBroken a b c d e ≤ 18
 unfolding firstBroken
 broken-low false b c d e = omega arith
 broken-low true false c d e = omega arith
@@ -45,10 +45,10 @@ broken-low true true true false e = omega arith
 broken-low true true true true false = omega arith
 broken-low true true true true true = omega arith
 
-refuse-ends : (n q : ℕ) (after : Answer) → n ≤ 17 → Ends after → Ends (refuse n q after)
+refuse-ends : (n q : ℕ) (after : Answer) → n ≤ 18 → Ends after → Ends (refuse n q after)
 unfolding refuse
 refuse-ends zero q after h e = e
-refuse-ends (suc n) q after h e = refused (omega arith) (omega arith)
+refuse-ends (suc n) q after h e = refused {n = suc n} (omega arith) h
 
 judge-ends : (g : model.Galley) (good : Answer) (q : ℕ) (u : model.Place) (ps : List model.Place) → Ends good → Ends (judge g good q u ps)
 unfolding judge broken
@@ -74,7 +74,7 @@ unfolding made
 made-ends g = go (best g)
   where
     go : (b : Option (List model.Place)) → Ends (elim b [ none ↦ Refused 11 0 | some ps ↦ countsOf g ps ])
-    go none = refused (omega arith) (omega arith)
+    go none = refused {n = 11} (omega arith) (omega arith)
     go (some ps) = counts-end g ps
 
 -- Any galley and any list of words gets an accepted mark or one numbered refusal.
@@ -96,7 +96,7 @@ making-answers bytes work list = go (galleyOf bytes) (read-refusal bytes)
         pick-ends (ltb work (workNeeded g)) (Refused 9 (workNeeded g))
         (pick (ltb list (listNeeded g)) (Refused 10 (listNeeded g)) (made (modelOf bytes g))) (refused (omega arith) (omega arith))
         (pick-ends (ltb list (listNeeded g)) (Refused 10 (listNeeded g)) (made (modelOf bytes g)) (refused (omega arith) (omega arith))
-            (made-ends (modelOf bytes g)))
+        (made-ends (modelOf bytes g)))
     go (reads.Refused n at) h = let l = h n at refl in refused (l .0) (omega (arith, l .1))
 
 -- Where making answers 11, or anything but counts, it writes no word.
@@ -104,8 +104,13 @@ made-refused : (g : model.Galley) (n at : ℕ) → made g ≡ Refused n at → (
 unfolding made madeWords countsOf
 made-refused g n at e = go (best g) e
   where
-    go : (b : Option (List model.Place)) → elim b [ none ↦ Refused 11 0 | some ps ↦ countsOf g ps ] ≡ Refused n at
-        → (n ≡ 11) × (elim b [ none ↦ [] | some ps ↦ wordsOf ps ] ≡ [])
+    answer : Option (List model.Place) → Answer
+    answer b = elim b [ none ↦ Refused 11 0 | some ps ↦ countsOf g ps ]
+
+    words : Option (List model.Place) → List ℕ
+    words b = elim b [ none ↦ [] | some ps ↦ wordsOf ps ]
+
+    go : (b : Option (List model.Place)) → answer b ≡ Refused n at → (n ≡ 11) × (words b ≡ [])
     go none e = (cc, refl)
     go (some ps) e = let z : _≡_ {A = ℕ} 0 1 = cc in absurd (omega arith)
 

@@ -59,7 +59,7 @@ module _ (bytes : List ℕ) (g : Galley) (read : galleyOf bytes ≡ reads.Galley
         outcome = inl (makes ∙ e);
         same = λ a. refused (sym a ∙ ap accepted (makes ∙ e));
         least = λ a. refused (sym a ∙ ap accepted (makes ∙ e));
-        none = (λ _ words. ap accepted (marks words) ∙ none words, λ _. makes ∙ e)
+        none = (λ _ words. ap accepted (marks words) ∙ none words, λ _. makes ∙ e);
       }
     where
       refused : {A : Type 0} → true ≡ false → A
@@ -69,7 +69,7 @@ module _ (bytes : List ℕ) (g : Galley) (read : galleyOf bytes ≡ reads.Galley
         outcome = inr (ap accepted (makes ∙ e));
         same = λ a. rw (makes ∙ e) (marks _ ∙ ap (marked (modelOf bytes g)) first ∙ m);
         least = λ a words b. rw (makes ∙ e) (rw (marks words) (best words (sym (ap accepted (marks words)) ∙ b)));
-        none = (λ r. refused (sym (ap accepted (makes ∙ e)) ∙ ap accepted r), λ h. refused (sym (ap accepted m) ∙ sym (ap accepted (marks ws)) ∙ h ws))
+        none = (λ r. refused (sym (ap accepted (makes ∙ e)) ∙ ap accepted r), λ h. refused (sym (ap accepted m) ∙ sym (ap accepted (marks ws)) ∙ h ws));
       }
     where
       refused : {A : Type 0} → true ≡ false → A
