@@ -1,4 +1,5 @@
 // The program: a galley from standard input, its pages to standard output. Document 01, "The program".
+ghost use Prim.Native.Nat.{_≤_};
 use libc::STDIN_FILENO;
 use libc::STDOUT_FILENO;
 use model::answer::Numbers;
@@ -17,20 +18,32 @@ fn print_refusal(number: u32, place: u32) {
     print_number(place, b'\n');
 }
 
-// The counts, and then each page with the lines and figures placed so far.
-fn print_pages(n: Numbers, list: &[u32; 400]) {
-    print_number(n.pages, b' ');
-    print_number(n.x, b' ');
-    print_number(n.y, b' ');
-    print_number(n.turns, b'\n');
-    let pages = n.pages;
+// How many pages the list has room for.
+fn shown(pages: u32) -> usize
+    ensures { λ r. ⌜ r ≤ 200 ⌝ }
+{
+    if pages <= 200 { pages as usize } else { 200 }
+}
+
+// Each page with the lines and figures placed so far.
+fn print_pages(pages: usize, list: &[u32; 400])
+    requires { ⌜ pages ≤ 200 ⌝ }
+{
     let mut q: usize = 0;
-    while (q < 200) & (q < (pages as usize)) {
+    while q < pages {
         print_number((q + 1) as u32, b' ');
         print_number(list[2 * q], b' ');
         print_number(list[2 * q + 1], b'\n');
         q += 1;
     }
+}
+
+// The counts of a list.
+fn print_counts(n: Numbers) {
+    print_number(n.pages, b' ');
+    print_number(n.x, b' ');
+    print_number(n.y, b' ');
+    print_number(n.turns, b'\n');
 }
 
 fn main() {
@@ -45,7 +58,8 @@ fn main() {
     let answer = making::make(&input[..got], &mut work, &mut list);
     let n = model::answer::six_numbers(answer);
     if n.number == 0 {
-        print_pages(n, &list);
+        print_counts(n);
+        print_pages(shown(n.pages), &list);
     } else {
         print_refusal(n.number, n.place);
     }
