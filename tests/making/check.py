@@ -71,9 +71,7 @@ def main():
     for number, g in enumerate(sample.galleys(SEED + 1, LARGER, 40, 8)):
         try_all(f'larger galley {number}', g, search.best_by_table(g))
     for number, g in enumerate(sample.galleys(SEED + 2, 400, 5, 3)):
-        data = bytearray(galley.write(g))
-        data[rng.randrange(len(data))] ^= 1 << rng.randrange(8)
-        broken = bytes(data[:rng.choice((len(data), rng.randrange(len(data))))])
+        broken = sample.broken(rng, galley.write(g))
         read = galley.read(broken)
         if read[0] == 'refused':
             work, pages = dirty(rng, 40), dirty(rng, 10)

@@ -44,9 +44,7 @@ def main():
             expected = marking.mark(g, words)
             kinds[expected[1] if expected[0] == 'refused' else f'sides {g.spec.sides}'] += 1
             tried += compare(f'galley {number}, {words}', mark(data, words), expected, wrong)
-        broken = bytearray(data)
-        broken[rng.randrange(len(broken))] ^= 1 << rng.randrange(8)
-        broken = bytes(broken[:rng.choice((len(broken), rng.randrange(len(broken))))])
+        broken = sample.broken(rng, data)
         read = galley.read(broken)
         if read[0] == 'refused':
             tried += compare(f'galley {number}, broken', mark(broken, (1, 0)), read, wrong)

@@ -71,3 +71,10 @@ def mutated(rng, words):
     else:
         del words[at]
     return tuple(words)
+
+
+def broken(rng, data):
+    """A galley's bytes with one bit flipped, and now and then cut short."""
+    damaged = bytearray(data)
+    damaged[rng.randrange(len(damaged))] ^= 1 << rng.randrange(8)
+    return bytes(damaged[:rng.choice((len(damaged), rng.randrange(len(damaged))))])

@@ -17,7 +17,7 @@ abbrev pub numbersOf : Answer → Numbers
 numbersOf (Counted p x y t) = record { number = 0; place = 0; pages = p; x = x; y = y; turns = t }
 numbersOf (Refused n at) = record { number = n; place = at; pages = 0; x = 0; y = 0; turns = 0 }
 
--- The answer is that of a list that is accepted, and no refusal.
+-- The answer is that of a list that is accepted, and no refusal (document 01, "Marking").
 abbrev pub accepted : Answer → Bool
 accepted (Counted p x y t) = true
 accepted (Refused n at) = false
@@ -27,16 +27,16 @@ unfoldable pub chunks : ℕ → ℕ → List ℕ → List Place
 chunks zero k ws = []
 chunks (suc p) k ws = take k ws ∷ chunks p k (drop k ws)
 
--- The pages that a list of words names.
+-- The pages that a list of words names (document 01, "One page").
 unfoldable pub pagesOf : Galley → List ℕ → List Place
 pagesOf g ws = chunks (length ws / streams g) (streams g) ws
 
--- The words that name a list of pages.
+-- The words that name a list of pages (document 01, "One page").
 unfoldable pub wordsOf : List Place → List ℕ
 wordsOf [] = []
 wordsOf (v ∷ vs) = v ++ wordsOf vs
 
--- 12: there are words, whole pages of them, and no more pages than blocks.
+-- 12: there are words, whole pages of them, and no more pages than blocks (document 01, rule 12).
 unfoldable pub counted : Galley → List ℕ → Bool
 counted g ws = ltb 0 (length ws) && eqb (length ws % streams g) 0 && leb (length ws) (streams g * blocks g)
 
@@ -47,7 +47,7 @@ same [] (y ∷ ys) = false
 same (x ∷ xs) [] = false
 same (x ∷ xs) (y ∷ ys) = eqb x y && same xs ys
 
--- No page follows.
+-- No page follows: the page is the last of its list (document 01, rules 16 and 17).
 abbrev pub ended : List Place → Bool
 ended [] = true
 ended (v ∷ vs) = false
@@ -63,7 +63,7 @@ unfoldable pub judge : Galley → Answer → ℕ → Place → List Place → An
 judge g good q u [] = pick (same u (sizes g)) good (Refused 18 (pred q))
 judge g good q u (v ∷ vs) = refuse (broken g q (ended vs) u v) q (judge g good (suc q) v vs)
 
--- Page count and turns of a list of pages.
+-- Page count and turns of a list of pages: p, X, Y, T (document 01, "Marking").
 unfoldable pub countsOf : Galley → List Place → Answer
 countsOf g ps = Counted (length ps) (xOf g ps) (yOf g ps) (turns g ps)
 

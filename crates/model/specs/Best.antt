@@ -45,7 +45,7 @@ unfoldable pub lists : Allowed → Place → ℕ → ℕ → Place → List (Lis
 lists ok l zero q u = pick (same u l) ([] ∷ []) []
 lists ok l (suc fuel) q u = pick (same u l) ([] ∷ []) [] ++ onward ok (lists ok l fuel (suc q)) q u (box l)
 
--- A page that breaks none of rules 13 to 17.
+-- A page that breaks none of rules 13 to 17 (document 01, "Marking").
 unfoldable pub allowed : Galley → Allowed
 allowed g q last u v = eqb (broken g q last u v) 0
 
@@ -58,7 +58,7 @@ unfoldable pub firstOf : {A : Type 0} → (A → A → Bool) → List A → Opti
 firstOf le [] = none
 firstOf le (x ∷ xs) = elim (firstOf le xs) [ none ↦ some x | some y ↦ some (pick (le x y) x y) ]
 
--- The best list: of all valid lists the first by turns and then by the tie order.
+-- The best list: of all valid lists the first by turns and then by the tie order (document 01, "Making").
 unfoldable pub best : Galley → Option (List Place)
 best g = firstOf (before g) (valid g)
 
@@ -66,6 +66,6 @@ best g = firstOf (before g) (valid g)
 unfoldable pub made : Galley → Answer
 made g = elim (best g) [ none ↦ Refused 11 0 | some ps ↦ countsOf g ps ]
 
--- The words that making writes to the page list.
+-- The words that making writes to the page list (document 01, "Making").
 unfoldable pub madeWords : Galley → List ℕ
 madeWords g = elim (best g) [ none ↦ [] | some ps ↦ wordsOf ps ]

@@ -39,27 +39,27 @@ pub record Galley : Type 0 where
 abbrev pub Place : Type 0
 Place = List ℕ
 
--- The blocks of stream s placed so far.
+-- The blocks of stream s placed so far (document 01, "One page": i for the lines, j for the figures).
 unfoldable pub count : Place → ℕ → ℕ
 count u s = getD u s 0
 
--- The number of streams, which is the number of words that a page takes in a page list.
+-- The number of streams, which is the number of words that a page takes in a page list (document 01, "One page").
 unfoldable pub streams : Galley → ℕ
 streams g = suc (g .floats)
 
--- The place before the first page.
+-- The place before the first page (document 01, "One page").
 unfoldable pub zeros : Galley → Place
 zeros g = row 0 (streams g) (λ s. 0)
 
--- The full place, where every block is placed.
+-- The full place, where every block is placed (document 01, rule 18).
 unfoldable pub sizes : Galley → Place
 sizes g = row 0 (streams g) (λ s. g .stream s .size)
 
--- The number of blocks: m + n for m lines and n figures.
+-- The number of blocks: m + n for m lines and n figures (document 01, rule 12).
 unfoldable pub blocks : Galley → ℕ
 blocks g = total (g .floats) (λ s. g .stream s .size)
 
--- k numbers a block of stream s.
+-- k numbers a block of stream s: lines are t₁ to tₘ, figures f₁ to fₙ (paper, section 2).
 pub record Block (g : Galley) (s k : ℕ) : Type 0 where
   pub stream : s ≤ g .floats
   pub first : 1 ≤ k

@@ -1,4 +1,5 @@
--- Choosing by a test, and numbers and tests gathered over 1 to n or 0 to n: the notation of the other definitions.
+-- Choosing by a test, and numbers and tests gathered over 1 to n or 0 to n: the notation of the other definitions, which the
+-- paper's sums and quantifiers over blocks stand for (section 2).
 use Prim.Native.Nat.{ℕ, zero, suc, _+_, _-_}
 use mathlib.Core.Bool.{Bool, true, false, not, _&&_, _||_}
 use mathlib.Core.List.{List, [], _∷_}

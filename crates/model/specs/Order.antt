@@ -27,12 +27,12 @@ lex le (x ∷ xs) (y ∷ ys) = le x y && implies (le y x) (lex le xs ys)
 unfoldable pub geb : ℕ → ℕ → Bool
 geb a b = leb b a
 
--- 1 for a count of pages that is odd in double-sided work, else 0.
+-- 1 for a count of pages that is odd in double-sided work, else 0 (document 01, "Making": an even page count first).
 unfoldable pub oddly : Sides → ℕ → ℕ
 oddly single p = 0
 oddly double p = p % 2
 
--- The places where the pages of a list start, put before `after`: the last page's start first.
+-- The places where the pages of a list start, put before `after`: the last page's start first (document 01, "Making").
 unfoldable pub startsOf : Place → List Place → List Place → List Place
 startsOf u [] after = after
 startsOf u (v ∷ vs) after = startsOf v vs (u ∷ after)

@@ -13,19 +13,19 @@ unfoldable pub pageOf : ℕ → ℕ → ℕ → List Place → ℕ
 pageOf s k q [] = q
 pageOf s k q (v ∷ vs) = pick (leb k (count v s)) q (pageOf s k (suc q) vs)
 
--- The leaves between float k of stream s and the line that cites it.
+-- The leaves between float k of stream s and the line that cites it (paper, section 3, the difference under its sum).
 unfoldable pub apart : Galley → List Place → ℕ → ℕ → ℕ
 apart g ps s k =
     leaf (g .spec .sides) (pageOf s k 1 ps) - leaf (g .spec .sides) (pageOf 0 (g .stream s .cite k) 1 ps)
 
--- X: those leaves summed over all floats of all streams.
+-- X: those leaves summed over all floats of all streams (document 01, "Spreads and turns").
 unfoldable pub xOf : Galley → List Place → ℕ
 xOf g ps = sum (g .floats) (λ s. sum (g .stream s .size) (apart g ps s))
 
--- Y: the leaves from the first page to the last.
+-- Y: the leaves from the first page to the last (document 01, "Spreads and turns").
 unfoldable pub yOf : Galley → List Place → ℕ
 yOf g ps = leaf (g .spec .sides) (length ps) - leaf (g .spec .sides) 1
 
--- T: the turns, X and Y by their weights.
+-- T: the turns, X and Y by their weights (paper, section 3).
 unfoldable pub turns : Galley → List Place → ℕ
 turns g ps = g .spec .alpha * xOf g ps + g .spec .beta * yOf g ps
