@@ -1,3 +1,4 @@
+-- Case C of document 01 by computation: the work area is filled, whatever it held, and the walk back writes the list of C1.
 use mathlib.Core.Path.{_≡_, refl}
 use mathlib.Core.Bool.{Bool, true, false}
 use mathlib.Core.List.{List, [], _∷_}
@@ -33,10 +34,12 @@ galleyC =
 w : List ℕ
 w = filled galleyC (replicate 80 7)
 
-test : writeBack double (tableOf 5 w) 5 4 1 (lastSide double (tableOf 5 w) 4 1) (replicate 10 0) ≡ (1 ∷ 0 ∷ 2 ∷ 0 ∷ 3 ∷ 0 ∷ 4 ∷ 0 ∷ 4 ∷ 1 ∷ [])
+-- The list of C1.
+list-of-C1 : writeBack double (tableOf 5 w) 5 4 1 (lastSide double (tableOf 5 w) 4 1) (replicate 10 0) ≡ (1 ∷ 0 ∷ 2 ∷ 0 ∷ 3 ∷ 0 ∷ 4 ∷ 0 ∷ 4 ∷ 1 ∷ [])
 unfolding stream galleyC w sum between total each every rowOf count streams zeros sizes blocks has kinds stacked height tightest loosest leaf ends forward mayEnd closes fits fills cited same dangles waitingIn waiting pageCost full entryAt put stored address tableOf before better offered row rows bestStart priced mayStop entryOf tall fillSide fillPlace fillColumn fillColumns filled startOf better-side lastSide countBack writeBack
-test = refl
+list-of-C1 = refl
 
-test2 : countBack double (tableOf 5 w) 5 4 1 (lastSide double (tableOf 5 w) 4 1) 0 ≡ 5
+-- It has five pages.
+five-pages : countBack double (tableOf 5 w) 5 4 1 (lastSide double (tableOf 5 w) 4 1) 0 ≡ 5
 unfolding stream galleyC w sum between total each every rowOf count streams zeros sizes blocks has kinds stacked height tightest loosest leaf ends forward mayEnd closes fits fills cited same dangles waitingIn waiting pageCost full entryAt put stored address tableOf before better offered row rows bestStart priced mayStop entryOf tall fillSide fillPlace fillColumn fillColumns filled startOf better-side lastSide countBack writeBack
-test2 = refl
+five-pages = refl

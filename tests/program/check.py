@@ -1,0 +1,62 @@
+"""The program of document 01 against the reference: what it prints for galleys of every kind, its limits and its refusals.
+The last line is 'N passed, M failed'."""
+import pathlib
+import random
+import subprocess
+import sys
+
+ROOT = pathlib.Path(__file__).resolve().parents[2]
+sys.path.insert(0, str(ROOT / 'tests'))
+from reference import cases, galley, marking, sample, search  # noqa: E402
+
+PROGRAM = ROOT / 'target' / 'bin' / 'paginate'
+SEED = 20261117
+WORK, LIST, INPUT = 10_248, 400, 8_192
+
+
+def due(data):
+    """What the program owes for its input."""
+    if len(data) > INPUT:
+        return f'R 19 {INPUT}\n'
+    read = galley.read(data)
+    if read[0] == 'refused':
+        return f'R {read[1]} {read[2]}\n'
+    g = read[1]
+    m, n = len(g.lines), len(g.figures)
+    if WORK < 8 * (m + 1) * (n + 1):
+        return f'R 9 {8 * (m + 1) * (n + 1)}\n'
+    if LIST < 2 * (m + n):
+        return f'R 10 {2 * (m + n)}\n'
+    best = search.best_by_table(g)
+    if best is None:
+        return 'R 11 0\n'
+    pages = marking.pairs(best)
+    counts = ' '.join(map(str, marking.mark(g, best)[1:]))
+    return counts + '\n' + ''.join(f'{q} {i} {j}\n' for q, (i, j) in enumerate(pages, 1))
+
+
+def inputs():
+    rng = random.Random(SEED)
+    yield from (galley.write(g) for _, g, _, _ in cases.MADE if len(g.lines) < 50)
+    yield from (galley.write(g) for g in sample.galleys(SEED, 60, 40, 8))
+    yield from (sample.broken(rng, galley.write(g)) for g in sample.galleys(SEED + 1, 40, 5, 3))
+    # Work areas and page lists at both sides of what the program lends, and input at both sides of what it takes.
+    for lines, figures in ((181, 6), (182, 6), (183, 6), (199, 1), (200, 0), (201, 0), (60, 20), (61, 20)):
+        yield galley.write(cases.plain(cases.A.spec._replace(htmin=0), lines * (1,), figures * [(1, 1)]))
+    yield from (bytes(length) for length in (0, 1, 2, INPUT - 1, INPUT, INPUT + 1, 5 * INPUT))
+
+
+def main():
+    passed = failed = 0
+    for data in inputs():
+        wrote = subprocess.run([PROGRAM], input=data, capture_output=True).stdout.decode()
+        expected = due(data)
+        passed, failed = passed + (wrote == expected), failed + (wrote != expected)
+        if wrote != expected:
+            print(f'FAILED on {len(data)} bytes: {wrote!r}, not {expected!r}')
+    print(f'{passed} passed, {failed} failed')
+    return 0 if passed and not failed else 1
+
+
+if __name__ == '__main__':
+    sys.exit(main())
