@@ -60,3 +60,11 @@ def maker(library):
         return answered(returned, six), tuple(lent_work)[:len(work)], tuple(lent_pages)[:len(pages)]
 
     return make
+
+
+def report(tried, wrong):
+    """Prints what went wrong, first things first, and the count of tests; the exit status."""
+    for line in wrong[:20]:
+        print('FAILED', line)
+    print(f'{tried - len(wrong)} passed, {len(wrong)} failed')
+    return 1 if wrong else 0

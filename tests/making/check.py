@@ -80,10 +80,7 @@ def main():
     for kind in (9, 10, 11, 'sides 1', 'sides 2', 'refused galley'):
         compare(f'answers of kind {kind}', kinds[kind] >= 20, True)
     print('makings by answer:', dict(sorted(kinds.items(), key=str)))
-    for line in wrong[:20]:
-        print('FAILED', line)
-    print(f'{tried - len(wrong)} passed, {len(wrong)} failed')
-    return 1 if wrong else 0
+    return engine.report(tried, wrong)
 
 
 if __name__ == '__main__':

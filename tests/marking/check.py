@@ -55,10 +55,7 @@ def main():
     mark(data, cases.ONE_A_PAGE)
     print(f'4,200 pages, 4,000 lines, 200 figures: {time.perf_counter() - began:.4f} s')
     print('lists by answer:', dict(sorted(kinds.items(), key=str)))
-    for line in wrong[:20]:
-        print('FAILED', line)
-    print(f'{tried - len(wrong)} passed, {len(wrong)} failed')
-    return 1 if wrong else 0
+    return engine.report(tried, wrong)
 
 
 if __name__ == '__main__':
