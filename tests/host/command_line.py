@@ -44,11 +44,8 @@ def documented(root, number, mender, told):
     """The documents that say something else about a refusal than the command."""
     sentence = told.split(None, 1)[1].removesuffix(f' ({mender})')
     row = re.compile(rf'^\| {number} \| (.*?) \| .* \| (.*?) \|$', re.M)
-    papers = [path for path in (root / 'README.md', root / 'docs/USING.md') if path.is_file()]
-    rows = {path.name: row.findall(path.read_text()) for path in papers}
-    wrong = [name for name, found in rows.items() if any(what != (sentence, mender) for what in found)]
-    if not any(rows.values()):
-        wrong.append('nowhere documented')
+    found = row.findall((root / 'README.md').read_text())
+    wrong = [] if found == [(sentence, mender)] else ['README.md']
     header = (root / 'include/barleychime.h').read_text()
     if number != 19 and f' *   {number:2}  {sentence.replace("`", "")}\n' not in header:
         wrong.append('barleychime.h')
