@@ -99,7 +99,7 @@ fn fill_place(galley: &Galley, work: &mut [u32], place: (usize, usize), cited: u
     let mut best = [None; 2];
     if place == (0, 0) {
         best[origin_side(spec.sides)] = Some(Least { cost: 0, start: (0, 0) });
-    } else if i == 0 || i == galley.m || galley.line(i).last == 1 {
+    } else if (i == 0 || i == galley.m || galley.line(i).last == 1) && (spec.sides == 2 || j <= cited) {
         best = best_starts(galley, work, place);
         // A figure cited further on may not stand on a spread that ends before its citation.
         if j > cited {
@@ -113,6 +113,15 @@ fn fill_place(galley: &Galley, work: &mut [u32], place: (usize, usize), cited: u
     }
     store(galley, work, place, OPENS, best[OPENS]);
     store(galley, work, place, ENDS, best[ENDS]);
+}
+
+/// The first of the sides that a page can have: single-sided there is only one.
+fn first_side(sides: u32) -> usize {
+    if sides == 2 {
+        OPENS
+    } else {
+        ENDS
+    }
 }
 
 /// For each side the best start of a page to (i, j) by its heights: from the latest start to the earliest, so that only a
@@ -141,7 +150,7 @@ fn best_starts(galley: &Galley, work: &[u32], (i, j): (usize, usize)) -> [Option
             if (a, b) == (i, j) || page.loose < ht_min {
                 continue;
             }
-            for side in [OPENS, ENDS] {
+            for side in first_side(spec.sides)..=ENDS {
                 let Some(before) = least(galley, work, (a, b), side_before(spec.sides, side)) else { continue };
                 if best[side].is_none_or(|least| before.cost < least.cost) {
                     best[side] = Some(Least { cost: before.cost, start: (a, b) });
