@@ -1,0 +1,5 @@
+-- The window of starting lines: its definitions first, then the laws about them.
+pub mod Sums
+pub mod Slide
+pub mod Queue
+pub mod laws

@@ -1,0 +1,128 @@
+-- The queue of a window: the lines that may still be the best start, and what is known of them.
+use Prim.Native.Nat.{ℕ, suc, _+_, _*_, _-_, _≤_, _<_}
+use mathlib.Core.Path.{_≡_}
+use mathlib.Core.Bool.{Bool}
+use mathlib.Core.List.{List}
+use lib.ListN.{length, getD, set}
+use lib.Dec.{ltb}
+use Rattle.model.specs.Gather.{pick}
+use Rattle.places.specs.declared.Start.{Start}
+use Rattle.places.specs.declared.Entry.{Entry}
+use Rattle.places.specs.declared.Entry.the-variants.{Unreached, Least}
+use Rattle.places.specs.Address.{address}
+use Rattle.places.specs.Table.{tableOf}
+use Rattle.window.specs.declared.slide.Window.{Window}
+use Rattle.window.specs.declared.queue.Queue.{Queue}
+
+-- The line of entry k, and its cost.
+abbrev pub lineAt : List ℕ → ℕ → ℕ
+lineAt words k = getD words (2 * k) 0
+
+abbrev pub costAt : List ℕ → ℕ → ℕ
+costAt words k = getD words (2 * k + 1) 0
+
+-- The words with a line and its cost written as entry `at`.
+unfoldable pub pushed : List ℕ → ℕ → ℕ → ℕ → List ℕ
+pushed words at line cost = set (set words (2 * at) line) (2 * at + 1) cost
+
+-- The first entry of a queue as a start with b figures placed before it; unreached where the queue is empty.
+unfoldable pub frontOf : List ℕ → Queue → ℕ → Entry
+frontOf words queue b =
+    pick (ltb (queue .head) (queue .tail))
+    (Least (costAt words (queue .head)) (record { line = lineAt words (queue .head); figure = b }))
+    Unreached
+
+-- The lines of a column on a side, as starts: the entry of each.
+abbrev pub columnOf : List ℕ → ℕ → ℕ → ℕ → ℕ → Entry
+columnOf work tall b side a = tableOf tall work a b side
+
+-- An entry of the queue that is no earlier than line a and no dearer than x.
+pub record Cover (words : List ℕ) (queue : Queue) (a x : ℕ) : Type 0 where
+  pub at : ℕ
+  pub from : queue .head ≤ at
+  pub to : at < queue .tail
+  pub later : a ≤ lineAt words at
+  pub cheaper : costAt words at ≤ x
+
+-- The entries of a queue rise in line and in cost, each is a reached line before `high` with its cost, and every reached line
+-- from `low` on and before `high` is covered by one.
+pub record Held (col : ℕ → Entry) (words : List ℕ) (queue : Queue) (low high : ℕ) : Type 0 where
+  pub order : queue .head ≤ queue .tail
+  pub short : queue .tail ≤ high
+  pub lines : (k : ℕ) → queue .head ≤ k → suc k < queue .tail → lineAt words k < lineAt words (suc k)
+  pub costs : (k : ℕ) → queue .head ≤ k → suc k < queue .tail → costAt words k < costAt words (suc k)
+  pub before : (k : ℕ) → queue .head ≤ k → k < queue .tail → lineAt words k < high
+  pub reached : (k : ℕ) → queue .head ≤ k → k < queue .tail → (r : Start) × (col (lineAt words k) ≡ Least (costAt words k) r)
+  pub covered : (a x : ℕ) (r : Start) → low ≤ a → a < high → col a ≡ Least x r → Cover words queue a x
+
+-- Of the reached lines from `low` on and before `high`, e is the cheapest, and the latest of those that cost the same, as a start
+-- with b figures placed before it; it is unreached where they all are.
+pub record Cheapest (col : ℕ → Entry) (low high b : ℕ) (e : Entry) : Type 0 where
+  pub from : (x : ℕ) (r : Start) → e ≡ Least x r → low ≤ r .line
+  pub to : (x : ℕ) (r : Start) → e ≡ Least x r → r .line < high
+  pub figure : (x : ℕ) (r : Start) → e ≡ Least x r → r .figure ≡ b
+  pub reached : (x : ℕ) (r : Start) → e ≡ Least x r → (q : Start) × (col (r .line) ≡ Least x q)
+  pub none : e ≡ Unreached → (a : ℕ) → low ≤ a → a < high → col a ≡ Unreached
+  pub least : (x : ℕ) (r : Start) → e ≡ Least x r → (a y : ℕ) (q : Start) → low ≤ a → a < high → col a ≡ Least y q → x ≤ y
+  pub latest : (x : ℕ) (r : Start) → e ≡ Least x r → (a : ℕ) (q : Start) → low ≤ a → a < high → col a ≡ Least x q → a ≤ r .line
+
+-- A queue of so many entries lies in the words.
+pub record DearerAsked (words : List ℕ) (head tail : ℕ) : Type 0 where
+  pub order : head ≤ tail
+  pub room : 2 * tail ≤ length words
+
+-- From r on, every entry costs x or more; the one before r costs less.
+pub record Dropped (words : List ℕ) (head tail x r : ℕ) : Type 0 where
+  pub from : head ≤ r
+  pub to : r ≤ tail
+  pub dearer : (k : ℕ) → r ≤ k → k < tail → x ≤ costAt words k
+  pub cheaper : (k : ℕ) → head ≤ k → suc k ≡ r → costAt words k < x
+
+abbrev pub PassedAsked : List ℕ → ℕ → ℕ → Type 0
+PassedAsked = DearerAsked
+
+-- Before r every entry's line is before `low`; that of r, if there is one, is not.
+pub record Passed (words : List ℕ) (head tail low r : ℕ) : Type 0 where
+  pub from : head ≤ r
+  pub to : r ≤ tail
+  pub passed : (k : ℕ) → head ≤ k → k < r → lineAt words k < low
+  pub kept : r < tail → low ≤ lineAt words r
+
+-- The lines before `to` stand in the work area, and the queue has room for all of them.
+pub record FeedAsked (work : List ℕ) (tall b side : ℕ) (words : List ℕ) (queue : Queue) (from to : ℕ) : Type 0 where
+  pub high : tall ≤ 4001
+  pub row : to ≤ tall
+  pub column : b ≤ 200
+  pub either : side ≤ 1
+  pub stands : (a : ℕ) → a < to → address tall a b side + 4 ≤ length work
+  pub order : queue .head ≤ queue .tail
+  pub short : queue .tail ≤ from
+  pub start : from ≤ to
+  pub room : 2 * to ≤ length words
+
+-- The queue with another tail.
+abbrev pub tailed : Queue → ℕ → Queue
+tailed queue tail = record { head = queue .head; tail = tail }
+
+-- What was held of the lines before `from` is held of those before `to`.
+pub record Fed (work : List ℕ) (tall b side : ℕ) (old : List ℕ) (queue : Queue) (from to r : ℕ) (new : List ℕ) : Type 0 where
+  pub order : queue .head ≤ r
+  pub short : r ≤ to
+  pub held : (low : ℕ) → Held (columnOf work tall b side) old queue low from → Held (columnOf work tall b side) new (tailed queue r) low to
+
+abbrev pub AdvanceAsked : List ℕ → ℕ → ℕ → ℕ → List ℕ → Queue → ℕ → Window → Type 0
+AdvanceAsked work tall b side words queue from window = FeedAsked work tall b side words queue from (window .high)
+
+-- What was held of the window before is held of this one, whose first entry is within it.
+pub record Advanced (work : List ℕ) (tall b side : ℕ) (old : List ℕ) (queue : Queue) (from : ℕ) (window : Window) (r : Queue) (new : List ℕ) : Type 0 where
+  pub order : r .head ≤ r .tail
+  pub short : r .tail ≤ window .high
+  pub held : (low : ℕ) → low ≤ window .low → Held (columnOf work tall b side) old queue low from
+      → Held (columnOf work tall b side) new r (window .low) (window .high)
+  pub fresh : r .head < r .tail → window .low ≤ lineAt new (r .head)
+
+-- The first entry lies in the words, and b is a number of figures.
+pub record FrontAsked (words : List ℕ) (queue : Queue) (b : ℕ) : Type 0 where
+  pub order : queue .head ≤ queue .tail
+  pub room : 2 * queue .tail ≤ length words
+  pub column : b ≤ 200

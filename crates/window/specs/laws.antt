@@ -1,0 +1,4 @@
+-- The laws of the window and its queue.
+pub mod Sums
+pub mod Slide
+pub mod Queue

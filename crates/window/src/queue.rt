@@ -1,0 +1,119 @@
+// The lines of a window that may still be the best start, two words each: the line, and the cost of all before the page. They
+// rise in line and in cost, since a line that is earlier and no cheaper is never chosen again.
+ghost use mathlib.Core.Path.{_≡_};
+ghost use Prim.Native.Nat.{ℕ, _+_, _*_, _≤_};
+ghost use lib.ListN.{length};
+ghost use Rattle.window.specs.Queue.{pushed, frontOf, DearerAsked, Dropped, PassedAsked, Passed, FeedAsked, Fed, AdvanceAsked, Advanced, FrontAsked};
+use crate::slide::Window;
+use places::Entry;
+use places::Start;
+
+// The entries of a queue: those from `head` on and before `tail`.
+pub struct Queue {
+    pub head: usize,
+    pub tail: usize,
+}
+
+// The tail after entries that cost x or more are dropped from the back: of equal costs the later line is kept.
+fn drop_dearer(words: &[u32], head: usize, tail: usize, x: u32) -> usize
+    requires { ⌜ DearerAsked (now words) head tail ⌝ }
+    ensures { λ r. ⌜ Dropped (now (words .entry)) head tail x r ⌝ }
+{
+    let mut t = tail;
+    while head < t {
+        if words[2 * t - 1] < x {
+            return t;
+        }
+        t -= 1;
+    }
+    t
+}
+
+// The head after lines before `low` are dropped from the front.
+fn drop_passed(words: &[u32], head: usize, tail: usize, low: usize) -> usize
+    requires { ⌜ PassedAsked (now words) head tail ⌝ }
+    ensures { λ r. ⌜ Passed (now (words .entry)) head tail low r ⌝ }
+{
+    let mut h = head;
+    while h < tail {
+        if low <= words[2 * h] as usize {
+            return h;
+        }
+        h += 1;
+    }
+    h
+}
+
+// A line and its cost written as entry `at`.
+fn push(words: &mut [u32], at: usize, line: u32, cost: u32)
+    requires { ⌜ 2 * at + 2 ≤ length (now words) ⌝ }
+    ensures { λ _. ⌜ now (words .exit) ≡ pushed (now (words .entry)) at line cost ⌝ }
+{
+    words[2 * at] = line;
+    words[2 * at + 1] = cost;
+}
+
+// The tail after the lines from `from` on and before `to` are offered, as starts with b figures placed before them.
+fn feed(
+    work: &[u32],
+    tall: usize,
+    b: usize,
+    side: usize,
+    words: &mut [u32],
+    queue: Queue,
+    from: usize,
+    to: usize,
+) -> usize
+    requires { ⌜ FeedAsked (now work) tall b side (now words) queue from to ⌝ }
+    ensures { λ r. ⌜ Fed (now (work .entry)) tall b side (now (words .entry)) queue from to r (now (words .exit)) ⌝ }
+{
+    let mut tail = queue.tail;
+    let mut a = from;
+    while a < to {
+        let entry = places::entry_at(work, places::address_of(tall, a, b, side));
+        let line = a as u32;
+        a += 1;
+        let Entry::Least(x, _start) = entry else {
+            continue;
+        };
+        tail = drop_dearer(words, queue.head, tail, x);
+        push(words, tail, line, x);
+        tail += 1;
+    }
+    tail
+}
+
+// The queue of a window, from that of the window before it, whose end was `from`.
+pub fn advance(
+    work: &[u32],
+    tall: usize,
+    b: usize,
+    side: usize,
+    words: &mut [u32],
+    queue: Queue,
+    from: usize,
+    window: Window,
+) -> Queue
+    requires { ⌜ AdvanceAsked (now work) tall b side (now words) queue from window ⌝ }
+    ensures { λ r. ⌜ Advanced (now (work .entry)) tall b side (now (words .entry)) queue from window r (now (words .exit)) ⌝ }
+{
+    let tail = feed(work, tall, b, side, words, queue, from, window.high);
+    let head = drop_passed(words, queue.head, tail, window.low);
+    Queue { head, tail }
+}
+
+// The best start that a queue holds, with b figures placed before it.
+pub fn front(words: &[u32], queue: Queue, b: usize) -> Entry
+    requires { ⌜ FrontAsked (now words) queue b ⌝ }
+    ensures { λ r. ⌜ r ≡ frontOf (now (words .entry)) queue b ⌝ }
+{
+    let at = 2 * queue.head;
+    if queue.head < queue.tail {
+        let start = Start {
+            line: words[at],
+            figure: b as u32,
+        };
+        return Entry::Least(words[at + 1], start);
+    }
+    Entry::Unreached
+}

@@ -1,0 +1,46 @@
+// Heights of the text from its first line on, so that the height of any run of lines is what one sum has beyond another.
+ghost use mathlib.Core.Path.{_≡_};
+ghost use Prim.Native.Nat.{_+_, _*_, _≤_};
+ghost use lib.ListN.{length};
+ghost use Rattle.galley.specs.Model.{textOf};
+ghost use Rattle.window.specs.Sums.{rowPut, Gathered, Sums};
+use galley::Galley;
+
+// Four sums to a line: up to and with the space after it at its least, up to the line itself, and both at the greatest.
+fn put_row(sums: &mut [u32], k: usize, tight: u32, high: u32, loose: u32, wide: u32)
+    requires { ⌜ 4 * k + 4 ≤ length (now sums) ⌝ }
+    ensures { λ _. ⌜ now (sums .exit) ≡ rowPut (now (sums .entry)) k tight high loose wide ⌝ }
+{
+    let at = 4 * k;
+    sums[at] = tight;
+    sums[at + 1] = high;
+    sums[at + 2] = loose;
+    sums[at + 3] = wide;
+}
+
+// The sums of every line of the galley, and zeros for the place before the first.
+pub fn gather(s: &[u8], g: Galley, sums: &mut [u32])
+    requires { ⌜ Gathered (now s) g (now sums) ⌝ }
+    ensures { λ _. ⌜ Sums (textOf (now (s .entry)) g) (g .lines) (now (sums .exit)) ⌝ }
+{
+    put_row(sums, 0, 0, 0, 0, 0);
+    let mut tight = 0;
+    let mut loose = 0;
+    let mut k = 0;
+    while k < g.lines {
+        k += 1;
+        let height = galley::block::line_height(s, g, k);
+        let least = galley::block::line_least(s, g, k);
+        let most = galley::block::line_most(s, g, k);
+        put_row(
+            sums,
+            k,
+            tight + (height + least),
+            tight + height,
+            loose + (height + most),
+            loose + height,
+        );
+        tight += height + least;
+        loose += height + most;
+    }
+}
