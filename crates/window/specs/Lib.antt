@@ -2,4 +2,5 @@
 pub mod Sums
 pub mod Slide
 pub mod Queue
+pub mod Run
 pub mod laws

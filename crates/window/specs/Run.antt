@@ -1,0 +1,53 @@
+-- What holds at each turn of the loops of the window and its queue.
+use Prim.Native.Nat.{ℕ, suc, _+_, _*_, _≤_, _<_}
+use mathlib.Core.Path.{_≡_}
+use mathlib.Core.List.{List}
+use lib.ListN.{length, getD}
+use Rattle.model.specs.Galley.{Stream}
+use Rattle.galley.specs.declared.Galley.{Galley}
+use Rattle.galley.specs.Model.{textOf}
+use Rattle.window.specs.declared.slide.Load.{Load}
+use Rattle.window.specs.declared.queue.Queue.{Queue}
+use Rattle.window.specs.Sums.{reach, Row}
+use Rattle.window.specs.Queue.{lineAt, costAt, columnOf, tailed, Held}
+
+-- From `from` on and before a no page to line i fits.
+pub record FittingRun (sums : List ℕ) (load : Load) (from i a : ℕ) : Type 0 where
+  pub after : from ≤ a
+  pub within : a ≤ i
+  pub passed : (k : ℕ) → from ≤ k → k < a → load .htmax + getD sums (4 * k) 0 < getD sums (4 * i + 1) 0 + load .tight
+
+-- From `from` on and before a every page to line i is full enough.
+pub record ShortRun (sums : List ℕ) (load : Load) (from i a : ℕ) : Type 0 where
+  pub after : from ≤ a
+  pub within : a ≤ i
+  pub passed : (k : ℕ) → from ≤ k → k < a → load .htmin + getD sums (4 * k + 2) 0 ≤ getD sums (4 * i + 3) 0 + load .loose
+
+-- From t on every entry costs x or more.
+pub record DearerRun (words : List ℕ) (head tail x t : ℕ) : Type 0 where
+  pub from : head ≤ t
+  pub to : t ≤ tail
+  pub dearer : (k : ℕ) → t ≤ k → k < tail → x ≤ costAt words k
+
+-- Before h every entry's line is before `low`.
+pub record PassedRun (words : List ℕ) (head tail low h : ℕ) : Type 0 where
+  pub from : head ≤ h
+  pub to : h ≤ tail
+  pub passed : (k : ℕ) → head ≤ k → k < h → lineAt words k < low
+
+-- The sums up to line k are those of the text, and those of line k are in hand.
+pub record SumsRun (bytes : List ℕ) (g : Galley) (sums₀ sums : List ℕ) (tight loose k : ℕ) : Type 0 where
+  pub within : k ≤ g .lines
+  pub sized : length sums ≡ length sums₀
+  pub tights : tight ≡ reach (textOf bytes g) (textOf bytes g .least) k
+  pub looses : loose ≡ reach (textOf bytes g) (textOf bytes g .most) k
+  pub rows : (q : ℕ) → q ≤ k → Row (textOf bytes g) sums q
+
+-- What was held of the lines before `from` is held of those before a.
+pub record FeedRun (work : List ℕ) (tall b side : ℕ) (words₀ words : List ℕ) (queue : Queue) (from to tail a : ℕ) : Type 0 where
+  pub start : from ≤ a
+  pub within : a ≤ to
+  pub order : queue .head ≤ tail
+  pub short : tail ≤ a
+  pub sized : length words ≡ length words₀
+  pub held : (low : ℕ) → Held (columnOf work tall b side) words₀ queue low from → Held (columnOf work tall b side) words (tailed queue tail) low a
