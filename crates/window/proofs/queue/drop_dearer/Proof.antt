@@ -1,6 +1,8 @@
 -- `drop_dearer` meets its contract. The loop's invariant: the entries dropped cost x or more, to which each turn adds one.
 use Prim.Native.Nat.{ℕ, _+_, _-_, _*_, _≤_, _<_}
+use mathlib.Core.Path.{_≡_, ap}
 use native.Mathlib.Omega.{arith}
+use lib.ListN.{getD}
 use Rattle.window.specs.Queue.{costAt}
 use Rattle.window.specs.Run.{DearerRun}
 use Rattle.window.specs.laws.Run.{down-next}
@@ -38,7 +40,19 @@ shared-slice-read-if1 c = search needs
 
 -- src/queue.rt:25:13
 returns : tie.Need-returns Inv-loop μ-loop
-returns c = search needs
+returns c =
+    let start = c .before .before .before .before in
+    let st = c .before .before .before .loop in
+    let words = start .args .words .now in
+    record {
+      from = st .inv .from;
+      to = st .inv .to;
+      dearer = st .inv .dearer;
+      cheaper = λ k l e.
+          let at : 2 * st .t - 1 ≡ 2 * k + 1 = omega arith in
+          let same = ap (λ (n : ℕ). getD words n 0) at in
+          omega (arith, c .if1 .taken, same);
+    }
 
 -- src/queue.rt:27:9
 sub-t : tie.Need-sub-t Inv-loop μ-loop
@@ -50,7 +64,19 @@ loop-less c = search needs
 
 -- src/queue.rt:23:5
 loop-again : tie.Need-loop-again Inv-loop μ-loop
-loop-again c = search needs
+loop-again c =
+    let start = c .before .before .before .before in
+    let st = c .before .before .before .loop in
+    let words = start .args .words .now in
+    let at : 2 * st .t - 1 ≡ 2 * (st .t - 1) + 1 = omega (arith, c .before .before .loop-test .taken) in
+    let same = ap (λ (n : ℕ). getD words n 0) at in
+    record {
+      from = omega arith;
+      to = omega arith;
+      dearer =
+          down-next (λ (k : ℕ). start .args .x ≤ costAt words k) (st .t) (start .args .tail) (st .inv .dearer)
+          (omega (arith, c .if1 .left, same));
+    }
 
 -- src/queue.rt:18:1
 returns-2 : tie.Need-returns-2 Inv-loop μ-loop

@@ -34,7 +34,7 @@ shared-slice-read-if1 c = search needs
 
 -- src/queue.rt:39:19
 cast-if1 : tie.Need-cast-if1 Inv-loop μ-loop
-cast-if1 c = search needs
+cast-if1 c = omega (arith, c .shared-slice-known .given (2 * c .before .before .loop .h))
 
 -- src/queue.rt:40:13
 returns : tie.Need-returns Inv-loop μ-loop
@@ -50,7 +50,16 @@ loop-less c = search needs
 
 -- src/queue.rt:38:5
 loop-again : tie.Need-loop-again Inv-loop μ-loop
-loop-again c = search needs
+loop-again c =
+    let start = c .before .before .before .before in
+    let st = c .before .before .before .loop in
+    record {
+      from = omega arith;
+      to = omega arith;
+      passed =
+          upto-next (λ (k : ℕ). lineAt (start .args .words .now) k < start .args .low) (start .args .head) (st .h) (st .inv .passed)
+          (omega (arith, c .if1 .left));
+    }
 
 -- src/queue.rt:33:1
 returns-2 : tie.Need-returns-2 Inv-loop μ-loop

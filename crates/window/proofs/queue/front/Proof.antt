@@ -39,12 +39,16 @@ shared-slice-read-t10 c = search needs
 -- src/queue.rt:116:9
 returns : tie.Need-returns
 unfolding frontOf
-returns c = ?
+returns c =
+    let some = lt-ltb _ _ (c .before .before .if1 .taken) in
+    simp some
 
 -- src/queue.rt:106:1
 returns-2 : tie.Need-returns-2
 unfolding frontOf
-returns-2 c = ?
+returns-2 c =
+    let none = le-ltb _ _ (c .if1 .left) in
+    simp none
 
 pub front-spec : {M : Type 1} → statement M
 front-spec =

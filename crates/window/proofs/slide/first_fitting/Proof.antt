@@ -38,7 +38,10 @@ shared-slice-read-if1 c = search needs
 
 -- src/slide.rt:30:12
 add-if1-2 : tie.Need-add-if1-2 Inv-loop μ-loop
-add-if1-2 c = search needs
+add-if1-2 c =
+    let start = c .before .before .before .before in
+    let last = start .pre .small (4 * start .args .i + 1) (omega arith) in
+    omega (arith, last, start .pre .tight)
 
 -- src/slide.rt:30:62
 mul-if1-3 : tie.Need-mul-if1-3 Inv-loop μ-loop
@@ -54,7 +57,11 @@ shared-slice-read-if1-2 c = search needs
 
 -- src/slide.rt:30:44
 add-if1-3 : tie.Need-add-if1-3 Inv-loop μ-loop
-add-if1-3 c = search needs
+add-if1-3 c =
+    let start = c .before .before .before .before .before .before in
+    let st = c .before .before .before .before .before .loop in
+    let first = start .pre .small (4 * st .a) (omega arith) in
+    omega (arith, first, start .pre .htmax)
 
 -- src/slide.rt:31:13
 returns : tie.Need-returns Inv-loop μ-loop
@@ -70,7 +77,18 @@ loop-less c = search needs
 
 -- src/slide.rt:29:5
 loop-again : tie.Need-loop-again Inv-loop μ-loop
-loop-again c = search needs
+loop-again c =
+    let start = c .before .before .before .before .before .before .before in
+    let st = c .before .before .before .before .before .before .loop in
+    let a = start .args in
+    record {
+      after = omega arith;
+      within = omega arith;
+      passed =
+          upto-next
+          (λ (k : ℕ). a .load .htmax + getD (a .sums .now) (4 * k) 0 < getD (a .sums .now) (4 * a .i + 1) 0 + a .load .tight)
+          (a .from) (st .a) (st .inv .passed) (omega (arith, c .if1 .left));
+    }
 
 -- src/slide.rt:24:1
 returns-2 : tie.Need-returns-2 Inv-loop μ-loop

@@ -38,7 +38,10 @@ shared-slice-read-if1 c = search needs
 
 -- src/slide.rt:45:12
 add-if1-2 : tie.Need-add-if1-2 Inv-loop μ-loop
-add-if1-2 c = search needs
+add-if1-2 c =
+    let start = c .before .before .before .before in
+    let last = start .pre .small (4 * start .args .i + 3) (omega arith) in
+    omega (arith, last, start .pre .loose)
 
 -- src/slide.rt:45:61
 mul-if1-3 : tie.Need-mul-if1-3 Inv-loop μ-loop
@@ -58,7 +61,11 @@ shared-slice-read-if1-2 c = search needs
 
 -- src/slide.rt:45:43
 add-if1-4 : tie.Need-add-if1-4 Inv-loop μ-loop
-add-if1-4 c = search needs
+add-if1-4 c =
+    let start = c .before .before .before .before .before .before in
+    let st = c .before .before .before .before .before .loop in
+    let first = start .pre .small (4 * st .a + 2) (omega arith) in
+    omega (arith, first, start .pre .htmin)
 
 -- src/slide.rt:46:13
 returns : tie.Need-returns Inv-loop μ-loop
@@ -74,7 +81,18 @@ loop-less c = search needs
 
 -- src/slide.rt:44:5
 loop-again : tie.Need-loop-again Inv-loop μ-loop
-loop-again c = search needs
+loop-again c =
+    let start = c .before .before .before .before .before .before .before in
+    let st = c .before .before .before .before .before .before .loop in
+    let a = start .args in
+    record {
+      after = omega arith;
+      within = omega arith;
+      passed =
+          upto-next
+          (λ (k : ℕ). a .load .htmin + getD (a .sums .now) (4 * k + 2) 0 ≤ getD (a .sums .now) (4 * a .i + 3) 0 + a .load .loose)
+          (a .from) (st .a) (st .inv .passed) (omega (arith, c .if1 .left));
+    }
 
 -- src/slide.rt:39:1
 returns-2 : tie.Need-returns-2 Inv-loop μ-loop

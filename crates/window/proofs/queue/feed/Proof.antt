@@ -1,0 +1,107 @@
+-- `feed` meets its contract. The loop's invariant: what was held of the lines before `from` is held of those before a; a turn passes
+-- an unreached line, or drops what is no cheaper and pushes a reached one.
+use Prim.Native.Nat.{ℕ, _+_, _-_, _*_, _≤_, _<_}
+use native.Mathlib.Omega.{arith}
+use Rattle.window.specs.Run.{FeedRun}
+use borrow.Author.Needs.{needs}
+use Rattle.window.proofs.queue.feed.Statement.{statement}
+use Rattle.window.proofs.queue.feed.Tie as tie
+use Rattle.window.proofs.queue.feed.Reads as reads
+use Rattle.window.proofs.queue.feed.Lts as lts
+use Rattle.places.proofs.address_of.Reads as address-of-reads
+use Rattle.places.proofs.entry_at.Reads as entry-at-reads
+use Rattle.window.proofs.queue.drop_dearer.Reads as drop-dearer-reads
+use Rattle.window.proofs.queue.push.Reads as push-reads
+
+abbrev Inv-loop : tie.InvT-loop
+Inv-loop work tall b side words₀ queue from to tail₀ a₀ words tail a = FeedRun work tall b side words₀ words queue from to tail a
+
+abbrev μ-loop : tie.MeasureT-loop
+μ-loop work tall b side words₀ queue from to tail₀ a₀ words tail a = to - a
+
+-- src/queue.rt:72:5
+loop-holds : tie.Need-loop-holds Inv-loop μ-loop
+loop-holds c = search needs
+
+-- src/queue.rt:73:44
+address-of-requires : tie.Need-address-of-requires Inv-loop μ-loop
+address-of-requires c κs = search needs
+
+-- src/queue.rt:73:13
+entry-at-requires : tie.Need-entry-at-requires Inv-loop μ-loop
+entry-at-requires c κs = search needs
+
+-- src/queue.rt:74:20
+cast-line : tie.Need-cast-line Inv-loop μ-loop
+cast-line c = search needs
+
+-- src/queue.rt:75:9
+add-a : tie.Need-add-a Inv-loop μ-loop
+add-a c = search needs
+
+-- src/queue.rt:76:26
+enum-known-entry : tie.Need-enum-known-entry Inv-loop μ-loop
+enum-known-entry c = search needs
+
+-- src/queue.rt:77:13
+enum-told : tie.Need-enum-told Inv-loop μ-loop
+enum-told c = search needs
+
+-- src/queue.rt:72:5
+loop-less : tie.Need-loop-less Inv-loop μ-loop
+loop-less c = search needs
+
+-- src/queue.rt:72:5
+loop-again : tie.Need-loop-again Inv-loop μ-loop
+loop-again c = search needs
+
+-- src/queue.rt:79:9
+drop-dearer-requires : tie.Need-drop-dearer-requires Inv-loop μ-loop
+drop-dearer-requires c κs = search needs
+
+-- src/queue.rt:80:9
+push-requires : tie.Need-push-requires Inv-loop μ-loop
+push-requires c κs = search needs
+
+-- src/queue.rt:81:9
+add-tail : tie.Need-add-tail Inv-loop μ-loop
+add-tail c = search needs
+
+-- src/queue.rt:72:5
+loop-less-2 : tie.Need-loop-less-2 Inv-loop μ-loop
+loop-less-2 c = search needs
+
+-- src/queue.rt:72:5
+loop-again-2 : tie.Need-loop-again-2 Inv-loop μ-loop
+loop-again-2 c = search needs
+
+-- src/queue.rt:57:1
+same-length : tie.Need-same-length Inv-loop μ-loop
+same-length c = search needs
+
+-- src/queue.rt:57:1
+returns : tie.Need-returns Inv-loop μ-loop
+returns c = search needs
+
+pub feed-spec : {M : Type 1} → statement M
+feed-spec =
+    tie.close
+    (tie.spec
+    Inv-loop
+    μ-loop
+    loop-holds
+    address-of-requires
+    entry-at-requires
+    cast-line
+    add-a
+    enum-known-entry
+    enum-told
+    loop-less
+    loop-again
+    drop-dearer-requires
+    push-requires
+    add-tail
+    loop-less-2
+    loop-again-2
+    same-length
+    returns)
