@@ -43,6 +43,14 @@ pub record SumsRun (bytes : List ℕ) (g : Galley) (sums₀ sums : List ℕ) (ti
   pub looses : loose ≡ reach (textOf bytes g) (textOf bytes g .most) k
   pub rows : (q : ℕ) → q ≤ k → Row (textOf bytes g) sums q
 
+-- The sums in hand and what the next line adds are small enough to be added in a word.
+pub record SumsFit (tight loose height least most : ℕ) : Type 0 where
+  pub tights : tight ≤ 800000000
+  pub looses : loose ≤ 800000000
+  pub heights : height ≤ 100000
+  pub leasts : least ≤ 100000
+  pub mosts : most ≤ 100000
+
 -- What was held of the lines before `from` is held of those before a.
 pub record FeedRun (work : List ℕ) (tall b side : ℕ) (words₀ words : List ℕ) (queue : Queue) (from to tail a : ℕ) : Type 0 where
   pub start : from ≤ a

@@ -2,7 +2,7 @@
 use Prim.Native.Nat.{ℕ, zero, suc, pred, _+_, _-_, _*_, _≤_, _<_}
 use native.Mathlib.Decide.{decLe}
 use native.Mathlib.Omega.{arith}
-use mathlib.Core.Path.{_≡_, refl, sym, ap, _∙_}
+use mathlib.Core.Path.{_≡_, refl, sym, ap, subst, _∙_}
 use mathlib.Core.List.{List}
 use lib.ListN.{length, getD, set, length-set}
 use lib.Seq.{getD-set-same, getD-set-other}
@@ -15,6 +15,7 @@ use Rattle.galley.specs.declared.Galley.{Galley}
 use Rattle.galley.specs.Model.{textOf}
 use Rattle.galley.specs.Sound.{Sound}
 use Rattle.window.specs.Sums.{reach, rowPut, Row, Sums}
+use Rattle.window.specs.Run.{SumsRun, SumsFit}
 
 -- The lines up to i are those up to a with the space after it, and the rest.
 pub reach-stacked :
@@ -185,3 +186,82 @@ sums-small bytes g sound sums rows i m k h =
     let high = high-low (textOf bytes g) (textOf bytes g .least) q in
     let wide = high-low (textOf bytes g) (textOf bytes g .most) q in
     (omega arith, omega arith, omega arith, omega arith)) k (omega arith)
+
+-- The row of zeros is that of the place before the first line.
+pub sums-first : (bytes : List ℕ) (g : Galley) (sums new : List ℕ) → 4 * g .lines + 4 ≤ length sums → new ≡ rowPut sums 0 0 0 0 0
+    → SumsRun bytes g new new 0 0 0
+sums-first bytes g sums new room e =
+    record {
+      within = omega arith;
+      sized = refl;
+      tights = sym (reach-none (textOf bytes g) (textOf bytes g .least));
+      looses = sym (reach-none (textOf bytes g) (textOf bytes g .most));
+      rows = λ q l. let z : 0 ≡ q = omega arith in subst (Row (textOf bytes g) new) z first;
+    }
+  where
+    first : Row (textOf bytes g) new 0
+    first =
+        rw e
+        (row-own sums 0 0 0 0 0 (textOf bytes g) (omega arith) (sym (reach-none (textOf bytes g) (textOf bytes g .least)))
+        (sym (high-none (textOf bytes g) (textOf bytes g .least))) (sym (reach-none (textOf bytes g) (textOf bytes g .most)))
+        (sym (high-none (textOf bytes g) (textOf bytes g .most))))
+
+-- One line more: its row is written, and its sums are in hand.
+module _ (bytes : List ℕ) (g : Galley) (sums₀ sums : List ℕ) (tight loose k height least most : ℕ)
+    (run : SumsRun bytes g sums₀ sums tight loose k) (some : k < g .lines) (a : height ≡ textOf bytes g .ht (k + 1))
+    (b : least ≡ textOf bytes g .least (k + 1)) (c : most ≡ textOf bytes g .most (k + 1)) where
+  pub sums-fit : Sound bytes g → SumsFit tight loose height least most
+  sums-fit sound =
+      let few = sound .fewLines in
+      let ranged = sound .lineRanged (k + 1) (omega arith) (omega arith) in
+      let low = tight-low bytes g sound k (omega arith) in
+      let wide = loose-low bytes g sound k (omega arith) in
+      let t = run .tights in
+      let l = run .looses in
+      let h = ranged .heights in
+      let m = ranged .leasts in
+      let n = ranged .mosts in
+      record { tights = omega arith; looses = omega arith; heights = omega arith; leasts = omega arith; mosts = omega arith }
+
+  pub sums-next : (new : List ℕ) → 4 * g .lines + 4 ≤ length sums
+      → new ≡ rowPut sums (k + 1) (tight + (height + least)) (tight + height) (loose + (height + most)) (loose + height)
+      → SumsRun bytes g sums₀ new (tight + (height + least)) (loose + (height + most)) (k + 1)
+  sums-next new room e =
+      record {
+        within = omega arith;
+        sized = ap length e ∙ row-length sums (k + 1) _ _ _ _ ∙ run .sized;
+        tights = tights;
+        looses = looses;
+        rows = λ q l. rw e (go q (decLe q k) l);
+      }
+    where
+      tights : tight + (height + least) ≡ reach (textOf bytes g) (textOf bytes g .least) (k + 1)
+      tights =
+          let step = reach-next (textOf bytes g) (textOf bytes g .least) k in
+          let t = run .tights in
+          omega arith
+
+      looses : loose + (height + most) ≡ reach (textOf bytes g) (textOf bytes g .most) (k + 1)
+      looses =
+          let step = reach-next (textOf bytes g) (textOf bytes g .most) k in
+          let t = run .looses in
+          omega arith
+
+      high : tight + height ≡ stacked (textOf bytes g) (textOf bytes g .least) 0 (k + 1)
+      high =
+          let step = high-next (textOf bytes g) (textOf bytes g .least) k in
+          let t = run .tights in
+          omega arith
+
+      wide : loose + height ≡ stacked (textOf bytes g) (textOf bytes g .most) 0 (k + 1)
+      wide =
+          let step = high-next (textOf bytes g) (textOf bytes g .most) k in
+          let t = run .looses in
+          omega arith
+
+      go : (q : ℕ) → Dec (q ≤ k) → q ≤ k + 1 → Row (textOf bytes g)
+          (rowPut sums (k + 1) (tight + (height + least)) (tight + height) (loose + (height + most)) (loose + height)) q
+      go q (yes p) l = row-before sums (k + 1) _ _ _ _ (textOf bytes g) q (omega arith) (run .rows q p)
+      go q (no p) l =
+          let last : q ≡ k + 1 = omega arith in
+          rw last (row-own sums (k + 1) _ _ _ _ (textOf bytes g) (omega arith) tights high looses wide)

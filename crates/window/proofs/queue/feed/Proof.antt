@@ -2,7 +2,12 @@
 -- an unreached line, or drops what is no cheaper and pushes a reached one.
 use Prim.Native.Nat.{ℕ, _+_, _-_, _*_, _≤_, _<_}
 use native.Mathlib.Omega.{arith}
+use mathlib.Core.Path.{_≡_, sym, ap, subst, _∙_}
+use mathlib.Core.List.{List}
+use lib.ListN.{length}
+use Rattle.window.specs.Queue.{columnOf, tailed, Held}
 use Rattle.window.specs.Run.{FeedRun}
+use Rattle.window.specs.laws.Queue.{column-read, held-passed, pushed-length, held-pushed}
 use borrow.Author.Needs.{needs}
 use Rattle.window.proofs.queue.feed.Statement.{statement}
 use Rattle.window.proofs.queue.feed.Tie as tie
@@ -29,7 +34,10 @@ address-of-requires c κs = search needs
 
 -- src/queue.rt:73:13
 entry-at-requires : tie.Need-entry-at-requires Inv-loop μ-loop
-entry-at-requires c κs = search needs
+entry-at-requires c κs =
+    let start = c .before .before .before .before .before in
+    let stands = start .pre .stands (c .before .before .loop .a) (c .before .loop-test .taken) in
+    omega (arith, stands, c .address-of .ensures)
 
 -- src/queue.rt:74:20
 cast-line : tie.Need-cast-line Inv-loop μ-loop
@@ -53,7 +61,24 @@ loop-less c = search needs
 
 -- src/queue.rt:72:5
 loop-again : tie.Need-loop-again Inv-loop μ-loop
-loop-again c = search needs
+loop-again c =
+    let start = c .before .before .before .before .before .before .before .before in
+    let a = start .args in
+    let st = c .before .before .before .before .before .loop in
+    let col = columnOf (a .work .now) (a .tall) (a .b) (a .side) in
+    let at = c .before .before .before .address-of in
+    let entry = c .before .before .entry-at in
+    let none =
+    column-read (a .work .now) (a .tall) (a .b) (a .side) (st .a) (at .result) (entry .result) (at .ensures) (entry .ensures)
+    ∙ c .enum-told .given .1 in
+    record {
+      start = omega arith;
+      within = omega arith;
+      order = st .inv .order;
+      short = omega (arith, st .inv .short);
+      sized = st .inv .sized;
+      held = λ low h. held-passed col (st .words) (tailed (a .queue) (st .tail)) low (st .a) none (st .inv .held low h);
+    }
 
 -- src/queue.rt:79:9
 drop-dearer-requires : tie.Need-drop-dearer-requires Inv-loop μ-loop
@@ -73,7 +98,32 @@ loop-less-2 c = search needs
 
 -- src/queue.rt:72:5
 loop-again-2 : tie.Need-loop-again-2 Inv-loop μ-loop
-loop-again-2 c = search needs
+loop-again-2 c =
+    let start = c .before .before .before .before .before .before .before .before .before .before .before .before .before .before .before in
+    let a = start .args in
+    let st = c .before .before .before .before .before .before .before .before .before .before .before .before .loop in
+    let col = columnOf (a .work .now) (a .tall) (a .b) (a .side) in
+    let at = c .before .before .before .before .before .before .before .before .before .before .address-of in
+    let entry = c .before .before .before .before .before .before .before .before .before .entry-at in
+    let some =
+    column-read (a .work .now) (a .tall) (a .b) (a .side) (st .a) (at .result) (entry .result) (at .ensures) (entry .ensures)
+    ∙ c .before .before .before .before .before .before .before .entry .given .1 in
+    let t = c .before .before .before .before .drop-dearer .result in
+    let dropped = c .before .before .before .before .drop-dearer .ensures in
+    let new = c .before .before .push .ensures in
+    let test = c .before .before .before .before .before .before .before .before .before .before .before .loop-test .taken in
+    let room : 2 * t + 2 ≤ length (st .words) =
+    omega (arith, dropped .to, st .inv .short, st .inv .sized, start .pre .room, test) in
+    record {
+      start = omega (arith, st .inv .start);
+      within = omega (arith, test);
+      order = omega (arith, dropped .from);
+      short = omega (arith, dropped .to, st .inv .short);
+      sized = ap length new ∙ pushed-length (st .words) t _ _ ∙ st .inv .sized;
+      held = λ low h.
+          subst (λ (w : List ℕ). Held col w (tailed (a .queue) (t + 1)) low (st .a + 1)) (sym new)
+          (held-pushed col (st .words) (tailed (a .queue) (st .tail)) low (st .a) _ t _ some dropped room (st .inv .held low h));
+    }
 
 -- src/queue.rt:57:1
 same-length : tie.Need-same-length Inv-loop μ-loop
@@ -81,7 +131,17 @@ same-length c = search needs
 
 -- src/queue.rt:57:1
 returns : tie.Need-returns Inv-loop μ-loop
-returns c = search needs
+returns c =
+    let start = c .before .before .before .before in
+    let a = start .args in
+    let st = c .before .loop in
+    let col = columnOf (a .work .now) (a .tall) (a .b) (a .side) in
+    let done : st .a ≡ a .to = omega (arith, st .inv .within, c .loop-test .left) in
+    record {
+      order = st .inv .order;
+      short = omega (arith, st .inv .short);
+      held = λ low h. subst (Held col (st .words) (tailed (a .queue) (st .tail)) low) done (st .inv .held low h);
+    }
 
 pub feed-spec : {M : Type 1} → statement M
 feed-spec =

@@ -1,3 +1,5 @@
+-- `slide` meets its contract: the two ends are the first lines found, and the law of the window says what they open.
+use Rattle.window.specs.laws.Slide.{slide-opens}
 use borrow.Author.Needs.{needs}
 use Rattle.window.proofs.slide.slide.Statement.{statement}
 use Rattle.window.proofs.slide.slide.Tie as tie
@@ -16,7 +18,16 @@ first-short-requires c κs = search needs
 
 -- src/slide.rt:54:1
 returns : tie.Need-returns
-returns c = search needs
+returns c st m =
+    let a = c .before .before .before .args in
+    let fitting = c .before .first-fitting .ensures in
+    let short = c .first-short .ensures in
+    record {
+      low = fitting .after;
+      high = short .after;
+      inside = short .within;
+      opens = slide-opens (a .sums .now) st m (a .load) (a .window) _ (a .i) fitting short;
+    }
 
 pub slide-spec : {M : Type 1} → statement M
 slide-spec = tie.close (tie.spec first-fitting-requires first-short-requires returns)

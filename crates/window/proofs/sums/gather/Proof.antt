@@ -1,7 +1,9 @@
 -- `gather` meets its contract. The loop's invariant: the rows up to line k are written and its sums in hand; each turn writes the next.
 use Prim.Native.Nat.{ℕ, _+_, _-_, _*_, _≤_, _<_}
 use native.Mathlib.Omega.{arith}
+use mathlib.Core.Path.{_≡_}
 use Rattle.window.specs.Run.{SumsRun}
+use Rattle.window.specs.laws.Sums.{sums-first, sums-fit, sums-next}
 use borrow.Author.Needs.{needs}
 use Rattle.window.proofs.sums.gather.Statement.{statement}
 use Rattle.window.proofs.sums.gather.Tie as tie
@@ -24,7 +26,9 @@ put-row-requires c κs = search needs
 
 -- src/sums.rt:30:5
 loop-holds : tie.Need-loop-holds Inv-loop μ-loop
-loop-holds c = search needs
+loop-holds c =
+    let start = c .before .before .before .before .before .before in
+    sums-first (start .args .s .now) (start .args .g) (start .args .sums .now) _ (start .pre .room) (c .before .before .put-row .ensures)
 
 -- src/sums.rt:31:9
 add-k : tie.Need-add-k Inv-loop μ-loop
@@ -44,27 +48,75 @@ line-most-requires c κs = search needs
 
 -- src/sums.rt:38:22
 add-put-row : tie.Need-add-put-row Inv-loop μ-loop
-add-put-row c = search needs
+add-put-row c =
+    let most = c .before in
+    let st = most .before .before .before .before .before .loop in
+    let start = most .before .before .before .before .before .before .before .before .before .before .before .before in
+    let a = start .args in
+    let fit =
+    sums-fit (a .s .now) (a .g) _ (st .sums) (st .tight) (st .loose) (st .k) _ _ _ (st .inv) (most .before .before .before .if1 .taken)
+    (most .before .before .line-height .ensures) (most .before .line-least .ensures) (most .line-most .ensures) (start .pre .sound) in
+    omega arith
 
 -- src/sums.rt:38:13
 add-put-row-2 : tie.Need-add-put-row-2 Inv-loop μ-loop
-add-put-row-2 c = search needs
+add-put-row-2 c =
+    let most = c .before in
+    let st = most .before .before .before .before .before .loop in
+    let start = most .before .before .before .before .before .before .before .before .before .before .before .before in
+    let a = start .args in
+    let fit =
+    sums-fit (a .s .now) (a .g) _ (st .sums) (st .tight) (st .loose) (st .k) _ _ _ (st .inv) (most .before .before .before .if1 .taken)
+    (most .before .before .line-height .ensures) (most .before .line-least .ensures) (most .line-most .ensures) (start .pre .sound) in
+    omega arith
 
 -- src/sums.rt:39:13
 add-put-row-3 : tie.Need-add-put-row-3 Inv-loop μ-loop
-add-put-row-3 c = search needs
+add-put-row-3 c =
+    let most = c .before in
+    let st = most .before .before .before .before .before .loop in
+    let start = most .before .before .before .before .before .before .before .before .before .before .before .before in
+    let a = start .args in
+    let fit =
+    sums-fit (a .s .now) (a .g) _ (st .sums) (st .tight) (st .loose) (st .k) _ _ _ (st .inv) (most .before .before .before .if1 .taken)
+    (most .before .before .line-height .ensures) (most .before .line-least .ensures) (most .line-most .ensures) (start .pre .sound) in
+    omega arith
 
 -- src/sums.rt:40:22
 add-put-row-4 : tie.Need-add-put-row-4 Inv-loop μ-loop
-add-put-row-4 c = search needs
+add-put-row-4 c =
+    let most = c .before in
+    let st = most .before .before .before .before .before .loop in
+    let start = most .before .before .before .before .before .before .before .before .before .before .before .before in
+    let a = start .args in
+    let fit =
+    sums-fit (a .s .now) (a .g) _ (st .sums) (st .tight) (st .loose) (st .k) _ _ _ (st .inv) (most .before .before .before .if1 .taken)
+    (most .before .before .line-height .ensures) (most .before .line-least .ensures) (most .line-most .ensures) (start .pre .sound) in
+    omega arith
 
 -- src/sums.rt:40:13
 add-put-row-5 : tie.Need-add-put-row-5 Inv-loop μ-loop
-add-put-row-5 c = search needs
+add-put-row-5 c =
+    let most = c .before in
+    let st = most .before .before .before .before .before .loop in
+    let start = most .before .before .before .before .before .before .before .before .before .before .before .before in
+    let a = start .args in
+    let fit =
+    sums-fit (a .s .now) (a .g) _ (st .sums) (st .tight) (st .loose) (st .k) _ _ _ (st .inv) (most .before .before .before .if1 .taken)
+    (most .before .before .line-height .ensures) (most .before .line-least .ensures) (most .line-most .ensures) (start .pre .sound) in
+    omega arith
 
 -- src/sums.rt:41:13
 add-put-row-6 : tie.Need-add-put-row-6 Inv-loop μ-loop
-add-put-row-6 c = search needs
+add-put-row-6 c =
+    let most = c .before in
+    let st = most .before .before .before .before .before .loop in
+    let start = most .before .before .before .before .before .before .before .before .before .before .before .before in
+    let a = start .args in
+    let fit =
+    sums-fit (a .s .now) (a .g) _ (st .sums) (st .tight) (st .loose) (st .k) _ _ _ (st .inv) (most .before .before .before .if1 .taken)
+    (most .before .before .line-height .ensures) (most .before .line-least .ensures) (most .line-most .ensures) (start .pre .sound) in
+    omega arith
 
 -- src/sums.rt:35:9
 put-row-requires-2 : tie.Need-put-row-requires-2 Inv-loop μ-loop
@@ -72,19 +124,51 @@ put-row-requires-2 c κs = search needs
 
 -- src/sums.rt:43:18
 add-tight : tie.Need-add-tight Inv-loop μ-loop
-add-tight c = search needs
+add-tight c =
+    let most = c .before .before .before .before in
+    let st = most .before .before .before .before .before .loop in
+    let start = most .before .before .before .before .before .before .before .before .before .before .before .before in
+    let a = start .args in
+    let fit =
+    sums-fit (a .s .now) (a .g) _ (st .sums) (st .tight) (st .loose) (st .k) _ _ _ (st .inv) (most .before .before .before .if1 .taken)
+    (most .before .before .line-height .ensures) (most .before .line-least .ensures) (most .line-most .ensures) (start .pre .sound) in
+    omega arith
 
 -- src/sums.rt:43:9
 add-tight-2 : tie.Need-add-tight-2 Inv-loop μ-loop
-add-tight-2 c = search needs
+add-tight-2 c =
+    let most = c .before .before .before .before in
+    let st = most .before .before .before .before .before .loop in
+    let start = most .before .before .before .before .before .before .before .before .before .before .before .before in
+    let a = start .args in
+    let fit =
+    sums-fit (a .s .now) (a .g) _ (st .sums) (st .tight) (st .loose) (st .k) _ _ _ (st .inv) (most .before .before .before .if1 .taken)
+    (most .before .before .line-height .ensures) (most .before .line-least .ensures) (most .line-most .ensures) (start .pre .sound) in
+    omega arith
 
 -- src/sums.rt:44:18
 add-loose : tie.Need-add-loose Inv-loop μ-loop
-add-loose c = search needs
+add-loose c =
+    let most = c .before .before .before .before in
+    let st = most .before .before .before .before .before .loop in
+    let start = most .before .before .before .before .before .before .before .before .before .before .before .before in
+    let a = start .args in
+    let fit =
+    sums-fit (a .s .now) (a .g) _ (st .sums) (st .tight) (st .loose) (st .k) _ _ _ (st .inv) (most .before .before .before .if1 .taken)
+    (most .before .before .line-height .ensures) (most .before .line-least .ensures) (most .line-most .ensures) (start .pre .sound) in
+    omega arith
 
 -- src/sums.rt:44:9
 add-loose-2 : tie.Need-add-loose-2 Inv-loop μ-loop
-add-loose-2 c = search needs
+add-loose-2 c =
+    let most = c .before .before .before .before in
+    let st = most .before .before .before .before .before .loop in
+    let start = most .before .before .before .before .before .before .before .before .before .before .before .before in
+    let a = start .args in
+    let fit =
+    sums-fit (a .s .now) (a .g) _ (st .sums) (st .tight) (st .loose) (st .k) _ _ _ (st .inv) (most .before .before .before .if1 .taken)
+    (most .before .before .line-height .ensures) (most .before .line-least .ensures) (most .line-most .ensures) (start .pre .sound) in
+    omega arith
 
 -- src/sums.rt:30:5
 loop-less : tie.Need-loop-less Inv-loop μ-loop
@@ -92,7 +176,13 @@ loop-less c = search needs
 
 -- src/sums.rt:30:5
 loop-again : tie.Need-loop-again Inv-loop μ-loop
-loop-again c = search needs
+loop-again c =
+    let most = c .before .before .before .before in
+    let st = most .before .before .before .before .before .loop in
+    let start = most .before .before .before .before .before .before .before .before .before .before .before .before in
+    let a = start .args in
+    sums-next (a .s .now) (a .g) _ (st .sums) (st .tight) (st .loose) (st .k) _ _ _ (st .inv) (most .before .before .before .if1 .taken)
+    (most .before .before .line-height .ensures) (most .before .line-least .ensures) (most .line-most .ensures) _ (omega arith) (c .before .before .put-row2 .ensures)
 
 -- src/sums.rt:22:1
 same-length : tie.Need-same-length Inv-loop μ-loop
@@ -100,7 +190,10 @@ same-length c = search needs
 
 -- src/sums.rt:22:1
 returns : tie.Need-returns Inv-loop μ-loop
-returns c = search needs
+returns c =
+    let st = c .before .before .loop in
+    let done : st .k ≡ c .before .before .before .before .before .before .before .before .before .args .g .lines = omega arith in
+    λ q l. st .inv .rows q (omega arith)
 
 pub gather-spec : {M : Type 1} → statement M
 gather-spec =
