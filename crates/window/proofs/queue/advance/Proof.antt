@@ -1,3 +1,6 @@
+-- `advance` meets its contract: the new lines are fed to the queue, and entries before the window are dropped from its front.
+use Rattle.window.specs.Queue.{columnOf}
+use Rattle.window.specs.laws.Queue.{held-dropped}
 use borrow.Author.Needs.{needs}
 use Rattle.window.proofs.queue.advance.Statement.{statement}
 use Rattle.window.proofs.queue.advance.Tie as tie
@@ -20,7 +23,19 @@ same-length c = search needs
 
 -- src/queue.rt:87:1
 returns : tie.Need-returns
-returns c = search needs
+returns c =
+    let start = c .before .before .before .before .before .before .before .before in
+    let a = start .args in
+    let fed = c .before .before .before .before .feed in
+    let passed = c .drop-passed .ensures in
+    record {
+      order = passed .to;
+      short = fed .ensures .short;
+      held = λ low l h.
+          held-dropped (columnOf (a .work .now) (a .tall) (a .b) (a .side)) _ (a .queue .head) (fed .result) (c .drop-passed .result)
+          low (a .window .low) (a .window .high) l passed (fed .ensures .held low h);
+      fresh = passed .kept;
+    }
 
 pub advance-spec : {M : Type 1} → statement M
 advance-spec = tie.close (tie.spec feed-requires drop-passed-requires same-length returns)
