@@ -6,7 +6,7 @@ use native.Mathlib.Omega.{arith}
 use mathlib.Core.Path.{_≡_, refl, sym, ap, subst, _∙_}
 use mathlib.Core.Bool.{Bool, true, false}
 use mathlib.Core.List.{List}
-use lib.ListN.{length, getD, set, length-set}
+use lib.ListN.{length, set, length-set}
 use lib.Seq.{getD-set-same, getD-set-other}
 use lib.Dec.{ltb}
 use borrow.Author.Tests.{ltb-true, ltb-false}
@@ -170,7 +170,7 @@ module _ (col : ℕ → Entry) (words : List ℕ) (queue : Queue) (low a x t : �
           let old = h .reached k l (omega arith) in (
             old .0,
             ap col (pushed-line words t a x k p) ∙ old .1
-            ∙ ap (λ (y : ℕ). Least y (old .0)) (sym (pushed-cost words t a x k p)),
+                ∙ ap (λ (y : ℕ). Least y (old .0)) (sym (pushed-cost words t a x k p)),
           )
       go (no p) =
           let last : k ≡ t = omega arith in
@@ -343,17 +343,12 @@ module _ (col : ℕ → Entry) (words : List ℕ) (queue : Queue) (low high b : 
           let to = k .to in
           absurd (omega arith)
 
-  pub front-cheapest′ : Cheapest col low high b (frontOf words queue b)
+  pub front-cheapest : Cheapest col low high b (frontOf words queue b)
   unfolding frontOf
-  front-cheapest′ = go (ltb (queue .head) (queue .tail)) refl
+  front-cheapest = go (ltb (queue .head) (queue .tail)) refl
     where
       go : (t : Bool) → ltb (queue .head) (queue .tail) ≡ t
           → Cheapest col low high b
           (pick t (Least (costAt words (queue .head)) (record { line = lineAt words (queue .head); figure = b })) Unreached)
       go true e = front-some (ltb-true _ _ e)
       go false e = front-none (ltb-false _ _ e)
-
--- The front of a queue whose first entry is within the window is the cheapest start of the window.
-pub front-cheapest : (col : ℕ → Entry) (words : List ℕ) (queue : Queue) (low high b : ℕ) → Held col words queue low high
-    → (queue .head < queue .tail → low ≤ lineAt words (queue .head)) → Cheapest col low high b (frontOf words queue b)
-front-cheapest = front-cheapest′

@@ -3,15 +3,13 @@ use Prim.Native.Nat.{ℕ, suc, _+_, _*_, _≤_, _<_}
 use native.Mathlib.Nat.{le-refl}
 use native.Mathlib.Decide.{decLe}
 use native.Mathlib.Omega.{arith}
-use mathlib.Core.Path.{_≡_}
 use mathlib.Core.List.{List}
 use lib.ListN.{getD}
 use Rattle.model.specs.Galley.{Stream}
-use Rattle.model.specs.Height.{stacked}
 use Rattle.model.specs.laws.Height.{stacked-grows}
 use Rattle.window.specs.declared.slide.Load.{Load}
 use Rattle.window.specs.declared.slide.Window.{Window}
-use Rattle.window.specs.Sums.{reach, Row, Sums}
+use Rattle.window.specs.Sums.{Row, Sums}
 use Rattle.window.specs.Slide.{FirstFitting, FirstShort, Tall, Enough, Ends, Open}
 use Rattle.window.specs.laws.Sums.{reach-stacked, reach-grows}
 

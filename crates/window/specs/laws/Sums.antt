@@ -1,12 +1,12 @@
 -- Sums from the first line on: the height of a run of lines is what one has beyond another, and none is large.
-use Prim.Native.Nat.{ℕ, zero, suc, pred, _+_, _-_, _*_, _≤_, _<_}
+use Prim.Native.Nat.{ℕ, zero, suc, pred, _+_, _*_, _≤_, _<_}
 use native.Mathlib.Decide.{decLe}
 use native.Mathlib.Omega.{arith}
 use mathlib.Core.Path.{_≡_, refl, sym, ap, subst, _∙_}
 use mathlib.Core.List.{List}
 use lib.ListN.{length, getD, set, length-set}
 use lib.Seq.{getD-set-same, getD-set-other}
-use Rattle.model.specs.Gather.{sum, between}
+use Rattle.model.specs.Gather.{sum}
 use Rattle.model.specs.Galley.{Stream}
 use Rattle.model.specs.Height.{stacked}
 use Rattle.model.specs.laws.Gather.{between-sum}

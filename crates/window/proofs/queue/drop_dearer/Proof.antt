@@ -1,5 +1,5 @@
 -- `drop_dearer` meets its contract. The loop's invariant: the entries dropped cost x or more, to which each turn adds one.
-use Prim.Native.Nat.{ℕ, _+_, _-_, _*_, _≤_, _<_}
+use Prim.Native.Nat.{ℕ, _+_, _-_, _*_, _≤_}
 use mathlib.Core.Path.{_≡_, ap}
 use native.Mathlib.Omega.{arith}
 use lib.ListN.{getD}
@@ -9,8 +9,6 @@ use Rattle.window.specs.laws.Run.{down-next}
 use borrow.Author.Needs.{needs}
 use Rattle.window.proofs.queue.drop_dearer.Statement.{statement}
 use Rattle.window.proofs.queue.drop_dearer.Tie as tie
-use Rattle.window.proofs.queue.drop_dearer.Reads as reads
-use Rattle.window.proofs.queue.drop_dearer.Lts as lts
 
 abbrev Inv-loop : tie.InvT-loop
 Inv-loop words head tail x t₀ t = DearerRun words head tail x t
@@ -18,27 +16,21 @@ Inv-loop words head tail x t₀ t = DearerRun words head tail x t
 abbrev μ-loop : tie.MeasureT-loop
 μ-loop words head tail x t₀ t = t
 
--- src/queue.rt:23:5
 loop-holds : tie.Need-loop-holds Inv-loop μ-loop
 loop-holds c = search needs
 
--- src/queue.rt:24:18
 mul-if1 : tie.Need-mul-if1 Inv-loop μ-loop
 mul-if1 c = search needs
 
--- src/queue.rt:24:18
 sub-if1 : tie.Need-sub-if1 Inv-loop μ-loop
 sub-if1 c = search needs
 
--- src/queue.rt:24:12
 mul-if1-2 : tie.Need-mul-if1-2 Inv-loop μ-loop
 mul-if1-2 c = search needs
 
--- src/queue.rt:24:12
 shared-slice-read-if1 : tie.Need-shared-slice-read-if1 Inv-loop μ-loop
 shared-slice-read-if1 c = search needs
 
--- src/queue.rt:25:13
 returns : tie.Need-returns Inv-loop μ-loop
 returns c =
     let start = c .before .before .before .before in
@@ -54,15 +46,12 @@ returns c =
           omega (arith, c .if1 .taken, same);
     }
 
--- src/queue.rt:27:9
 sub-t : tie.Need-sub-t Inv-loop μ-loop
 sub-t c = search needs
 
--- src/queue.rt:23:5
 loop-less : tie.Need-loop-less Inv-loop μ-loop
 loop-less c = search needs
 
--- src/queue.rt:23:5
 loop-again : tie.Need-loop-again Inv-loop μ-loop
 loop-again c =
     let start = c .before .before .before .before in
@@ -78,7 +67,6 @@ loop-again c =
           (omega (arith, c .if1 .left, same));
     }
 
--- src/queue.rt:18:1
 returns-2 : tie.Need-returns-2 Inv-loop μ-loop
 returns-2 c = search needs
 

@@ -1,5 +1,5 @@
 -- `drop_passed` meets its contract. The loop's invariant: the lines dropped are before `low`, to which each turn adds one.
-use Prim.Native.Nat.{ℕ, _+_, _-_, _*_, _≤_, _<_}
+use Prim.Native.Nat.{ℕ, _-_, _*_, _<_}
 use native.Mathlib.Omega.{arith}
 use Rattle.window.specs.Queue.{lineAt}
 use Rattle.window.specs.Run.{PassedRun}
@@ -7,8 +7,6 @@ use Rattle.window.specs.laws.Run.{upto-next}
 use borrow.Author.Needs.{needs}
 use Rattle.window.proofs.queue.drop_passed.Statement.{statement}
 use Rattle.window.proofs.queue.drop_passed.Tie as tie
-use Rattle.window.proofs.queue.drop_passed.Reads as reads
-use Rattle.window.proofs.queue.drop_passed.Lts as lts
 
 abbrev Inv-loop : tie.InvT-loop
 Inv-loop words head tail low h₀ h = PassedRun words head tail low h
@@ -16,39 +14,30 @@ Inv-loop words head tail low h₀ h = PassedRun words head tail low h
 abbrev μ-loop : tie.MeasureT-loop
 μ-loop words head tail low h₀ h = tail - h
 
--- src/queue.rt:38:5
 loop-holds : tie.Need-loop-holds Inv-loop μ-loop
 loop-holds c = search needs
 
--- src/queue.rt:39:25
 mul-if1 : tie.Need-mul-if1 Inv-loop μ-loop
 mul-if1 c = search needs
 
--- src/queue.rt:39:19
 mul-if1-2 : tie.Need-mul-if1-2 Inv-loop μ-loop
 mul-if1-2 c = search needs
 
--- src/queue.rt:39:19
 shared-slice-read-if1 : tie.Need-shared-slice-read-if1 Inv-loop μ-loop
 shared-slice-read-if1 c = search needs
 
--- src/queue.rt:39:19
 cast-if1 : tie.Need-cast-if1 Inv-loop μ-loop
 cast-if1 c = omega (arith, c .shared-slice-known .given (2 * c .before .before .loop .h))
 
--- src/queue.rt:40:13
 returns : tie.Need-returns Inv-loop μ-loop
 returns c = search needs
 
--- src/queue.rt:42:9
 add-h : tie.Need-add-h Inv-loop μ-loop
 add-h c = search needs
 
--- src/queue.rt:38:5
 loop-less : tie.Need-loop-less Inv-loop μ-loop
 loop-less c = search needs
 
--- src/queue.rt:38:5
 loop-again : tie.Need-loop-again Inv-loop μ-loop
 loop-again c =
     let start = c .before .before .before .before in
@@ -61,7 +50,6 @@ loop-again c =
           (omega (arith, c .if1 .left));
     }
 
--- src/queue.rt:33:1
 returns-2 : tie.Need-returns-2 Inv-loop μ-loop
 returns-2 c = search needs
 

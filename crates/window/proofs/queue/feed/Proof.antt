@@ -1,6 +1,6 @@
 -- `feed` meets its contract. The loop's invariant: what was held of the lines before `from` is held of those before a; a turn passes
 -- an unreached line, or drops what is no cheaper and pushes a reached one.
-use Prim.Native.Nat.{ℕ, _+_, _-_, _*_, _≤_, _<_}
+use Prim.Native.Nat.{ℕ, _+_, _-_, _*_, _≤_}
 use native.Mathlib.Omega.{arith}
 use mathlib.Core.Path.{_≡_, sym, ap, subst, _∙_}
 use mathlib.Core.List.{List}
@@ -11,12 +11,6 @@ use Rattle.window.specs.laws.Queue.{column-read, held-passed, pushed-len
 use borrow.Author.Needs.{needs}
 use Rattle.window.proofs.queue.feed.Statement.{statement}
 use Rattle.window.proofs.queue.feed.Tie as tie
-use Rattle.window.proofs.queue.feed.Reads as reads
-use Rattle.window.proofs.queue.feed.Lts as lts
-use Rattle.places.proofs.address_of.Reads as address-of-reads
-use Rattle.places.proofs.entry_at.Reads as entry-at-reads
-use Rattle.window.proofs.queue.drop_dearer.Reads as drop-dearer-reads
-use Rattle.window.proofs.queue.push.Reads as push-reads
 
 abbrev Inv-loop : tie.InvT-loop
 Inv-loop work tall b side words₀ queue from to tail₀ a₀ words tail a = FeedRun work tall b side words₀ words queue from to tail a
@@ -24,42 +18,33 @@ Inv-loop work tall b side words₀ queue from to tail₀ a₀ words tail a = Fee
 abbrev μ-loop : tie.MeasureT-loop
 μ-loop work tall b side words₀ queue from to tail₀ a₀ words tail a = to - a
 
--- src/queue.rt:72:5
 loop-holds : tie.Need-loop-holds Inv-loop μ-loop
 loop-holds c = search needs
 
--- src/queue.rt:73:44
 address-of-requires : tie.Need-address-of-requires Inv-loop μ-loop
 address-of-requires c κs = search needs
 
--- src/queue.rt:73:13
 entry-at-requires : tie.Need-entry-at-requires Inv-loop μ-loop
 entry-at-requires c κs =
     let start = c .before .before .before .before .before in
     let stands = start .pre .stands (c .before .before .loop .a) (c .before .loop-test .taken) in
     omega (arith, stands, c .address-of .ensures)
 
--- src/queue.rt:74:20
 cast-line : tie.Need-cast-line Inv-loop μ-loop
 cast-line c = search needs
 
--- src/queue.rt:75:9
 add-a : tie.Need-add-a Inv-loop μ-loop
 add-a c = search needs
 
--- src/queue.rt:76:26
 enum-known-entry : tie.Need-enum-known-entry Inv-loop μ-loop
 enum-known-entry c = search needs
 
--- src/queue.rt:77:13
 enum-told : tie.Need-enum-told Inv-loop μ-loop
 enum-told c = search needs
 
--- src/queue.rt:72:5
 loop-less : tie.Need-loop-less Inv-loop μ-loop
 loop-less c = search needs
 
--- src/queue.rt:72:5
 loop-again : tie.Need-loop-again Inv-loop μ-loop
 loop-again c =
     let start = c .before .before .before .before .before .before .before .before in
@@ -80,23 +65,18 @@ loop-again c =
       held = λ low h. held-passed col (st .words) (tailed (a .queue) (st .tail)) low (st .a) none (st .inv .held low h);
     }
 
--- src/queue.rt:79:9
 drop-dearer-requires : tie.Need-drop-dearer-requires Inv-loop μ-loop
 drop-dearer-requires c κs = search needs
 
--- src/queue.rt:80:9
 push-requires : tie.Need-push-requires Inv-loop μ-loop
 push-requires c κs = search needs
 
--- src/queue.rt:81:9
 add-tail : tie.Need-add-tail Inv-loop μ-loop
 add-tail c = search needs
 
--- src/queue.rt:72:5
 loop-less-2 : tie.Need-loop-less-2 Inv-loop μ-loop
 loop-less-2 c = search needs
 
--- src/queue.rt:72:5
 loop-again-2 : tie.Need-loop-again-2 Inv-loop μ-loop
 loop-again-2 c =
     let start = c .before .before .before .before .before .before .before .before .before .before .before .before .before .before .before in
@@ -125,11 +105,9 @@ loop-again-2 c =
           (held-pushed col (st .words) (tailed (a .queue) (st .tail)) low (st .a) _ t _ some dropped room (st .inv .held low h));
     }
 
--- src/queue.rt:57:1
 same-length : tie.Need-same-length Inv-loop μ-loop
 same-length c = search needs
 
--- src/queue.rt:57:1
 returns : tie.Need-returns Inv-loop μ-loop
 returns c =
     let start = c .before .before .before .before in

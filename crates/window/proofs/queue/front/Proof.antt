@@ -1,49 +1,37 @@
 -- `front` meets its contract: by whether the queue has an entry, each arm is that of the definition.
-use native.Mathlib.Omega.{arith}
 use borrow.Author.Tests.{lt-ltb, le-ltb}
 use Rattle.window.specs.Queue.{frontOf}
 use borrow.Author.Needs.{needs}
 use Rattle.window.proofs.queue.front.Statement.{statement}
 use Rattle.window.proofs.queue.front.Tie as tie
-use Rattle.window.proofs.queue.front.Reads as reads
-use Rattle.window.proofs.queue.front.Lts as lts
 
--- src/queue.rt:110:14
 mul-at : tie.Need-mul-at
 mul-at c = search needs
 
--- src/queue.rt:113:19
 mul-t7 : tie.Need-mul-t7
 mul-t7 c = search needs
 
--- src/queue.rt:113:19
 shared-slice-read-t9 : tie.Need-shared-slice-read-t9
 shared-slice-read-t9 c = search needs
 
--- src/queue.rt:114:21
 cast-t10 : tie.Need-cast-t10
 cast-t10 c = search needs
 
--- src/queue.rt:116:35
 add-t7 : tie.Need-add-t7
 add-t7 c = search needs
 
--- src/queue.rt:116:29
 mul-t11 : tie.Need-mul-t11
 mul-t11 c = search needs
 
--- src/queue.rt:116:29
 shared-slice-read-t10 : tie.Need-shared-slice-read-t10
 shared-slice-read-t10 c = search needs
 
--- src/queue.rt:116:9
 returns : tie.Need-returns
 unfolding frontOf
 returns c =
     let some = lt-ltb _ _ (c .before .before .if1 .taken) in
     simp some
 
--- src/queue.rt:106:1
 returns-2 : tie.Need-returns-2
 unfolding frontOf
 returns-2 c =

@@ -5,42 +5,31 @@ use Rattle.window.specs.Queue.{pushed}
 use borrow.Author.Needs.{needs}
 use Rattle.window.proofs.queue.push.Statement.{statement}
 use Rattle.window.proofs.queue.push.Tie as tie
-use Rattle.window.proofs.queue.push.Reads as reads
-use Rattle.window.proofs.queue.push.Lts as lts
 
--- src/queue.rt:52:11
 mul-words : tie.Need-mul-words
 mul-words c = search needs
 
--- src/queue.rt:52:5
 mul-words-2 : tie.Need-mul-words-2
 mul-words-2 c = search needs
 
--- src/queue.rt:52:5
 slice-write-words : tie.Need-slice-write-words
 slice-write-words c = search needs
 
--- src/queue.rt:53:11
 mul-words-3 : tie.Need-mul-words-3
 mul-words-3 c = search needs
 
--- src/queue.rt:53:11
 add-words : tie.Need-add-words
 add-words c = search needs
 
--- src/queue.rt:53:5
 mul-words-4 : tie.Need-mul-words-4
 mul-words-4 c = search needs
 
--- src/queue.rt:53:5
 slice-write-words-2 : tie.Need-slice-write-words-2
 slice-write-words-2 c = simp length-set (omega arith)
 
--- src/queue.rt:48:1
 same-length : tie.Need-same-length
 same-length c = search needs
 
--- src/queue.rt:48:1
 returns : tie.Need-returns
 unfolding pushed
 returns c = search needs

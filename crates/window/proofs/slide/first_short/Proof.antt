@@ -1,5 +1,5 @@
 -- `first_short` meets its contract. The loop's invariant: the pages from the lines passed are all full enough, to which each turn adds one.
-use Prim.Native.Nat.{ℕ, _+_, _-_, _*_, _≤_, _<_}
+use Prim.Native.Nat.{ℕ, _+_, _-_, _*_, _≤_}
 use native.Mathlib.Omega.{arith}
 use lib.ListN.{getD}
 use Rattle.window.specs.Run.{ShortRun}
@@ -7,8 +7,6 @@ use Rattle.window.specs.laws.Run.{upto-next}
 use borrow.Author.Needs.{needs}
 use Rattle.window.proofs.slide.first_short.Statement.{statement}
 use Rattle.window.proofs.slide.first_short.Tie as tie
-use Rattle.window.proofs.slide.first_short.Reads as reads
-use Rattle.window.proofs.slide.first_short.Lts as lts
 
 abbrev Inv-loop : tie.InvT-loop
 Inv-loop sums load from i a₀ a = ShortRun sums load from i a
@@ -16,50 +14,39 @@ Inv-loop sums load from i a₀ a = ShortRun sums load from i a
 abbrev μ-loop : tie.MeasureT-loop
 μ-loop sums load from i a₀ a = i - a
 
--- src/slide.rt:44:5
 loop-holds : tie.Need-loop-holds Inv-loop μ-loop
 loop-holds c = search needs
 
--- src/slide.rt:45:17
 mul-if1 : tie.Need-mul-if1 Inv-loop μ-loop
 mul-if1 c = search needs
 
--- src/slide.rt:45:17
 add-if1 : tie.Need-add-if1 Inv-loop μ-loop
 add-if1 c = search needs
 
--- src/slide.rt:45:12
 mul-if1-2 : tie.Need-mul-if1-2 Inv-loop μ-loop
 mul-if1-2 c = search needs
 
--- src/slide.rt:45:12
 shared-slice-read-if1 : tie.Need-shared-slice-read-if1 Inv-loop μ-loop
 shared-slice-read-if1 c = search needs
 
--- src/slide.rt:45:12
 add-if1-2 : tie.Need-add-if1-2 Inv-loop μ-loop
 add-if1-2 c =
     let start = c .before .before .before .before in
     let last = start .pre .small (4 * start .args .i + 3) (omega arith) in
     omega (arith, last, start .pre .loose)
 
--- src/slide.rt:45:61
 mul-if1-3 : tie.Need-mul-if1-3 Inv-loop μ-loop
 mul-if1-3 c = search needs
 
--- src/slide.rt:45:61
 add-if1-3 : tie.Need-add-if1-3 Inv-loop μ-loop
 add-if1-3 c = search needs
 
--- src/slide.rt:45:56
 mul-if1-4 : tie.Need-mul-if1-4 Inv-loop μ-loop
 mul-if1-4 c = search needs
 
--- src/slide.rt:45:56
 shared-slice-read-if1-2 : tie.Need-shared-slice-read-if1-2 Inv-loop μ-loop
 shared-slice-read-if1-2 c = search needs
 
--- src/slide.rt:45:43
 add-if1-4 : tie.Need-add-if1-4 Inv-loop μ-loop
 add-if1-4 c =
     let start = c .before .before .before .before .before .before in
@@ -67,19 +54,15 @@ add-if1-4 c =
     let first = start .pre .small (4 * st .a + 2) (omega arith) in
     omega (arith, first, start .pre .htmin)
 
--- src/slide.rt:46:13
 returns : tie.Need-returns Inv-loop μ-loop
 returns c = search needs
 
--- src/slide.rt:48:9
 add-a : tie.Need-add-a Inv-loop μ-loop
 add-a c = search needs
 
--- src/slide.rt:44:5
 loop-less : tie.Need-loop-less Inv-loop μ-loop
 loop-less c = search needs
 
--- src/slide.rt:44:5
 loop-again : tie.Need-loop-again Inv-loop μ-loop
 loop-again c =
     let start = c .before .before .before .before .before .before .before in
@@ -94,7 +77,6 @@ loop-again c =
           (a .from) (st .a) (st .inv .passed) (omega (arith, c .if1 .left));
     }
 
--- src/slide.rt:39:1
 returns-2 : tie.Need-returns-2 Inv-loop μ-loop
 returns-2 c = search needs
 

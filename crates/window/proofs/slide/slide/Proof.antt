@@ -3,20 +3,13 @@ use Rattle.window.specs.laws.Slide.{slide-opens}
 use borrow.Author.Needs.{needs}
 use Rattle.window.proofs.slide.slide.Statement.{statement}
 use Rattle.window.proofs.slide.slide.Tie as tie
-use Rattle.window.proofs.slide.slide.Reads as reads
-use Rattle.window.proofs.slide.slide.Lts as lts
-use Rattle.window.proofs.slide.first_fitting.Reads as first-fitting-reads
-use Rattle.window.proofs.slide.first_short.Reads as first-short-reads
 
--- src/slide.rt:59:14
 first-fitting-requires : tie.Need-first-fitting-requires
 first-fitting-requires c κs = search needs
 
--- src/slide.rt:60:15
 first-short-requires : tie.Need-first-short-requires
 first-short-requires c κs = search needs
 
--- src/slide.rt:54:1
 returns : tie.Need-returns
 returns c st m =
     let a = c .before .before .before .args in

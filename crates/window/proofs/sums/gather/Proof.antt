@@ -1,5 +1,5 @@
 -- `gather` meets its contract. The loop's invariant: the rows up to line k are written and its sums in hand; each turn writes the next.
-use Prim.Native.Nat.{ℕ, _+_, _-_, _*_, _≤_, _<_}
+use Prim.Native.Nat.{_-_}
 use native.Mathlib.Omega.{arith}
 use mathlib.Core.Path.{_≡_}
 use Rattle.window.specs.Run.{SumsRun}
@@ -7,12 +7,6 @@ use Rattle.window.specs.laws.Sums.{sums-first, sums-fit, sums-next}
 use borrow.Author.Needs.{needs}
 use Rattle.window.proofs.sums.gather.Statement.{statement}
 use Rattle.window.proofs.sums.gather.Tie as tie
-use Rattle.window.proofs.sums.gather.Reads as reads
-use Rattle.window.proofs.sums.gather.Lts as lts
-use Rattle.galley.proofs.block.line_height.Reads as line-height-reads
-use Rattle.galley.proofs.block.line_least.Reads as line-least-reads
-use Rattle.galley.proofs.block.line_most.Reads as line-most-reads
-use Rattle.window.proofs.sums.put_row.Reads as put-row-reads
 
 abbrev Inv-loop : tie.InvT-loop
 Inv-loop s g sums₀ tight₀ loose₀ k₀ sums tight loose k = SumsRun s g sums₀ sums tight loose k
@@ -20,33 +14,26 @@ Inv-loop s g sums₀ tight₀ loose₀ k₀ sums tight loose k = SumsRun s g sum
 abbrev μ-loop : tie.MeasureT-loop
 μ-loop s g sums₀ tight₀ loose₀ k₀ sums tight loose k = g .lines - k
 
--- src/sums.rt:26:5
 put-row-requires : tie.Need-put-row-requires Inv-loop μ-loop
 put-row-requires c κs = search needs
 
--- src/sums.rt:30:5
 loop-holds : tie.Need-loop-holds Inv-loop μ-loop
 loop-holds c =
     let start = c .before .before .before .before .before .before in
     sums-first (start .args .s .now) (start .args .g) (start .args .sums .now) _ (start .pre .room) (c .before .before .put-row .ensures)
 
--- src/sums.rt:31:9
 add-k : tie.Need-add-k Inv-loop μ-loop
 add-k c = search needs
 
--- src/sums.rt:32:13
 line-height-requires : tie.Need-line-height-requires Inv-loop μ-loop
 line-height-requires c κs = search needs
 
--- src/sums.rt:33:13
 line-least-requires : tie.Need-line-least-requires Inv-loop μ-loop
 line-least-requires c κs = search needs
 
--- src/sums.rt:34:13
 line-most-requires : tie.Need-line-most-requires Inv-loop μ-loop
 line-most-requires c κs = search needs
 
--- src/sums.rt:38:22
 add-put-row : tie.Need-add-put-row Inv-loop μ-loop
 add-put-row c =
     let most = c .before in
@@ -58,7 +45,6 @@ add-put-row c =
     (most .before .before .line-height .ensures) (most .before .line-least .ensures) (most .line-most .ensures) (start .pre .sound) in
     omega arith
 
--- src/sums.rt:38:13
 add-put-row-2 : tie.Need-add-put-row-2 Inv-loop μ-loop
 add-put-row-2 c =
     let most = c .before in
@@ -70,7 +56,6 @@ add-put-row-2 c =
     (most .before .before .line-height .ensures) (most .before .line-least .ensures) (most .line-most .ensures) (start .pre .sound) in
     omega arith
 
--- src/sums.rt:39:13
 add-put-row-3 : tie.Need-add-put-row-3 Inv-loop μ-loop
 add-put-row-3 c =
     let most = c .before in
@@ -82,7 +67,6 @@ add-put-row-3 c =
     (most .before .before .line-height .ensures) (most .before .line-least .ensures) (most .line-most .ensures) (start .pre .sound) in
     omega arith
 
--- src/sums.rt:40:22
 add-put-row-4 : tie.Need-add-put-row-4 Inv-loop μ-loop
 add-put-row-4 c =
     let most = c .before in
@@ -94,7 +78,6 @@ add-put-row-4 c =
     (most .before .before .line-height .ensures) (most .before .line-least .ensures) (most .line-most .ensures) (start .pre .sound) in
     omega arith
 
--- src/sums.rt:40:13
 add-put-row-5 : tie.Need-add-put-row-5 Inv-loop μ-loop
 add-put-row-5 c =
     let most = c .before in
@@ -106,7 +89,6 @@ add-put-row-5 c =
     (most .before .before .line-height .ensures) (most .before .line-least .ensures) (most .line-most .ensures) (start .pre .sound) in
     omega arith
 
--- src/sums.rt:41:13
 add-put-row-6 : tie.Need-add-put-row-6 Inv-loop μ-loop
 add-put-row-6 c =
     let most = c .before in
@@ -118,11 +100,9 @@ add-put-row-6 c =
     (most .before .before .line-height .ensures) (most .before .line-least .ensures) (most .line-most .ensures) (start .pre .sound) in
     omega arith
 
--- src/sums.rt:35:9
 put-row-requires-2 : tie.Need-put-row-requires-2 Inv-loop μ-loop
 put-row-requires-2 c κs = search needs
 
--- src/sums.rt:43:18
 add-tight : tie.Need-add-tight Inv-loop μ-loop
 add-tight c =
     let most = c .before .before .before .before in
@@ -134,7 +114,6 @@ add-tight c =
     (most .before .before .line-height .ensures) (most .before .line-least .ensures) (most .line-most .ensures) (start .pre .sound) in
     omega arith
 
--- src/sums.rt:43:9
 add-tight-2 : tie.Need-add-tight-2 Inv-loop μ-loop
 add-tight-2 c =
     let most = c .before .before .before .before in
@@ -146,7 +125,6 @@ add-tight-2 c =
     (most .before .before .line-height .ensures) (most .before .line-least .ensures) (most .line-most .ensures) (start .pre .sound) in
     omega arith
 
--- src/sums.rt:44:18
 add-loose : tie.Need-add-loose Inv-loop μ-loop
 add-loose c =
     let most = c .before .before .before .before in
@@ -158,7 +136,6 @@ add-loose c =
     (most .before .before .line-height .ensures) (most .before .line-least .ensures) (most .line-most .ensures) (start .pre .sound) in
     omega arith
 
--- src/sums.rt:44:9
 add-loose-2 : tie.Need-add-loose-2 Inv-loop μ-loop
 add-loose-2 c =
     let most = c .before .before .before .before in
@@ -170,11 +147,9 @@ add-loose-2 c =
     (most .before .before .line-height .ensures) (most .before .line-least .ensures) (most .line-most .ensures) (start .pre .sound) in
     omega arith
 
--- src/sums.rt:30:5
 loop-less : tie.Need-loop-less Inv-loop μ-loop
 loop-less c = search needs
 
--- src/sums.rt:30:5
 loop-again : tie.Need-loop-again Inv-loop μ-loop
 loop-again c =
     let most = c .before .before .before .before in
@@ -184,11 +159,9 @@ loop-again c =
     sums-next (a .s .now) (a .g) _ (st .sums) (st .tight) (st .loose) (st .k) _ _ _ (st .inv) (most .before .before .before .if1 .taken)
     (most .before .before .line-height .ensures) (most .before .line-least .ensures) (most .line-most .ensures) _ (omega arith) (c .before .before .put-row2 .ensures)
 
--- src/sums.rt:22:1
 same-length : tie.Need-same-length Inv-loop μ-loop
 same-length c = search needs
 
--- src/sums.rt:22:1
 returns : tie.Need-returns Inv-loop μ-loop
 returns c =
     let st = c .before .before .loop in
