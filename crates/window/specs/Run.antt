@@ -57,4 +57,5 @@ pub record FeedRun (work : List ℕ) (tall b side : ℕ) (words₀ words : List 
   pub order : queue .head ≤ tail
   pub short : tail ≤ a
   pub sized : length words ≡ length words₀
-  pub held : (low : ℕ) → Held (columnOf work tall b side) words₀ queue low from → Held (columnOf work tall b side) words (tailed queue tail) low a
+  pub held : (low : ℕ) → Held (columnOf work tall b side) words₀ queue low from
+      → Held (columnOf work tall b side) words (tailed queue tail) low a

@@ -32,15 +32,10 @@ pub fn gather(s: &[u8], g: Galley, sums: &mut [u32])
         let height = galley::block::line_height(s, g, k);
         let least = galley::block::line_least(s, g, k);
         let most = galley::block::line_most(s, g, k);
-        put_row(
-            sums,
-            k,
-            tight + (height + least),
-            tight + height,
-            loose + (height + most),
-            loose + height,
-        );
-        tight += height + least;
-        loose += height + most;
+        let high = tight + height;
+        let wide = loose + height;
+        tight = high + least;
+        loose = wide + most;
+        put_row(sums, k, tight, high, loose, wide);
     }
 }

@@ -159,7 +159,8 @@ four-each : (P : ℕ → Type 0) (n : ℕ) → ((q : ℕ) → q < n → P (4 * q
     → (k : ℕ) → k < 4 * n → P k
 four-each P zero h k l = absurd (omega arith)
 four-each P (suc n) h k l =
-    go (four-each P n (λ q m. h q (omega arith)) k) (h n (omega arith)) (decLe (suc k) (4 * n)) (decLe k (4 * n)) (decLe k (4 * n + 1)) (decLe k (4 * n + 2))
+    go (four-each P n (λ q m. h q (omega arith)) k) (h n (omega arith)) (decLe (suc k) (4 * n)) (decLe k (4 * n))
+    (decLe k (4 * n + 1)) (decLe k (4 * n + 2))
   where
     go : (k < 4 * n → P k) → P (4 * n) × P (4 * n + 1) × P (4 * n + 2) × P (4 * n + 3) → Dec (suc k ≤ 4 * n) → Dec (k ≤ 4 * n)
         → Dec (k ≤ 4 * n + 1) → Dec (k ≤ 4 * n + 2) → P k
@@ -224,8 +225,8 @@ module _ (bytes : List ℕ) (g : Galley) (sums₀ sums : List ℕ) (tight loose 
       record { tights = omega arith; looses = omega arith; heights = omega arith; leasts = omega arith; mosts = omega arith }
 
   pub sums-next : (new : List ℕ) → 4 * g .lines + 4 ≤ length sums
-      → new ≡ rowPut sums (k + 1) (tight + (height + least)) (tight + height) (loose + (height + most)) (loose + height)
-      → SumsRun bytes g sums₀ new (tight + (height + least)) (loose + (height + most)) (k + 1)
+      → new ≡ rowPut sums (k + 1) (tight + height + least) (tight + height) (loose + height + most) (loose + height)
+      → SumsRun bytes g sums₀ new (tight + height + least) (loose + height + most) (k + 1)
   sums-next new room e =
       record {
         within = omega arith;
@@ -235,13 +236,13 @@ module _ (bytes : List ℕ) (g : Galley) (sums₀ sums : List ℕ) (tight loose 
         rows = λ q l. rw e (go q (decLe q k) l);
       }
     where
-      tights : tight + (height + least) ≡ reach (textOf bytes g) (textOf bytes g .least) (k + 1)
+      tights : tight + height + least ≡ reach (textOf bytes g) (textOf bytes g .least) (k + 1)
       tights =
           let step = reach-next (textOf bytes g) (textOf bytes g .least) k in
           let t = run .tights in
           omega arith
 
-      looses : loose + (height + most) ≡ reach (textOf bytes g) (textOf bytes g .most) (k + 1)
+      looses : loose + height + most ≡ reach (textOf bytes g) (textOf bytes g .most) (k + 1)
       looses =
           let step = reach-next (textOf bytes g) (textOf bytes g .most) k in
           let t = run .looses in
@@ -260,7 +261,7 @@ module _ (bytes : List ℕ) (g : Galley) (sums₀ sums : List ℕ) (tight loose 
           omega arith
 
       go : (q : ℕ) → Dec (q ≤ k) → q ≤ k + 1 → Row (textOf bytes g)
-          (rowPut sums (k + 1) (tight + (height + least)) (tight + height) (loose + (height + most)) (loose + height)) q
+          (rowPut sums (k + 1) (tight + height + least) (tight + height) (loose + height + most) (loose + height)) q
       go q (yes p) l = row-before sums (k + 1) _ _ _ _ (textOf bytes g) q (omega arith) (run .rows q p)
       go q (no p) l =
           let last : q ≡ k + 1 = omega arith in

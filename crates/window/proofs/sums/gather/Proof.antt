@@ -20,7 +20,8 @@ put-row-requires c κs = search needs
 loop-holds : tie.Need-loop-holds Inv-loop μ-loop
 loop-holds c =
     let start = c .before .before .before .before .before .before in
-    sums-first (start .args .s .now) (start .args .g) (start .args .sums .now) _ (start .pre .room) (c .before .before .put-row .ensures)
+    sums-first (start .args .s .now) (start .args .g) (start .args .sums .now) _ (start .pre .room)
+    (c .before .before .put-row .ensures)
 
 add-k : tie.Need-add-k Inv-loop μ-loop
 add-k c = search needs
@@ -34,118 +35,48 @@ line-least-requires c κs = search needs
 line-most-requires : tie.Need-line-most-requires Inv-loop μ-loop
 line-most-requires c κs = search needs
 
-add-put-row : tie.Need-add-put-row Inv-loop μ-loop
-add-put-row c =
-    let most = c .before in
-    let st = most .before .before .before .before .before .loop in
-    let start = most .before .before .before .before .before .before .before .before .before .before .before .before in
+add-high : tie.Need-add-high Inv-loop μ-loop
+add-high c =
+    let st = c .before .before .before .before .before .loop in
+    let start = c .before .before .before .before .before .before .before .before .before .before .before .before in
     let a = start .args in
     let fit =
-    sums-fit (a .s .now) (a .g) _ (st .sums) (st .tight) (st .loose) (st .k) _ _ _ (st .inv) (most .before .before .before .if1 .taken)
-    (most .before .before .line-height .ensures) (most .before .line-least .ensures) (most .line-most .ensures) (start .pre .sound) in
+    sums-fit (a .s .now) (a .g) _ (st .sums) (st .tight) (st .loose) (st .k) _ _ _ (st .inv) (c .before .before .before .if1 .taken)
+    (c .before .before .line-height .ensures) (c .before .line-least .ensures) (c .line-most .ensures) (start .pre .sound) in
     omega arith
 
-add-put-row-2 : tie.Need-add-put-row-2 Inv-loop μ-loop
-add-put-row-2 c =
-    let most = c .before in
-    let st = most .before .before .before .before .before .loop in
-    let start = most .before .before .before .before .before .before .before .before .before .before .before .before in
+add-wide : tie.Need-add-wide Inv-loop μ-loop
+add-wide c =
+    let st = c .before .before .before .before .before .loop in
+    let start = c .before .before .before .before .before .before .before .before .before .before .before .before in
     let a = start .args in
     let fit =
-    sums-fit (a .s .now) (a .g) _ (st .sums) (st .tight) (st .loose) (st .k) _ _ _ (st .inv) (most .before .before .before .if1 .taken)
-    (most .before .before .line-height .ensures) (most .before .line-least .ensures) (most .line-most .ensures) (start .pre .sound) in
+    sums-fit (a .s .now) (a .g) _ (st .sums) (st .tight) (st .loose) (st .k) _ _ _ (st .inv) (c .before .before .before .if1 .taken)
+    (c .before .before .line-height .ensures) (c .before .line-least .ensures) (c .line-most .ensures) (start .pre .sound) in
     omega arith
-
-add-put-row-3 : tie.Need-add-put-row-3 Inv-loop μ-loop
-add-put-row-3 c =
-    let most = c .before in
-    let st = most .before .before .before .before .before .loop in
-    let start = most .before .before .before .before .before .before .before .before .before .before .before .before in
-    let a = start .args in
-    let fit =
-    sums-fit (a .s .now) (a .g) _ (st .sums) (st .tight) (st .loose) (st .k) _ _ _ (st .inv) (most .before .before .before .if1 .taken)
-    (most .before .before .line-height .ensures) (most .before .line-least .ensures) (most .line-most .ensures) (start .pre .sound) in
-    omega arith
-
-add-put-row-4 : tie.Need-add-put-row-4 Inv-loop μ-loop
-add-put-row-4 c =
-    let most = c .before in
-    let st = most .before .before .before .before .before .loop in
-    let start = most .before .before .before .before .before .before .before .before .before .before .before .before in
-    let a = start .args in
-    let fit =
-    sums-fit (a .s .now) (a .g) _ (st .sums) (st .tight) (st .loose) (st .k) _ _ _ (st .inv) (most .before .before .before .if1 .taken)
-    (most .before .before .line-height .ensures) (most .before .line-least .ensures) (most .line-most .ensures) (start .pre .sound) in
-    omega arith
-
-add-put-row-5 : tie.Need-add-put-row-5 Inv-loop μ-loop
-add-put-row-5 c =
-    let most = c .before in
-    let st = most .before .before .before .before .before .loop in
-    let start = most .before .before .before .before .before .before .before .before .before .before .before .before in
-    let a = start .args in
-    let fit =
-    sums-fit (a .s .now) (a .g) _ (st .sums) (st .tight) (st .loose) (st .k) _ _ _ (st .inv) (most .before .before .before .if1 .taken)
-    (most .before .before .line-height .ensures) (most .before .line-least .ensures) (most .line-most .ensures) (start .pre .sound) in
-    omega arith
-
-add-put-row-6 : tie.Need-add-put-row-6 Inv-loop μ-loop
-add-put-row-6 c =
-    let most = c .before in
-    let st = most .before .before .before .before .before .loop in
-    let start = most .before .before .before .before .before .before .before .before .before .before .before .before in
-    let a = start .args in
-    let fit =
-    sums-fit (a .s .now) (a .g) _ (st .sums) (st .tight) (st .loose) (st .k) _ _ _ (st .inv) (most .before .before .before .if1 .taken)
-    (most .before .before .line-height .ensures) (most .before .line-least .ensures) (most .line-most .ensures) (start .pre .sound) in
-    omega arith
-
-put-row-requires-2 : tie.Need-put-row-requires-2 Inv-loop μ-loop
-put-row-requires-2 c κs = search needs
 
 add-tight : tie.Need-add-tight Inv-loop μ-loop
 add-tight c =
-    let most = c .before .before .before .before in
-    let st = most .before .before .before .before .before .loop in
-    let start = most .before .before .before .before .before .before .before .before .before .before .before .before in
+    let st = c .before .before .before .before .before .loop in
+    let start = c .before .before .before .before .before .before .before .before .before .before .before .before in
     let a = start .args in
     let fit =
-    sums-fit (a .s .now) (a .g) _ (st .sums) (st .tight) (st .loose) (st .k) _ _ _ (st .inv) (most .before .before .before .if1 .taken)
-    (most .before .before .line-height .ensures) (most .before .line-least .ensures) (most .line-most .ensures) (start .pre .sound) in
-    omega arith
-
-add-tight-2 : tie.Need-add-tight-2 Inv-loop μ-loop
-add-tight-2 c =
-    let most = c .before .before .before .before in
-    let st = most .before .before .before .before .before .loop in
-    let start = most .before .before .before .before .before .before .before .before .before .before .before .before in
-    let a = start .args in
-    let fit =
-    sums-fit (a .s .now) (a .g) _ (st .sums) (st .tight) (st .loose) (st .k) _ _ _ (st .inv) (most .before .before .before .if1 .taken)
-    (most .before .before .line-height .ensures) (most .before .line-least .ensures) (most .line-most .ensures) (start .pre .sound) in
+    sums-fit (a .s .now) (a .g) _ (st .sums) (st .tight) (st .loose) (st .k) _ _ _ (st .inv) (c .before .before .before .if1 .taken)
+    (c .before .before .line-height .ensures) (c .before .line-least .ensures) (c .line-most .ensures) (start .pre .sound) in
     omega arith
 
 add-loose : tie.Need-add-loose Inv-loop μ-loop
 add-loose c =
-    let most = c .before .before .before .before in
-    let st = most .before .before .before .before .before .loop in
-    let start = most .before .before .before .before .before .before .before .before .before .before .before .before in
+    let st = c .before .before .before .before .before .loop in
+    let start = c .before .before .before .before .before .before .before .before .before .before .before .before in
     let a = start .args in
     let fit =
-    sums-fit (a .s .now) (a .g) _ (st .sums) (st .tight) (st .loose) (st .k) _ _ _ (st .inv) (most .before .before .before .if1 .taken)
-    (most .before .before .line-height .ensures) (most .before .line-least .ensures) (most .line-most .ensures) (start .pre .sound) in
+    sums-fit (a .s .now) (a .g) _ (st .sums) (st .tight) (st .loose) (st .k) _ _ _ (st .inv) (c .before .before .before .if1 .taken)
+    (c .before .before .line-height .ensures) (c .before .line-least .ensures) (c .line-most .ensures) (start .pre .sound) in
     omega arith
 
-add-loose-2 : tie.Need-add-loose-2 Inv-loop μ-loop
-add-loose-2 c =
-    let most = c .before .before .before .before in
-    let st = most .before .before .before .before .before .loop in
-    let start = most .before .before .before .before .before .before .before .before .before .before .before .before in
-    let a = start .args in
-    let fit =
-    sums-fit (a .s .now) (a .g) _ (st .sums) (st .tight) (st .loose) (st .k) _ _ _ (st .inv) (most .before .before .before .if1 .taken)
-    (most .before .before .line-height .ensures) (most .before .line-least .ensures) (most .line-most .ensures) (start .pre .sound) in
-    omega arith
+put-row-requires-2 : tie.Need-put-row-requires-2 Inv-loop μ-loop
+put-row-requires-2 c κs = search needs
 
 loop-less : tie.Need-loop-less Inv-loop μ-loop
 loop-less c = search needs
@@ -157,7 +88,8 @@ loop-again c =
     let start = most .before .before .before .before .before .before .before .before .before .before .before .before in
     let a = start .args in
     sums-next (a .s .now) (a .g) _ (st .sums) (st .tight) (st .loose) (st .k) _ _ _ (st .inv) (most .before .before .before .if1 .taken)
-    (most .before .before .line-height .ensures) (most .before .line-least .ensures) (most .line-most .ensures) _ (omega arith) (c .before .before .put-row2 .ensures)
+    (most .before .before .line-height .ensures) (most .before .line-least .ensures) (most .line-most .ensures) _ (omega arith)
+    (c .before .before .put-row2 .ensures)
 
 same-length : tie.Need-same-length Inv-loop μ-loop
 same-length c = search needs
@@ -180,17 +112,11 @@ gather-spec =
     line-height-requires
     line-least-requires
     line-most-requires
-    add-put-row
-    add-put-row-2
-    add-put-row-3
-    add-put-row-4
-    add-put-row-5
-    add-put-row-6
-    put-row-requires-2
+    add-high
+    add-wide
     add-tight
-    add-tight-2
     add-loose
-    add-loose-2
+    put-row-requires-2
     loop-less
     loop-again
     same-length
