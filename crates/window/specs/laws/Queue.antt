@@ -1,4 +1,5 @@
--- The queue of a window: what a push, a line passed over and a dropped front leave held, and that the front is the cheapest start.
+-- The queue of a window: what a push, a line passed over and a dropped front leave held, and that the front is the
+-- cheapest start.
 use Prim.Native.Nat.{ℕ, zero, suc, _+_, _-_, _*_, _≤_, _<_}
 use native.Mathlib.Nat.{add-zero, add-suc}
 use native.Mathlib.Decide.{decLe}

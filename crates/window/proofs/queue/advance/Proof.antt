@@ -1,4 +1,5 @@
--- `advance` meets its contract: the new lines are fed to the queue, and entries before the window are dropped from its front.
+-- `advance` meets its contract: the new lines are fed to the queue, and entries before the window are dropped from its
+-- front.
 use Rattle.window.specs.Queue.{columnOf}
 use Rattle.window.specs.laws.Queue.{held-dropped}
 use borrow.Author.Needs.{needs}

@@ -1,5 +1,5 @@
--- `feed` meets its contract. The loop's invariant: what was held of the lines before `from` is held of those before a; a turn passes
--- an unreached line, or drops what is no cheaper and pushes a reached one.
+-- `feed` meets its contract. The loop's invariant: what was held of the lines before `from` is held of those before a; a
+-- turn passes an unreached line, or drops what is no cheaper and pushes a reached one.
 use Prim.Native.Nat.{ℕ, _+_, _-_, _*_, _≤_}
 use native.Mathlib.Omega.{arith}
 use mathlib.Core.Path.{_≡_, sym, ap, subst, _∙_}
@@ -102,7 +102,8 @@ loop-again-2 c =
       sized = ap length new ∙ pushed-length (st .words) t _ _ ∙ st .inv .sized;
       held = λ low h.
           subst (λ (w : List ℕ). Held col w (tailed (a .queue) (t + 1)) low (st .a + 1)) (sym new)
-          (held-pushed col (st .words) (tailed (a .queue) (st .tail)) low (st .a) _ t _ some dropped room (st .inv .held low h));
+          (held-pushed col (st .words) (tailed (a .queue) (st .tail)) low (st .a) _ t _ some dropped room
+          (st .inv .held low h));
     }
 
 same-length : tie.Need-same-length Inv-loop μ-loop

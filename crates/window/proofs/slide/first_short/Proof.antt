@@ -1,4 +1,5 @@
--- `first_short` meets its contract. The loop's invariant: the pages from the lines passed are all full enough, to which each turn adds one.
+-- `first_short` meets its contract. The loop's invariant: the pages from the lines passed are all full enough, to which
+-- each turn adds one.
 use Prim.Native.Nat.{ℕ, _+_, _-_, _*_, _≤_}
 use native.Mathlib.Omega.{arith}
 use lib.ListN.{getD}

@@ -1,4 +1,5 @@
--- `gather` meets its contract. The loop's invariant: the rows up to line k are written and its sums in hand; each turn writes the next.
+-- `gather` meets its contract. The loop's invariant: the rows up to line k are written and its sums in hand; each turn
+-- writes the next.
 use Prim.Native.Nat.{_-_}
 use native.Mathlib.Omega.{arith}
 use mathlib.Core.Path.{_≡_}
@@ -41,8 +42,10 @@ add-high c =
     let start = c .before .before .before .before .before .before .before .before .before .before .before .before in
     let a = start .args in
     let fit =
-    sums-fit (a .s .now) (a .g) _ (st .sums) (st .tight) (st .loose) (st .k) _ _ _ (st .inv) (c .before .before .before .if1 .taken)
-    (c .before .before .line-height .ensures) (c .before .line-least .ensures) (c .line-most .ensures) (start .pre .sound) in
+    sums-fit (a .s .now) (a .g) _ (st .sums) (st .tight) (st .loose) (st .k) _ _ _ (st .inv)
+    (c .before .before .before .if1 .taken)
+    (c .before .before .line-height .ensures) (c .before .line-least .ensures) (c .line-most .ensures)
+    (start .pre .sound) in
     omega arith
 
 add-wide : tie.Need-add-wide Inv-loop μ-loop
@@ -51,8 +54,10 @@ add-wide c =
     let start = c .before .before .before .before .before .before .before .before .before .before .before .before in
     let a = start .args in
     let fit =
-    sums-fit (a .s .now) (a .g) _ (st .sums) (st .tight) (st .loose) (st .k) _ _ _ (st .inv) (c .before .before .before .if1 .taken)
-    (c .before .before .line-height .ensures) (c .before .line-least .ensures) (c .line-most .ensures) (start .pre .sound) in
+    sums-fit (a .s .now) (a .g) _ (st .sums) (st .tight) (st .loose) (st .k) _ _ _ (st .inv)
+    (c .before .before .before .if1 .taken)
+    (c .before .before .line-height .ensures) (c .before .line-least .ensures) (c .line-most .ensures)
+    (start .pre .sound) in
     omega arith
 
 add-tight : tie.Need-add-tight Inv-loop μ-loop
@@ -61,8 +66,10 @@ add-tight c =
     let start = c .before .before .before .before .before .before .before .before .before .before .before .before in
     let a = start .args in
     let fit =
-    sums-fit (a .s .now) (a .g) _ (st .sums) (st .tight) (st .loose) (st .k) _ _ _ (st .inv) (c .before .before .before .if1 .taken)
-    (c .before .before .line-height .ensures) (c .before .line-least .ensures) (c .line-most .ensures) (start .pre .sound) in
+    sums-fit (a .s .now) (a .g) _ (st .sums) (st .tight) (st .loose) (st .k) _ _ _ (st .inv)
+    (c .before .before .before .if1 .taken)
+    (c .before .before .line-height .ensures) (c .before .line-least .ensures) (c .line-most .ensures)
+    (start .pre .sound) in
     omega arith
 
 add-loose : tie.Need-add-loose Inv-loop μ-loop
@@ -71,8 +78,10 @@ add-loose c =
     let start = c .before .before .before .before .before .before .before .before .before .before .before .before in
     let a = start .args in
     let fit =
-    sums-fit (a .s .now) (a .g) _ (st .sums) (st .tight) (st .loose) (st .k) _ _ _ (st .inv) (c .before .before .before .if1 .taken)
-    (c .before .before .line-height .ensures) (c .before .line-least .ensures) (c .line-most .ensures) (start .pre .sound) in
+    sums-fit (a .s .now) (a .g) _ (st .sums) (st .tight) (st .loose) (st .k) _ _ _ (st .inv)
+    (c .before .before .before .if1 .taken)
+    (c .before .before .line-height .ensures) (c .before .line-least .ensures) (c .line-most .ensures)
+    (start .pre .sound) in
     omega arith
 
 put-row-requires-2 : tie.Need-put-row-requires-2 Inv-loop μ-loop
@@ -87,7 +96,8 @@ loop-again c =
     let st = most .before .before .before .before .before .loop in
     let start = most .before .before .before .before .before .before .before .before .before .before .before .before in
     let a = start .args in
-    sums-next (a .s .now) (a .g) _ (st .sums) (st .tight) (st .loose) (st .k) _ _ _ (st .inv) (most .before .before .before .if1 .taken)
+    sums-next (a .s .now) (a .g) _ (st .sums) (st .tight) (st .loose) (st .k) _ _ _ (st .inv)
+    (most .before .before .before .if1 .taken)
     (most .before .before .line-height .ensures) (most .before .line-least .ensures) (most .line-most .ensures) _ (omega arith)
     (c .before .before .put-row2 .ensures)
 

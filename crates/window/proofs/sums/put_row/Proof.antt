@@ -1,4 +1,5 @@
--- `put_row` meets its contract: its four stores are the four of the definition, and none changes the length that the next is within.
+-- `put_row` meets its contract: its four stores are the four of the definition, and none changes the length that the
+-- next is within.
 use native.Mathlib.Omega.{arith}
 use lib.ListN.{length-set}
 use Rattle.window.specs.Sums.{rowPut}
