@@ -1,56 +1,17 @@
--- What the functions of the search and of the filling ask of their callers.
+-- What the functions of the filling ask of their callers.
 use Prim.Native.Nat.{ℕ, suc, _+_, _-_, _*_, _≤_}
-use mathlib.Core.Bool.{Bool, _&&_, _||_}
+use mathlib.Core.Bool.{Bool}
 use mathlib.Core.List.{List}
-use lib.Dec.{eqb, leb, ltb}
 use lib.ListN.{length}
 use Rattle.model.specs.Gather.{pick}
 use Rattle.galley.specs.declared.Galley.{Galley}
-use Rattle.galley.specs.Model.{textOf, figuresOf, modelOf}
+use Rattle.galley.specs.Model.{figuresOf, modelOf}
 use Rattle.galley.specs.Sound.{Sound}
 use Rattle.marking.specs.Parts.{Citing}
 use Rattle.places.specs.Address.{wordsNeeded}
 use Rattle.places.specs.Table.{tableOf}
-use Rattle.making.specs.declared.heights.Heights.{Heights}
-use Rattle.making.specs.Search.{Search}
 use Rattle.making.specs.Filled.{Side, Filled}
-use Rattle.making.specs.Heights.{Stacked}
-
--- The search for a page of the galley that ends at (i, j), in the table that the work area holds.
-abbrev pub searchOf : List ℕ → Galley → List ℕ → ℕ → ℕ → ℕ → Search
-searchOf bytes g w i j side =
-    record { galley = modelOf bytes g; table = tableOf (suc (g .lines)) w; i = i; j = j; side = side }
-
--- Every block is placed at (i, j).
-abbrev pub allPlaced : Galley → ℕ → ℕ → Bool
-allPlaced g i j = eqb i (g .lines) && eqb j (g .figures)
-
--- A page from (a, b) to (i, j) of this loosest height is not empty, and full enough unless it is the last.
-abbrev pub worth : Galley → ℕ → ℕ → ℕ → ℕ → ℕ → Bool
-worth g a b i j loose = (ltb a i || ltb b j) && (allPlaced g i j || leb (g .spec .htmin) loose)
-
--- A start that an entry has room for.
-pub record Startable (a b : ℕ) : Type 0 where
-  pub line : a ≤ 4000
-  pub figure : b ≤ 200
-
--- (i, j) is a place of a galley that was read.
-pub record Placed (bytes : List ℕ) (g : Galley) (i j : ℕ) : Type 0 where
-  pub sound : Sound bytes g
-  pub line : i ≤ g .lines
-  pub figure : j ≤ g .figures
-
--- A search for starts of a page that ends at (i, j), their own pages on the given side, in a work area that is long enough.
-pub record Searched (bytes : List ℕ) (g : Galley) (w : List ℕ) (i j side : ℕ) : Type 0 where
-  pub placed : Placed bytes g i j
-  pub room : wordsNeeded (g .lines) (g .figures) ≤ length w
-  pub either : side ≤ 1
-
--- The starts on line a of such a search, from where the lines of the page have these heights.
-pub record RowAsked (bytes : List ℕ) (g : Galley) (w : List ℕ) (i j side a : ℕ) (lines : Heights) : Type 0 where
-  pub searched : Searched bytes g w i j side
-  pub start : a ≤ i
-  pub text : Stacked (textOf bytes g) a i lines
+use Rattle.starts.specs.Asked.{Placed}
 
 -- At (i, j) on side c, `cited` figures are cited by line i or earlier.
 pub record Stopping (bytes : List ℕ) (g : Galley) (i j c cited : ℕ) : Type 0 where

@@ -15,7 +15,7 @@ use Rattle.theorems.specs.PageGraph.{full}
 use Rattle.places.specs.Entry.{entryAt, put, stored}
 use Rattle.places.specs.Address.{address}
 use Rattle.places.specs.Table.{tableOf}
-use Rattle.making.specs.Search.{before, better, offered, row, rows, bestStart, priced, mayStop, entryOf}
+use Rattle.starts.specs.Search.{before, better, offered, row, rows, bestStart, priced, mayStop, entryOf}
 use Rattle.making.specs.Fill.{tall, fillSide, fillPlace, fillColumn, fillColumns, filled}
 use Rattle.making.specs.Trace.{startOf, better-side, lastSide, countBack, writeBack}
 

@@ -5,7 +5,7 @@ use Rattle.model.specs.Galley.{Sides, single, double, Galley}
 use Rattle.places.specs.Entry.{stored}
 use Rattle.places.specs.Address.{address}
 use Rattle.places.specs.Table.{tableOf}
-use Rattle.making.specs.Search.{entryOf}
+use Rattle.starts.specs.Search.{entryOf}
 
 -- The words of the work area.
 abbrev pub Words : Type 0

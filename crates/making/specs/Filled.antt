@@ -7,7 +7,7 @@ use Rattle.places.specs.declared.Start.{Start}
 use Rattle.places.specs.declared.Entry.{Entry}
 use Rattle.places.specs.declared.Entry.the-variants.{Least}
 use Rattle.places.specs.Address.{Earlier}
-use Rattle.making.specs.Search.{Table}
+use Rattle.starts.specs.Search.{Table}
 
 -- The start of a page that ends at (a, b) lies before it, unless nothing is placed there, and its cost is no more than α·n + β,
 -- at most 201,000, for each block placed.

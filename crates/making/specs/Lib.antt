@@ -1,7 +1,6 @@
 -- Making: its definitions first, then the laws about them.
 
 -- What is computed: the search of one place, the filling of the work area, the walk back, and the whole.
-pub mod Search
 pub mod Fill
 pub mod Trace
 pub mod Make
@@ -9,7 +8,6 @@ pub mod Make
 pub mod Filled
 pub mod Shown
 pub mod Back
-pub mod Heights
 pub mod Asked
 pub mod Run
 pub mod Traceable

@@ -9,7 +9,7 @@ use Rattle.model.specs.Galley.{Sides, single, double, Galley, Place}
 use Rattle.places.specs.declared.Start.{Start}
 use Rattle.places.specs.declared.Entry.{Entry}
 use Rattle.places.specs.declared.Entry.the-variants.{Unreached, Least}
-use Rattle.making.specs.Search.{place, Table, before}
+use Rattle.starts.specs.Search.{place, Table, before}
 
 -- The start that an entry holds.
 unfoldable pub startOf : Entry → Start

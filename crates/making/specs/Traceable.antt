@@ -12,7 +12,7 @@ use Rattle.places.specs.declared.Entry.{Entry}
 use Rattle.places.specs.declared.Entry.the-variants.{Unreached, Least}
 use Rattle.places.specs.Address.{wordsNeeded}
 use Rattle.places.specs.Table.{tableOf}
-use Rattle.making.specs.Search.{Table}
+use Rattle.starts.specs.Search.{Table}
 use Rattle.making.specs.Filled.{Entered, Side}
 use Rattle.making.specs.Trace.{countBack, writeBack}
 

@@ -6,8 +6,6 @@ pub mod Fill
 pub mod Right
 pub mod Back
 pub mod Walk
-pub mod Heights
-pub mod Search
 pub mod Price
 pub mod Solved
 pub mod Made

@@ -4,7 +4,7 @@ ghost use Prim.Native.Nat.{suc, _≤_};
 ghost use Rattle.model.specs.Leaf.{sidesOf};
 ghost use Rattle.galley.specs.Model.{modelOf};
 ghost use Rattle.places.specs.Table.{tableOf};
-ghost use Rattle.making.specs.Search.{before, entryOf};
+ghost use Rattle.starts.specs.Search.{before, entryOf};
 ghost use Rattle.making.specs.Fill.{fillSide, fillPlace, fillColumn, filled};
 ghost use Rattle.making.specs.Asked.{SideAsked, PlaceAsked, ColumnAsked, FillAsked};
 use galley::Galley;

@@ -7,17 +7,10 @@ ghost use Rattle.theorems.specs.Waiting.{pageCost};
 ghost use Rattle.theorems.specs.PageGraph.{full};
 ghost use Rattle.galley.specs.Model.{figuresOf, modelOf};
 ghost use Rattle.marking.specs.Parts.{Citing};
-ghost use Rattle.making.specs.Search.{place, mayStop};
-ghost use Rattle.making.specs.Asked.{allPlaced, Stopping, Priceable};
+ghost use Rattle.starts.specs.Search.{place, mayStop};
+ghost use Rattle.making.specs.Asked.{Stopping, Priceable};
 use galley::Galley;
 use model::page::Page;
-
-// Whether every block is placed at (i, j): a page that ends there is the last.
-pub fn is_full(g: Galley, i: usize, j: usize) -> bool
-    ensures { λ r. ⌜ r ≡ allPlaced g i j ⌝ }
-{
-    (i == g.lines) & (j == g.figures)
-}
 
 // Whether a page on side c, which is odd where its number is, ends its leaf.
 fn ends_leaf(g: Galley, c: usize) -> bool
@@ -32,7 +25,7 @@ pub fn may_stop(s: &[u8], g: Galley, i: usize, j: usize, c: usize, cited: usize)
     requires { ⌜ Stopping (now s) g i j c cited ⌝ }
     ensures { λ r. ⌜ r ≡ mayStop (modelOf (now (s .entry)) g) i j c ⌝ }
 {
-    marking::rules::may_end(s, g, i) & (!(ends_leaf(g, c) | is_full(g, i, j)) | (j <= cited))
+    marking::rules::may_end(s, g, i) & (!(ends_leaf(g, c) | starts::search::is_full(g, i, j)) | (j <= cited))
 }
 
 // What a page on side c costs that ends at (i, j), with so many figures cited by line i or earlier: where it ends its leaf
@@ -41,7 +34,7 @@ pub fn price(g: Galley, i: usize, j: usize, c: usize, cited: usize) -> u32
     requires { ⌜ Priceable g c cited ⌝ }
     ensures { λ r. ⌜ ((bytes : List ℕ) → Citing (figuresOf bytes g) i cited → r ≡ pageCost (modelOf bytes g) c (full (modelOf bytes g) (place i j)) (place i j)) ⌝ }
 {
-    if is_full(g, i, j) {
+    if starts::search::is_full(g, i, j) {
         return 0;
     }
     if !ends_leaf(g, c) {

@@ -1,7 +1,7 @@
 // From the last page back to the first, by the start that each entry holds: document 01, "Making".
 ghost use mathlib.Core.Path.{_≡_};
 ghost use Prim.Native.Nat.{_+_, _≤_};
-ghost use Rattle.making.specs.Search.{before};
+ghost use Rattle.starts.specs.Search.{before};
 ghost use Rattle.making.specs.Trace.{startOf, better-side, lastSide, countBack, writeBack};
 ghost use Rattle.making.specs.Traceable.{sidesIn, tableIn, isReached, Lent, Placed, Walkable, Writable};
 ghost use Rattle.model.specs.Leaf.{sidesOf};

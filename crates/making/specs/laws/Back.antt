@@ -20,7 +20,7 @@ use Rattle.theorems.specs.PageLaws.{page-laws, domainOf, step-within, blocksAt}
 use Rattle.theorems.specs.PageTheorem.{table-none, table-best}
 use Rattle.places.specs.declared.Start.{Start}
 use Rattle.places.specs.declared.Entry.the-variants.{Unreached, Least}
-use Rattle.making.specs.Search.{place, Table, before}
+use Rattle.starts.specs.Search.{place, Table, before}
 use Rattle.making.specs.Trace.{startOf, countBack, writeBack}
 use Rattle.making.specs.Shown.{finished, tableAt}
 use Rattle.making.specs.Back.{lastOf, pagesBack, Found}

@@ -20,7 +20,7 @@ use Rattle.places.specs.declared.Start.{Start}
 use Rattle.places.specs.declared.Entry.{Entry}
 use Rattle.places.specs.declared.Entry.the-variants.{Unreached, Least}
 use Rattle.places.specs.Address.{Earlier}
-use Rattle.making.specs.Search.{place, Table, before, better, Search, offered, row, rows, bestStart, priced, mayStop, entryOf}
+use Rattle.starts.specs.Search.{place, Table, before, better, Search, offered, row, rows, bestStart, priced, mayStop, entryOf}
 use Rattle.making.specs.Filled.{Entered, Side, Filled}
 
 -- A start found for (i, j): it lies before, and its own cost is small.

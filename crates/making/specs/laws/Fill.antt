@@ -20,7 +20,7 @@ use Rattle.places.specs.Entry.{stored}
 use Rattle.places.specs.laws.Address.{address-in}
 use Rattle.places.specs.laws.Stored.{stored-length}
 use Rattle.places.specs.laws.Table.{table-same, table-other}
-use Rattle.making.specs.Search.{Table, entryOf}
+use Rattle.starts.specs.Search.{Table, entryOf}
 use Rattle.making.specs.Filled.{Entered, Side, Filled}
 use Rattle.making.specs.Fill.{Words, tall, fillSide, fillPlace, fillColumn, fillColumns, filled}
 use Rattle.making.specs.laws.Entered.{side-low, entry-entered}

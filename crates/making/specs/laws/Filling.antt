@@ -19,10 +19,11 @@ use Rattle.marking.specs.Parts.{Citing}
 use Rattle.places.specs.declared.Start.{Start}
 use Rattle.places.specs.declared.Entry.the-variants.{Unreached, Least}
 use Rattle.places.specs.Table.{tableOf}
-use Rattle.making.specs.Search.{place, Table, before, bestStart, priced, mayStop, entryOf}
+use Rattle.starts.specs.Search.{place, Table, before, bestStart, priced, mayStop, entryOf}
 use Rattle.making.specs.Filled.{Side}
 use Rattle.making.specs.Fill.{tall, fillSide, fillPlace, fillColumn, fillColumns, filled}
-use Rattle.making.specs.Asked.{searchOf, SideAsked, PlaceAsked, ColumnAsked, FillAsked}
+use Rattle.starts.specs.Asked.{searchOf}
+use Rattle.making.specs.Asked.{SideAsked, PlaceAsked, ColumnAsked, FillAsked}
 use Rattle.making.specs.Run.{ColumnRun, TableRun}
 use Rattle.making.specs.laws.Entered.{best-entered, side-before}
 use Rattle.making.specs.laws.Fill.{Room, length-side, length-place, length-column, filled-keeps, filled-place, filled-column, filled-start, filled-to}

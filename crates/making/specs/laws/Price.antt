@@ -20,8 +20,9 @@ use Rattle.galley.specs.Sound.{Sound}
 use Rattle.marking.specs.Parts.{Citing}
 use Rattle.marking.specs.laws.Two.{closes-two, full-two}
 use Rattle.marking.specs.laws.Citing.{waiting-two}
-use Rattle.making.specs.Search.{place, mayStop}
-use Rattle.making.specs.Asked.{allPlaced, priceOf}
+use Rattle.starts.specs.Search.{place, mayStop}
+use Rattle.starts.specs.Asked.{allPlaced}
+use Rattle.making.specs.Asked.{priceOf}
 
 module _ (bytes : List ℕ) (g : Galley) (i j n : ℕ) (citing : Citing (figuresOf bytes g) i n) where
   -- The last figure placed is cited by line i or earlier exactly where no more figures are placed than cited.

@@ -19,7 +19,7 @@ use Rattle.theorems.specs.PageGraph.{State, stop, end, Within, PageStep, Step, 
 use Rattle.theorems.specs.PageLaws.{page-laws}
 use Rattle.places.specs.declared.Entry.{Entry}
 use Rattle.places.specs.Address.{Earlier}
-use Rattle.making.specs.Search.{place, Table, entryOf}
+use Rattle.starts.specs.Search.{place, Table, entryOf}
 use Rattle.making.specs.Filled.{Side}
 use Rattle.making.specs.Fill.{Words, tall, fillSide, fillPlace, fillColumn, fillColumns, filled}
 use Rattle.making.specs.Shown.{shown, tableAt}

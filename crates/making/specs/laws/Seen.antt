@@ -30,7 +30,7 @@ use Rattle.theorems.specs.PageLaws.{page-laws}
 use Rattle.places.specs.declared.Start.{Start}
 use Rattle.places.specs.declared.Entry.{Entry}
 use Rattle.places.specs.declared.Entry.the-variants.{Unreached, Least}
-use Rattle.making.specs.Search.{place, Table, before, better, Search, offered, row, rows, bestStart, priced, mayStop, entryOf}
+use Rattle.starts.specs.Search.{place, Table, before, better, Search, offered, row, rows, bestStart, priced, mayStop, entryOf}
 use Rattle.making.specs.Filled.{Side}
 use Rattle.making.specs.Shown.{shown, tableAt}
 use Rattle.making.specs.laws.Shown.{zeros-two}

@@ -16,7 +16,7 @@ use Rattle.theorems.specs.PageLaws.{page-laws}
 use Rattle.places.specs.declared.Start.{Start}
 use Rattle.places.specs.declared.Entry.{Entry}
 use Rattle.places.specs.declared.Entry.the-variants.{Unreached, Least}
-use Rattle.making.specs.Search.{place, Table, before}
+use Rattle.starts.specs.Search.{place, Table, before}
 use Rattle.making.specs.Filled.{Side}
 use Rattle.making.specs.Trace.{better-side, lastSide}
 use Rattle.making.specs.Shown.{shown, finished, tableAt}

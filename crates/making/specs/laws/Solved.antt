@@ -35,7 +35,7 @@ use Rattle.marking.specs.laws.Sane.{reads-sane}
 use Rattle.places.specs.declared.Start.{Start}
 use Rattle.places.specs.declared.Entry.{Entry}
 use Rattle.places.specs.declared.Entry.the-variants.{Unreached, Least}
-use Rattle.making.specs.Search.{Table, before}
+use Rattle.starts.specs.Search.{Table, before}
 use Rattle.making.specs.Trace.{startOf, countBack, writeBack}
 use Rattle.making.specs.Filled.{Entered, Side, Filled}
 use Rattle.making.specs.Fill.{Words, tall, filled}

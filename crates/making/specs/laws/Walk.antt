@@ -17,7 +17,7 @@ use Rattle.places.specs.declared.Start.{Start}
 use Rattle.places.specs.declared.Entry.{Entry}
 use Rattle.places.specs.declared.Entry.the-variants.{Unreached, Least}
 use Rattle.places.specs.Address.{Earlier}
-use Rattle.making.specs.Search.{Table, before}
+use Rattle.starts.specs.Search.{Table, before}
 use Rattle.making.specs.Filled.{Side, Filled}
 use Rattle.making.specs.Trace.{startOf, countBack, writeBack}
 use Rattle.making.specs.Traceable.{sidesIn, tableIn, isReached, Lent, Placed, Traceable, Visits, Counting, Writing}

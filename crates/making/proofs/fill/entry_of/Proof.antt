@@ -7,8 +7,8 @@ use borrow.Author.Tests.{not-true, not-false}
 use Rattle.model.specs.Leaf.{sidesOf}
 use Rattle.galley.specs.Model.{modelOf}
 use Rattle.places.specs.Table.{tableOf}
-use Rattle.making.specs.Search.{before, bestStart}
-use Rattle.making.specs.Asked.{searchOf}
+use Rattle.starts.specs.Search.{before, bestStart}
+use Rattle.starts.specs.Asked.{searchOf}
 use Rattle.making.specs.laws.Entered.{side-low, side-before}
 use Rattle.making.specs.laws.Filling.{entry-nothing, entry-forbidden, entry-unreached, entry-least, cost-low}
 use borrow.Author.Needs.{needs}

@@ -1,7 +1,7 @@
 -- `side_before` meets its contract: by the test on `sides`.
 use borrow.Author.Tests.{eq-eqb, ne-eqb}
 use Rattle.model.specs.Leaf.{sidesOf}
-use Rattle.making.specs.Search.{before}
+use Rattle.starts.specs.Search.{before}
 use borrow.Author.Needs.{needs}
 use Rattle.making.proofs.fill.side_before.Statement.{statement}
 use Rattle.making.proofs.fill.side_before.Tie as tie

@@ -2,7 +2,7 @@
 use borrow.Author.Tests.{eq-eqb, ne-eqb}
 use borrow.Author.Needs.{needs}
 use Rattle.model.specs.Leaf.{sidesOf}
-use Rattle.making.specs.Search.{before}
+use Rattle.starts.specs.Search.{before}
 use Rattle.making.proofs.trace.side_before.Statement.{statement}
 use Rattle.making.proofs.trace.side_before.Tie as tie
 

@@ -1,0 +1,400 @@
+-- The best of several starts is one, is the better of the best of each part, and is what the search finds.
+use Prim.Native.Nat.{ℕ, zero, suc, _+_, _≤_, _<_}
+use native.Mathlib.Nat.{le-refl, le-trans}
+use native.Mathlib.Decide.{decLe, decLt, ℕ-discrete}
+use native.Mathlib.Omega.{arith}
+use mathlib.Core.Path.{_≡_, refl, sym, _∙_, ap}
+use mathlib.Core.Logic.{_⊎_, inl, inr, ⊎-swap}
+use mathlib.Core.Bool.{Bool, true, false, _&&_, _||_}
+use lib.ListN.{getD}
+use lib.Dec.{ltb, leb, eqb}
+use borrow.Author.Tests.{eqb-true, eqb-false, ltb-true, ltb-false, lt-ltb, leb-true, leb-false, le-leb, le-ltb, lt-leb, ne-eqb}
+use Rattle.model.specs.Gather.{pick}
+use Rattle.model.specs.Galley.{Galley, count}
+use Rattle.model.specs.Height.{tightest}
+use Rattle.model.specs.Rules.{fits, fills}
+use Rattle.model.specs.laws.Gather.{and-left, and-right, and-both, or-cases}
+use Rattle.model.specs.laws.Height.{Wider, tightest-grows}
+use Rattle.theorems.specs.PageGraph.{full}
+use Rattle.places.specs.declared.Start.{Start}
+use Rattle.places.specs.declared.Entry.{Entry}
+use Rattle.places.specs.declared.Entry.the-variants.{Unreached, Least}
+use Rattle.starts.specs.Search.{place, Table, better, Search, offered, row, rows, bestStart}
+use Rattle.starts.specs.Choice.{noLater, chosen, NoLater, Candidate, Leads, Best, Any}
+
+-- Being no later is transitive, total, and antisymmetric.
+no-later-trans : (a b c d e f : ℕ) → NoLater a b c d → NoLater c d e f → NoLater a b e f
+no-later-trans a b c d e f (inl l) (inl m) = inl (omega arith)
+no-later-trans a b c d e f (inl l) (inr (p, m)) = inl (omega arith)
+no-later-trans a b c d e f (inr (p, l)) (inl m) = inl (omega arith)
+no-later-trans a b c d e f (inr (p, l)) (inr (q, m)) = inr (omega arith, omega arith)
+
+no-later-same : (a b c d : ℕ) → NoLater a b c d → NoLater c d a b → (a ≡ c) × (b ≡ d)
+no-later-same a b c d (inl l) (inl m) = absurd (omega arith)
+no-later-same a b c d (inl l) (inr (p, m)) = absurd (omega arith)
+no-later-same a b c d (inr (p, l)) (inl m) = absurd (omega arith)
+no-later-same a b c d (inr (p, l)) (inr (q, m)) = (p, omega arith)
+
+and-false : (a : Bool) → (a && false) ≡ false
+and-false true = refl
+and-false false = refl
+
+or-false : (a : Bool) → (a || false) ≡ a
+or-false true = refl
+or-false false = refl
+
+no-later-refl : (a b : ℕ) → NoLater a b a b
+no-later-refl a b = inr (refl, le-refl b)
+
+-- The test says which of two starts is no later.
+no-later-true : (r s : Start) → noLater r s ≡ true → NoLater (s .line) (s .figure) (r .line) (r .figure)
+no-later-true r s t = go (or-cases (ltb (s .line) (r .line)) (eqb (s .line) (r .line) && leb (s .figure) (r .figure)) t)
+  where
+    go : (ltb (s .line) (r .line) ≡ true) ⊎ ((eqb (s .line) (r .line) && leb (s .figure) (r .figure)) ≡ true)
+        → NoLater (s .line) (s .figure) (r .line) (r .figure)
+    go (inl h) = inl (ltb-true (s .line) (r .line) h)
+    go (inr h) =
+        inr
+        (eqb-true (s .line) (r .line) (and-left (eqb (s .line) (r .line)) (leb (s .figure) (r .figure)) h),
+        leb-true (s .figure) (r .figure) (and-right (eqb (s .line) (r .line)) (leb (s .figure) (r .figure)) h))
+
+no-later-false : (r s : Start) → noLater r s ≡ false → NoLater (r .line) (r .figure) (s .line) (s .figure)
+no-later-false r s t =
+    go (ltb (s .line) (r .line)) (eqb (s .line) (r .line)) (leb (s .figure) (r .figure)) refl refl refl t
+  where
+    impossible : _≡_ {A = Bool} true false → NoLater (r .line) (r .figure) (s .line) (s .figure)
+    impossible h = let z : _≡_ {A = ℕ} 0 1 = cc in absurd (omega arith)
+
+    go : (x y z : Bool) → ltb (s .line) (r .line) ≡ x → eqb (s .line) (r .line) ≡ y → leb (s .figure) (r .figure) ≡ z
+        → (x || (y && z)) ≡ false → NoLater (r .line) (r .figure) (s .line) (s .figure)
+    go true y z p q o t = impossible t
+    go false true true p q o t = impossible t
+    go false true false p q o t =
+        let e = eqb-true (s .line) (r .line) q in
+        let l = leb-false (s .figure) (r .figure) o in
+        inr (sym e, omega arith)
+    go false false z p q o t =
+        let l = ltb-false (s .line) (r .line) p in
+        let n = eqb-false (s .line) (r .line) q in
+        inl (omega arith)
+
+-- What leads an entry's start, at no more than its cost, leads all that the entry leads.
+leads-trans : (e : Entry) (x : ℕ) (r : Start) (a b y : ℕ) → Leads e (r .line) (r .figure) x → Leads (Least x r) a b y → Leads e a b y
+unfolding Leads
+leads-trans Unreached x r a b y h k = absurd h
+leads-trans (Least z s) x r a b y (h, f) (k, g) =
+    (omega arith, λ e. no-later-trans a b (r .line) (r .figure) (s .line) (s .figure) (g (omega arith)) (f (omega arith)))
+
+-- A start is known by its line and figure.
+pub start-same : (q r : Start) → q .line ≡ r .line → q .figure ≡ r .figure → q ≡ r
+start-same q r l m =
+    let e : _≡_ {A = Start} (record { line = q .line; figure = q .figure }) (record { line = r .line; figure = r .figure }) = cc in
+    e
+
+no-reach : (x : ℕ) (r : Start) → Unreached ≡ Least x r → ⊥
+no-reach x r e = let z : _≡_ {A = ℕ} 0 1 = cc in omega arith
+
+module _ (s : Search) where
+  -- The best of P is the best of Q where both have the same candidates.
+  pub best-as : (P Q : ℕ → ℕ → Type 0) (e : Entry) → ((a b x : ℕ) → Candidate s a b x → P a b → Q a b)
+      → ((a b x : ℕ) → Candidate s a b x → Q a b → P a b) → Best s P e → Best s Q e
+  best-as P Q e f g h =
+      record {
+        among = λ x r q. f (r .line) (r .figure) x (h .may x r q) (h .among x r q);
+        may = h .may;
+        leads = λ a b y q c. h .leads a b y (g a b y c q) c;
+      }
+
+  -- Where there is no candidate, unreached is the best.
+  pub best-none : (P : ℕ → ℕ → Type 0) → ((a b x : ℕ) → P a b → Candidate s a b x → ⊥) → Best s P Unreached
+  best-none P none =
+      record {
+        among = λ x r e. absurd (no-reach x r e);
+        may = λ x r e. absurd (no-reach x r e);
+        leads = λ a b y p c. absurd (none a b y p c);
+      }
+
+  -- A candidate leads itself.
+  pub best-one : (P : ℕ → ℕ → Type 0) (a b x : ℕ) → P a b → Candidate s a b x
+      → ((a′ b′ y : ℕ) → P a′ b′ → Candidate s a′ b′ y → (a′ ≡ a) × (b′ ≡ b))
+      → Best s P (Least x (record { line = a; figure = b }))
+  unfolding Leads
+  best-one P a b x p c only = record { among = among; may = may; leads = leads }
+    where
+      among : (y : ℕ) (r : Start) → Least x (record { line = a; figure = b }) ≡ Least y r → P (r .line) (r .figure)
+      among y r e = let f : record { line = a; figure = b } ≡ r = cc in rw (← f) p
+
+      may : (y : ℕ) (r : Start) → Least x (record { line = a; figure = b }) ≡ Least y r → Candidate s (r .line) (r .figure) y
+      may y r e =
+          let f : record { line = a; figure = b } ≡ r = cc in
+          let g : x ≡ y = cc in
+          rw (← f, ← g) c
+
+      leads : (a′ b′ y : ℕ) → P a′ b′ → Candidate s a′ b′ y → (x ≤ y) × (x ≡ y → NoLater a′ b′ a b)
+      leads a′ b′ y q d =
+          let (e, f) = only a′ b′ y q d in
+          let same : Least x (c .start) ≡ Least y (d .start) = sym (c .reached) ∙ sym (ap (λ n. s .table n b (s .side)) e) ∙ sym (ap (λ n. s .table a′ n (s .side)) f) ∙ d .reached in
+          let k : x ≡ y = cc in
+          (omega arith, λ _. inr (e, omega arith))
+
+  -- The better of the best of P and of Q is the best of both.
+  module _ (P Q R : ℕ → ℕ → Type 0) (left : (a b : ℕ) → P a b → R a b) (right : (a b : ℕ) → Q a b → R a b)
+      (split : (a b x : ℕ) → Candidate s a b x → R a b → P a b ⊎ Q a b) where
+    -- The best of P is the best of both where it leads the best of Q.
+    leader : (e f : Entry) → Best s P e → Best s Q f → (x : ℕ) (r : Start) → e ≡ Least x r
+        → ((y : ℕ) (q : Start) → f ≡ Least y q → Leads (Least x r) (q .line) (q .figure) y) → Best s R e
+    unfolding Leads
+    leader e f h k x r q ahead =
+        record {
+          among = λ x r q. left (r .line) (r .figure) (h .among x r q);
+          may = h .may;
+          leads = λ a b y p c. go a b y c (split a b y c p);
+        }
+      where
+        over : (d : Entry) → f ≡ d → (a b y : ℕ) → Leads d a b y → Leads e a b y
+        over Unreached p a b y l = absurd l
+        over (Least z t) p a b y l = rw q (leads-trans (Least x r) z t a b y (ahead z t p) l)
+
+        go : (a b y : ℕ) → Candidate s a b y → P a b ⊎ Q a b → Leads e a b y
+        go a b y c (inl p) = h .leads a b y p c
+        go a b y c (inr p) = over f refl a b y (k .leads a b y p c)
+
+  -- Of two parts the better best is the best.
+  pub best-chosen : (P Q R : ℕ → ℕ → Type 0) → ((a b : ℕ) → P a b → R a b) → ((a b : ℕ) → Q a b → R a b)
+      → ((a b x : ℕ) → Candidate s a b x → R a b → P a b ⊎ Q a b) → (e f : Entry) → Best s P e → Best s Q f → Best s R (chosen e f)
+  unfolding chosen Leads
+  best-chosen P Q R left right split e Unreached h k = 
+      best-as P R e (λ a b x c. left a b) (λ a b x c r. go a b x c (split a b x c r)) h
+    where
+      go : (a b x : ℕ) → Candidate s a b x → P a b ⊎ Q a b → P a b
+      go a b x c (inl p) = p
+      go a b x c (inr q) = absurd (k .leads a b x q c)
+  best-chosen P Q R left right split Unreached (Least y r) h k = 
+      best-as Q R (Least y r) (λ a b x c. right a b) (λ a b x c t. go a b x c (split a b x c t)) k
+    where
+      go : (a b x : ℕ) → Candidate s a b x → P a b ⊎ Q a b → Q a b
+      go a b x c (inl p) = absurd (h .leads a b x p c)
+      go a b x c (inr q) = q
+  best-chosen P Q R left right split (Least x q) (Least y r) h k = go (ltb y x) (eqb y x) (noLater r q) refl refl refl
+    where
+      first : Leads (Least x q) (r .line) (r .figure) y → Best s R (Least x q)
+      first l =
+          leader P Q R left right split (Least x q) (Least y r) h k x q refl
+          (λ z t e.
+          let f : y ≡ z = cc in
+          let g : r ≡ t = cc in
+          rw (← f, ← g) l)
+
+      second : Leads (Least y r) (q .line) (q .figure) x → Best s R (Least y r)
+      second l =
+          leader Q P R right left (λ a b x c t. ⊎-swap (split a b x c t)) (Least y r) (Least x q) k h y r refl
+          (λ z t e.
+          let f : x ≡ z = cc in
+          let g : q ≡ t = cc in
+          rw (← f, ← g) l)
+
+      go : (l m n : Bool) → ltb y x ≡ l → eqb y x ≡ m → noLater r q ≡ n
+          → Best s R (pick (l || (m && n)) (Least y r) (Least x q))
+      go true m n p o t = let less = ltb-true y x p in second (omega arith, λ e. absurd (omega arith))
+      go false true true p o t = let e = eqb-true y x o in second (omega arith, λ _. no-later-true r q t)
+      go false true false p o t = let e = eqb-true y x o in first (omega arith, λ _. no-later-false r q t)
+      go false false n p o t =
+          let more = ltb-false y x p in
+          let other = eqb-false y x o in
+          first (omega arith, λ e. absurd (omega arith))
+
+  -- The best of the same starts is the same.
+  pub best-unique : (P : ℕ → ℕ → Type 0) (e f : Entry) → Best s P e → Best s P f → e ≡ f
+  unfolding Leads
+  best-unique P Unreached Unreached h k = refl
+  best-unique P Unreached (Least y r) h k =
+      absurd (h .leads (r .line) (r .figure) y (k .among y r refl) (k .may y r refl))
+  best-unique P (Least x q) Unreached h k =
+      absurd (k .leads (q .line) (q .figure) x (h .among x q refl) (h .may x q refl))
+  best-unique P (Least x q) (Least y r) h k =
+      let (a, f) = h .leads (r .line) (r .figure) y (k .among y r refl) (k .may y r refl) in
+      let (b, g) = k .leads (q .line) (q .figure) x (h .among x q refl) (h .may x q refl) in
+      let e : x ≡ y = omega arith in
+      let (l, m) = no-later-same (q .line) (q .figure) (r .line) (r .figure) (g (sym e)) (f e) in
+      let same = start-same q r l m in
+      cc
+
+  -- A page that starts no later than one that does not fit does not fit either.
+  pub fits-later : (a b a′ b′ : ℕ) → a′ ≤ a → b′ ≤ b → a ≤ s .i → b ≤ s .j → s .galley .floats ≡ 1
+      → fits (s .galley) (place a′ b′) (place (s .i) (s .j)) ≡ true → fits (s .galley) (place a b) (place (s .i) (s .j)) ≡ true
+  unfolding fits count
+  fits-later a b a′ b′ p q h k two fit =
+      let more = tightest-grows (s .galley) (place a b) (place (s .i) (s .j)) (place a′ b′) (place (s .i) (s .j))
+      (record { back = back; page = page; on = λ n l. le-refl _ }) in
+      let low = leb-true (tightest (s .galley) (place a′ b′) (place (s .i) (s .j))) (s .galley .spec .htmax) fit in
+      le-leb (tightest (s .galley) (place a b) (place (s .i) (s .j))) (s .galley .spec .htmax) (omega arith)
+    where
+      back : (n : ℕ) → n ≤ s .galley .floats → getD (place a′ b′) n 0 ≤ getD (place a b) n 0
+      back zero l = p
+      back (suc zero) l = q
+      back (suc (suc n)) l = absurd (omega arith)
+
+      page : (n : ℕ) → n ≤ s .galley .floats → getD (place a b) n 0 ≤ getD (place (s .i) (s .j)) n 0
+      page zero l = h
+      page (suc zero) l = k
+      page (suc (suc n)) l = absurd (omega arith)
+
+  -- The starts that a search has tried once it has come to (a, b): those no earlier.
+  abbrev Tried : ℕ → ℕ → ℕ → ℕ → Type 0
+  Tried a b a′ b′ = NoLater a b a′ b′
+
+  split-tried : (a b a′ b′ : ℕ) → NoLater a b a′ b′ → NoLater a (suc b) a′ b′ ⊎ ((a′ ≡ a) × (b′ ≡ b))
+  split-tried a b a′ b′ (inl l) = inl (inl l)
+  split-tried a b a′ b′ (inr (e, l)) = go (decLe (suc b) b′)
+    where
+      go : Dec (suc b ≤ b′) → NoLater a (suc b) a′ b′ ⊎ ((a′ ≡ a) × (b′ ≡ b))
+      go (yes m) = inl (inr (e, m))
+      go (no m) = inr (sym e, omega arith)
+
+  tried-more : (a b a′ b′ : ℕ) → NoLater a (suc b) a′ b′ → NoLater a b a′ b′
+  tried-more a b a′ b′ (inl l) = inl l
+  tried-more a b a′ b′ (inr (e, l)) = inr (e, omega arith)
+
+  -- The start (a, b) alone.
+  abbrev Only : ℕ → ℕ → ℕ → ℕ → Type 0
+  Only a b a′ b′ = (a′ ≡ a) × (b′ ≡ b)
+
+  only-tried : (a b a′ b′ : ℕ) → Only a b a′ b′ → NoLater a b a′ b′
+  only-tried a b a′ b′ (e, f) = inr (sym e, omega arith)
+
+  -- A start is no later than one that comes after it, by the test.
+  strictly : (a b : ℕ) (r : Start) → NoLater a (suc b) (r .line) (r .figure) → noLater (record { line = a; figure = b }) r ≡ false
+  strictly a b r (inl l) =
+      let e = le-ltb (r .line) a (omega arith) in
+      let n : (r .line ≡ a) → ⊥ = λ q. omega arith in
+      let f = ne-eqb (r .line) a n in
+      rw (e, f)
+  strictly a b r (inr (q, l)) =
+      let e = le-ltb (r .line) a (omega arith) in
+      let f = lt-leb (r .figure) b (omega arith) in
+      rw (e, f) (and-false (eqb (r .line) a))
+
+  -- A candidate that comes before all tried is weighed by its cost alone.
+  better-best : (a b x : ℕ) (e : Entry) (q : Start) → Candidate s a b x → Best s (Tried a (suc b)) e
+      → Best s (Tried a b) (better (Least x q) a b e)
+  unfolding better chosen
+  better-best a b x e q c h = go e h (best-chosen (Tried a (suc b)) (Only a b) (Tried a b) (tried-more a b) (only-tried a b) (λ a′ b′ y d. split-tried a b a′ b′) e (Least x (record { line = a; figure = b })) h one)
+    where
+      one : Best s (Only a b) (Least x (record { line = a; figure = b }))
+      one = best-one (Only a b) a b x (refl, refl) c (λ a′ b′ y p d. p)
+
+      go : (e : Entry) → Best s (Tried a (suc b)) e → Best s (Tried a b) (chosen e (Least x (record { line = a; figure = b })))
+          → Best s (Tried a b) (better (Least x q) a b e)
+      go Unreached h k = k
+      go (Least y r) h k =
+          let t = strictly a b r (h .among y r refl) in
+          let u = and-false (eqb x y) in
+          let v = or-false (ltb x y) in
+          rw (t, u, v) at k
+
+  -- A start that is no candidate changes nothing.
+  not-best : (a b : ℕ) (e : Entry) → ((x : ℕ) → Candidate s a b x → ⊥) → Best s (Tried a (suc b)) e → Best s (Tried a b) e
+  not-best a b e none h =
+      best-as (Tried a (suc b)) (Tried a b) e (λ a′ b′ x c. tried-more a b a′ b′) (λ a′ b′ x c t. go a′ b′ x c (split-tried a b a′ b′ t)) h
+    where
+      go : (a′ b′ x : ℕ) → Candidate s a′ b′ x → NoLater a (suc b) a′ b′ ⊎ ((a′ ≡ a) × (b′ ≡ b)) → NoLater a (suc b) a′ b′
+      go a′ b′ x c (inl t) = t
+      go a′ b′ x c (inr (p, q)) = absurd (none x (rw (p, q) at c))
+
+  offered-best : (a b : ℕ) (e : Entry) → a ≤ s .i → b ≤ s .j → fits (s .galley) (place a b) (place (s .i) (s .j)) ≡ true
+      → Best s (Tried a (suc b)) e → Best s (Tried a b) (offered s a b e)
+  unfolding offered better
+  offered-best a b e h k fit best = go (ltb a (s .i) || ltb b (s .j)) (fills (s .galley) (full (s .galley) (place (s .i) (s .j))) (place a b) (place (s .i) (s .j))) refl refl
+    where
+      weighed : (f : Entry) → s .table a b (s .side) ≡ f → (ltb a (s .i) || ltb b (s .j)) ≡ true
+          → fills (s .galley) (full (s .galley) (place (s .i) (s .j))) (place a b) (place (s .i) (s .j)) ≡ true
+          → Best s (Tried a b) (better f a b e)
+      weighed Unreached t p q = not-best a b e (λ x c. no-reach x (c .start) (sym t ∙ c .reached)) best
+      weighed (Least x r) t p q =
+          better-best a b x e r (record { line = h; figure = k; some = p; fitting = fit; filling = q; start = r; reached = t }) best
+
+      go : (x y : Bool) → (ltb a (s .i) || ltb b (s .j)) ≡ x
+          → fills (s .galley) (full (s .galley) (place (s .i) (s .j))) (place a b) (place (s .i) (s .j)) ≡ y
+          → Best s (Tried a b) (pick (x && y) (better (s .table a b (s .side)) a b e) e)
+      go true true p q = weighed (s .table a b (s .side)) refl p q
+      go true false p q = not-best a b e (λ x c. let t = c .filling in let z : _≡_ {A = ℕ} 0 1 = cc in omega arith) best
+      go false y p q = not-best a b e (λ x c. let t = c .some in let z : _≡_ {A = ℕ} 0 1 = cc in omega arith) best
+
+  module _ (two : s .galley .floats ≡ 1) where
+    row-best : (a : ℕ) → a ≤ s .i → (b : ℕ) (e : Entry) → b ≤ suc (s .j) → Best s (Tried a b) e → Best s (Tried a 0) (row s a b e)
+    unfolding row
+    row-best a h zero e k best = best
+    row-best a h (suc b) e k best =
+        go (fits (s .galley) (place a b) (place (s .i) (s .j))) refl (λ fit. row-best a h b (offered s a b e) (omega arith) (offered-best a b e h (omega arith) fit best))
+      where
+        over : fits (s .galley) (place a b) (place (s .i) (s .j)) ≡ false → (a′ b′ x : ℕ) → Candidate s a′ b′ x → NoLater a 0 a′ b′ → NoLater a (suc b) a′ b′
+        over f a′ b′ x c (inl l) = inl l
+        over f a′ b′ x c (inr (q, l)) = near (decLe (suc b) b′)
+          where
+            near : Dec (suc b ≤ b′) → NoLater a (suc b) a′ b′
+            near (yes m) = inr (q, m)
+            near (no m) =
+                let t = fits-later a b a′ b′ (omega arith) (omega arith) h (omega arith) two (c .fitting) in
+                let z : _≡_ {A = ℕ} 0 1 = cc in
+                absurd (omega arith)
+
+        go : (t : Bool) → fits (s .galley) (place a b) (place (s .i) (s .j)) ≡ t
+            → (fits (s .galley) (place a b) (place (s .i) (s .j)) ≡ true → Best s (Tried a 0) (row s a b (offered s a b e)))
+            → Best s (Tried a 0) (pick t (row s a b (offered s a b e)) e)
+        go true f rest = rest f
+        go false f rest = best-as (Tried a (suc b)) (Tried a 0) e (λ a′ b′ x c. wider a′ b′) (over f) best
+          where
+            wider : (a′ b′ : ℕ) → NoLater a (suc b) a′ b′ → NoLater a 0 a′ b′
+            wider a′ b′ (inl l) = inl l
+            wider a′ b′ (inr (q, l)) = inr (q, omega arith)
+
+    rows-best : (a : ℕ) (e : Entry) → a ≤ suc (s .i) → Best s (Tried a 0) e → Best s Any (rows s a e)
+    unfolding rows
+    rows-best zero e h best = best-as (Tried 0 0) Any e (λ a b x c t. tt) (λ a b x c t. all a b) best
+      where
+        all : (a b : ℕ) → NoLater 0 0 a b
+        all zero b = inr (refl, omega arith)
+        all (suc a) b = inl (omega arith)
+    rows-best (suc a) e h best =
+        go (fits (s .galley) (place a (s .j)) (place (s .i) (s .j))) refl
+        (rows-best a (row s a (suc (s .j)) e) (omega arith) (row-best a (omega arith) (suc (s .j)) e (omega arith) line))
+      where
+        line : Best s (Tried a (suc (s .j))) e
+        line = best-as (Tried (suc a) 0) (Tried a (suc (s .j))) e (λ a′ b′ x c. into a′ b′) (λ a′ b′ x c. out a′ b′ (c .figure)) best
+          where
+            into : (a′ b′ : ℕ) → NoLater (suc a) 0 a′ b′ → NoLater a (suc (s .j)) a′ b′
+            into a′ b′ (inl l) = inl (omega arith)
+            into a′ b′ (inr (q, l)) = inl (omega arith)
+
+            out : (a′ b′ : ℕ) → b′ ≤ s .j → NoLater a (suc (s .j)) a′ b′ → NoLater (suc a) 0 a′ b′
+            out a′ b′ k (inl l) = near (decLt (suc a) a′)
+              where
+                near : Dec (suc a < a′) → NoLater (suc a) 0 a′ b′
+                near (yes m) = inl m
+                near (no m) = inr (omega arith, omega arith)
+            out a′ b′ k (inr (q, l)) = absurd (omega arith)
+
+        over : fits (s .galley) (place a (s .j)) (place (s .i) (s .j)) ≡ false → (a′ b′ x : ℕ) → Candidate s a′ b′ x → NoLater (suc a) 0 a′ b′
+        over f a′ b′ x c = near (decLt (suc a) a′) (decLe a′ a)
+          where
+            near : Dec (suc a < a′) → Dec (a′ ≤ a) → NoLater (suc a) 0 a′ b′
+            near (yes m) d = inl m
+            near (no m) (no n) = inr (omega arith, omega arith)
+            near (no m) (yes n) =
+                let t = fits-later a (s .j) a′ b′ n (c .figure) (omega arith) (le-refl (s .j)) two (c .fitting) in
+                let z : _≡_ {A = ℕ} 0 1 = cc in
+                absurd (omega arith)
+
+        go : (t : Bool) → fits (s .galley) (place a (s .j)) (place (s .i) (s .j)) ≡ t
+            → Best s Any (rows s a (row s a (suc (s .j)) e)) → Best s Any (pick t (rows s a (row s a (suc (s .j)) e)) e)
+        go true f rest = rest
+        go false f rest = best-as (Tried (suc a) 0) Any e (λ a′ b′ x c t. tt) (λ a′ b′ x c t. over f a′ b′ x c) best
+
+    -- What the search finds is the best of all starts.
+    pub best-start : Best s Any (bestStart s)
+    unfolding bestStart
+    best-start = rows-best (suc (s .i)) Unreached (le-refl (suc (s .i))) (best-none (Tried (suc (s .i)) 0) none)
+      where
+        none : (a b x : ℕ) → NoLater (suc (s .i)) 0 a b → Candidate s a b x → ⊥
+        none a b x (inl l) c = let m = c .line in omega arith
+        none a b x (inr (q, l)) c = let m = c .line in omega arith

@@ -1,0 +1,104 @@
+// The best start of a page that ends at a place: starts from the latest to the earliest, later lines first, then later
+// figures, and a mind changed only for a strictly smaller cost. Document 01, "Making".
+ghost use mathlib.Core.Path.{_≡_};
+ghost use Prim.Native.Nat.{suc};
+ghost use Rattle.places.specs.declared.Start.{Start as StartOf};
+ghost use Rattle.places.specs.declared.Entry.the-variants.{Least as least};
+ghost use Rattle.starts.specs.Search.{better, row, bestStart};
+ghost use Rattle.starts.specs.Asked.{searchOf, allPlaced, worth, Searched, RowAsked, Startable};
+use crate::heights::Heights;
+use galley::Galley;
+use places::Entry;
+use places::Start;
+
+// Whether every block is placed at (i, j): a page that ends there is the last.
+pub fn is_full(g: Galley, i: usize, j: usize) -> bool
+    ensures { λ r. ⌜ r ≡ allPlaced g i j ⌝ }
+{
+    (i == g.lines) & (j == g.figures)
+}
+
+// Whether a page from (a, b) to (i, j) of this loosest height counts: it is not empty, and full enough unless it is the last.
+fn counts(g: Galley, a: usize, b: usize, i: usize, j: usize, loose: u32) -> bool
+    ensures { λ r. ⌜ r ≡ worth g a b i j loose ⌝ }
+{
+    ((a < i) | (b < j)) & (is_full(g, i, j) | (g.spec.htmin <= loose))
+}
+
+// The start (a, b), whose own page costs x with all before it, against the best so far.
+fn cheaper(x: u32, a: usize, b: usize, best: Entry) -> Entry
+    requires { ⌜ Startable a b ⌝ }
+    ensures { λ r. ⌜ ((s : StartOf) → r ≡ better (least x s) a b best) ⌝ }
+{
+    let start = Start {
+        line: a as u32,
+        figure: b as u32,
+    };
+    match best {
+        Entry::Unreached => Entry::Least(x, start),
+        Entry::Least(y, held) => {
+            if x < y {
+                return Entry::Least(x, start);
+            }
+            Entry::Least(y, held)
+        }
+    }
+}
+
+// The best so far after the starts on line a, from figure j back to the first whose page is too high. A place that was
+// never reached offers no start for a page.
+fn best_on_line(
+    s: &[u8],
+    g: Galley,
+    work: &[u32],
+    i: usize,
+    j: usize,
+    side: usize,
+    a: usize,
+    lines: Heights,
+    known: Entry,
+) -> Entry
+    requires { ⌜ RowAsked (now s) g (now work) i j side a lines ⌝ }
+    ensures { λ r. ⌜ r ≡ row (searchOf (now (s .entry)) g (now (work .entry)) i j side) a (suc j) known ⌝ }
+{
+    let mut best = known;
+    let mut figures = Heights { tight: 0, loose: 0 };
+    let mut b = j + 1;
+    while 0 < b {
+        b -= 1;
+        figures = crate::heights::figure_before(s, g, figures, b, j);
+        let page = crate::heights::page_heights(g, (a < i) & (b < j), lines, figures);
+        if g.spec.htmax < page.tight {
+            return best;
+        }
+        if !counts(g, a, b, i, j, page.loose) {
+            continue;
+        }
+        let at = places::address_of(g.lines + 1, a, b, side);
+        let entry = places::entry_at(work, at);
+        let Entry::Least(x, _start) = entry else {
+            continue;
+        };
+        best = cheaper(x, a, b, best);
+    }
+    best
+}
+
+// The best of all starts of a page that ends at (i, j), where the page before it is on the given side.
+pub fn best_start(s: &[u8], g: Galley, work: &[u32], i: usize, j: usize, side: usize) -> Entry
+    requires { ⌜ Searched (now s) g (now work) i j side ⌝ }
+    ensures { λ r. ⌜ r ≡ bestStart (searchOf (now (s .entry)) g (now (work .entry)) i j side) ⌝ }
+{
+    let mut best = Entry::Unreached;
+    let mut lines = Heights { tight: 0, loose: 0 };
+    let mut a = i + 1;
+    while 0 < a {
+        a -= 1;
+        lines = crate::heights::line_before(s, g, lines, a, i);
+        if g.spec.htmax < lines.tight {
+            return best;
+        }
+        best = best_on_line(s, g, work, i, j, side, a, lines, best);
+    }
+    best
+}
