@@ -10,6 +10,7 @@ pub mod Shown
 pub mod Back
 pub mod Asked
 pub mod Run
+pub mod Column
 pub mod Traceable
 pub mod Solved
 pub mod laws

@@ -10,3 +10,4 @@ pub mod Price
 pub mod Solved
 pub mod Made
 pub mod Filling
+pub mod Column

@@ -1,78 +1,106 @@
 // The work area filled with the entry of every place, column by column: document 01, "Making".
 ghost use mathlib.Core.Path.{_≡_};
-ghost use Prim.Native.Nat.{suc, _≤_};
-ghost use Rattle.model.specs.Leaf.{sidesOf};
+ghost use Prim.Native.Nat.{suc};
 ghost use Rattle.galley.specs.Model.{modelOf};
-ghost use Rattle.places.specs.Table.{tableOf};
-ghost use Rattle.starts.specs.Search.{before, entryOf};
-ghost use Rattle.making.specs.Fill.{fillSide, fillPlace, fillColumn, filled};
-ghost use Rattle.making.specs.Asked.{SideAsked, PlaceAsked, ColumnAsked, FillAsked};
+ghost use Rattle.making.specs.Fill.{fillColumn, filled};
+ghost use Rattle.making.specs.Asked.{FillAsked};
+ghost use Rattle.making.specs.Column.{OddAsked, OddKnown, LastAsked, ColumnLent, TableLent};
 use galley::Galley;
-use places::Entry;
-use places::Start;
+use starts::heights::Heights;
+use window::queue::Queue;
+use window::slide::Window;
 
-// The side of the page before one on side c.
-fn side_before(g: Galley, c: usize) -> usize
-    requires { ⌜ c ≤ 1 ⌝ }
-    ensures { λ r. ⌜ r ≡ before (sidesOf (g .spec .sides)) c ⌝ }
+// The best starts with fewer than j figures of a page on side 1 that ends in column j, in double-sided work.
+fn fewer_odd(
+    s: &[u8],
+    g: Galley,
+    work: &[u32],
+    sums: &[u32],
+    words: &mut [u32],
+    best: &mut [u32],
+    j: usize,
+)
+    requires { ⌜ OddAsked (now s) g (now work) (now sums) (now words) (now best) j ⌝ }
+    ensures { λ _. ⌜ OddKnown (now (s .entry)) g (now (work .entry)) j (now (best .exit)) ⌝ }
 {
-    if g.spec.sides == 2 {
-        return 1 - c;
-    }
-    0
-}
-
-// The entry of place (i, j) on side c, from the entries of the places before it.
-fn entry_of(s: &[u8], g: Galley, work: &[u32], i: usize, j: usize, c: usize, cited: usize) -> Entry
-    requires { ⌜ SideAsked (now s) g (now work) i j c cited ⌝ }
-    ensures { λ r. ⌜ r ≡ entryOf (modelOf (now (s .entry)) g) (tableOf (suc (g .lines)) (now (work .entry))) i j c ⌝ }
-{
-    if i + j + c == 0 {
-        return Entry::Least(0, Start { line: 0, figure: 0 });
-    }
-    if !crate::price::may_stop(s, g, i, j, c, cited) {
-        return Entry::Unreached;
-    }
-    let best = crate::search::best_start(s, g, work, i, j, side_before(g, c));
-    let Entry::Least(x, start) = best else {
-        return Entry::Unreached;
-    };
-    Entry::Least(x + crate::price::price(g, i, j, c, cited), start)
-}
-
-// The entry of place (i, j) on side c put where it belongs.
-fn fill_side(s: &[u8], g: Galley, work: &mut [u32], i: usize, j: usize, c: usize, cited: usize)
-    requires { ⌜ SideAsked (now s) g (now work) i j c cited ⌝ }
-    ensures { λ _. ⌜ now (work .exit) ≡ fillSide (modelOf (now (s .entry)) g) i j c (now (work .entry)) ⌝ }
-{
-    let entry = entry_of(s, g, work, i, j, c, cited);
-    let at = places::address_of(g.lines + 1, i, j, c);
-    places::store(work, at, entry);
-}
-
-// The sides of place (i, j) that occur.
-fn fill_place(s: &[u8], g: Galley, work: &mut [u32], i: usize, j: usize, cited: usize)
-    requires { ⌜ PlaceAsked (now s) g (now work) i j cited ⌝ }
-    ensures { λ _. ⌜ now (work .exit) ≡ fillPlace (sidesOf (g .spec .sides)) (modelOf (now (s .entry)) g) i j (now (work .entry)) ⌝ }
-{
-    fill_side(s, g, work, i, j, 0, cited);
     if g.spec.sides != 2 {
         return;
     }
-    fill_side(s, g, work, i, j, 1, cited);
+    let side = crate::side::side_before(g, 1);
+    starts::sweep::fewer_figures(s, g, work, sums, words, best, j, side);
 }
 
-// The places of column j, from no line to all lines.
-fn fill_column(s: &[u8], g: Galley, work: &mut [u32], j: usize)
-    requires { ⌜ ColumnAsked (now s) g (now work) j ⌝ }
+// The places of column j, from no line to all lines, given for each side the room of a queue and the best starts with fewer than j
+// figures. A start with j figures stands in the column itself, and its entry is there by the time that the queue takes it up.
+fn last_sweep(
+    s: &[u8],
+    g: Galley,
+    work: &mut [u32],
+    sums: &[u32],
+    evens: &mut [u32],
+    even: &[u32],
+    odds: &mut [u32],
+    odd: &[u32],
+    j: usize,
+)
+    requires { ⌜ LastAsked (now s) g (now work) (now sums) (now evens) (now even) (now odds) (now odd) j ⌝ }
     ensures { λ _. ⌜ now (work .exit) ≡ fillColumn (modelOf (now (s .entry)) g) j (suc (g .lines)) 0 (now (work .entry)) ⌝ }
 {
+    let load = starts::sweep::load_of(g, false, Heights { tight: 0, loose: 0 });
     let mut cited = 0;
+    let mut span = Window { low: 0, high: 0 };
+    let mut left = Queue { head: 0, tail: 0 };
+    let mut right = Queue { head: 0, tail: 0 };
     let mut i = 0;
     while i <= g.lines {
         cited = marking::cites::cited_through(s, g, i, cited);
-        fill_place(s, g, work, i, j, cited);
+        let from = span;
+        span = window::slide::slide(sums, load, from, i);
+        left = crate::side::fill_side(s, g, work, evens, even, left, from, span, i, j, 0, cited);
+        right = crate::side::fill_odd(s, g, work, odds, odd, right, from, span, i, j, cited);
         i += 1;
+    }
+}
+
+// Column j: first the starts with fewer figures, in the columns before it, then those in the column itself.
+fn fill_column(
+    s: &[u8],
+    g: Galley,
+    work: &mut [u32],
+    sums: &[u32],
+    evens: &mut [u32],
+    even: &mut [u32],
+    odds: &mut [u32],
+    odd: &mut [u32],
+    j: usize,
+)
+    requires { ⌜ ColumnLent (now s) g (now work) (now sums) (now evens) (now even) (now odds) (now odd) j ⌝ }
+    ensures { λ _. ⌜ now (work .exit) ≡ fillColumn (modelOf (now (s .entry)) g) j (suc (g .lines)) 0 (now (work .entry)) ⌝ }
+{
+    let side = crate::side::side_before(g, 0);
+    starts::sweep::fewer_figures(s, g, work, sums, evens, even, j, side);
+    fewer_odd(s, g, work, sums, odds, odd, j);
+    last_sweep(s, g, work, sums, evens, even, odds, odd, j);
+}
+
+// All columns.
+fn fill_columns(
+    s: &[u8],
+    g: Galley,
+    work: &mut [u32],
+    sums: &[u32],
+    evens: &mut [u32],
+    even: &mut [u32],
+    odds: &mut [u32],
+    odd: &mut [u32],
+)
+    requires { ⌜ TableLent (now s) g (now work) (now sums) (now evens) (now even) (now odds) (now odd) ⌝ }
+    ensures { λ _. ⌜ now (work .exit) ≡ filled (modelOf (now (s .entry)) g) (now (work .entry)) ⌝ }
+{
+    let mut j = 0;
+    while j <= g.figures {
+        fill_column(s, g, work, sums, evens, even, odds, odd, j);
+        j += 1;
     }
 }
 
@@ -81,9 +109,22 @@ pub fn fill(s: &[u8], g: Galley, work: &mut [u32])
     requires { ⌜ FillAsked (now s) g (now work) ⌝ }
     ensures { λ _. ⌜ now (work .exit) ≡ filled (modelOf (now (s .entry)) g) (now (work .entry)) ⌝ }
 {
-    let mut j = 0;
-    while j <= g.figures {
-        fill_column(s, g, work, j);
-        j += 1;
-    }
+    // For 4,000 lines: four sums to a line; then, for each side, a queue of two words to a line and the best start so far of each
+    // place of a column.
+    let mut sums = [0u32; 16004];
+    let mut evens = [0u32; 8000];
+    let mut even = [0u32; 16004];
+    let mut odds = [0u32; 8000];
+    let mut odd = [0u32; 16004];
+    window::sums::gather(s, g, &mut sums);
+    fill_columns(
+        s,
+        g,
+        work,
+        &sums,
+        &mut evens,
+        &mut even,
+        &mut odds,
+        &mut odd,
+    );
 }

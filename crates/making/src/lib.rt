@@ -6,9 +6,8 @@ use galley::Reading;
 use model::answer::Answer;
 
 mod fill; // fill.rt: the work area filled, column by column
-mod heights; // heights.rt: the heights of a page, gathered back from its end
 mod price; // price.rt: whether a page may end at a place, and what it costs
-mod search; // search.rt: the best start of a place
+mod side; // side.rt: one side of a place filled
 mod trace; // trace.rt: the walk back from the last page
 
 // The best list out of a filled work area: written to the page list, and counted by marking it.

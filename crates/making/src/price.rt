@@ -25,7 +25,8 @@ pub fn may_stop(s: &[u8], g: Galley, i: usize, j: usize, c: usize, cited: usize)
     requires { ⌜ Stopping (now s) g i j c cited ⌝ }
     ensures { λ r. ⌜ r ≡ mayStop (modelOf (now (s .entry)) g) i j c ⌝ }
 {
-    marking::rules::may_end(s, g, i) & (!(ends_leaf(g, c) | starts::search::is_full(g, i, j)) | (j <= cited))
+    marking::rules::may_end(s, g, i)
+        & (!(ends_leaf(g, c) | starts::search::is_full(g, i, j)) | (j <= cited))
 }
 
 // What a page on side c costs that ends at (i, j), with so many figures cited by line i or earlier: where it ends its leaf

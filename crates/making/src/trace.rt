@@ -1,10 +1,8 @@
 // From the last page back to the first, by the start that each entry holds: document 01, "Making".
 ghost use mathlib.Core.Path.{_≡_};
 ghost use Prim.Native.Nat.{_+_, _≤_};
-ghost use Rattle.starts.specs.Search.{before};
 ghost use Rattle.making.specs.Trace.{startOf, better-side, lastSide, countBack, writeBack};
 ghost use Rattle.making.specs.Traceable.{sidesIn, tableIn, isReached, Lent, Placed, Walkable, Writable};
-ghost use Rattle.model.specs.Leaf.{sidesOf};
 use galley::Galley;
 use places::Entry;
 use places::Start;
@@ -31,14 +29,6 @@ fn start_of(entry: Entry) -> Start
         Entry::Unreached => Start { line: 0, figure: 0 },
         Entry::Least(_cost, start) => start,
     }
-}
-
-// The side of the page before one on side `side`.
-fn side_before(sides: u32, side: usize) -> usize
-    requires { ⌜ side ≤ 1 ⌝ }
-    ensures { λ r. ⌜ r ≡ before (sidesOf sides) side ⌝ }
-{
-    if sides == 2 { 1 - side } else { 0 }
 }
 
 // Of the two sides of the full place the less dear; an even page count, side 0, where they cost the same.
@@ -96,7 +86,7 @@ pub fn count_pages(g: Galley, work: &[u32], side: usize) -> usize
         let start = start_of(entry_of(g, work, i, j, c));
         i = size(start.line);
         j = size(start.figure);
-        c = side_before(g.spec.sides, c);
+        c = crate::side::side_before(g, c);
         p += 1;
     }
     p
@@ -118,7 +108,7 @@ pub fn write_pages(g: Galley, work: &[u32], side: usize, p: usize, pages: &mut [
         pages[at + 1] = j as u32;
         i = size(start.line);
         j = size(start.figure);
-        c = side_before(g.spec.sides, c);
+        c = crate::side::side_before(g, c);
         r -= 1;
     }
 }

@@ -54,9 +54,10 @@ no-later-true r s t = go (or-cases (ltb (s .line) (r .line)) (eqb (s .line) (r .
         → NoLater (s .line) (s .figure) (r .line) (r .figure)
     go (inl h) = inl (ltb-true (s .line) (r .line) h)
     go (inr h) =
-        inr
-        (eqb-true (s .line) (r .line) (and-left (eqb (s .line) (r .line)) (leb (s .figure) (r .figure)) h),
-        leb-true (s .figure) (r .figure) (and-right (eqb (s .line) (r .line)) (leb (s .figure) (r .figure)) h))
+        inr (
+          eqb-true (s .line) (r .line) (and-left (eqb (s .line) (r .line)) (leb (s .figure) (r .figure)) h),
+          leb-true (s .figure) (r .figure) (and-right (eqb (s .line) (r .line)) (leb (s .figure) (r .figure)) h),
+        )
 
 no-later-false : (r s : Start) → noLater r s ≡ false → NoLater (r .line) (r .figure) (s .line) (s .figure)
 no-later-false r s t =
@@ -163,13 +164,13 @@ module _ (s : Search) where
   pub best-chosen : (P Q R : ℕ → ℕ → Type 0) → ((a b : ℕ) → P a b → R a b) → ((a b : ℕ) → Q a b → R a b)
       → ((a b x : ℕ) → Candidate s a b x → R a b → P a b ⊎ Q a b) → (e f : Entry) → Best s P e → Best s Q f → Best s R (chosen e f)
   unfolding chosen Leads
-  best-chosen P Q R left right split e Unreached h k = 
+  best-chosen P Q R left right split e Unreached h k =
       best-as P R e (λ a b x c. left a b) (λ a b x c r. go a b x c (split a b x c r)) h
     where
       go : (a b x : ℕ) → Candidate s a b x → P a b ⊎ Q a b → P a b
       go a b x c (inl p) = p
       go a b x c (inr q) = absurd (k .leads a b x q c)
-  best-chosen P Q R left right split Unreached (Least y r) h k = 
+  best-chosen P Q R left right split Unreached (Least y r) h k =
       best-as Q R (Least y r) (λ a b x c. right a b) (λ a b x c t. go a b x c (split a b x c t)) k
     where
       go : (a b x : ℕ) → Candidate s a b x → P a b ⊎ Q a b → Q a b

@@ -152,9 +152,10 @@ module _ (bytes : List ℕ) (g : Galley) (w : List ℕ) (i j side b : ℕ) (figu
             absurd (omega arith)
         leads (Least x r) cheap a b′ y (p, l) c =
             let d = rw p at c in
-            let (low, high) = inside a y l d in
-            (cheap .least x r refl a y (d .start) low high (d .reached),
-            λ q. later (cheap .latest x r refl a (d .start) low high (rw (← q) at (d .reached))) (cheap .figure x r refl) p)
+            let (low, high) = inside a y l d in (
+              cheap .least x r refl a y (d .start) low high (d .reached),
+              λ q. later (cheap .latest x r refl a (d .start) low high (rw (← q) at (d .reached))) (cheap .figure x r refl) p,
+            )
           where
             later : a ≤ r .line → r .figure ≡ b → b′ ≡ b → (a < r .line) ⊎ ((a ≡ r .line) × (b′ ≤ r .figure))
             later h f p = go (decLt a (r .line))

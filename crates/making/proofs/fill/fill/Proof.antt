@@ -1,67 +1,57 @@
--- `fill` meets its contract. The loop's invariant is `TableRun`: what is left of the columns makes of the words what all
--- columns make of those at the start.
-use Prim.Native.Nat.{_+_, _-_}
-use Rattle.making.specs.Run.{TableRun}
-use Rattle.making.specs.laws.Filling.{table-start, table-column, table-next, table-end}
+-- `fill` meets its contract: the local arrays are as long as 4,000 lines ask for.
 use borrow.Author.Needs.{needs}
 use Rattle.making.proofs.fill.fill.Statement.{statement}
 use Rattle.making.proofs.fill.fill.Tie as tie
 
-abbrev Inv-loop : tie.InvT-loop
-Inv-loop s g work₀ j₀ work j =
-    TableRun s g work₀ work j
+slice-aggregate-gather : tie.Need-slice-aggregate-gather
+slice-aggregate-gather c = search needs
 
-abbrev μ-loop : tie.MeasureT-loop
-μ-loop s g work₀ j₀ work j = g .figures + 1 - j
+gather-requires : tie.Need-gather-requires
+gather-requires c κs = search needs
 
-loop-holds : tie.Need-loop-holds Inv-loop μ-loop
-loop-holds c =
-    let start = c .before .before in
-    let a = start .args in
-    table-start (a .s .now) (a .g) (a .work .now) (start .pre)
+slice-aggregate-fill-columns : tie.Need-slice-aggregate-fill-columns
+slice-aggregate-fill-columns c = search needs
 
-fill-column-requires : tie.Need-fill-column-requires Inv-loop μ-loop
-fill-column-requires c κs =
-    let start = c .before .before .before .before .before .before in
-    let a = start .args in
-    let st = c .before .before .before .loop in
-    table-column (a .s .now) (a .g) (a .work .now) (start .pre) (st .work) (st .j) (st .inv) (c .before .if1 .taken)
+slice-aggregate-fill-columns-2 : tie.Need-slice-aggregate-fill-columns-2
+slice-aggregate-fill-columns-2 c = search needs
 
-add-j : tie.Need-add-j Inv-loop μ-loop
-add-j c = search needs
+slice-aggregate-fill-columns-3 : tie.Need-slice-aggregate-fill-columns-3
+slice-aggregate-fill-columns-3 c = search needs
 
-loop-less : tie.Need-loop-less Inv-loop μ-loop
-loop-less c = search needs
+slice-aggregate-fill-columns-4 : tie.Need-slice-aggregate-fill-columns-4
+slice-aggregate-fill-columns-4 c = search needs
 
-loop-again : tie.Need-loop-again Inv-loop μ-loop
-loop-again c =
-    let start = c .before .before .before .before .before .before .before .before .before in
-    let a = start .args in
-    let st = c .before .before .before .before .before .before .loop in
-    table-next (a .s .now) (a .g) (a .work .now) (start .pre) (st .work) (st .j) (st .inv)
-    (c .before .before .before .before .if1 .taken) _
-    (c .before .before .fill-column .ensures)
+slice-aggregate-fill-columns-5 : tie.Need-slice-aggregate-fill-columns-5
+slice-aggregate-fill-columns-5 c = search needs
 
-same-length : tie.Need-same-length Inv-loop μ-loop
+fill-columns-requires : tie.Need-fill-columns-requires
+fill-columns-requires c κs =
+    record {
+      fill = c .before .before .before .before .before .before .before .before .before .before .before .pre;
+      summed = record { rows = c .before .before .before .before .before .before .before .gather .ensures; room = search needs };
+      evensRoom = search needs;
+      evenRoom = search needs;
+      oddsRoom = search needs;
+      oddRoom = search needs;
+    }
+
+same-length : tie.Need-same-length
 same-length c = search needs
 
-returns : tie.Need-returns Inv-loop μ-loop
-returns c =
-    let start = c .before .before .before .before .before in
-    let a = start .args in
-    let st = c .before .before .loop in
-    table-end (a .s .now) (a .g) (a .work .now) (st .work) (st .j) (st .inv) (c .if1 .left)
+returns : tie.Need-returns
+returns c = search needs
 
 pub fill-spec : {M : Type 1} → statement M
 fill-spec =
     tie.close
     (tie.spec
-    Inv-loop
-    μ-loop
-    loop-holds
-    fill-column-requires
-    add-j
-    loop-less
-    loop-again
+    slice-aggregate-gather
+    gather-requires
+    slice-aggregate-fill-columns
+    slice-aggregate-fill-columns-2
+    slice-aggregate-fill-columns-3
+    slice-aggregate-fill-columns-4
+    slice-aggregate-fill-columns-5
+    fill-columns-requires
     same-length
     returns)

@@ -1,74 +1,58 @@
--- `fill_column` meets its contract. The loop's invariant is `ColumnRun`: what is left of the column makes of the words what the
--- whole column makes of those at the start.
-use Prim.Native.Nat.{_+_, _-_}
-use Rattle.making.specs.Run.{ColumnRun}
-use Rattle.making.specs.laws.Filling.{column-start, column-place, column-next, column-end}
+-- `fill_column` meets its contract: what the sweeps leave is what the last one asks for.
+use native.Mathlib.Omega.{arith}
+use Rattle.making.specs.laws.Column.{column-even, column-odd, column-last}
 use borrow.Author.Needs.{needs}
 use Rattle.making.proofs.fill.fill_column.Statement.{statement}
 use Rattle.making.proofs.fill.fill_column.Tie as tie
 
-abbrev Inv-loop : tie.InvT-loop
-Inv-loop s g work₀ j cited₀ i₀ work cited i =
-    ColumnRun s g work₀ work j cited i
+side-before-requires : tie.Need-side-before-requires
+side-before-requires c κs =
+    omega arith
 
-abbrev μ-loop : tie.MeasureT-loop
-μ-loop s g work₀ j cited₀ i₀ work cited i = g .lines + 1 - i
+fewer-figures-requires : tie.Need-fewer-figures-requires
+fewer-figures-requires c κs =
+    rw (c .before .before .before .side-before .ensures) (column-even (c .before .before .before .before .before .before .before .before .before .before .before .pre))
 
-loop-holds : tie.Need-loop-holds Inv-loop μ-loop
-loop-holds c =
-    let start = c .before .before in
-    let a = start .args in
-    column-start (a .s .now) (a .g) (a .work .now) (a .j) (start .pre)
+fewer-odd-requires : tie.Need-fewer-odd-requires
+fewer-odd-requires c κs =
+    column-odd (c .before .before .before .before .before .before .before .before .before .before .before .before .before .before .before .before .before .before .before .pre)
 
-cited-through-requires : tie.Need-cited-through-requires Inv-loop μ-loop
-cited-through-requires c κs = c .before .before .loop .inv .citing
+last-sweep-requires : tie.Need-last-sweep-requires
+last-sweep-requires c κs =
+    column-last (c .before .before .before .before .before .before .before .before .before .before .before .before .before .before .before .before .before .before .before .before .before .before .before .before .before .before .before .before .before .pre) _ _ _ _
+    (search (needs, c .before .before .before .before .before .before .before .before .before .before .before .before .before .before .before .slice-known6 .given, c .before .before .before .before .before .before .before .before .before .before .before .before .before .before .before .before .evens .given)) (search (needs, c .before .before .before .before .before .before .before .before .before .before .before .before .before .slice-known7 .given, c .before .before .before .before .before .before .before .before .before .before .before .before .before .before .even .given))
+    (search (needs, c .before .before .before .before .before .before .before .slice-known8 .given, c .before .before .before .before .before .before .before .before .odds .given)) (search (needs, c .before .before .before .before .before .slice-known9 .given, c .before .before .before .before .before .before .odd .given))
+    (rw (← c .before .before .before .before .before .before .before .before .before .before .before .before .before .before .before .before .before .before .before .before .before .side-before .ensures) (c .before .before .before .before .before .before .before .before .before .before .before .before .before .before .before .before .before .fewer-figures .ensures)) (c .before .before .before .before .before .before .before .before .before .fewer-odd .ensures)
 
-fill-place-requires : tie.Need-fill-place-requires Inv-loop μ-loop
-fill-place-requires c κs =
-    let start = c .before .before .before .before .before .before .before in
-    let a = start .args in
-    let st = c .before .before .before .before .loop in
-    column-place (a .s .now) (a .g) (a .work .now) (a .j) (start .pre) (st .work) (st .cited) (st .i)
-    (c .before .cited-through .result)
-    (st .inv) (c .before .before .if1 .taken) (c .before .cited-through .ensures)
-
-add-i : tie.Need-add-i Inv-loop μ-loop
-add-i c = search needs
-
-loop-less : tie.Need-loop-less Inv-loop μ-loop
-loop-less c = search needs
-
-loop-again : tie.Need-loop-again Inv-loop μ-loop
-loop-again c =
-    let start = c .before .before .before .before .before .before .before .before .before .before in
-    let a = start .args in
-    let st = c .before .before .before .before .before .before .before .loop in
-    column-next (a .s .now) (a .g) (a .work .now) (a .j) (start .pre) (st .work) (st .cited) (st .i)
-    (c .before .before .before .before .cited-through .result)
-    (st .inv) (c .before .before .before .before .before .if1 .taken)
-    (c .before .before .before .before .cited-through .ensures) _ (c .before .before .fill-place .ensures)
-
-same-length : tie.Need-same-length Inv-loop μ-loop
+same-length : tie.Need-same-length
 same-length c = search needs
 
-returns : tie.Need-returns Inv-loop μ-loop
-returns c =
-    let start = c .before .before .before .before .before in
-    let a = start .args in
-    let st = c .before .before .loop in
-    column-end (a .s .now) (a .g) (a .work .now) (a .j) (st .work) (st .cited) (st .i) (st .inv) (c .if1 .left)
+same-length-2 : tie.Need-same-length-2
+same-length-2 c = search needs
+
+same-length-3 : tie.Need-same-length-3
+same-length-3 c = search needs
+
+same-length-4 : tie.Need-same-length-4
+same-length-4 c = search needs
+
+same-length-5 : tie.Need-same-length-5
+same-length-5 c = search needs
+
+returns : tie.Need-returns
+returns c = search needs
 
 pub fill-column-spec : {M : Type 1} → statement M
 fill-column-spec =
     tie.close
     (tie.spec
-    Inv-loop
-    μ-loop
-    loop-holds
-    cited-through-requires
-    fill-place-requires
-    add-i
-    loop-less
-    loop-again
+    side-before-requires
+    fewer-figures-requires
+    fewer-odd-requires
+    last-sweep-requires
     same-length
+    same-length-2
+    same-length-3
+    same-length-4
+    same-length-5
     returns)

@@ -3,8 +3,8 @@ use borrow.Author.Tests.{eq-eqb, ne-eqb}
 use Rattle.model.specs.Leaf.{sidesOf}
 use Rattle.starts.specs.Search.{before}
 use borrow.Author.Needs.{needs}
-use Rattle.making.proofs.fill.side_before.Statement.{statement}
-use Rattle.making.proofs.fill.side_before.Tie as tie
+use Rattle.making.proofs.side.side_before.Statement.{statement}
+use Rattle.making.proofs.side.side_before.Tie as tie
 
 sub-result : tie.Need-sub-result
 sub-result c = search needs

@@ -12,37 +12,37 @@ use Rattle.starts.specs.Asked.{searchOf}
 use Rattle.making.specs.laws.Entered.{side-low, side-before}
 use Rattle.making.specs.laws.Filling.{entry-nothing, entry-forbidden, entry-unreached, entry-least, cost-low}
 use borrow.Author.Needs.{needs}
-use Rattle.making.proofs.fill.entry_of.Statement.{statement}
-use Rattle.making.proofs.fill.entry_of.Tie as tie
+use Rattle.making.proofs.side.entry_of.Statement.{statement}
+use Rattle.making.proofs.side.entry_of.Tie as tie
 
 add-if1 : tie.Need-add-if1
 add-if1 c = search needs
 
 add-if1-2 : tie.Need-add-if1-2
 add-if1-2 c =
-    let start = c .before .before in
+    let start = c .before .before .before .before in
     let a = start .args in
-    let placed = start .pre .placed in
-    let low = side-low (sidesOf (a .g .spec .sides)) (a .c) (start .pre .side) in
+    let placed = start .pre .asked .placed in
+    let low = side-low (sidesOf (a .g .spec .sides)) (a .c) (start .pre .asked .side) in
     omega (arith, placed .line, placed .figure, placed .sound .fewLines, placed .sound .fewFigures)
 
 returns : tie.Need-returns
 returns c =
-    let start = c .before .before .before in
+    let start = c .before .before .before .before .before in
     let a = start .args in
     sym (entry-nothing (modelOf (a .s .now) (a .g)) (tableOf (suc (a .g .lines)) (a .work .now)) (a .i) (a .j) (a .c)
     (c .if1 .taken))
 
 may-stop-requires : tie.Need-may-stop-requires
 may-stop-requires c κs =
-    let start = c .before .before .before in
+    let start = c .before .before .before .before .before in
     let a = start .args in
-    let low = side-low (sidesOf (a .g .spec .sides)) (a .c) (start .pre .side) in
-    record { placed = start .pre .placed; either = low; citing = start .pre .citing }
+    let low = side-low (sidesOf (a .g .spec .sides)) (a .c) (start .pre .asked .side) in
+    record { placed = start .pre .asked .placed; either = low; citing = start .pre .asked .citing }
 
 returns-2 : tie.Need-returns-2
 returns-2 c =
-    let start = c .before .before .before .before .before in
+    let start = c .before .before .before .before .before .before .before in
     let a = start .args in
     let forbidden = sym (c .before .may-stop .ensures) ∙ not-true (c .before .may-stop .result) (c .if2 .taken) in
     sym (entry-forbidden (modelOf (a .s .now) (a .g)) (tableOf (suc (a .g .lines)) (a .work .now)) (a .i) (a .j) (a .c)
@@ -50,21 +50,18 @@ returns-2 c =
 
 side-before-requires : tie.Need-side-before-requires
 side-before-requires c κs =
-    let start = c .before .before .before .before .before in
+    let start = c .before .before .before .before .before .before .before in
     let a = start .args in
-    let low = side-low (sidesOf (a .g .spec .sides)) (a .c) (start .pre .side) in
+    let low = side-low (sidesOf (a .g .spec .sides)) (a .c) (start .pre .asked .side) in
     low
 
-best-start-requires : tie.Need-best-start-requires
-best-start-requires c κs =
-    let start = c .before .before .before .before .before .before in
-    let a = start .args in
-    let occurs = side-before (sidesOf (a .g .spec .sides)) (a .c) (start .pre .side) in
-    let low = side-low (sidesOf (a .g .spec .sides)) (before (sidesOf (a .g .spec .sides)) (a .c)) occurs in
-    record { placed = start .pre .placed; room = start .pre .room; either = omega (arith, low, c .side-before .ensures) }
+start-of-requires : tie.Need-start-of-requires
+start-of-requires c κs =
+    let start = c .before .before .before .before .before .before .before .before in
+    rw (c .side-before .ensures) (start .pre .start)
 
-enum-known-best : tie.Need-enum-known-best
-enum-known-best c = search needs
+enum-known-start : tie.Need-enum-known-start
+enum-known-start c = search needs
 
 enum-told : tie.Need-enum-told
 enum-told c = search needs
@@ -74,47 +71,47 @@ returns-3 c =
     let found = c .before .before in
     let side = found .before in
     let may = side .before .before in
-    let start = may .before .before .before .before in
+    let start = may .before .before .before .before .before .before in
     let a = start .args in
     let allowed = sym (may .may-stop .ensures) ∙ not-false (may .may-stop .result) (side .before .if2 .left) in
     let some = may .before .if1 .left in
     let best =
     sym
     (ap (λ (n : ℕ). bestStart (searchOf (a .s .now) (a .g) (a .work .now) (a .i) (a .j) n)) (side .side-before .ensures))
-    ∙ sym (found .best-start .ensures)
+    ∙ sym (found .start-of .ensures)
     ∙ c .enum-told .given .1 in
     sym (entry-unreached (modelOf (a .s .now) (a .g)) (tableOf (suc (a .g .lines)) (a .work .now)) (a .i) (a .j) (a .c) some
     allowed best)
 
 price-requires : tie.Need-price-requires
 price-requires c κs =
-    let start = c .before .before .before .before .before .before .before .before .before .before in
+    let start = c .before .before .before .before .before .before .before .before .before .before .before .before in
     let a = start .args in
-    let low = side-low (sidesOf (a .g .spec .sides)) (a .c) (start .pre .side) in
-    let few = start .pre .citing .few in
-    let spec = start .pre .placed .sound .specRanged in
+    let low = side-low (sidesOf (a .g .spec .sides)) (a .c) (start .pre .asked .side) in
+    let few = start .pre .asked .citing .few in
+    let spec = start .pre .asked .placed .sound .specRanged in
     record {
       alphas = spec .alphas;
       betas = spec .betas;
       either = low;
-      few = omega (arith, start .pre .placed .sound .fewFigures);
+      few = omega (arith, start .pre .asked .placed .sound .fewFigures);
     }
 
-add-t17 : tie.Need-add-t17
-add-t17 c =
+add-t21 : tie.Need-add-t21
+add-t21 c =
     let found = c .before .before .before .before in
     let side = found .before in
     let may = side .before .before in
-    let start = may .before .before .before .before in
+    let start = may .before .before .before .before .before .before in
     let a = start .args in
     let best =
     sym
     (ap (λ (n : ℕ). bestStart (searchOf (a .s .now) (a .g) (a .work .now) (a .i) (a .j) n)) (side .side-before .ensures))
-    ∙ sym (found .best-start .ensures)
-    ∙ c .before .before .best .given .1 in
+    ∙ sym (found .start-of .ensures)
+    ∙ c .before .before .start .given .1 in
     let low =
-    cost-low (a .s .now) (a .g) (a .work .now) (a .i) (a .j) (a .c) (a .cited) (start .pre) _ _ best in
-    let price = c .price .ensures (a .s .now) (start .pre .citing) in
+    cost-low (a .s .now) (a .g) (a .work .now) (a .i) (a .j) (a .c) (a .cited) (start .pre .asked) _ _ best in
+    let price = c .price .ensures (a .s .now) (start .pre .asked .citing) in
     omega (arith, low, price)
 
 returns-4 : tie.Need-returns-4
@@ -122,16 +119,16 @@ returns-4 c =
     let found = c .before .before .before .before in
     let side = found .before in
     let may = side .before .before in
-    let start = may .before .before .before .before in
+    let start = may .before .before .before .before .before .before in
     let a = start .args in
     let allowed = sym (may .may-stop .ensures) ∙ not-false (may .may-stop .result) (side .before .if2 .left) in
     let some = may .before .if1 .left in
     let best =
     sym
     (ap (λ (n : ℕ). bestStart (searchOf (a .s .now) (a .g) (a .work .now) (a .i) (a .j) n)) (side .side-before .ensures))
-    ∙ sym (found .best-start .ensures)
-    ∙ c .before .before .best .given .1 in
-    rw (c .price .ensures (a .s .now) (start .pre .citing))
+    ∙ sym (found .start-of .ensures)
+    ∙ c .before .before .start .given .1 in
+    rw (c .price .ensures (a .s .now) (start .pre .asked .citing))
     (sym (entry-least (modelOf (a .s .now) (a .g)) (tableOf (suc (a .g .lines)) (a .work .now)) (a .i) (a .j) (a .c) some
     allowed _ _ best))
 
@@ -145,10 +142,10 @@ entry-of-spec =
     may-stop-requires
     returns-2
     side-before-requires
-    best-start-requires
-    enum-known-best
+    start-of-requires
+    enum-known-start
     enum-told
     returns-3
     price-requires
-    add-t17
+    add-t21
     returns-4)
