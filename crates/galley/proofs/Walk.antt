@@ -9,8 +9,7 @@
 --     held, found                 the machine value of a reader has its type, and that of a record
 --     apart, together             what a reader owns gives what its bytes own; what bytes own, with an offset that fits, gives
 --                                 what a reader of them owns
--- Assumes nothing.
-use mathlib.Core.Path.{_≡_, refl, sym, subst, ap}
+use mathlib.Core.Path.{_≡_, refl, subst, ap}
 use Prim.Native.Nat.{ℕ, _<_, _^_}
 use mathlib.Core.List.{List, [], _∷_}
 use lib.Dec.{T as Holds}
@@ -73,6 +72,7 @@ abbrev kept : {n : ℕ} (ss : List (Slot n)) (ks : Kepts ss) → Stays ss ks
 kept [] ks = tt
 kept (s ∷ ss) ks = (record { fit = λ κs x f. Unit {0}; has = λ κs x f vs. s .row κs .own x vs }, kept ss (ks .1))
 
+-- nothing is owed of what is bound at exit, and what is had there is what was owned at entry
 fits : {n : ℕ} (κs : Lfts n) (ss : List (Slot n)) (ks : Kepts ss) (a : Denots (typesAt ss κs)) (ws : Fins κs ss ks a)
     → fitsOf κs ss ks (kept ss ks) a ws
 fits κs [] ks a ws = tt
@@ -88,6 +88,7 @@ module _ {M : Type 1} {𝓤 : URA M} {H : Heap 𝓤} {A : Atoms 𝓤} (W : Given
   Passeds [] = Unit {1}
   Passeds (s ∷ ss) = Passed W s × Passeds ss
 
+  -- their machine values, and that what they own tells these
   abbrev spelled : (ss : List (Slot n)) → Passeds ss → (κs : Lfts n) → Spells (typesAt ss κs)
   spelled [] ps κs = tt
   spelled (s ∷ ss) ps κs = (ps .0 .vals κs, spelled ss (ps .1) κs)
@@ -97,11 +98,13 @@ module _ {M : Type 1} {𝓤 : URA M} {H : Heap 𝓤} {A : Atoms 𝓤} (W : Given
   told [] ps κs = tt
   told (s ∷ ss) ps κs = (ps .0 .tells κs, told ss (ps .1) κs)
 
+  -- what is had at exit gives what a contract says of them, which is nothing
   goes : (ss : List (Slot n)) (ks : Kepts ss) → Passeds ss → AllGo 𝓤 H A W n ss ks (kept ss ks)
   goes [] ks ps = tt
   goes (s ∷ ss) ks ps =
       (goes-silent 𝓤 H A W n s (ks .0) (kept (s ∷ ss) ks .0) (ps .0 .silent (ks .0)), goes ss (ks .1) (ps .1))
 
+  -- what they own together is had twice
   twice : (κs : Lfts n) (ss : List (Slot n)) → Passeds ss → (a : Denots (typesAt ss κs)) (vss : Valss (typesAt ss κs))
       → ent 𝓤 (sem 𝓤 H A (owns (typesAt ss κs) a vss))
       (sep 𝓤 (sem 𝓤 H A (owns (typesAt ss κs) a vss)) (sem 𝓤 H A (owns (typesAt ss κs) a vss)))
@@ -123,6 +126,7 @@ module _ {M : Type 1} {𝓤 : URA M} {H : Heap 𝓤} {A : Atoms 𝓤} (W : Given
   abbrev pub Call : Type 0
   Call = Walk .Ghost
 
+  -- at one such choice: the result's type, what the arguments own, the tokens, what a result owns, and what is ensured of it
   module _ (y : Call) where
     abbrev Result : Type 0
     Result = Res (T .signature) (y .0 .0)
@@ -162,6 +166,7 @@ module _ {M : Type 1} {𝓤 : URA M} {H : Heap 𝓤} (𝓜 : Model 𝓤 H) (𝓖
   abbrev Λ : Loops 𝓤 H
   Λ = tables 𝓤 H 𝓜 𝓡 γ .Λ
 
+  -- a table of calls is monotone under a frame, which the call rule asks
   framed : FmC 𝓤 H (W .laws) C
   unfolding tablesOf
   framed = fmOf 𝓤 H (W .laws) (tablesOf 𝓤 H 𝓜 (tables 𝓤 H 𝓜 𝓡 γ))
