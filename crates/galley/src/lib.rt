@@ -1,9 +1,10 @@
-// A galley's bytes: one record read at a place, the whole galley, and the fields of line k and figure k. Nothing is copied
-// and nothing is written. Document 01, "The galley file".
+// A galley's bytes: one record read at a place, the reader that goes through them, the whole galley, and the fields of line
+// k and figure k. Nothing is copied and nothing is written. Document 01, "The galley file".
 pub mod block; // block.rt: the fields of line k and of figure k, by number
 pub mod place; // place.rt: which mark fits where
 mod range; // range.rt: the ranges of the fields
-pub mod records; // records.rt: the record at an offset
+pub mod reader; // reader.rt: the reader over the lent bytes
+mod records; // records.rt: the record at an offset
 pub mod whole; // whole.rt: a galley, record by record
 mod word; // word.rt: bytes, fields and marks
 

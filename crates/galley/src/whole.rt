@@ -67,7 +67,7 @@ pub fn record_in(
     if 0 < number {
         return Record::Refused { number, place: at };
     }
-    let found = crate::records::record_at(s, at);
+    let found = crate::reader::read_record(s, at);
     match found {
         Record::Spec(g) => Record::Spec(g),
         Record::Line(l) => Record::Line(l),

@@ -34,8 +34,8 @@ returns-2 c =
       lt-ltb _ _ (c .if2 .taken),
     )
 
-record-at-requires : tie.Need-record-at-requires
-record-at-requires c κs = search needs
+read-record-requires : tie.Need-read-record-requires
+read-record-requires c κs = search needs
 
 enum-known-found : tie.Need-enum-known-found
 enum-known-found c = search needs
@@ -68,7 +68,7 @@ returns-3 c =
       ← c .before .before .before .before .before .before .kind-of .ensures,
       ← c .before .before .before .before .before .unfit-for .ensures,
       le-ltb _ _ (c .before .before .before .before .if2 .left),
-      ← c .before .before .before .record-at .ensures,
+      ← c .before .before .before .read-record .ensures,
       c .before .found .given .1,
     )
 
@@ -82,7 +82,7 @@ returns-4 c =
       ← c .before .before .before .before .before .before .kind-of .ensures,
       ← c .before .before .before .before .before .unfit-for .ensures,
       le-ltb _ _ (c .before .before .before .before .if2 .left),
-      ← c .before .before .before .record-at .ensures,
+      ← c .before .before .before .read-record .ensures,
       c .before .found2 .given .1,
     )
 
@@ -96,7 +96,7 @@ returns-5 c =
       ← c .before .before .before .before .before .before .before .kind-of .ensures,
       ← c .before .before .before .before .before .before .unfit-for .ensures,
       le-ltb _ _ (c .before .before .before .before .before .if2 .left),
-      ← c .before .before .before .before .record-at .ensures,
+      ← c .before .before .before .before .read-record .ensures,
       c .before .before .found3 .given .1,
     )
     (c .cited-figure .ensures)
@@ -111,7 +111,7 @@ returns-6 c =
       ← c .before .before .before .before .before .before .kind-of .ensures,
       ← c .before .before .before .before .before .unfit-for .ensures,
       le-ltb _ _ (c .before .before .before .before .if2 .left),
-      ← c .before .before .before .record-at .ensures,
+      ← c .before .before .before .read-record .ensures,
       c .before .enum-told .given .1,
     )
     (c .last-record .ensures)
@@ -126,7 +126,7 @@ returns-7 c =
       ← c .before .before .before .before .before .before .kind-of .ensures,
       ← c .before .before .before .before .before .unfit-for .ensures,
       le-ltb _ _ (c .before .before .before .before .if2 .left),
-      ← c .before .before .before .record-at .ensures,
+      ← c .before .before .before .read-record .ensures,
       c .before .found4 .given .1,
     )
 
@@ -140,7 +140,7 @@ record-in-spec =
     kind-of-requires
     unfit-for-requires
     returns-2
-    record-at-requires
+    read-record-requires
     enum-known-found
     enum-known-found-2
     enum-known-found-3
