@@ -1,6 +1,5 @@
 """The plain Rust of bench/native, which the engine is measured against: both of its searches against the reference, and
 against each other on galleys that the reference takes too long for. The last line is 'N passed, M failed'."""
-import itertools
 import pathlib
 import random
 import subprocess
@@ -36,7 +35,8 @@ def unknown():
     """Galleys of few and of many lines, most of small height."""
     yield from sample.galleys(SEED + 1, 1_000, 30, 8)
     yield from sample.fine_galleys(SEED + 2, 3_000, 8, 40, 6)
-    yield from sample.fine_galleys(SEED + 3, 40, 300, 1_000, 20, highest=400)
+    yield from sample.fine_galleys(SEED + 3, 20, 300, 1_000, 20, highest=400)
+    yield from sample.fine_galleys(SEED + 4, 2, 4_000, 4_000, 6, highest=100)
 
 
 def main():
@@ -47,7 +47,7 @@ def main():
     def compare(name, g, *expected):
         nonlocal tried
         tried += 1
-        work, pages = (check.dirty(rng, length + 3) for length in check.needed(g))
+        work, pages = (tuple(rng.choices((0, 1, 2, check.HIGHEST), k=length + 3)) for length in check.needed(g))
         answers = [make(galley.write(g), work, pages) for make in (by_queues, plain)]
         answers += [check.due(g, best, work, pages) for best in expected]
         if any(answer != answers[0] for answer in answers):
@@ -55,9 +55,14 @@ def main():
 
     for name, g, best in known():
         compare(name, g, best)
-    for number, g in zip(itertools.count(), unknown()):
+    for number, g in enumerate(unknown()):
         compare(f'galley {number} of unknown best list', g)
-    return engine.report(tried, wrong)
+    # Everything fits one page: the plain search would take minutes.
+    work, pages = ((1,) * length for length in check.needed(cases.LONGEST))
+    largest = by_queues(galley.write(cases.LONGEST), work, pages)
+    if largest != check.due(cases.LONGEST, (4_000, 200), work, pages):
+        wrong.append(f'the largest galley of height 0: {largest[0]}')
+    return engine.report(tried + 1, wrong)
 
 
 if __name__ == '__main__':
