@@ -76,6 +76,14 @@ pub fn may_end(galley: &Galley, i: usize) -> bool {
     i == 0 || i == galley.m || galley.line(i).last == 1
 }
 
+/// The number of figures that are cited by line i or earlier, counted on from those of an earlier line.
+pub fn cited_through(galley: &Galley, i: usize, mut cited: usize) -> usize {
+    while cited < galley.n && galley.figure(cited + 1).last as usize <= i {
+        cited += 1;
+    }
+    cited
+}
+
 /// What a page that ends its spread at (i, j) costs, with so many figures cited by line i or earlier: the figures that
 /// wait, and the turn. The last page costs nothing.
 pub fn price(galley: &Galley, (i, j): Place, cited: usize) -> u32 {

@@ -2,18 +2,16 @@
 
 use crate::page::Height;
 use crate::places::{
-    first_side, least, may_end, origin_side, price, side_before, store, Least, Place, ENDS, OPENS, ORIGIN,
+    cited_through, first_side, least, may_end, origin_side, price, side_before, store, Least, Place, ENDS, OPENS,
+    ORIGIN,
 };
 use crate::read::Galley;
 
 pub fn fill(galley: &Galley, work: &mut [u32]) {
     for j in 0..=galley.n {
-        // Figures that are cited by line i or earlier.
         let mut cited = 0;
         for i in 0..=galley.m {
-            while cited < galley.n && galley.figure(cited + 1).last as usize <= i {
-                cited += 1;
-            }
+            cited = cited_through(galley, i, cited);
             fill_place(galley, work, (i, j), cited);
         }
     }

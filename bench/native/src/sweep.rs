@@ -6,7 +6,8 @@
 
 use crate::page::Height;
 use crate::places::{
-    clear_column, first_side, least, may_end, origin_side, price, side_before, store, Least, ENDS, OPENS, ORIGIN,
+    cited_through, clear_column, first_side, least, may_end, origin_side, price, side_before, store, Least, ENDS,
+    OPENS, ORIGIN,
 };
 use crate::plain::best_starts;
 use crate::queue::Queue;
@@ -20,21 +21,20 @@ pub fn fill(galley: &Galley, work: &mut [u32]) {
     let (m, n) = (galley.m, galley.n);
     let (lines, figures) = sums_of(galley);
     let mut queues = [Queue::new(), Queue::new()];
-    // The earliest figure that pages of column j can start after: the later ones of the column then fit a page.
+    // The earliest figure after which the others up to figure j fit a page.
     let mut earliest = 0;
     for j in 0..=n {
         clear_column(galley, work, j);
         while figures.between(earliest, j).tight > galley.spec.ht_max {
             earliest += 1;
         }
-        for b in earliest..j {
-            sweep(galley, work, &lines, &mut queues, (b, j), figures.between(b, j));
-        }
         if j == 0 {
             store(galley, work, (0, 0), origin_side(galley.spec.sides), Some(ORIGIN));
         }
-        // Where b is j the column feeds itself, so it comes last.
-        sweep(galley, work, &lines, &mut queues, (j, j), Height::default());
+        // Where b is j the column feeds itself, so that comes last.
+        for b in earliest..=j {
+            sweep(galley, work, &lines, &mut queues, &Pages { b, j, figures: figures.between(b, j) });
+        }
     }
     // The last page may be low, so its starts are no such window.
     let best = best_starts(galley, work, (m, n));
@@ -42,19 +42,17 @@ pub fn fill(galley: &Galley, work: &mut [u32]) {
     store(galley, work, (m, n), ENDS, best[ENDS]);
 }
 
-/// The pages of figures b + 1 to j and any number of lines, weighed for every place of column j but the full one.
-fn sweep(
-    galley: &Galley,
-    work: &mut [u32],
-    lines: &LineSums,
-    queues: &mut Queues,
-    (b, j): (usize, usize),
+/// The pages of figures b + 1 to j and any lines.
+struct Pages {
+    b: usize,
+    j: usize,
     figures: Height,
-) {
-    let spec = &galley.spec;
+}
+
+/// The pages weighed for every place of column j but the full one.
+fn sweep(galley: &Galley, work: &mut [u32], lines: &LineSums, queues: &mut Queues, pages: &Pages) {
+    let (spec, &Pages { b, j, figures }) = (&galley.spec, pages);
     let beside = Height::page(Height::default(), figures, b < j, spec);
-    // A page of figures alone has no line and no separation: it is no part of the window.
-    let figures_alone = b < j && figures.loose >= spec.ht_min;
     // No spread ends before the line that cites the last figure, and single-sided no page does.
     let citation = if j > 0 { galley.figure(j).last as usize } else { 1 };
     let first = if spec.sides == 1 || j == 0 { citation } else { 0 };
@@ -74,27 +72,38 @@ fn sweep(
             if side == ENDS && i < citation {
                 continue;
             }
-            let mut best = least(galley, work, (i, j), side);
             queues[side].leave(window.low);
-            if let Some((a, cost)) = queues[side].best() {
-                best = better(best, Least { cost, start: (a, b) });
-            }
-            if figures_alone {
-                if let Some(Least { cost, .. }) = least(galley, work, (i, b), side_before(spec.sides, side)) {
-                    best = better(best, Least { cost, start: (i, b) });
-                }
-            }
+            let mut best = weigh(galley, work, queues[side].best(), pages, i, side);
             if b == j && side == ENDS {
-                while cited < galley.n && galley.figure(cited + 1).last as usize <= i {
-                    cited += 1;
-                }
-                if let Some(least) = &mut best {
-                    least.cost += price(galley, (i, j), cited);
-                }
+                cited = cited_through(galley, i, cited);
+                best = best.map(|least| Least { cost: least.cost + price(galley, (i, j), cited), ..least });
             }
             store(galley, work, (i, j), side, best);
         }
     }
+}
+
+/// The best so far of place (i, j) against the best start in the window and against the page of figures alone, which has no
+/// line and no separation and so is no part of the window.
+fn weigh(
+    galley: &Galley,
+    work: &[u32],
+    front: Option<(usize, u32)>,
+    pages: &Pages,
+    i: usize,
+    side: usize,
+) -> Option<Least> {
+    let &Pages { b, j, figures } = pages;
+    let mut best = least(galley, work, (i, j), side);
+    if let Some((a, cost)) = front {
+        best = better(best, Least { cost, start: (a, b) });
+    }
+    if b < j && figures.loose >= galley.spec.ht_min {
+        if let Some(Least { cost, .. }) = least(galley, work, (i, b), side_before(galley.spec.sides, side)) {
+            best = better(best, Least { cost, start: (i, b) });
+        }
+    }
+    best
 }
 
 /// The starting lines from `low` on make no page to the present place too high; those before `next` have been let in.
