@@ -11,8 +11,12 @@ SHARED = ROOT / 'target' / 'libbarleychime.so'
 def build():
     """Prove and compile the engine, and load it. The archive is position independent, so it can be made a shared object."""
     subprocess.run(['rt', 'staticlib', 'barleychime'], cwd=ROOT, check=True, stdout=subprocess.DEVNULL, stderr=subprocess.DEVNULL)
-    subprocess.run(['gcc', '-shared', '-Wl,--whole-archive', ARCHIVE, '-Wl,--no-whole-archive', '-o', SHARED], check=True)
-    return ctypes.CDLL(str(SHARED))
+    return load(ARCHIVE, SHARED)
+
+
+def load(archive, shared):
+    subprocess.run(['gcc', '-shared', '-Wl,--whole-archive', archive, '-Wl,--no-whole-archive', '-o', shared], check=True)
+    return ctypes.CDLL(str(shared))
 
 
 def lend(words):
@@ -46,9 +50,9 @@ def marker(library):
     return mark
 
 
-def maker(library):
+def maker(library, name='barleychime_make'):
     """The making as a function of bytes, work area and page list: the answer, and both afterwards."""
-    call = library.barleychime_make
+    call = library[name]
     call.restype = ctypes.c_uint32
     call.argtypes = [ctypes.c_char_p, ctypes.c_size_t, ctypes.c_void_p, ctypes.c_size_t, ctypes.c_void_p, ctypes.c_size_t,
                      ctypes.c_void_p]

@@ -1,78 +1,92 @@
-//! Making and marking, the proved engine against the same algorithm in plain Rust: same bytes, same memory, same run.
+//! Making and marking, the proved engine against plain Rust: same bytes, same memory, same run.
 //!
-//! Both clear the work area themselves, as document 01 has it, and that is part of the time; neither gets it cleared
+//! All clear the work area themselves, as document 01 has it, and that is part of the time; none gets it cleared
 //! beforehand. Of several runs, by turns, the fastest counts. The answers are compared, so that no speed is bought.
 
+mod clock;
 mod galleys;
+mod measure;
 
-use barleychime::engine::{self, Measure, Refusal};
-use galleys::{bytes, growing, Shape, SHAPES};
-use std::hint::black_box;
-use std::time::{Duration, Instant};
+use galleys::{chains, Shape, HANDBOOKS};
+use measure::{making, marking, Making, Marking};
+use std::time::Duration;
 
-/// One galley's marking takes microseconds, so it is repeated.
-const MARKINGS: u32 = 200;
+const MAKING: [&str; 12] = [
+    "making",
+    "lines",
+    "figures",
+    "G",
+    "T",
+    "engine",
+    "native queue",
+    "engine / queue",
+    "native plain",
+    "plain / engine",
+    "growth of engine",
+    "growth of m · n · G",
+];
+const MARKING: [&str; 4] = ["marking", "engine", "native", "engine / native"];
 
 fn main() {
-    let runs = match std::env::args().nth(1).map(|runs| runs.parse()) {
-        None => 3,
-        Some(Ok(runs @ 1..=1_000)) => runs,
-        Some(_) => {
-            eprintln!("usage: bench/run [RUNS]");
-            std::process::exit(2);
-        }
+    let arguments: Vec<String> = std::env::args().skip(1).collect();
+    let (runs, wanted) = match &arguments[..] {
+        [] => (Some(3), ""),
+        [runs] => (runs.parse().ok(), ""),
+        [runs, wanted] => (runs.parse().ok(), &wanted[..]),
+        _ => (None, ""),
     };
-    let cores = std::thread::available_parallelism().map_or(1, usize::from);
-    println!("{cores} cores, of which one is used; the fastest of {runs} runs.\n");
-    println!("| galley | lines | figures | T | making: engine | native | ratio | marking: engine | native | ratio |");
-    println!("|---|---|---|---|---|---|---|---|---|---|");
-    for shape in SHAPES {
-        row(shape, &measure(shape, runs));
+    let Some(runs @ 1..=1_000) = runs else {
+        eprintln!("usage: bench/run [RUNS [PART OF A GALLEY'S NAME]]");
+        std::process::exit(2);
+    };
+    println!("The fastest of {runs}, or the first where that takes over 5 s; processor time.\n");
+    head(&MAKING);
+    for chain in chains() {
+        let mut half = None;
+        for shape in chain.into_iter().filter(|shape| shape.name.contains(wanted)) {
+            let made = making(shape, runs);
+            row(&cells(shape, &made, half.as_ref()));
+            half = Some((shape, made));
+        }
     }
-    println!("\nGrowth as the number of lines doubles (50 figures, double-sided):\n");
-    println!("| lines | making: engine | times the one before | native | times the one before | ratio |");
-    println!("|---|---|---|---|---|---|");
-    let mut before: Option<Times> = None;
-    for shape in growing() {
-        let times = measure(shape, runs);
-        let factor = |of: fn(&Times) -> Duration| {
-            before.as_ref().map_or("–".into(), |before| format!("{:.2}", ratio(of(&times), of(before))))
-        };
-        println!(
-            "| {} | {} | {} | {} | {} | {:.2} |",
-            shape.lines,
-            shown(times.engine_make),
-            factor(|times| times.engine_make),
-            shown(times.native_make),
-            factor(|times| times.native_make),
-            ratio(times.engine_make, times.native_make)
-        );
-        before = Some(times);
+    println!();
+    head(&MARKING);
+    for shape in HANDBOOKS.into_iter().filter(|shape| shape.name.contains(wanted)) {
+        let Marking { engine, native } = marking(shape, runs);
+        row(&[shape.name.into(), shown(engine), shown(native), format!("{:.2}", ratio(engine, native))]);
     }
 }
 
-struct Times {
-    turns: String,
-    engine_make: Duration,
-    native_make: Duration,
-    engine_mark: Duration,
-    native_mark: Duration,
+/// One galley's making; the growth is over the galley of half the size.
+fn cells(shape: Shape, made: &Making, half: Option<&(Shape, Making)>) -> [String; MAKING.len()] {
+    let none = || String::from("–");
+    let growth = |of: fn(Shape, &Making) -> f64| {
+        half.map_or_else(none, |(half, before)| format!("{:.2}", of(shape, made) / of(*half, before)))
+    };
+    [
+        shape.name.into(),
+        shape.lines.to_string(),
+        shape.figures.to_string(),
+        made.most_figures.to_string(),
+        made.turns.clone(),
+        shown(made.engine),
+        shown(made.queue),
+        format!("{:.2}", ratio(made.engine, made.queue)),
+        made.plain.map_or_else(none, shown),
+        made.plain.map_or_else(none, |plain| format!("{:.1}", ratio(plain, made.engine))),
+        growth(|_, made| made.engine.as_secs_f64()),
+        growth(|shape, made| f64::from(shape.lines) * f64::from(shape.figures) * f64::from(made.most_figures)),
+    ]
 }
 
-fn row(shape: Shape, times: &Times) {
-    println!(
-        "| {} | {} | {} | {} | {} | {} | {:.2} | {} | {} | {:.2} |",
-        shape.name,
-        shape.lines,
-        shape.figures,
-        times.turns,
-        shown(times.engine_make),
-        shown(times.native_make),
-        ratio(times.engine_make, times.native_make),
-        shown(times.engine_mark),
-        shown(times.native_mark),
-        ratio(times.engine_mark, times.native_mark)
-    );
+fn head(titles: &[&str]) {
+    row(titles);
+    println!("|{}", "---|".repeat(titles.len()));
+}
+
+fn row<Cell: AsRef<str>>(cells: &[Cell]) {
+    let cells: Vec<&str> = cells.iter().map(AsRef::as_ref).collect();
+    println!("| {} |", cells.join(" | "));
 }
 
 fn ratio(time: Duration, other: Duration) -> f64 {
@@ -85,49 +99,4 @@ fn shown(time: Duration) -> String {
         seconds if seconds >= 1e-3 => format!("{:.1} ms", seconds * 1e3),
         seconds => format!("{:.1} µs", seconds * 1e6),
     }
-}
-
-fn timed<Answer>(best: &mut Duration, work: impl FnOnce() -> Answer) -> Answer {
-    let began = Instant::now();
-    let answer = black_box(work());
-    *best = began.elapsed().min(*best);
-    answer
-}
-
-fn measure(shape: Shape, runs: u32) -> Times {
-    let galley = bytes(shape);
-    let (lines, figures) = (shape.lines as usize, shape.figures as usize);
-    let mut work = vec![0; 8 * (lines + 1) * (figures + 1)];
-    let (mut pages, mut pages_native) = (vec![0; 2 * (lines + figures)], vec![0; 2 * (lines + figures)]);
-    let [mut engine_make, mut native_make, mut engine_mark, mut native_mark] = [Duration::MAX; 4];
-    let mut made = Err(Refusal { number: 11, place: 0 });
-    for _ in 0..runs {
-        made = timed(&mut engine_make, || engine::make_in(&galley, &mut work, &mut pages));
-        let native = timed(&mut native_make, || native::make(&galley, &mut work, &mut pages_native));
-        agree(shape, made, native);
-        assert!(pages == pages_native, "{}: the two lists differ", shape.name);
-    }
-    let list = &pages[..made.map_or(0, |measure| 2 * measure.pages as usize)];
-    for _ in 0..runs {
-        let marked = timed(&mut engine_mark, || many(|| engine::mark(black_box(&galley), list)));
-        let native = timed(&mut native_mark, || many(|| native::mark(black_box(&galley), list)));
-        agree(shape, marked, native);
-    }
-    let turns = made.map_or_else(|refusal| refusal.to_string(), |measure| measure.turns.to_string());
-    Times { turns, engine_make, native_make, engine_mark: engine_mark / MARKINGS, native_mark: native_mark / MARKINGS }
-}
-
-fn many<Answer>(work: impl Fn() -> Answer) -> Answer {
-    for _ in 1..MARKINGS {
-        black_box(work());
-    }
-    work()
-}
-
-fn agree(shape: Shape, engine: Result<Measure, Refusal>, native: native::Answer) {
-    let due = match native.number {
-        0 => Ok(Measure { pages: native.p, x: native.x, y: native.y, turns: native.t }),
-        number => Err(Refusal { number, place: native.place }),
-    };
-    assert!(engine == due, "{}: the engine answers {engine:?}, plain Rust {due:?}", shape.name);
 }

@@ -1,15 +1,18 @@
 """The proved making, compiled, against a search of all lists in Python: the answer, the list, and every word of lent memory.
-The last line is 'N passed, M failed'."""
+Galleys with too many lists are compared with the reference's table instead. The last line is 'N passed, M failed'."""
 import collections
+import itertools
 import pathlib
 import random
 import sys
 
 sys.path.insert(0, str(pathlib.Path(__file__).resolve().parents[1]))
 import engine  # noqa: E402
+import windows  # noqa: E402
 from reference import cases, galley, marking, sample, search  # noqa: E402
 
-GALLEYS, LARGER, SEED = 2_400, 60, 20261116
+GALLEYS, LARGER, FINE, LONG, SEED = 2_400, 60, 1_400, 100, 20261116
+MOST_LISTS = 2_000
 HIGHEST = 2**32 - 1
 
 
@@ -45,9 +48,23 @@ def lendings(rng, g):
         yield dirty(rng, work_needed), dirty(rng, rng.randint(0, list_needed - 1))
 
 
+def fine(count):
+    """Galleys of many lines of small height, each with the first of all its lists; without the few that have too many."""
+    for number, g in enumerate(sample.fine_galleys(SEED + 3, count, 8, 14, 4)):
+        lists = list(itertools.islice(search.every(g), MOST_LISTS + 1))
+        if len(lists) <= MOST_LISTS:
+            yield f'fine galley {number}', g, search.first(g, lists)
+
+
+def long(count):
+    """Such galleys with far more lines and too many lists to look at: their best list is from the reference's own table."""
+    for number, g in enumerate(sample.fine_galleys(SEED + 4, count, 60, 300, 12, highest=120)):
+        yield f'long galley {number}', g, search.best_by_table(g)
+
+
 def main():
     make = engine.maker(engine.build())
-    wrong, tried, kinds = [], 0, collections.Counter()
+    wrong, tried, refilled, kinds = [], 0, 0, collections.Counter()
 
     def compare(name, found, expected):
         nonlocal tried
@@ -70,6 +87,13 @@ def main():
         try_all(f'galley {number}', g, search.best(g))
     for number, g in enumerate(sample.galleys(SEED + 1, LARGER, 40, 8)):
         try_all(f'larger galley {number}', g, search.best_by_table(g))
+    for name, g, best in long(LONG):
+        try_all(name, g, best)
+    for name, g, best in fine(FINE):
+        try_all(name, g, best)
+        rows = list(windows.windows(g))
+        compare(f'windows of {name}', all(map(windows.only_rise, rows)), True)
+        refilled += sum(map(windows.refill, rows))
     for number, g in enumerate(sample.galleys(SEED + 2, 400, 5, 3)):
         broken = sample.broken(rng, galley.write(g))
         read = galley.read(broken)
@@ -79,7 +103,8 @@ def main():
             compare(f'broken galley {number}', make(broken, work, pages), (read, work, pages))
     for kind in (9, 10, 11, 'sides 1', 'sides 2', 'refused galley'):
         compare(f'answers of kind {kind}', kinds[kind] >= 20, True)
-    print('makings by answer:', dict(sorted(kinds.items(), key=str)))
+    compare('windows that empty and refill', refilled >= 1_000, True)
+    print('makings by answer:', dict(sorted(kinds.items(), key=str)), f'and {refilled} windows that empty and refill')
     return engine.report(tried, wrong)
 
 

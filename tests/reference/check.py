@@ -163,7 +163,7 @@ def random_lists(tally):
 def searches(tally):
     """The table finds what the search of all lists finds, ties included."""
     tied = solved = 0
-    for galley in [*sample.galleys(8, 600, 5, 3), *sample.galleys(9, 100, 9, 0)]:
+    for galley in [*sample.galleys(8, 600, 5, 3), *sample.galleys(9, 100, 9, 0), *sample.fine_galleys(13, 200, 8, 11, 2)]:
         ranks = sorted(search.rank(galley, words) for words in search.every(galley))
         solved += bool(ranks)
         tied += len(ranks) > 1 and ranks[0][0] == ranks[1][0]

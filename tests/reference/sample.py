@@ -24,6 +24,39 @@ def one_galley(rng, max_lines, max_figures, sides):
     return Galley(spec, lines, figures)
 
 
+def fine_galleys(seed, count, least_lines, most_lines, max_figures, highest=24):
+    """Many lines of small height, few of which make a page that is full enough: the lines that a page to a place can start
+    after come and go as the place moves on."""
+    rng = random.Random(seed)
+    for number in range(count):
+        yield one_fine_galley(rng, rng.randint(least_lines, most_lines), max_figures, rng.randint(6, highest), 1 + number % 2)
+
+
+def one_fine_galley(rng, lines, max_figures, htmax, sides):
+    htmin = rng.choice((htmax // 2, 2 * htmax // 3, htmax - 1, rng.randint(1, htmax)))
+    smin = rng.choice((0, 0, 1, 2))
+    # Weights of 0 make ties, which the latest starts decide.
+    spec = Spec(htmin, htmax, smin, smin + rng.choice((0, 1, 5)), sides, rng.choice((0, 0, 1, 3)), rng.choice((0, 0, 1, 2)))
+    barred = forbidden_ends(rng, lines)
+    cites = citations(rng, lines, rng.randint(0, max_figures))
+    return Galley(spec, tuple(Line(*fine(rng, htmax, 1.5 / lines), int(k not in barred)) for k in range(1, lines + 1)),
+                  tuple(Figure(*fine(rng, htmax, 0.2), cite) for cite in cites))
+
+
+def fine(rng, htmax, chance):
+    """Height, least and greatest space: little of all, but by that chance a block that fills most of a page."""
+    height = rng.randint(htmax // 2, htmax) if rng.random() < chance else rng.choice((0, 0, 1, 1, 1, 2, 3))
+    least = rng.choice((0, 0, 0, 1))
+    return height, least, least + rng.choice((0, 0, 1, 4))
+
+
+def forbidden_ends(rng, lines):
+    """Single lines and a run of lines that no page may end after."""
+    first = rng.randint(1, lines)
+    run = set(range(first, first + rng.choice((0, 0, 2, 4))))
+    return run | {rng.randint(1, lines) for _ in range(lines // 10)}
+
+
 def weight(rng):
     return rng.choice((0, 1, 1, 2, 5, 1_000))
 

@@ -23,7 +23,11 @@ def every(galley):
 
 def best(galley):
     """The first of all valid lists in document 01's order, or None if there is none (11)."""
-    return min(every(galley), key=lambda words: rank(galley, words), default=None)
+    return first(galley, every(galley))
+
+
+def first(galley, lists):
+    return min(lists, key=lambda words: rank(galley, words), default=None)
 
 
 def rank(galley, words):

@@ -1,19 +1,24 @@
 //! Galleys read, marked and made in plain Rust.
 //!
-//! It shares no code with the proved engine and was written without a look at it, so that the two can be compared, in their
-//! answers and in their speed. The rules are document 01's. The algorithm is the engine's first one as its design describes
-//! it, a plain search of the starts of every place and side, and its author knew the reference in Python: that the three
-//! agree tells of slips, less of a sentence in the papers that all of them might misread.
-//! Like the engine it allocates nothing: galley, work area and page list are lent.
+//! It shares no code with the proved engine, so that the two can be compared, in their answers and in their speed. The
+//! rules are document 01's. Both searches follow the engine's design: the plain one of the starts of every place and side
+//! was written without a look at the engine's code, the one by queues before the engine had its own. Their authors knew
+//! the reference in Python: that all agree tells of slips, less of a sentence in the papers that all might misread.
+//! Like the engine it allocates nothing: galley, work area and page list are lent, sums and queues are on the stack.
 #![no_std]
 #![forbid(unsafe_code)]
 
 mod make;
 mod mark;
 mod page;
+mod places;
+mod plain;
+mod queue;
 mod read;
+mod sums;
+mod sweep;
 
-pub use make::make;
+pub use make::{make, make_plain};
 pub use mark::mark;
 
 /// Success has number and place 0; a refusal has everything else 0.

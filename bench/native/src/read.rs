@@ -2,8 +2,8 @@
 
 use crate::Answer;
 
-const MOST_LINES: usize = 4_000;
-const MOST_FIGURES: usize = 200;
+pub const MOST_LINES: usize = 4_000;
+pub const MOST_FIGURES: usize = 200;
 const LONGEST: u32 = 100_000;
 const HEAVIEST: u32 = 1_000;
 

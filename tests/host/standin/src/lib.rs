@@ -1,5 +1,5 @@
-//! The two functions of `include/barleychime.h` over the plain Rust implementation. Never shipped: it lets the command,
-//! the tests and the benchmark be tried without the proved archive.
+//! The two functions of `include/barleychime.h` over the plain Rust implementation, and making by its plain search. Never
+//! shipped: it lets the command, the tests and the benchmark be tried without the proved archive.
 
 use core::slice::{from_raw_parts, from_raw_parts_mut};
 
@@ -19,6 +19,24 @@ pub unsafe extern "C" fn barleychime_make(
         (from_raw_parts(galley, galley_len), from_raw_parts_mut(work, work_len), from_raw_parts_mut(pages, pages_len))
     };
     unsafe { put(answer, native::make(galley, work, pages)) }
+}
+
+/// # Safety
+/// As for `barleychime_make`.
+#[no_mangle]
+pub unsafe extern "C" fn plain_make(
+    galley: *const u8,
+    galley_len: usize,
+    work: *mut u32,
+    work_len: usize,
+    pages: *mut u32,
+    pages_len: usize,
+    answer: *mut u32,
+) -> u32 {
+    let (galley, work, pages) = unsafe {
+        (from_raw_parts(galley, galley_len), from_raw_parts_mut(work, work_len), from_raw_parts_mut(pages, pages_len))
+    };
+    unsafe { put(answer, native::make_plain(galley, work, pages)) }
 }
 
 /// # Safety

@@ -1,0 +1,99 @@
+//! Times: the engine and plain Rust by turns on the same bytes, the fastest run of each, their answers compared.
+
+use crate::clock;
+use crate::galleys::{galley, Shape};
+use barleychime::engine::{self, Measure, Refusal};
+use std::hint::black_box;
+use std::time::Duration;
+
+/// One galley's marking takes microseconds, so it is repeated.
+const MARKINGS: u32 = 200;
+
+/// What took longer than this is not run again.
+const LONG: Duration = Duration::from_secs(5);
+
+pub struct Making {
+    /// T, or the refusal.
+    pub turns: String,
+    pub most_figures: u32,
+    pub engine: Duration,
+    pub queue: Duration,
+    pub plain: Option<Duration>,
+}
+
+pub struct Marking {
+    pub engine: Duration,
+    pub native: Duration,
+}
+
+type Answer = Result<Measure, Refusal>;
+type Make<'a> = &'a dyn Fn(&[u8], &mut [u32], &mut [u32]) -> Answer;
+
+/// Making by the engine, by the queues of plain Rust, and by its plain search where that ends in time.
+pub fn making(shape: Shape, runs: u32) -> Making {
+    let makes: [Make; 3] =
+        [&engine::make_in, &|bytes, work, list| answer_of(native::make(bytes, work, list)), &|bytes, work, list| {
+            answer_of(native::make_plain(bytes, work, list))
+        }];
+    let makes = &makes[..if shape.plain { 3 } else { 2 }];
+    let galley = galley(shape);
+    let (mut work, list) = memory(shape);
+    let mut times = [Duration::MAX; 3];
+    let mut answers = vec![];
+    for run in 0..runs {
+        for (make, time) in makes.iter().zip(&mut times) {
+            if run > 0 && *time > LONG {
+                continue;
+            }
+            let mut list = list.clone();
+            let answer = timed(time, || make(black_box(&galley.bytes), &mut work, &mut list));
+            answers.push((answer, list));
+        }
+    }
+    let (answer, _) = &answers[0];
+    assert!(answers.iter().all(|other| *other == answers[0]), "{}: not one answer and one list", shape.name);
+    let turns = answer.as_ref().map_or_else(Refusal::to_string, |measure| measure.turns.to_string());
+    let [engine, queue, plain] = times;
+    Making { turns, most_figures: galley.most_figures, engine, queue, plain: shape.plain.then_some(plain) }
+}
+
+/// Marking of the list that making gives.
+pub fn marking(shape: Shape, runs: u32) -> Marking {
+    let bytes = galley(shape).bytes;
+    let (mut work, mut list) = memory(shape);
+    let pages = native::make(&bytes, &mut work, &mut list).p as usize;
+    let list = &list[..2 * pages];
+    let [mut engine, mut native] = [Duration::MAX; 2];
+    for _ in 0..runs {
+        let marked = timed(&mut engine, || many(|| engine::mark(black_box(&bytes), list)));
+        let due = timed(&mut native, || many(|| native::mark(black_box(&bytes), list)));
+        assert!(marked == answer_of(due), "{}: the engine answers {marked:?}, plain Rust {due:?}", shape.name);
+    }
+    Marking { engine: engine / MARKINGS, native: native / MARKINGS }
+}
+
+fn memory(shape: Shape) -> (Vec<u32>, Vec<u32>) {
+    let (lines, figures) = (shape.lines as usize, shape.figures as usize);
+    (vec![0; 8 * (lines + 1) * (figures + 1)], vec![0; 2 * (lines + figures)])
+}
+
+fn answer_of(native: native::Answer) -> Answer {
+    match native.number {
+        0 => Ok(Measure { pages: native.p, x: native.x, y: native.y, turns: native.t }),
+        number => Err(Refusal { number, place: native.place }),
+    }
+}
+
+fn timed<Made>(best: &mut Duration, work: impl FnOnce() -> Made) -> Made {
+    let began = clock::now();
+    let made = black_box(work());
+    *best = (clock::now() - began).min(*best);
+    made
+}
+
+fn many<Made>(work: impl Fn() -> Made) -> Made {
+    for _ in 1..MARKINGS {
+        black_box(work());
+    }
+    work()
+}

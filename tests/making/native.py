@@ -1,0 +1,69 @@
+"""The plain Rust of bench/native, which the engine is measured against: both of its searches against the reference, and
+against each other on galleys that the reference takes too long for. The last line is 'N passed, M failed'."""
+import pathlib
+import random
+import subprocess
+import sys
+
+sys.path.insert(0, str(pathlib.Path(__file__).resolve().parents[1]))
+import check  # noqa: E402
+import engine  # noqa: E402
+from reference import cases, galley, sample, search  # noqa: E402
+
+STANDIN = engine.ROOT / 'tests' / 'host' / 'standin'
+SEED = 20261118
+
+
+def build():
+    """The stand-in for the engine's archive, and its two makings: by queues and by the plain search."""
+    command = ['cargo', 'build', '--release', '--offline', '--quiet', '--manifest-path', STANDIN / 'Cargo.toml']
+    subprocess.run(command, check=True)
+    folder = STANDIN / 'target' / 'release'
+    library = engine.load(folder / 'libbarleychime.a', folder / 'libstandin.so')
+    return engine.maker(library), engine.maker(library, 'plain_make')
+
+
+def known():
+    """Galleys with their best list."""
+    yield from ((name, g, words) for name, g, words, _ in cases.MADE)
+    yield from ((f'galley {k}', g, search.best(g)) for k, g in enumerate(sample.galleys(SEED, 1_000, 5, 3)))
+    yield from check.fine(500)
+    yield from check.long(20)
+
+
+def unknown():
+    """Galleys of few and of many lines, most of small height."""
+    yield from sample.galleys(SEED + 1, 1_000, 30, 8)
+    yield from sample.fine_galleys(SEED + 2, 3_000, 8, 40, 6)
+    yield from sample.fine_galleys(SEED + 3, 20, 300, 1_000, 20, highest=400)
+    yield from sample.fine_galleys(SEED + 4, 2, 4_000, 4_000, 6, highest=100)
+
+
+def main():
+    by_queues, plain = build()
+    rng = random.Random(SEED)
+    wrong, tried = [], 0
+
+    def compare(name, g, *expected):
+        nonlocal tried
+        tried += 1
+        work, pages = (tuple(rng.choices((0, 1, 2, check.HIGHEST), k=length + 3)) for length in check.needed(g))
+        answers = [make(galley.write(g), work, pages) for make in (by_queues, plain)]
+        answers += [check.due(g, best, work, pages) for best in expected]
+        if any(answer != answers[0] for answer in answers):
+            wrong.append(f'{name}: ' + ', '.join(str(answer[0]) for answer in answers))
+
+    for name, g, best in known():
+        compare(name, g, best)
+    for number, g in enumerate(unknown()):
+        compare(f'galley {number} of unknown best list', g)
+    # Everything fits one page: the plain search would take minutes.
+    work, pages = ((1,) * length for length in check.needed(cases.LONGEST))
+    largest = by_queues(galley.write(cases.LONGEST), work, pages)
+    if largest != check.due(cases.LONGEST, (4_000, 200), work, pages):
+        wrong.append(f'the largest galley of height 0: {largest[0]}')
+    return engine.report(tried + 1, wrong)
+
+
+if __name__ == '__main__':
+    sys.exit(main())

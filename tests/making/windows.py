@@ -1,0 +1,33 @@
+"""The windows of starting lines that the search by queues stands on, worked out page by page from the reference."""
+import collections
+
+from reference import search
+
+
+def windows(g):
+    """For each starting and ending figure, place by place, the lines that a page with lines can start after; without the
+    full place, whose page may be low."""
+    m, n = len(g.lines), len(g.figures)
+    starts = collections.defaultdict(list)
+    for a in range(m):
+        for b in range(n + 1):
+            for i, j in search.page_ends(g, a, b):
+                if a < i and (i, j) != (m, n):
+                    starts[b, j, i].append(a)
+    ends = [i for i in range(1, m + 1) if i == m or g.lines[i - 1].legal]
+    for j in range(n + 1):
+        for b in range(j + 1):
+            yield [starts[b, j, i] for i in ends if (i, j) != (m, n)]
+
+
+def only_rise(row):
+    """Whether each window is without a gap, and neither end of the windows ever falls."""
+    held = [lines for lines in row if lines]
+    return (all(lines == list(range(lines[0], lines[-1] + 1)) for lines in held)
+            and all(one[0] <= two[0] and one[-1] <= two[-1] for one, two in zip(held, held[1:])))
+
+
+def refill(row):
+    """Whether some window is empty after one that was not and before another that is not."""
+    held = [bool(lines) for lines in row]
+    return True in held and False in held[held.index(True):len(held) - held[::-1].index(True)]
