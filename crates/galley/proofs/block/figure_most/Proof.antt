@@ -16,7 +16,7 @@ word-at-requires c κs = search needs
 
 returns : tie.Need-returns
 unfolding figureAt figureOf
-returns c = cc
+returns c = rw (← (c .before .figure-offset .ensures)) (c .word-at .ensures)
 
 pub figure-most-spec : {M : Type 1} → statement M
 figure-most-spec = tie.close (tie.spec figure-offset-requires add-word-at word-at-requires returns)

@@ -16,7 +16,7 @@ word-at-requires c κs = search needs
 
 returns : tie.Need-returns
 unfolding lineAt lineOf
-returns c = cc
+returns c = rw (← (c .before .line-offset .ensures)) (c .word-at .ensures)
 
 pub line-legal-spec : {M : Type 1} → statement M
 line-legal-spec = tie.close (tie.spec line-offset-requires add-word-at word-at-requires returns)

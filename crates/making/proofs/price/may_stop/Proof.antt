@@ -19,7 +19,7 @@ returns c =
     let a = start .args in
     let law = may-stop-two (a .s .now) (a .g) (a .i) (a .j) (a .cited) (start .pre .citing) (a .c) (start .pre .placed .figure)
     in
-    cc
+    simp (law, c .is-full .ensures, c .before .ends-leaf .ensures, c .before .before .may-end .ensures)
 
 pub may-stop-spec : {M : Type 1} → statement M
 may-stop-spec = tie.close (tie.spec may-end-requires ends-leaf-requires is-full-requires returns)

@@ -13,10 +13,10 @@ enum-known-entry : tie.Need-enum-known-entry
 enum-known-entry c = search needs
 
 returns : tie.Need-returns
-returns c = cc
+returns c = rw (← (c .before .before .entry-of .ensures), c .enum-told .given .1)
 
 returns-2 : tie.Need-returns-2
-returns-2 c = cc
+returns-2 c = rw (← (c .before .before .before .entry-of .ensures), c .before .entry .given .1)
 
 pub reached-spec : {M : Type 1} → statement M
 reached-spec = tie.close (tie.spec entry-of-requires enum-told enum-known-entry returns returns-2)

@@ -50,7 +50,13 @@ add-t14 c =
 
 returns : tie.Need-returns
 unfolding added onPile
-returns c = rw (lt-ltb _ _ (c .before .before .before .before .if1 .taken)) cc
+returns c =
+    simp (
+      lt-ltb _ _ (c .before .before .before .before .if1 .taken),
+      c .before .before .before .before .before .figure-height .ensures,
+      c .before .before .before .figure-least .ensures,
+      c .before .figure-most .ensures,
+    )
 
 add-t15 : tie.Need-add-t15
 add-t15 c =
@@ -66,7 +72,7 @@ add-t16 c =
 
 returns-2 : tie.Need-returns-2
 unfolding added onPile
-returns-2 c = simp (le-ltb _ _ (c .before .before .if1 .left), add-zero) cc
+returns-2 c = simp (le-ltb _ _ (c .before .before .if1 .left), add-zero, c .before .before .before .figure-height .ensures)
 
 pub with-figure-spec : {M : Type 1} → statement M
 with-figure-spec =

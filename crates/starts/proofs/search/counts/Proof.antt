@@ -8,7 +8,7 @@ is-full-requires : tie.Need-is-full-requires
 is-full-requires c κs = search needs
 
 returns : tie.Need-returns
-returns c = cc
+returns c = simp (c .before .is-full .ensures)
 
 pub counts-spec : {M : Type 1} → statement M
 counts-spec = tie.close (tie.spec is-full-requires returns)
