@@ -77,11 +77,11 @@ pub record SweepAsked (bytes : List ℕ) (g : Galley) (w sums words best : List 
   pub known : Known bytes g w j side (Between (suc b) j) best
 
 -- A sweep has come to line i: the places above it know the starts with b figures too.
-pub record SweepRun (bytes : List ℕ) (g : Galley) (w : List ℕ) (j b side : ℕ) (figures : Heights) (words₀ words best₀ best : List ℕ) (window : Window) (queue : Queue) (i : ℕ) : Type 0 where
+pub record SweepRun (bytes : List ℕ) (g : Galley) (w : List ℕ) (j b side : ℕ) (load : Load) (words₀ words best₀ best : List ℕ) (window : Window) (queue : Queue) (i : ℕ) : Type 0 where
   pub within : i ≤ suc (g .lines)
   pub wordsSized : length words ≡ length words₀
   pub bestSized : length best ≡ length best₀
-  pub ends : Ends (textOf bytes g) (loadOf g true figures) window i
+  pub ends : Ends (textOf bytes g) load window i
   pub held : Held (columnOf w (g .lines + 1) b side) words queue (window .low) (window .high)
   pub done : (k : ℕ) → k < i → k ≤ g .lines → allPlaced g k j ≡ false → Best (searchOf bytes g w k j side) (Between b j) (entryAt best (4 * k))
   pub left : (k : ℕ) → i ≤ k → k ≤ g .lines → allPlaced g k j ≡ false

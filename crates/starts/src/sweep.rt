@@ -90,6 +90,7 @@ fn sweep(
     ensures { λ _. ⌜ Known (now (s .entry)) g (now (work .entry)) j side (Between b j) (now (best .exit)) ⌝ }
 {
     let load = load_of(g, true, figures);
+    let bare = load_of(g, false, figures);
     let mut starts = Window { low: 0, high: 0 };
     let mut queue = Queue { head: 0, tail: 0 };
     let mut i = 0;
@@ -97,7 +98,7 @@ fn sweep(
         let from = starts.high;
         starts = window::slide::slide(sums, load, starts, i);
         queue = window::queue::advance(work, g.lines + 1, b, side, words, queue, from, starts);
-        improve(g, work, words, queue, best, i, b, side, figures.loose);
+        improve(g, work, words, queue, best, i, b, side, bare.loose);
         i += 1;
     }
 }

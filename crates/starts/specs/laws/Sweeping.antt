@@ -143,7 +143,7 @@ column-named w g b side = rw add-one
 module _ {bytes : List ℕ} {g : Galley} {w sums words₀ best₀ : List ℕ} {j b side : ℕ} {figures : Heights}
     (asked : SweepAsked bytes g w sums words₀ best₀ j b side figures) where
   -- A sweep starts with nothing in its queue.
-  pub sweep-first : SweepRun bytes g w j b side figures words₀ words₀ best₀ best₀ (record { low = 0; high = 0 }) (record { head = 0; tail = 0 }) 0
+  pub sweep-first : SweepRun bytes g w j b side (loadOf g true figures) words₀ words₀ best₀ best₀ (record { low = 0; high = 0 }) (record { head = 0; tail = 0 }) 0
   sweep-first =
       record {
         within = omega arith;
@@ -156,12 +156,12 @@ module _ {bytes : List ℕ} {g : Galley} {w sums words₀ best₀ : List ℕ} {j
       }
 
   -- A sweep ends below the last line.
-  pub sweep-last : (words best : List ℕ) (window : Window) (queue : Queue) (i : ℕ) → SweepRun bytes g w j b side figures words₀ words best₀ best window queue i
+  pub sweep-last : (words best : List ℕ) (window : Window) (queue : Queue) (i : ℕ) → SweepRun bytes g w j b side (loadOf g true figures) words₀ words best₀ best window queue i
       → g .lines < i → Known bytes g w j side (Between b j) best
   sweep-last words best window queue i run l k h = run .done k (omega arith) h
 
   module _ (words best : List ℕ) (window : Window) (queue : Queue) (i : ℕ)
-      (run : SweepRun bytes g w j b side figures words₀ words best₀ best window queue i) (line : i ≤ g .lines)
+      (run : SweepRun bytes g w j b side (loadOf g true figures) words₀ words best₀ best window queue i) (line : i ≤ g .lines)
       (new : Window) (slid : (st : Stream) (m : ℕ) → Slid sums st m (loadOf g true figures) window i new) where
     lent-now : Lent bytes g w words best j side
     lent-now = lent-sized words best (run .wordsSized) (run .bestSized) (asked .lent)
@@ -192,7 +192,7 @@ module _ {bytes : List ℕ} {g : Galley} {w sums words₀ best₀ : List ℕ} {j
       -- The places down to line i know the starts with b figures.
       pub sweep-next : (best′ : List ℕ)
           → best′ ≡ stored best (4 * i) (chosen (chosen (entryAt best (4 * i)) (frontOf words′ next b)) (aloneOf g w i b side (figures .loose)))
-          → SweepRun bytes g w j b side figures words₀ words′ best₀ best′ new next (i + 1)
+          → SweepRun bytes g w j b side (loadOf g true figures) words₀ words′ best₀ best′ new next (i + 1)
       sweep-next best′ e =
           record {
             within = omega arith;
