@@ -1,5 +1,5 @@
 -- A column filled with the help of queues: what is asked for and what holds on the way.
-use Prim.Native.Nat.{ℕ, suc, _+_, _*_, _≤_}
+use Prim.Native.Nat.{ℕ, _+_, _*_, _≤_}
 use mathlib.Core.Path.{_≡_}
 use mathlib.Core.Bool.{false}
 use mathlib.Core.List.{List}
@@ -15,7 +15,7 @@ use Rattle.window.specs.Queue.{columnOf, Held}
 use Rattle.starts.specs.Search.{before}
 use Rattle.starts.specs.Choice.{Between}
 use Rattle.starts.specs.Sweep.{loadOf, Known, Lent, Summed, FewerAsked, StartAsked}
-use Rattle.making.specs.Fill.{fillSide, fillPlace}
+use Rattle.making.specs.Fill.{fillSide}
 use Rattle.making.specs.Asked.{SideAsked, ColumnAsked, FillAsked}
 use Rattle.making.specs.Run.{ColumnRun, TableRun}
 

@@ -1,15 +1,14 @@
 -- The best start of a place, found as the search goes: starts from the latest to the earliest, later lines first, then later
 -- figures, and a mind changed only for a strictly smaller cost, so that document 01's tie order falls out.
 use Prim.Native.Nat.{ℕ, zero, suc, _+_, _-_}
-use mathlib.Core.Bool.{Bool, true, false, _&&_, _||_}
-use mathlib.Core.List.{List, [], _∷_}
+use mathlib.Core.Bool.{Bool, _&&_, _||_}
+use mathlib.Core.List.{[], _∷_}
 use lib.Dec.{ltb, eqb}
 use Rattle.model.specs.Gather.{pick}
 use Rattle.model.specs.Galley.{Sides, single, double, Galley, Place}
 use Rattle.model.specs.Rules.{closes, fits, fills, cited}
 use Rattle.theorems.specs.Waiting.{pageCost}
 use Rattle.theorems.specs.PageGraph.{full}
-use Rattle.places.specs.declared.Start.{Start}
 use Rattle.places.specs.declared.Entry.{Entry}
 use Rattle.places.specs.declared.Entry.the-variants.{Unreached, Least}
 

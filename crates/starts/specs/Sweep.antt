@@ -1,14 +1,13 @@
 -- The best starts of a column's places, gathered figure by figure: what the sweeps ask for and what they leave.
 use Prim.Native.Nat.{ℕ, suc, _+_, _*_, _≤_, _<_}
 use mathlib.Core.Path.{_≡_}
-use mathlib.Core.Bool.{Bool, true, false}
+use mathlib.Core.Bool.{Bool, false}
 use mathlib.Core.List.{List}
 use lib.ListN.{length}
 use lib.Dec.{ltb}
 use Rattle.model.specs.Gather.{pick}
-use Rattle.model.specs.Height.{stacked}
 use Rattle.galley.specs.declared.Galley.{Galley}
-use Rattle.galley.specs.Model.{textOf, figuresOf, modelOf}
+use Rattle.galley.specs.Model.{textOf, figuresOf}
 use Rattle.galley.specs.Sound.{Sound}
 use Rattle.places.specs.declared.Entry.{Entry}
 use Rattle.places.specs.declared.Entry.the-variants.{Unreached}
@@ -22,7 +21,7 @@ use Rattle.window.specs.Sums.{Sums}
 use Rattle.window.specs.Slide.{Ends}
 use Rattle.window.specs.Queue.{columnOf, Held, frontOf, FrontAsked}
 use Rattle.starts.specs.declared.heights.Heights.{Heights}
-use Rattle.starts.specs.Search.{better, bestStart}
+use Rattle.starts.specs.Search.{better}
 use Rattle.starts.specs.Choice.{Best, Between}
 use Rattle.starts.specs.Heights.{Stacked}
 use Rattle.starts.specs.Asked.{searchOf, allPlaced, Searched}

@@ -2,5 +2,8 @@
 pub mod Heights
 pub mod Search
 pub mod Choice
+pub mod Found
 pub mod Sweep
+pub mod Lending
 pub mod Sweeping
+pub mod Fewer

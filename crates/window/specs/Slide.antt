@@ -1,6 +1,6 @@
 -- The window of starting lines: the lines a from which a page to line i is neither too tall nor too short. With its figures
 -- fixed, a page grows with i and shrinks as a rises, so that neither end of the window falls.
-use Prim.Native.Nat.{ℕ, suc, _+_, _*_, _≤_, _<_}
+use Prim.Native.Nat.{ℕ, _+_, _*_, _≤_, _<_}
 use mathlib.Core.List.{List}
 use lib.ListN.{length, getD}
 use Rattle.model.specs.Galley.{Stream}

@@ -2,4 +2,6 @@
 pub mod Run
 pub mod Sums
 pub mod Slide
-pub mod Queue
+pub mod Held
+pub mod Pushed
+pub mod Front

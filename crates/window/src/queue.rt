@@ -1,7 +1,7 @@
 // The lines of a window that may still be the best start, two words each: the line, and the cost of all before the page. They
 // rise in line and in cost, since a line that is earlier and no cheaper is never chosen again.
 ghost use mathlib.Core.Path.{_≡_};
-ghost use Prim.Native.Nat.{ℕ, _+_, _*_, _≤_};
+ghost use Prim.Native.Nat.{_+_, _*_, _≤_};
 ghost use lib.ListN.{length};
 ghost use Rattle.window.specs.Queue.{pushed, frontOf, DearerAsked, Dropped, PassedAsked, Passed, FeedAsked, Fed, AdvanceAsked, Advanced, FrontAsked};
 use crate::slide::Window;

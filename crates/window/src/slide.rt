@@ -1,10 +1,8 @@
 // The two ends of a window of starting lines, moved on as the page's last line moves on. Heights are compared as sums, never
 // as differences.
-ghost use mathlib.Core.List.{List};
 ghost use Prim.Native.Nat.{ℕ};
 ghost use Rattle.model.specs.Galley.{Stream};
-ghost use Rattle.window.specs.Sums.{Sums};
-ghost use Rattle.window.specs.Slide.{Reachable, Slidable, FirstFitting, FirstShort, Ends, Slid};
+ghost use Rattle.window.specs.Slide.{Reachable, Slidable, FirstFitting, FirstShort, Slid};
 
 // What a page has beside its lines, and the heights that it must keep to.
 pub struct Load {

@@ -1,14 +1,13 @@
 -- The turns of the loop that fills a column: the queues move on, the entries are stored, and what is known stays known.
-use Prim.Native.Nat.{ℕ, suc, _+_, _*_, _≤_, _<_}
+use Prim.Native.Nat.{ℕ, suc, _+_, _*_, _≤_}
 use native.Mathlib.Nat.{le-refl}
 use native.Mathlib.Numerals.{add-one}
 use native.Mathlib.Decide.{ℕ-discrete}
 use native.Mathlib.Omega.{arith}
 use mathlib.Core.Path.{_≡_, refl, sym, _∙_, ap}
-use mathlib.Core.Bool.{Bool, true, false}
+use mathlib.Core.Bool.{false}
 use mathlib.Core.List.{List}
 use lib.ListN.{length}
-use lib.Dec.{ltb}
 use borrow.Author.Tests.{le-ltb}
 use Rattle.model.specs.Galley.{Stream}
 use Rattle.model.specs.Leaf.{sidesOf}
@@ -16,30 +15,26 @@ use Rattle.galley.specs.declared.Galley.{Galley}
 use Rattle.galley.specs.Model.{textOf, figuresOf, modelOf}
 use Rattle.marking.specs.Parts.{Citing}
 use Rattle.places.specs.Table.{tableOf}
-use Rattle.window.specs.declared.slide.Load.{Load}
 use Rattle.window.specs.declared.slide.Window.{Window}
 use Rattle.window.specs.declared.queue.Queue.{Queue}
 use Rattle.window.specs.Slide.{Slidable, Ends, Open, Slid}
 use Rattle.window.specs.Queue.{columnOf, frontOf, Held, FeedAsked, Advanced}
 use Rattle.window.specs.laws.Slide.{ends-first, ends-next}
-use Rattle.window.specs.laws.Queue.{held-none, held-same, front-cheapest}
-use Rattle.starts.specs.declared.heights.Heights.{Heights}
-use Rattle.starts.specs.Search.{before}
+use Rattle.window.specs.laws.Held.{held-none, held-same}
+use Rattle.window.specs.laws.Front.{front-cheapest}
 use Rattle.starts.specs.Choice.{Between}
 use Rattle.starts.specs.Heights.{Stacked}
-use Rattle.starts.specs.Asked.{searchOf, allPlaced}
-use Rattle.starts.specs.Sweep.{loadOf, Known, Lent, Summed, Addable, FewerAsked}
+use Rattle.starts.specs.Sweep.{Known, Lent, Addable, FewerAsked}
 use Rattle.starts.specs.laws.Heights.{stacked-nothing}
 use Rattle.starts.specs.laws.Sweep.{window-best, best-same}
-use Rattle.starts.specs.laws.Sweeping.{lent-sized, figures-add, can-slide, can-feed, can-front, column-named}
+use Rattle.starts.specs.laws.Lending.{lent-sized, can-slide, can-feed, can-front, column-named}
 use Rattle.making.specs.Filled.{Side}
-use Rattle.making.specs.Fill.{tall, fillSide, fillPlace, fillColumn}
-use Rattle.making.specs.Asked.{SideAsked, PlaceAsked, ColumnAsked, FillAsked}
-use Rattle.making.specs.Run.{ColumnRun, TableRun}
+use Rattle.making.specs.Fill.{tall, fillSide, fillPlace}
+use Rattle.making.specs.Asked.{PlaceAsked}
 use Rattle.making.specs.Column.{sideOf, plain, EntryAsked, Ready, SideMoved, SideFilled, OddMoved, OddFilled, OddAsked, OddKnown, ColumnLent, LastAsked, LastRun, TableLent, ColumnsRun}
 use Rattle.making.specs.laws.Entered.{side-low, side-before}
-use Rattle.making.specs.laws.Fill.{Room, length-side, side-other, length-column}
-use Rattle.making.specs.laws.Filling.{side-zero, side-one, place-single, place-double, side-first, side-second, column-start, column-place, column-next, column-end, table-column, table-next}
+use Rattle.making.specs.laws.Fill.{Room, length-side, side-other}
+use Rattle.making.specs.laws.Filling.{side-zero, side-one, place-single, place-double, side-first, side-second, column-start, column-place, column-next, table-column}
 
 -- No figures, no height.
 no-figures : (bytes : List ℕ) (g : Galley) (j : ℕ) → Stacked (figuresOf bytes g) j j (record { tight = 0; loose = 0 })

@@ -1,22 +1,18 @@
 -- Filling place by place keeps what is known of every entry filled before.
-use Prim.Native.Nat.{ℕ, zero, suc, _+_, _*_, _≤_, _<_}
-use native.Mathlib.Nat.{le-refl, le-trans}
+use Prim.Native.Nat.{ℕ, zero, suc, _+_, _≤_, _<_}
 use native.Mathlib.Numerals.{add-one}
-use native.Mathlib.Decide.{decLt, ℕ-discrete}
+use native.Mathlib.Decide.{decLt}
 use native.Mathlib.Omega.{arith}
-use mathlib.Core.Path.{_≡_, refl, sym, _∙_, ap, subst}
+use mathlib.Core.Path.{_≡_, refl, sym, _∙_, ap}
 use mathlib.Core.Logic.{_⊎_, inl, inr}
-use mathlib.Core.List.{List}
 use lib.ListN.{length}
 use Rattle.model.specs.Galley.{Sides, single, double, Galley}
 use Rattle.model.specs.Order.{oddly}
 use Rattle.theorems.specs.Bounds.{dearest}
 use Rattle.places.specs.declared.Start.{Start}
-use Rattle.places.specs.declared.Entry.{Entry}
-use Rattle.places.specs.declared.Entry.the-variants.{Unreached, Least}
+use Rattle.places.specs.declared.Entry.the-variants.{Least}
 use Rattle.places.specs.Address.{address, wordsNeeded, Earlier}
 use Rattle.places.specs.Table.{tableOf}
-use Rattle.places.specs.Entry.{stored}
 use Rattle.places.specs.laws.Address.{address-in}
 use Rattle.places.specs.laws.Stored.{stored-length}
 use Rattle.places.specs.laws.Table.{table-same, table-other}

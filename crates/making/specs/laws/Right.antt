@@ -1,25 +1,22 @@
 -- After filling, every place's entry is right: the least cost of any list of pages that ends there, and the preferred start.
 use Prim.Native.Nat.{ℕ, zero, suc, _+_, _%_, _≤_, _<_}
-use native.Mathlib.Nat.{le-refl, le-trans}
 use native.Mathlib.Decide.{decLt}
 use native.Mathlib.Omega.{arith}
-use mathlib.Core.Path.{_≡_, refl, sym, _∙_, ap, subst}
+use mathlib.Core.Path.{_≡_, refl, sym, _∙_, ap}
 use mathlib.Core.Logic.{_⊎_, inl, inr}
-use mathlib.Core.Bool.{true}
-use lib.ListN.{length, getD}
+use lib.ListN.{getD}
 use Rattle.model.specs.Galley.{Sides, single, double, Galley, Place, count, sizes}
 use Rattle.model.specs.Order.{oddly}
-use Rattle.model.specs.laws.Rules.{kept, Forward, forward-at}
+use Rattle.model.specs.laws.Rules.{kept, forward-at}
 use Rattle.model.specs.laws.Lists.{Inside}
 use Rattle.model.specs.laws.Valid.{count-sizes}
 use Rattle.theorems.specs.Graph as graph
 use Rattle.theorems.specs.Cell.{Cell, Right, Table as Table′}
 use Rattle.theorems.specs.LoopStep as step
-use Rattle.theorems.specs.PageGraph.{State, stop, end, Within, PageStep, Step, pageGraph}
+use Rattle.theorems.specs.PageGraph.{State, stop, end, Within, Step, pageGraph}
 use Rattle.theorems.specs.PageLaws.{page-laws}
-use Rattle.places.specs.declared.Entry.{Entry}
 use Rattle.places.specs.Address.{Earlier}
-use Rattle.starts.specs.Search.{place, Table, entryOf}
+use Rattle.starts.specs.Search.{place}
 use Rattle.making.specs.Filled.{Side}
 use Rattle.making.specs.Fill.{Words, tall, fillSide, fillPlace, fillColumn, fillColumns, filled}
 use Rattle.making.specs.Shown.{shown, tableAt}

@@ -1,9 +1,8 @@
 -- A filled work area holds the best list: what each step of making may rest on.
-use Prim.Native.Nat.{ℕ, zero, suc, _+_, _*_, _≤_, _<_}
+use Prim.Native.Nat.{ℕ, zero, suc, _+_, _*_, _≤_}
 use native.Mathlib.Omega.{arith}
-use native.Mathlib.Numerals.{add-one}
 use mathlib.Core.Path.{_≡_, refl, sym, _∙_, ap, subst}
-use mathlib.Core.Logic.{_⊎_, inl, inr}
+use mathlib.Core.Logic.{inl}
 use mathlib.Core.Bool.{Bool, true, false}
 use mathlib.Core.List.{List, [], _++_}
 use mathlib.Core.Option.{Option, none, some}
@@ -28,25 +27,23 @@ use Rattle.galley.specs.declared.Galley.{Galley}
 use Rattle.galley.specs.declared.Reading.the-variants as reads
 use Rattle.galley.specs.Whole.{galleyOf}
 use Rattle.galley.specs.Model.{modelOf}
-use Rattle.galley.specs.Sound.{Sound}
 use Rattle.galley.specs.Laws.Sound.{sound}
 use Rattle.marking.specs.Mark.{markRead, markOf}
 use Rattle.marking.specs.laws.Sane.{reads-sane}
-use Rattle.places.specs.declared.Start.{Start}
 use Rattle.places.specs.declared.Entry.{Entry}
 use Rattle.places.specs.declared.Entry.the-variants.{Unreached, Least}
 use Rattle.starts.specs.Search.{Table, before}
 use Rattle.making.specs.Trace.{startOf, countBack, writeBack}
-use Rattle.making.specs.Filled.{Entered, Side, Filled}
-use Rattle.making.specs.Fill.{Words, tall, filled}
+use Rattle.making.specs.Filled.{Side}
+use Rattle.making.specs.Fill.{tall}
 use Rattle.making.specs.Shown.{tableAt}
-use Rattle.making.specs.Make.{workNeeded, listNeeded}
+use Rattle.making.specs.Make.{workNeeded}
 use Rattle.making.specs.Back.{lastOf, pagesBack, wordsBack, Found}
 use Rattle.making.specs.Traceable.{sidesIn, tableIn, isReached, Lent, Traceable, Walkable, Writable}
 use Rattle.making.specs.Solved.{Solved, Written}
 use Rattle.making.specs.laws.Entered.{side-low}
 use Rattle.making.specs.laws.Shown.{last-side}
-use Rattle.making.specs.laws.Fill.{Room, held, length-filled, filled-all}
+use Rattle.making.specs.laws.Fill.{Room, length-filled, filled-all}
 use Rattle.making.specs.laws.Right.{table-right}
 use Rattle.making.specs.laws.Back.{back-none, back-best}
 

@@ -8,7 +8,7 @@ use mathlib.Core.List.{List}
 use lib.Dec.{ltb}
 use Rattle.model.specs.Gather.{sum, between}
 use Rattle.model.specs.Galley.{Stream}
-use Rattle.model.specs.Height.{stacked, height, tightest, loosest}
+use Rattle.model.specs.Height.{stacked, tightest, loosest}
 use Rattle.model.specs.laws.Gather.{between-sum}
 use Rattle.galley.specs.declared.Galley.{Galley}
 use Rattle.galley.specs.Model.{textOf, figuresOf, modelOf}

@@ -1,20 +1,18 @@
 -- A window's cheapest line is the best start with its figures, and what the sweeps gather is the best of all starts.
-use Prim.Native.Nat.{ℕ, suc, _+_, _*_, _≤_, _<_}
+use Prim.Native.Nat.{ℕ, suc, _+_, _≤_, _<_}
 use native.Mathlib.Nat.{le-refl}
-use native.Mathlib.Numerals.{add-one}
 use native.Mathlib.Decide.{decLe, decLt}
 use native.Mathlib.Omega.{arith}
-use mathlib.Core.Path.{_≡_, refl, sym, _∙_, ap}
+use mathlib.Core.Path.{_≡_, refl, sym, _∙_}
 use mathlib.Core.Logic.{_⊎_, inl, inr}
-use mathlib.Core.Bool.{Bool, true, false, _&&_, _||_}
+use mathlib.Core.Bool.{Bool, true, false}
 use mathlib.Core.List.{List}
-use lib.Dec.{ltb, leb}
-use borrow.Author.Tests.{ltb-true, ltb-false, lt-ltb, le-ltb, leb-true, le-leb, lt-leb}
+use lib.Dec.{ltb}
+use borrow.Author.Tests.{ltb-true, ltb-false, lt-ltb, le-ltb, leb-true, le-leb}
 use Rattle.model.specs.Gather.{pick}
-use Rattle.model.specs.Height.{stacked, height, tightest, loosest}
+use Rattle.model.specs.Height.{stacked, tightest, loosest}
 use Rattle.model.specs.Rules.{fits, fills}
 use Rattle.model.specs.laws.Gather.{or-cases, or-left, or-right}
-use Rattle.model.specs.laws.Height.{stacked-grows}
 use Rattle.theorems.specs.PageGraph.{full}
 use Rattle.galley.specs.declared.Galley.{Galley}
 use Rattle.galley.specs.Model.{textOf, figuresOf, modelOf}
@@ -26,7 +24,7 @@ use Rattle.places.specs.declared.Entry.the-variants.{Unreached, Least}
 use Rattle.places.specs.Table.{tableOf}
 use Rattle.window.specs.declared.slide.Load.{Load}
 use Rattle.window.specs.declared.slide.Window.{Window}
-use Rattle.window.specs.Slide.{Tall, Enough, Ends, Open}
+use Rattle.window.specs.Slide.{Open}
 use Rattle.window.specs.Queue.{columnOf, Cheapest}
 use Rattle.starts.specs.declared.heights.Heights.{Heights}
 use Rattle.starts.specs.Search.{place, better, Search, bestStart}
@@ -35,7 +33,8 @@ use Rattle.starts.specs.Heights.{Stacked}
 use Rattle.starts.specs.Asked.{searchOf, allPlaced}
 use Rattle.starts.specs.Sweep.{loadOf, aloneOf}
 use Rattle.starts.specs.laws.Heights.{stacked-none}
-use Rattle.starts.specs.laws.Choice.{best-as, best-none, best-one, best-chosen, best-unique, best-start}
+use Rattle.starts.specs.laws.Choice.{best-none, best-one, best-chosen, best-unique}
+use Rattle.starts.specs.laws.Found.{best-start}
 
 -- Starts with b figures placed before them: those before line i, and line i itself.
 abbrev pub Above : ℕ → ℕ → ℕ → ℕ → Type 0

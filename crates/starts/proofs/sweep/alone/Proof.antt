@@ -1,7 +1,6 @@
 -- `alone` meets its contract: by the test on the height, then by what the place's entry is.
-use Prim.Native.Nat.{ℕ, _+_}
 use native.Mathlib.Omega.{arith}
-use mathlib.Core.Path.{_≡_, sym, _∙_}
+use mathlib.Core.Path.{sym, _∙_}
 use borrow.Author.Tests.{lt-ltb, le-ltb}
 use Rattle.places.specs.laws.Address.{address-in}
 use Rattle.starts.specs.Search.{better}

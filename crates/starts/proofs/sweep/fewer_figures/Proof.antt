@@ -1,9 +1,9 @@
 -- `fewer_figures` meets its contract. The loop's invariant is `FewerRun`: the starts with b figures or more are known.
-use Prim.Native.Nat.{_+_, _-_}
+use Prim.Native.Nat.{_-_}
 use native.Mathlib.Omega.{arith}
 use mathlib.Core.Path.{_≡_, refl}
 use Rattle.starts.specs.Sweep.{FewerRun}
-use Rattle.starts.specs.laws.Sweeping.{fewer-first, fewer-before, fewer-sweeps, fewer-next, fewer-over}
+use Rattle.starts.specs.laws.Fewer.{fewer-first, fewer-before, fewer-sweeps, fewer-next, fewer-over}
 use borrow.Author.Needs.{needs}
 use Rattle.starts.proofs.sweep.fewer_figures.Statement.{statement}
 use Rattle.starts.proofs.sweep.fewer_figures.Tie as tie

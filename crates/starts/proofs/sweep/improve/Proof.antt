@@ -1,9 +1,7 @@
 -- `improve` meets its contract: it stores what it has chosen, each choice by its own contract.
 use Prim.Native.Nat.{_*_}
 use mathlib.Core.Path.{ap, _∙_}
-use Rattle.places.specs.declared.Entry.{Entry}
 use Rattle.places.specs.Entry.{stored}
-use Rattle.starts.specs.Choice.{chosen}
 use borrow.Author.Needs.{needs}
 use Rattle.starts.proofs.sweep.improve.Statement.{statement}
 use Rattle.starts.proofs.sweep.improve.Tie as tie

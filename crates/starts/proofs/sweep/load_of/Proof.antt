@@ -1,5 +1,5 @@
 -- `load_of` meets its contract: no lines add nothing to the heights of the page.
-use Prim.Native.Nat.{ℕ, _+_}
+use Prim.Native.Nat.{_+_}
 use native.Mathlib.Omega.{arith}
 use mathlib.Core.Path.{_≡_, ap, _∙_}
 use Rattle.model.specs.Gather.{pick}

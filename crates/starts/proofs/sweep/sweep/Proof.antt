@@ -5,7 +5,8 @@ use mathlib.Core.Bool.{true}
 use mathlib.Core.Path.{_≡_, ap, _∙_}
 use Rattle.window.specs.declared.slide.Load.{Load}
 use Rattle.starts.specs.Sweep.{SweepRun}
-use Rattle.starts.specs.laws.Sweeping.{figures-add, can-slide, sweep-first, sweep-last, sweep-feeds, sweep-improves, sweep-next}
+use Rattle.starts.specs.laws.Lending.{figures-add, can-slide}
+use Rattle.starts.specs.laws.Sweeping.{sweep-first, sweep-last, sweep-feeds, sweep-improves, sweep-next}
 use borrow.Author.Needs.{needs}
 use Rattle.starts.proofs.sweep.sweep.Statement.{statement}
 use Rattle.starts.proofs.sweep.sweep.Tie as tie

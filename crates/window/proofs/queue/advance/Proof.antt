@@ -1,7 +1,7 @@
 -- `advance` meets its contract: the new lines are fed to the queue, and entries before the window are dropped from its
 -- front.
 use Rattle.window.specs.Queue.{columnOf}
-use Rattle.window.specs.laws.Queue.{held-dropped}
+use Rattle.window.specs.laws.Held.{held-dropped}
 use borrow.Author.Needs.{needs}
 use Rattle.window.proofs.queue.advance.Statement.{statement}
 use Rattle.window.proofs.queue.advance.Tie as tie

@@ -7,7 +7,8 @@ use mathlib.Core.List.{List}
 use lib.ListN.{length}
 use Rattle.window.specs.Queue.{columnOf, tailed, Held}
 use Rattle.window.specs.Run.{FeedRun}
-use Rattle.window.specs.laws.Queue.{column-read, held-passed, pushed-length, held-pushed}
+use Rattle.window.specs.laws.Held.{column-read, held-passed}
+use Rattle.window.specs.laws.Pushed.{pushed-length, held-pushed}
 use borrow.Author.Needs.{needs}
 use Rattle.window.proofs.queue.feed.Statement.{statement}
 use Rattle.window.proofs.queue.feed.Tie as tie

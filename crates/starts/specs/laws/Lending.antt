@@ -1,0 +1,112 @@
+-- What is lent for a column is enough for the window, the queue and the best starts.
+use Prim.Native.Nat.{ℕ, suc, _+_, _-_, _≤_}
+use native.Mathlib.Numerals.{add-one}
+use native.Mathlib.Omega.{arith}
+use mathlib.Core.Path.{_≡_}
+use mathlib.Core.Bool.{Bool, true, false}
+use mathlib.Core.List.{List}
+use lib.ListN.{length}
+use Rattle.model.specs.Gather.{pick}
+use Rattle.galley.specs.declared.Galley.{Galley}
+use Rattle.galley.specs.Model.{textOf, figuresOf}
+use Rattle.places.specs.laws.Address.{address-in}
+use Rattle.window.specs.declared.slide.Window.{Window}
+use Rattle.window.specs.declared.queue.Queue.{Queue}
+use Rattle.window.specs.Slide.{Reachable, Slidable, Ends}
+use Rattle.window.specs.Queue.{columnOf, FeedAsked, FrontAsked}
+use Rattle.window.specs.laws.Sums.{sums-small}
+use Rattle.starts.specs.declared.heights.Heights.{Heights}
+use Rattle.starts.specs.Heights.{Stacked}
+use Rattle.starts.specs.Sweep.{loadOf, Lent, Summed, Addable, AloneAsked}
+use Rattle.starts.specs.laws.Heights.{figures-low}
+
+-- What is lent for a column is the same while the lengths are.
+pub lent-sized : {bytes : List ℕ} {g : Galley} {w words best : List ℕ} {j side : ℕ} (words′ best′ : List ℕ)
+    → length words′ ≡ length words → length best′ ≡ length best → Lent bytes g w words best j side → Lent bytes g w words′ best′ j side
+lent-sized words′ best′ p q l =
+    record {
+      sound = l .sound;
+      column = l .column;
+      room = l .room;
+      wordsRoom = omega (arith, l .wordsRoom);
+      bestRoom = omega (arith, l .bestRoom);
+      either = l .either;
+    }
+
+module _ {bytes : List ℕ} {g : Galley} {w words best : List ℕ} {j side : ℕ} (lent : Lent bytes g w words best j side) where
+  -- The figures of a page can be added to its lines.
+  pub figures-add : (b : ℕ) (figures : Heights) → Stacked (figuresOf bytes g) b j figures → Addable g figures
+  figures-add b figures floats =
+      let low = figures-low bytes g (lent .sound) b j figures (lent .column) floats in
+      let spec = lent .sound .specRanged in
+      record {
+        smin = omega (arith, spec .smins, spec .smaxs);
+        smax = spec .smaxs;
+        tight = omega (arith, low .tight);
+        loose = omega (arith, low .loose);
+      }
+
+  small : (mixed : Bool) (n : ℕ) → n ≤ 100000 → pick mixed n 0 ≤ 100000
+  small true n l = l
+  small false n l = omega arith
+
+  -- Both ends of a window can be moved on to line i.
+  pub can-slide : {sums : List ℕ} → Summed bytes g sums → (mixed : Bool) (b : ℕ) (figures : Heights) → Stacked (figuresOf bytes g) b j figures → (window : Window) (i : ℕ) → i ≤ g .lines
+      → Ends (textOf bytes g) (loadOf g mixed figures) window i → Slidable sums (loadOf g mixed figures) window i
+  can-slide {sums} summed mixed b figures floats window i h ends = record { low = from (window .low) (ends .low); high = from (window .high) (ends .high) }
+    where
+      from : (a : ℕ) → a ≤ i → Reachable sums (loadOf g mixed figures) a i
+      from a l =
+          let low = figures-low bytes g (lent .sound) b j figures (lent .column) floats in
+          let spec = lent .sound .specRanged in
+          let p = small mixed (g .spec .smin) (omega (arith, spec .smins, spec .smaxs)) in
+          let q = small mixed (g .spec .smax) (spec .smaxs) in
+          record {
+            start = l;
+            room = omega (arith, summed .room);
+            small = sums-small bytes g (lent .sound) sums (summed .rows) i h;
+            tight = omega (arith, low .tight);
+            loose = omega (arith, low .loose);
+            htmin = omega (arith, spec .htmins, spec .htmaxs);
+            htmax = omega (arith, spec .htmaxs);
+          }
+
+  -- A queue of starts with b figures can be moved on to a window that ends by line i.
+  pub can-feed : (b : ℕ) → b ≤ g .figures → (queue : Queue) (old new : Window) (i : ℕ) → i ≤ g .lines → old .high ≤ new .high → new .high ≤ i
+      → queue .head ≤ queue .tail → queue .tail ≤ old .high → FeedAsked w (g .lines + 1) b side words queue (old .high) (new .high)
+  can-feed b k queue old new i h rises inside order short =
+      record {
+        high = omega (arith, lent .sound .fewLines);
+        row = omega arith;
+        column = omega (arith, lent .sound .fewFigures);
+        either = lent .either;
+        stands = λ a l.
+            let within = address-in (g .lines) (g .figures) a b side (omega arith) k (lent .either) in
+            omega (arith, lent .room);
+        order = order;
+        short = short;
+        start = rises;
+        room = omega (arith, lent .wordsRoom);
+      }
+
+  -- The first entry of the queue of such a window can be read.
+  pub can-front : (b : ℕ) → b ≤ g .figures → (queue : Queue) (high i : ℕ) → i ≤ g .lines → high ≤ i → queue .head ≤ queue .tail → queue .tail ≤ high
+      → FrontAsked words queue b
+  can-front b k queue high i h l order short =
+      record { order = order; room = omega (arith, lent .wordsRoom); column = omega (arith, lent .sound .fewFigures) }
+
+  -- (i, b) is a place.
+  pub can-alone : (i b : ℕ) → i ≤ g .lines → b ≤ g .figures → AloneAsked g w i b side
+  can-alone i b h k =
+      record {
+        few = lent .sound .fewLines;
+        line = h;
+        figure = omega (arith, lent .sound .fewFigures);
+        within = k;
+        either = lent .either;
+        room = lent .room;
+      }
+
+-- The column that a queue reads, by one name of its height or the other.
+pub column-named : (w : List ℕ) (g : Galley) (b side : ℕ) → columnOf w (g .lines + 1) b side ≡ columnOf w (suc (g .lines)) b side
+column-named w g b side = rw add-one

@@ -1,0 +1,95 @@
+-- A queue holds what it held: of no line, of the same column, with a line passed over, and with its front dropped.
+use Prim.Native.Nat.{ℕ, suc, _+_, _-_, _≤_, _<_}
+use native.Mathlib.Decide.{decLe}
+use native.Mathlib.Omega.{arith}
+use mathlib.Core.Path.{_≡_, sym, ap, _∙_}
+use mathlib.Core.List.{List}
+use Rattle.places.specs.declared.Start.{Start}
+use Rattle.places.specs.declared.Entry.{Entry}
+use Rattle.places.specs.declared.Entry.the-variants.{Unreached, Least}
+use Rattle.places.specs.Entry.{entryAt}
+use Rattle.places.specs.Address.{address}
+use Rattle.places.specs.Table.{tableOf}
+use Rattle.window.specs.declared.queue.Queue.{Queue}
+use Rattle.window.specs.Queue.{lineAt, columnOf, Cover, Held, Passed}
+
+-- A line's entry is what is read at its address.
+pub column-read : (work : List ℕ) (tall b side a at : ℕ) (e : Entry) → at ≡ address tall a b side → e ≡ entryAt work at
+    → columnOf work tall b side a ≡ e
+unfolding tableOf
+column-read work tall b side a at e p q = ap (entryAt work) (sym p) ∙ sym q
+
+-- Of no line an empty queue holds all.
+pub held-none : (col : ℕ → Entry) (words : List ℕ) → Held col words (record { head = 0; tail = 0 }) 0 0
+held-none col words =
+    record {
+      order = omega arith;
+      short = omega arith;
+      lines = λ k l m. absurd (omega arith);
+      costs = λ k l m. absurd (omega arith);
+      before = λ k l m. absurd (omega arith);
+      reached = λ k l m. absurd (omega arith);
+      covered = λ a x r l m e. absurd (omega arith);
+    }
+
+-- A queue holds the same of a column that is the same before `high`.
+pub held-same : (col col′ : ℕ → Entry) (words : List ℕ) (queue : Queue) (low high : ℕ)
+    → ((a : ℕ) → a < high → col′ a ≡ col a) → Held col words queue low high → Held col′ words queue low high
+held-same col col′ words queue low high same h =
+    record {
+      order = h .order;
+      short = h .short;
+      lines = h .lines;
+      costs = h .costs;
+      before = h .before;
+      reached = λ k l m. let r = h .reached k l m in (r .0, same (lineAt words k) (h .before k l m) ∙ r .1);
+      covered = λ a x r l m e. h .covered a x r l m (sym (same a m) ∙ e);
+    }
+
+-- A line that is unreached asks for no cover.
+pub held-passed : (col : ℕ → Entry) (words : List ℕ) (queue : Queue) (low a : ℕ) → col a ≡ Unreached
+    → Held col words queue low a → Held col words queue low (a + 1)
+held-passed col words queue low a none h =
+    record {
+      order = h .order;
+      short = let s = h .short in omega arith;
+      lines = h .lines;
+      costs = h .costs;
+      before = λ k l m. let b = h .before k l m in omega arith;
+      reached = h .reached;
+      covered = λ k x r l m e. go k x r l e (decLe (suc k) a) m;
+    }
+  where
+    go : (k x : ℕ) (r : Start) → low ≤ k → col k ≡ Least x r → Dec (suc k ≤ a) → k < a + 1 → Cover words queue k x
+    go k x r l e (yes p) m = h .covered k x r l p e
+    go k x r l e (no p) m =
+        let here : k ≡ a = omega arith in
+        let same = ap col here in
+        let z : _≡_ {A = ℕ} 0 1 = cc in
+        absurd (omega arith)
+
+-- The entries before a later `low` dropped from the front: no line from there on was covered by one of them.
+pub held-dropped : (col : ℕ → Entry) (words : List ℕ) (head tail first low from high : ℕ) → low ≤ from
+    → Passed words head tail from first → Held col words (record { head = head; tail = tail }) low high
+    → Held col words (record { head = first; tail = tail }) from high
+held-dropped col words head tail first low from high less passed h =
+    record {
+      order = passed .to;
+      short = h .short;
+      lines = λ k l m. h .lines k (let p = passed .from in omega arith) m;
+      costs = λ k l m. h .costs k (let p = passed .from in omega arith) m;
+      before = λ k l m. h .before k (let p = passed .from in omega arith) m;
+      reached = λ k l m. h .reached k (let p = passed .from in omega arith) m;
+      covered = λ a x r l m e. kept a x l (h .covered a x r (omega arith) m e);
+    }
+  where
+    kept : (a x : ℕ) → from ≤ a → Cover words (record { head = head; tail = tail }) a x
+        → Cover words (record { head = first; tail = tail }) a x
+    kept a x l old = go (decLe (suc (old .at)) first)
+      where
+        go : Dec (suc (old .at) ≤ first) → Cover words (record { head = first; tail = tail }) a x
+        go (yes p) =
+            let early = passed .passed (old .at) (old .from) p in
+            let later = old .later in
+            absurd (omega arith)
+        go (no p) = record { at = old .at; from = omega arith; to = old .to; later = old .later; cheaper = old .cheaper }

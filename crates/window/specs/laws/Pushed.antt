@@ -1,0 +1,163 @@
+-- A line pushed: the queue holds it too.
+use Prim.Native.Nat.{ℕ, suc, _+_, _-_, _*_, _≤_, _<_}
+use native.Mathlib.Decide.{decLe}
+use native.Mathlib.Omega.{arith}
+use mathlib.Core.Path.{_≡_, sym, ap, _∙_}
+use mathlib.Core.List.{List}
+use lib.ListN.{length, set, length-set}
+use lib.Seq.{getD-set-same, getD-set-other}
+use Rattle.places.specs.declared.Start.{Start}
+use Rattle.places.specs.declared.Entry.{Entry}
+use Rattle.places.specs.declared.Entry.the-variants.{Least}
+use Rattle.window.specs.declared.queue.Queue.{Queue}
+use Rattle.window.specs.Queue.{lineAt, costAt, pushed, tailed, Cover, Held, Dropped}
+
+-- The words after a push: the entry itself, and those before it.
+module _ (words : List ℕ) (t line cost : ℕ) where
+  pub pushed-length : length (pushed words t line cost) ≡ length words
+  unfolding pushed
+  pushed-length = simp length-set
+
+  pushed-line : (k : ℕ) → k < t → lineAt (pushed words t line cost) k ≡ lineAt words k
+  unfolding pushed
+  pushed-line k h =
+      getD-set-other (set words (2 * t) line) (2 * t + 1) (2 * k) cost 0 (omega arith)
+      ∙ getD-set-other words (2 * t) (2 * k) line 0 (omega arith)
+
+  pushed-cost : (k : ℕ) → k < t → costAt (pushed words t line cost) k ≡ costAt words k
+  unfolding pushed
+  pushed-cost k h =
+      getD-set-other (set words (2 * t) line) (2 * t + 1) (2 * k + 1) cost 0 (omega arith)
+      ∙ getD-set-other words (2 * t) (2 * k + 1) line 0 (omega arith)
+
+  pushed-own-line : 2 * t + 2 ≤ length words → lineAt (pushed words t line cost) t ≡ line
+  unfolding pushed
+  pushed-own-line h =
+      getD-set-other (set words (2 * t) line) (2 * t + 1) (2 * t) cost 0 (omega arith)
+      ∙ getD-set-same words (2 * t) line 0 (omega arith)
+
+  pushed-own-cost : 2 * t + 2 ≤ length words → costAt (pushed words t line cost) t ≡ cost
+  unfolding pushed
+  pushed-own-cost h =
+      let n : length (set words (2 * t) line) ≡ length words = simp length-set in
+      getD-set-same (set words (2 * t) line) (2 * t + 1) cost 0 (omega arith)
+
+-- A reached line pushed after what is no cheaper was dropped: it covers itself and what the dropped ones covered.
+module _ (col : ℕ → Entry) (words : List ℕ) (queue : Queue) (low a x t : ℕ) (r : Start) (here : col a ≡ Least x r)
+    (dropped : Dropped words (queue .head) (queue .tail) x t) (room : 2 * t + 2 ≤ length words)
+    (h : Held col words queue low a) where
+  push-lines : (k : ℕ) → queue .head ≤ k → suc k < t + 1
+      → lineAt (pushed words t a x) k < lineAt (pushed words t a x) (suc k)
+  push-lines k l m = go (decLe (suc (suc k)) t)
+    where
+      go : Dec (suc (suc k) ≤ t) → lineAt (pushed words t a x) k < lineAt (pushed words t a x) (suc k)
+      go (yes p) =
+          let to = dropped .to in
+          let rise = h .lines k l (omega arith) in
+          let one = pushed-line words t a x k (omega arith) in
+          let two = pushed-line words t a x (suc k) p in
+          omega arith
+      go (no p) =
+          let to = dropped .to in
+          let last : suc k ≡ t = omega arith in
+          let rise = h .before k l (omega arith) in
+          let one = pushed-line words t a x k (omega arith) in
+          let two = ap (lineAt (pushed words t a x)) last ∙ pushed-own-line words t a x room in
+          omega arith
+
+  push-costs : (k : ℕ) → queue .head ≤ k → suc k < t + 1
+      → costAt (pushed words t a x) k < costAt (pushed words t a x) (suc k)
+  push-costs k l m = go (decLe (suc (suc k)) t)
+    where
+      go : Dec (suc (suc k) ≤ t) → costAt (pushed words t a x) k < costAt (pushed words t a x) (suc k)
+      go (yes p) =
+          let to = dropped .to in
+          let rise = h .costs k l (omega arith) in
+          let one = pushed-cost words t a x k (omega arith) in
+          let two = pushed-cost words t a x (suc k) p in
+          omega arith
+      go (no p) =
+          let last : suc k ≡ t = omega arith in
+          let rise = dropped .cheaper k l last in
+          let one = pushed-cost words t a x k (omega arith) in
+          let two = ap (costAt (pushed words t a x)) last ∙ pushed-own-cost words t a x room in
+          omega arith
+
+  push-before : (k : ℕ) → queue .head ≤ k → k < t + 1 → lineAt (pushed words t a x) k < a + 1
+  push-before k l m = go (decLe (suc k) t)
+    where
+      go : Dec (suc k ≤ t) → lineAt (pushed words t a x) k < a + 1
+      go (yes p) =
+          let to = dropped .to in
+          let old = h .before k l (omega arith) in
+          let one = pushed-line words t a x k p in
+          omega arith
+      go (no p) =
+          let last : k ≡ t = omega arith in
+          let two = ap (lineAt (pushed words t a x)) last ∙ pushed-own-line words t a x room in
+          omega arith
+
+  push-reached : (k : ℕ) → queue .head ≤ k → k < t + 1
+      → (q : Start) × (col (lineAt (pushed words t a x) k) ≡ Least (costAt (pushed words t a x) k) q)
+  push-reached k l m = go (decLe (suc k) t)
+    where
+      go : Dec (suc k ≤ t) → (q : Start) × (col (lineAt (pushed words t a x) k) ≡ Least (costAt (pushed words t a x) k) q)
+      go (yes p) =
+          let to = dropped .to in
+          let old = h .reached k l (omega arith) in (
+            old .0,
+            ap col (pushed-line words t a x k p) ∙ old .1
+                ∙ ap (λ (y : ℕ). Least y (old .0)) (sym (pushed-cost words t a x k p)),
+          )
+      go (no p) =
+          let last : k ≡ t = omega arith in
+          let line = ap (lineAt (pushed words t a x)) last ∙ pushed-own-line words t a x room in
+          let cost = ap (costAt (pushed words t a x)) last ∙ pushed-own-cost words t a x room in
+          (r, ap col line ∙ here ∙ ap (λ (y : ℕ). Least y r) (sym cost))
+
+  -- The new entry covers every line up to its own that costs no less.
+  push-covers : (k y : ℕ) → k ≤ a → x ≤ y → Cover (pushed words t a x) (tailed queue (t + 1)) k y
+  push-covers k y m l =
+      let line = pushed-own-line words t a x room in
+      let cost = pushed-own-cost words t a x room in
+      record { at = t; from = dropped .from; to = omega arith; later = omega arith; cheaper = omega arith }
+
+  -- An entry that is kept covers what it covered.
+  push-keeps : (k y : ℕ) → k < a → Cover words queue k y → Cover (pushed words t a x) (tailed queue (t + 1)) k y
+  push-keeps k y m old = go (decLe (suc (old .at)) t)
+    where
+      go : Dec (suc (old .at) ≤ t) → Cover (pushed words t a x) (tailed queue (t + 1)) k y
+      go (yes p) =
+          let line = pushed-line words t a x (old .at) p in
+          let cost = pushed-cost words t a x (old .at) p in
+          let later = old .later in
+          let cheaper = old .cheaper in
+          record { at = old .at; from = old .from; to = omega arith; later = omega arith; cheaper = omega arith }
+      go (no p) =
+          let dear = dropped .dearer (old .at) (omega arith) (old .to) in
+          let cheaper = old .cheaper in
+          push-covers k y (omega arith) (omega arith)
+
+  push-covered : (k y : ℕ) (q : Start) → low ≤ k → k < a + 1 → col k ≡ Least y q
+      → Cover (pushed words t a x) (tailed queue (t + 1)) k y
+  push-covered k y q l m e = go (decLe (suc k) a)
+    where
+      go : Dec (suc k ≤ a) → Cover (pushed words t a x) (tailed queue (t + 1)) k y
+      go (yes p) = push-keeps k y p (h .covered k y q l p e)
+      go (no p) =
+          let last : k ≡ a = omega arith in
+          let same : col k ≡ col a = ap col last in
+          let equal : x ≡ y = cc in
+          push-covers k y (omega arith) (omega arith)
+
+  pub held-pushed : Held col (pushed words t a x) (tailed queue (t + 1)) low (a + 1)
+  held-pushed =
+      record {
+        order = let from = dropped .from in omega arith;
+        short = let to = dropped .to in let short = h .short in omega arith;
+        lines = push-lines;
+        costs = push-costs;
+        before = push-before;
+        reached = push-reached;
+        covered = push-covered;
+      }
