@@ -2,7 +2,8 @@
  *
  * Making gives the pagination with the fewest page turns that a galley's page specification allows; marking judges a
  * pagination that is handed in. Both work on lent memory alone: they allocate nothing, keep nothing between calls, call
- * nothing and print nothing. Calls on memory that is not shared may run at the same time.
+ * nothing and print nothing. Calls on memory that is not shared may run at the same time. Making takes up to 258,000 bytes of
+ * stack, marking under 1,000.
  *
  * A galley has m lines (1 to 4,000) and n figures (0 to 200). A page list has two words a page: the lines placed so far and
  * the figures placed so far. A word is 32 bits in the machine's own byte order; the galley's bytes are the same everywhere.
