@@ -62,6 +62,13 @@ def long(count):
         yield f'long galley {number}', g, search.best_by_table(g)
 
 
+def largest(make, sides):
+    """Whether the largest galley of height 0 is made: everything fits one page, so that every place is a start."""
+    g = cases.respec(cases.LONGEST, sides=sides)
+    work, pages = ((1,) * length for length in needed(g))
+    return make(galley.write(g), work, pages) == due(g, (4_000, 200), work, pages)
+
+
 def main():
     make = engine.maker(engine.build())
     wrong, tried, refilled, kinds = [], 0, 0, collections.Counter()
@@ -94,6 +101,8 @@ def main():
         rows = list(windows.windows(g))
         compare(f'windows of {name}', all(map(windows.only_rise, rows)), True)
         refilled += sum(map(windows.refill, rows))
+    for sides in (1, 2):
+        compare(f'the largest galley of height 0, sides {sides}', largest(make, sides), True)
     for number, g in enumerate(sample.galleys(SEED + 2, 400, 5, 3)):
         broken = sample.broken(rng, galley.write(g))
         read = galley.read(broken)

@@ -57,11 +57,9 @@ def main():
         compare(name, g, best)
     for number, g in enumerate(unknown()):
         compare(f'galley {number} of unknown best list', g)
-    # Everything fits one page: the plain search would take minutes.
-    work, pages = ((1,) * length for length in check.needed(cases.LONGEST))
-    largest = by_queues(galley.write(cases.LONGEST), work, pages)
-    if largest != check.due(cases.LONGEST, (4_000, 200), work, pages):
-        wrong.append(f'the largest galley of height 0: {largest[0]}')
+    # The plain search would take minutes.
+    if not check.largest(by_queues, 1):
+        wrong.append('the largest galley of height 0')
     return engine.report(tried + 1, wrong)
 
 

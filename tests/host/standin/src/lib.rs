@@ -3,41 +3,35 @@
 
 use core::slice::{from_raw_parts, from_raw_parts_mut};
 
-/// # Safety
-/// As `include/barleychime.h` says.
-#[no_mangle]
-pub unsafe extern "C" fn barleychime_make(
-    galley: *const u8,
-    galley_len: usize,
-    work: *mut u32,
-    work_len: usize,
-    pages: *mut u32,
-    pages_len: usize,
-    answer: *mut u32,
-) -> u32 {
-    let (galley, work, pages) = unsafe {
-        (from_raw_parts(galley, galley_len), from_raw_parts_mut(work, work_len), from_raw_parts_mut(pages, pages_len))
+/// A making of plain Rust under the signature of `barleychime_make`.
+macro_rules! making {
+    ($name:ident, $make:path) => {
+        /// # Safety
+        /// As `include/barleychime.h` says of `barleychime_make`.
+        #[no_mangle]
+        pub unsafe extern "C" fn $name(
+            galley: *const u8,
+            galley_len: usize,
+            work: *mut u32,
+            work_len: usize,
+            pages: *mut u32,
+            pages_len: usize,
+            answer: *mut u32,
+        ) -> u32 {
+            let (galley, work, pages) = unsafe {
+                (
+                    from_raw_parts(galley, galley_len),
+                    from_raw_parts_mut(work, work_len),
+                    from_raw_parts_mut(pages, pages_len),
+                )
+            };
+            unsafe { put(answer, $make(galley, work, pages)) }
+        }
     };
-    unsafe { put(answer, native::make(galley, work, pages)) }
 }
 
-/// # Safety
-/// As for `barleychime_make`.
-#[no_mangle]
-pub unsafe extern "C" fn plain_make(
-    galley: *const u8,
-    galley_len: usize,
-    work: *mut u32,
-    work_len: usize,
-    pages: *mut u32,
-    pages_len: usize,
-    answer: *mut u32,
-) -> u32 {
-    let (galley, work, pages) = unsafe {
-        (from_raw_parts(galley, galley_len), from_raw_parts_mut(work, work_len), from_raw_parts_mut(pages, pages_len))
-    };
-    unsafe { put(answer, native::make_plain(galley, work, pages)) }
-}
+making!(barleychime_make, native::make);
+making!(plain_make, native::make_plain);
 
 /// # Safety
 /// As `include/barleychime.h` says.
