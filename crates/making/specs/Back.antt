@@ -9,7 +9,7 @@ use Rattle.model.specs.Answers.{wordsOf}
 use Rattle.model.specs.Turns as model
 use Rattle.model.specs.Best as choice
 use Rattle.starts.specs.Search.{Table}
-use Rattle.making.specs.Trace.{lastSide, countBack, writeBack}
+use Rattle.walk.specs.Trace.{lastSide, countBack, writeBack}
 
 -- The side of the last page of the best list of a galley.
 abbrev pub lastOf : Galley → Table → ℕ

@@ -16,8 +16,8 @@ use Rattle.places.specs.Entry.{entryAt, put, stored}
 use Rattle.places.specs.Address.{address}
 use Rattle.places.specs.Table.{tableOf}
 use Rattle.starts.specs.Search.{before, better, offered, row, rows, bestStart, priced, mayStop, entryOf}
-use Rattle.making.specs.Fill.{tall, fillSide, fillPlace, fillColumn, fillColumns, filled}
-use Rattle.making.specs.Trace.{startOf, better-side, lastSide, countBack, writeBack}
+use Rattle.filling.specs.Fill.{tall, fillSide, fillPlace, fillColumn, fillColumns, filled}
+use Rattle.walk.specs.Trace.{startOf, better-side, lastSide, countBack, writeBack}
 
 stream : List ℕ → ℕ → Stream
 stream hs c =

@@ -7,7 +7,7 @@ use Rattle.theorems.specs.PageGraph.{State, stop, end, pageGraph}
 use Rattle.places.specs.declared.Entry.{Entry}
 use Rattle.places.specs.declared.Entry.the-variants.{Unreached, Least}
 use Rattle.starts.specs.Search.{place, Table, before}
-use Rattle.making.specs.Trace.{lastSide}
+use Rattle.walk.specs.Trace.{lastSide}
 
 -- An entry of side c: its start is on the side of the page before.
 unfoldable pub shown : Sides → ℕ → Entry → graph.Entry ℕ State

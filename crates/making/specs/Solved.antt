@@ -9,7 +9,7 @@ use Rattle.galley.specs.declared.Galley.{Galley}
 use Rattle.galley.specs.declared.Reading.the-variants as reads
 use Rattle.galley.specs.Whole.{galleyOf}
 use Rattle.galley.specs.Model.{modelOf}
-use Rattle.making.specs.Fill.{filled}
+use Rattle.filling.specs.Fill.{filled}
 use Rattle.making.specs.Make.{workNeeded, listNeeded}
 
 -- The bytes hold the galley.

@@ -5,25 +5,20 @@ use galley::Galley;
 use galley::Reading;
 use model::answer::Answer;
 
-mod fill; // fill.rt: the work area filled, column by column
-mod price; // price.rt: whether a page may end at a place, and what it costs
-mod side; // side.rt: one side of a place filled
-mod trace; // trace.rt: the walk back from the last page
-
 // The best list out of a filled work area: written to the page list, and counted by marking it.
 fn best_pages(s: &[u8], g: Galley, work: &[u32], pages: &mut [u32]) -> Answer
     requires { ⌜ Solved (now s) g (now work) (now pages) ⌝ }
     ensures { λ r. ⌜ Written (now (s .entry)) g (now (pages .entry)) r (now (pages .exit)) ⌝ }
 {
-    let side = trace::last_side(g, work);
-    if !trace::reached(g, work, side) {
+    let side = walk::last_side(g, work);
+    if !walk::reached(g, work, side) {
         return Answer::Refused {
             number: 11,
             place: 0,
         };
     }
-    let p = trace::count_pages(g, work, side);
-    trace::write_pages(g, work, side, p, pages);
+    let p = walk::count_pages(g, work, side);
+    walk::write_pages(g, work, side, p, pages);
     let words = 2 * p;
     marking::mark(s, &pages[..words])
 }
@@ -47,7 +42,7 @@ fn make_read(s: &[u8], g: Galley, work: &mut [u32], pages: &mut [u32]) -> Answer
             place: room as u32,
         };
     }
-    fill::fill(s, g, work);
+    filling::fill::fill(s, g, work);
     let answer = best_pages(s, g, work, pages);
     places::clear(work, needed);
     answer

@@ -1,15 +1,27 @@
 // The best start of a page that ends at a place: starts from the latest to the earliest, later lines first, then later
 // figures, and a mind changed only for a strictly smaller cost. Document 01, "Making".
 ghost use mathlib.Core.Path.{_≡_};
-ghost use Prim.Native.Nat.{suc};
+ghost use Prim.Native.Nat.{suc, _≤_};
+ghost use Rattle.model.specs.Leaf.{sidesOf};
 ghost use Rattle.places.specs.declared.Start.{Start as StartOf};
 ghost use Rattle.places.specs.declared.Entry.the-variants.{Least as least};
-ghost use Rattle.starts.specs.Search.{better, row, bestStart};
+ghost use Rattle.starts.specs.Search.{before, better, row, bestStart};
 ghost use Rattle.starts.specs.Asked.{searchOf, allPlaced, worth, Searched, RowAsked, Startable};
 use crate::heights::Heights;
 use galley::Galley;
 use places::Entry;
 use places::Start;
+
+// The side of the page before one on side c.
+pub fn side_before(g: Galley, c: usize) -> usize
+    requires { ⌜ c ≤ 1 ⌝ }
+    ensures { λ r. ⌜ r ≡ before (sidesOf (g .spec .sides)) c ⌝ }
+{
+    if g.spec.sides == 2 {
+        return 1 - c;
+    }
+    0
+}
 
 // Whether every block is placed at (i, j): a page that ends there is the last.
 pub fn is_full(g: Galley, i: usize, j: usize) -> bool

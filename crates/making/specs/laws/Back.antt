@@ -21,7 +21,7 @@ use Rattle.theorems.specs.PageTheorem.{table-none, table-best}
 use Rattle.places.specs.declared.Start.{Start}
 use Rattle.places.specs.declared.Entry.the-variants.{Unreached, Least}
 use Rattle.starts.specs.Search.{place, Table, before}
-use Rattle.making.specs.Trace.{startOf, countBack, writeBack}
+use Rattle.walk.specs.Trace.{startOf, countBack, writeBack}
 use Rattle.making.specs.Shown.{finished, tableAt}
 use Rattle.making.specs.Back.{lastOf, pagesBack, Found}
 use Rattle.making.specs.laws.Shown.{zeros-two, placed-two, shown-least, finished-least, last-side, full-within}

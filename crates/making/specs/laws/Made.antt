@@ -22,8 +22,8 @@ use Rattle.places.specs.laws.Stored.{stored-beyond}
 use Rattle.places.specs.laws.Cleared.{cleared-forgets}
 use Rattle.places.specs.Table.{tableOf}
 use Rattle.starts.specs.Search.{entryOf}
-use Rattle.making.specs.Fill.{Words, tall, fillSide, fillPlace, fillColumn, fillColumns, filled}
-use Rattle.making.specs.Asked.{FillAsked}
+use Rattle.filling.specs.Fill.{Words, tall, fillSide, fillPlace, fillColumn, fillColumns, filled}
+use Rattle.filling.specs.Asked.{FillAsked}
 use Rattle.making.specs.Make.{workNeeded, listNeeded, makeRead, makeOf, workRead, workAfter, listRead, listAfter, Made}
 use Rattle.making.specs.Solved.{Solved, Written}
 

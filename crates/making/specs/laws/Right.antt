@@ -17,13 +17,13 @@ use Rattle.theorems.specs.PageGraph.{State, stop, end, Within, Step, pageGraph}
 use Rattle.theorems.specs.PageLaws.{page-laws}
 use Rattle.places.specs.Address.{Earlier}
 use Rattle.starts.specs.Search.{place}
-use Rattle.making.specs.Filled.{Side}
-use Rattle.making.specs.Fill.{Words, tall, fillSide, fillPlace, fillColumn, fillColumns, filled}
+use Rattle.filling.specs.Filled.{Side}
+use Rattle.filling.specs.Fill.{Words, tall, fillSide, fillPlace, fillColumn, fillColumns, filled}
 use Rattle.making.specs.Shown.{shown, tableAt}
 use Rattle.making.specs.laws.Shown.{sizes-two, end-right}
-use Rattle.making.specs.laws.Entered.{side-low}
+use Rattle.filling.specs.laws.Entered.{side-low}
 use Rattle.making.specs.laws.Seen.{two-counts, entry-cell}
-use Rattle.making.specs.laws.Fill.{Room, held, side-same, side-other, room-side, earlier-next, earlier-column, length-place, length-column, room-kept}
+use Rattle.filling.specs.laws.Fill.{Room, held, side-same, side-other, room-side, earlier-next, earlier-column, length-place, length-column, room-kept}
 
 -- The states filled so far: those of places before (i, j), and of (i, j) on sides below k.
 unfoldable pub Done : Galley → ℕ → ℕ → ℕ → State → Type 0

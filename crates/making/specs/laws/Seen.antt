@@ -30,7 +30,7 @@ use Rattle.places.specs.declared.Entry.the-variants.{Unreached, Least}
 use Rattle.starts.specs.Search.{place, Table, before, Search, bestStart, priced, mayStop, entryOf}
 use Rattle.starts.specs.Choice.{NoLater, Candidate, Leads, Best, Any}
 use Rattle.starts.specs.laws.Found.{best-start}
-use Rattle.making.specs.Filled.{Side}
+use Rattle.filling.specs.Filled.{Side}
 use Rattle.making.specs.Shown.{shown, tableAt}
 use Rattle.making.specs.laws.Shown.{zeros-two}
 

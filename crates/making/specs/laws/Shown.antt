@@ -17,8 +17,8 @@ use Rattle.places.specs.declared.Start.{Start}
 use Rattle.places.specs.declared.Entry.{Entry}
 use Rattle.places.specs.declared.Entry.the-variants.{Unreached, Least}
 use Rattle.starts.specs.Search.{place, Table, before}
-use Rattle.making.specs.Filled.{Side}
-use Rattle.making.specs.Trace.{better-side, lastSide}
+use Rattle.filling.specs.Filled.{Side}
+use Rattle.walk.specs.Trace.{better-side, lastSide}
 use Rattle.making.specs.Shown.{shown, finished, tableAt}
 
 -- With one float stream the full place is (m, n),

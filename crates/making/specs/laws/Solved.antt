@@ -33,17 +33,17 @@ use Rattle.marking.specs.laws.Sane.{reads-sane}
 use Rattle.places.specs.declared.Entry.{Entry}
 use Rattle.places.specs.declared.Entry.the-variants.{Unreached, Least}
 use Rattle.starts.specs.Search.{Table, before}
-use Rattle.making.specs.Trace.{startOf, countBack, writeBack}
-use Rattle.making.specs.Filled.{Side}
-use Rattle.making.specs.Fill.{tall}
+use Rattle.walk.specs.Trace.{startOf, countBack, writeBack}
+use Rattle.filling.specs.Filled.{Side}
+use Rattle.filling.specs.Fill.{tall}
 use Rattle.making.specs.Shown.{tableAt}
 use Rattle.making.specs.Make.{workNeeded}
 use Rattle.making.specs.Back.{lastOf, pagesBack, wordsBack, Found}
-use Rattle.making.specs.Traceable.{sidesIn, tableIn, isReached, Lent, Traceable, Walkable, Writable}
+use Rattle.walk.specs.Traceable.{sidesIn, tableIn, isReached, Lent, Traceable, Walkable, Writable}
 use Rattle.making.specs.Solved.{Solved, Written}
-use Rattle.making.specs.laws.Entered.{side-low}
+use Rattle.filling.specs.laws.Entered.{side-low}
 use Rattle.making.specs.laws.Shown.{last-side}
-use Rattle.making.specs.laws.Fill.{Room, length-filled, filled-all}
+use Rattle.filling.specs.laws.Fill.{Room, length-filled, filled-all}
 use Rattle.making.specs.laws.Right.{table-right}
 use Rattle.making.specs.laws.Back.{back-none, back-best}
 

@@ -1,0 +1,10 @@
+-- Filling: its definitions first, then the laws about them.
+
+-- What is computed.
+pub mod Fill
+-- What is known of the work area on the way, and what the functions ask for.
+pub mod Filled
+pub mod Asked
+pub mod Run
+pub mod Column
+pub mod laws

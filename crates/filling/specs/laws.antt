@@ -1,0 +1,6 @@
+-- The laws of filling.
+pub mod Entered
+pub mod Fill
+pub mod Price
+pub mod Filling
+pub mod Column

@@ -1,0 +1,234 @@
+-- The entry of a place by what the code has tested, and the turns of the filling loops.
+use Prim.Native.Nat.{ℕ, suc, _+_, _-_, _≤_, _<_}
+use native.Mathlib.Omega.{arith}
+use mathlib.Core.Path.{_≡_, refl, _∙_, ap}
+use mathlib.Core.Bool.{true, false}
+use mathlib.Core.List.{List}
+use lib.ListN.{length}
+use borrow.Author.Tests.{eq-eqb, ne-eqb}
+use Rattle.model.specs.Galley as model
+use Rattle.model.specs.Galley.{Sides, single, double}
+use Rattle.model.specs.Leaf.{sidesOf}
+use Rattle.model.specs.Order.{oddly}
+use Rattle.theorems.specs.Waiting.{pageCost}
+use Rattle.theorems.specs.PageGraph.{full}
+use Rattle.theorems.specs.Bounds.{cost-le}
+use Rattle.galley.specs.declared.Galley.{Galley}
+use Rattle.galley.specs.Model.{figuresOf, modelOf}
+use Rattle.marking.specs.Parts.{Citing}
+use Rattle.places.specs.declared.Start.{Start}
+use Rattle.places.specs.declared.Entry.the-variants.{Unreached, Least}
+use Rattle.places.specs.Table.{tableOf}
+use Rattle.starts.specs.Search.{place, Table, before, bestStart, priced, mayStop, entryOf}
+use Rattle.filling.specs.Filled.{Side}
+use Rattle.filling.specs.Fill.{tall, fillSide, fillPlace, fillColumn, fillColumns, filled}
+use Rattle.starts.specs.Asked.{searchOf}
+use Rattle.filling.specs.Asked.{SideAsked, PlaceAsked, ColumnAsked, FillAsked}
+use Rattle.filling.specs.Run.{ColumnRun, TableRun}
+use Rattle.filling.specs.laws.Entered.{best-entered, side-before}
+use Rattle.filling.specs.laws.Fill.{Room, length-side, length-place, length-column, filled-keeps, filled-place, filled-column, filled-start, filled-to}
+use Rattle.filling.specs.laws.Price.{dearest-light}
+
+-- Nothing is placed at the cost of nothing.
+pub entry-nothing : (g : model.Galley) (t : Table) (i j c : ℕ) → i + j + c ≡ 0
+    → entryOf g t i j c ≡ Least 0 (record { line = 0; figure = 0 })
+unfolding entryOf
+entry-nothing g t i j c e = rw (eq-eqb (i + j + c) 0 e)
+
+module _ (g : model.Galley) (t : Table) (i j c : ℕ) (some : i + j + c ≡ 0 → ⊥) where
+  -- Where no page may end, the place is unreached.
+  pub entry-forbidden : mayStop g i j c ≡ false → entryOf g t i j c ≡ Unreached
+  unfolding entryOf
+  entry-forbidden m = rw (ne-eqb (i + j + c) 0 some, m)
+
+  module _ (may : mayStop g i j c ≡ true) where
+    found : entryOf g t i j c
+        ≡ priced (pageCost g c (full g (place i j)) (place i j))
+        (bestStart (record { galley = g; table = t; i = i; j = j; side = before (g .spec .sides) c }))
+    unfolding entryOf
+    found = rw (ne-eqb (i + j + c) 0 some, may)
+
+    -- Where no page starts, it is unreached too.
+    pub entry-unreached : bestStart (record { galley = g; table = t; i = i; j = j; side = before (g .spec .sides) c })
+        ≡ Unreached
+        → entryOf g t i j c ≡ Unreached
+    unfolding priced
+    entry-unreached b = found ∙ ap (priced (pageCost g c (full g (place i j)) (place i j))) b
+
+    -- Else it costs what its best start does and the price of the page.
+    pub entry-least : (x : ℕ) (r : Start)
+        → bestStart (record { galley = g; table = t; i = i; j = j; side = before (g .spec .sides) c }) ≡ Least x r
+        → entryOf g t i j c ≡ Least (x + pageCost g c (full g (place i j)) (place i j)) r
+    unfolding priced
+    entry-least x r b = found ∙ ap (priced (pageCost g c (full g (place i j)) (place i j))) b
+
+-- The cost of a start and the price of the page are a word.
+pub cost-low : (bytes : List ℕ) (g : Galley) (w : List ℕ) (i j c cited : ℕ) → SideAsked bytes g w i j c cited
+    → (x : ℕ) (r : Start)
+    → bestStart (searchOf bytes g w i j (before (sidesOf (g .spec .sides)) c)) ≡ Least x r
+    → x + pageCost (modelOf bytes g) c (full (modelOf bytes g) (place i j)) (place i j) ≤ 1000000000
+cost-low bytes g w i j c cited asked x r e =
+    let line = asked .placed .line in
+    let figure = asked .placed .figure in
+    let lines = asked .placed .sound .fewLines in
+    let figures = asked .placed .sound .fewFigures in
+    let start =
+    best-entered (searchOf bytes g w i j (before (sidesOf (g .spec .sides)) c)) (asked .filled) line
+    (side-before (sidesOf (g .spec .sides)) c (asked .side)) x r e in
+    let light = dearest-light bytes g (asked .placed .sound) in
+    let cost = cost-le (modelOf bytes g) c (full (modelOf bytes g) (place i j)) (place i j) in
+    omega (arith, start .less, start .dear)
+
+-- Side 0 occurs, and side 1 in double-sided work.
+pub side-zero : (sides : Sides) → Side sides 0
+unfolding oddly
+side-zero single = refl
+side-zero double = refl
+
+pub side-one : (n : ℕ) → n ≡ 2 → Side (sidesOf n) 1
+unfolding oddly sidesOf
+side-one n e = rw (eq-eqb n 2 e)
+
+-- The sides of a place, by the field that says how many there are.
+pub place-single : (g : model.Galley) (n i j : ℕ) (w : List ℕ) → (n ≡ 2 → ⊥) → fillPlace (sidesOf n) g i j w
+    ≡ fillSide g i j 0 w
+unfolding sidesOf fillPlace
+place-single g n i j w e = rw (ne-eqb n 2 e)
+
+pub place-double : (g : model.Galley) (n i j : ℕ) (w : List ℕ) → n ≡ 2
+    → fillPlace (sidesOf n) g i j w ≡ fillSide g i j 1 (fillSide g i j 0 w)
+unfolding sidesOf fillPlace
+place-double g n i j w e = rw (eq-eqb n 2 e)
+
+-- Side 0 comes first, and then side 1 in double-sided work.
+pub side-first : (bytes : List ℕ) (g : Galley) (w : List ℕ) (i j cited : ℕ) → PlaceAsked bytes g w i j cited
+    → SideAsked bytes g w i j 0 cited
+side-first bytes g w i j cited asked =
+    record {
+      placed = asked .placed;
+      room = asked .room;
+      citing = asked .citing;
+      side = side-zero (sidesOf (g .spec .sides));
+      filled = asked .filled;
+    }
+
+pub side-second : (bytes : List ℕ) (g : Galley) (w : List ℕ) (i j cited : ℕ) → PlaceAsked bytes g w i j cited
+    → g .spec .sides ≡ 2
+    → SideAsked bytes g (fillSide (modelOf bytes g) i j 0 w) i j 1 cited
+unfolding Room tall
+side-second bytes g w i j cited asked e =
+    let long = length-side (modelOf bytes g) i j 0 w in
+    record {
+      placed = asked .placed;
+      room = omega (arith, asked .room);
+      citing = asked .citing;
+      side = side-one (g .spec .sides) e;
+      filled =
+          filled-keeps (modelOf bytes g) (dearest-light bytes g (asked .placed .sound)) i j (asked .placed .line)
+          (asked .placed .figure) 0 w (asked .room) (omega arith) (asked .filled);
+    }
+
+module _ (bytes : List ℕ) (g : Galley) (w₀ : List ℕ) where
+  module _ (j : ℕ) where
+    -- Before its first place nothing of the column is filled.
+    pub column-start : ColumnAsked bytes g w₀ j → ColumnRun bytes g w₀ w₀ j 0 0
+    column-start asked =
+        record {
+          within = omega arith;
+          sized = refl;
+          citing = record { sound = asked .sound; few = omega arith; upto = λ k p q. absurd (omega arith) };
+          entries = asked .filled;
+          run = let e : suc (g .lines) - 0 ≡ suc (g .lines) = omega arith in rw e;
+        }
+
+    -- The next place of the column may be filled.
+    pub column-place : ColumnAsked bytes g w₀ j → (w : List ℕ) (cited i cited′ : ℕ) → ColumnRun bytes g w₀ w j cited i
+        → i ≤ g .lines
+        → Citing (figuresOf bytes g) i cited′ → PlaceAsked bytes g w i j cited′
+    column-place asked w cited i cited′ r l citing =
+        let long = r .sized in
+        record {
+          placed = record { sound = asked .sound; line = l; figure = asked .column };
+          room = omega (arith, asked .room);
+          citing = citing;
+          filled = r .entries;
+        }
+
+    -- One place more is filled.
+    pub column-next : ColumnAsked bytes g w₀ j → (w : List ℕ) (cited i cited′ : ℕ) → ColumnRun bytes g w₀ w j cited i
+        → i ≤ g .lines
+        → Citing (figuresOf bytes g) i cited′ → (v : List ℕ) → v ≡ fillPlace (sidesOf (g .spec .sides)) (modelOf bytes g) i j w
+        → ColumnRun bytes g w₀ v j cited′ (i + 1)
+    unfolding Room tall fillColumn
+    column-next asked w cited i cited′ r l citing v e =
+        let long = r .sized in
+        let kept = ap length e ∙ length-place (modelOf bytes g) (sidesOf (g .spec .sides)) i j w in
+        let s : i + 1 ≡ suc i = omega arith in
+        let n : suc (g .lines) - i ≡ suc (suc (g .lines) - suc i) = omega arith in
+        let next =
+        filled-place (modelOf bytes g) (dearest-light bytes g (asked .sound)) i j l (asked .column) w
+        (omega (arith, asked .room))
+        (r .entries) in
+        record {
+          within = omega arith;
+          sized = omega arith;
+          citing =
+              record {
+                sound = asked .sound;
+                few = citing .few;
+                upto = λ k p q. let by = citing .upto k p q in omega arith;
+              };
+          entries = rw (s, e) next;
+          run = rw (s, e) (rw n at (r .run));
+        }
+
+    -- After the last place the column is filled.
+    pub column-end : (w : List ℕ) (cited i : ℕ) → ColumnRun bytes g w₀ w j cited i → g .lines < i
+        → w ≡ fillColumn (modelOf bytes g) j (suc (g .lines)) 0 w₀
+    unfolding fillColumn
+    column-end w cited i r l =
+        let within = r .within in
+        let n : suc (g .lines) - i ≡ 0 = omega arith in
+        rw n at (r .run)
+
+  -- At first no column is filled.
+  pub table-start : FillAsked bytes g w₀ → TableRun bytes g w₀ w₀ 0
+  unfolding filled
+  table-start asked =
+      record {
+        within = omega arith;
+        sized = refl;
+        entries = filled-start (modelOf bytes g) (dearest-light bytes g (asked .sound)) (tableOf (suc (g .lines)) w₀);
+        run = let e : suc (g .figures) - 0 ≡ suc (g .figures) = omega arith in rw e;
+      }
+
+  -- The next column may be filled.
+  pub table-column : FillAsked bytes g w₀ → (w : List ℕ) (j : ℕ) → TableRun bytes g w₀ w j → j ≤ g .figures
+      → ColumnAsked bytes g w j
+  table-column asked w j r l =
+      let long = r .sized in
+      record { sound = asked .sound; column = l; room = omega (arith, asked .room); filled = r .entries }
+
+  -- One column more is filled.
+  pub table-next : FillAsked bytes g w₀ → (w : List ℕ) (j : ℕ) → TableRun bytes g w₀ w j → j ≤ g .figures
+      → (v : List ℕ) → v ≡ fillColumn (modelOf bytes g) j (suc (g .lines)) 0 w → TableRun bytes g w₀ v (j + 1)
+  unfolding Room tall fillColumns
+  table-next asked w j r l v e =
+      let long = r .sized in
+      let light = dearest-light bytes g (asked .sound) in
+      let kept = ap length e ∙ length-column (modelOf bytes g) j (suc (g .lines)) 0 w in
+      let s : j + 1 ≡ suc j = omega arith in
+      let n : suc (g .figures) - j ≡ suc (suc (g .figures) - suc j) = omega arith in
+      let whole =
+      filled-to (modelOf bytes g) light j l (suc (g .lines)) 0 w (omega arith) (omega (arith, asked .room)) (r .entries) in
+      let next = filled-column (modelOf bytes g) light
+      (tableOf (suc (g .lines)) (fillColumn (modelOf bytes g) j (suc (g .lines)) 0 w)) j whole in
+      record { within = omega arith; sized = omega arith; entries = rw (s, e) next; run = rw (s, e) (rw n at (r .run)) }
+
+  -- After the last column the table is filled.
+  pub table-end : (w : List ℕ) (j : ℕ) → TableRun bytes g w₀ w j → g .figures < j → w ≡ filled (modelOf bytes g) w₀
+  unfolding fillColumns
+  table-end w j r l =
+      let within = r .within in
+      let n : suc (g .figures) - j ≡ 0 = omega arith in
+      rw n at (r .run)

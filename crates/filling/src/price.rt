@@ -1,0 +1,48 @@
+// Whether a page may end at a place, and what it then costs: neither depends on where the page starts.
+ghost use mathlib.Core.Path.{_≡_};
+ghost use mathlib.Core.List.{List};
+ghost use Prim.Native.Nat.{ℕ, _≤_};
+ghost use Rattle.model.specs.Leaf.{ends, sidesOf};
+ghost use Rattle.theorems.specs.Waiting.{pageCost};
+ghost use Rattle.theorems.specs.PageGraph.{full};
+ghost use Rattle.galley.specs.Model.{figuresOf, modelOf};
+ghost use Rattle.marking.specs.Parts.{Citing};
+ghost use Rattle.starts.specs.Search.{place, mayStop};
+ghost use Rattle.filling.specs.Asked.{Stopping, Priceable};
+use galley::Galley;
+use model::page::Page;
+
+// Whether a page on side c, which is odd where its number is, ends its leaf.
+fn ends_leaf(g: Galley, c: usize) -> bool
+    requires { ⌜ c ≤ 1 ⌝ }
+    ensures { λ r. ⌜ r ≡ ends (sidesOf (g .spec .sides)) c ⌝ }
+{
+    model::page::ends_spread(g.spec.sides, Page(c as u32))
+}
+
+// Whether a page on side c may end at (i, j): where a leaf or the list ends, no figure is placed that is not cited.
+pub fn may_stop(s: &[u8], g: Galley, i: usize, j: usize, c: usize, cited: usize) -> bool
+    requires { ⌜ Stopping (now s) g i j c cited ⌝ }
+    ensures { λ r. ⌜ r ≡ mayStop (modelOf (now (s .entry)) g) i j c ⌝ }
+{
+    marking::rules::may_end(s, g, i)
+        & (!(ends_leaf(g, c) | starts::search::is_full(g, i, j)) | (j <= cited))
+}
+
+// What a page on side c costs that ends at (i, j), with so many figures cited by line i or earlier: where it ends its leaf
+// and is not the last, the figures that wait, by α, and the turn, by β.
+pub fn price(g: Galley, i: usize, j: usize, c: usize, cited: usize) -> u32
+    requires { ⌜ Priceable g c cited ⌝ }
+    ensures { λ r. ⌜ ((bytes : List ℕ) → Citing (figuresOf bytes g) i cited → r ≡ pageCost (modelOf bytes g) c (full (modelOf bytes g) (place i j)) (place i j)) ⌝ }
+{
+    if starts::search::is_full(g, i, j) {
+        return 0;
+    }
+    if !ends_leaf(g, c) {
+        return 0;
+    }
+    if cited <= j {
+        return g.spec.beta;
+    }
+    g.spec.alpha * ((cited - j) as u32) + g.spec.beta
+}

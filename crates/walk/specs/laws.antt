@@ -1,0 +1,2 @@
+-- The laws of the walk back.
+pub mod Walk

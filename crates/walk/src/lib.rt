@@ -1,0 +1,114 @@
+// From the last page back to the first, by the start that each entry holds: document 01, "Making".
+ghost use mathlib.Core.Path.{_≡_};
+ghost use Prim.Native.Nat.{_+_, _≤_};
+ghost use Rattle.walk.specs.Trace.{startOf, better-side, lastSide, countBack, writeBack};
+ghost use Rattle.walk.specs.Traceable.{sidesIn, tableIn, isReached, Lent, Placed, Walkable, Writable};
+use galley::Galley;
+use places::Entry;
+use places::Start;
+
+fn size(x: u32) -> usize
+    ensures { λ r. ⌜ r ≡ x ⌝ }
+{
+    x as usize
+}
+
+// The entry of place (i, j) on a side.
+fn entry_of(g: Galley, work: &[u32], i: usize, j: usize, side: usize) -> Entry
+    requires { ⌜ Lent g (now work) × Placed g i j side ⌝ }
+    ensures { λ r. ⌜ r ≡ tableIn g (now (work .entry)) i j side ⌝ }
+{
+    places::entry_at(work, places::address_of(g.lines + 1, i, j, side))
+}
+
+// Where the page starts that ends at an entry's place.
+fn start_of(entry: Entry) -> Start
+    ensures { λ r. ⌜ r ≡ startOf entry ⌝ }
+{
+    match entry {
+        Entry::Unreached => Start { line: 0, figure: 0 },
+        Entry::Least(_cost, start) => start,
+    }
+}
+
+// Of the two sides of the full place the less dear; an even page count, side 0, where they cost the same.
+fn better_side(even: Entry, odd: Entry) -> usize
+    ensures { λ r. ⌜ r ≡ better-side even odd ⌝ }
+{
+    match even {
+        Entry::Unreached => match odd {
+            Entry::Unreached => 0,
+            Entry::Least(_y, _r) => 1,
+        },
+        Entry::Least(x, _s) => match odd {
+            Entry::Unreached => 0,
+            Entry::Least(y, _r) => { if x <= y { 0 } else { 1 } },
+        },
+    }
+}
+
+// The side of the last page of the best list.
+pub fn last_side(g: Galley, work: &[u32]) -> usize
+    requires { ⌜ Lent g (now work) ⌝ }
+    ensures { λ r. ⌜ r ≡ lastSide (sidesIn g) (tableIn g (now (work .entry))) (g .lines) (g .figures) ⌝ }
+{
+    if g.spec.sides == 2 {
+        let even = entry_of(g, work, g.lines, g.figures, 0);
+        let odd = entry_of(g, work, g.lines, g.figures, 1);
+        better_side(even, odd)
+    } else {
+        0
+    }
+}
+
+// Whether the full place is reached on a side: if not on the last side, no valid list exists.
+pub fn reached(g: Galley, work: &[u32], side: usize) -> bool
+    requires { ⌜ Lent g (now work) × (side ≤ 1) ⌝ }
+    ensures { λ r. ⌜ r ≡ isReached (tableIn g (now (work .entry)) (g .lines) (g .figures) side) ⌝ }
+{
+    let entry = entry_of(g, work, g.lines, g.figures, side);
+    match entry {
+        Entry::Unreached => false,
+        Entry::Least(_cost, _start) => true,
+    }
+}
+
+// The number of pages on the way back from the full place on a side.
+pub fn count_pages(g: Galley, work: &[u32], side: usize) -> usize
+    requires { ⌜ Walkable g (now work) side ⌝ }
+    ensures { λ r. ⌜ r ≡ countBack (sidesIn g) (tableIn g (now (work .entry))) (g .lines + g .figures) (g .lines) (g .figures) side 0 ⌝ }
+{
+    let mut i = g.lines;
+    let mut j = g.figures;
+    let mut c = side;
+    let mut p = 0;
+    while 0 < i + j {
+        let start = start_of(entry_of(g, work, i, j, c));
+        i = size(start.line);
+        j = size(start.figure);
+        c = starts::search::side_before(g, c);
+        p += 1;
+    }
+    p
+}
+
+// The last `p` pages on the way back from the full place on a side, each written where its number says.
+pub fn write_pages(g: Galley, work: &[u32], side: usize, p: usize, pages: &mut [u32])
+    requires { ⌜ Writable g (now work) side p (now pages) ⌝ }
+    ensures { λ _. ⌜ now (pages .exit) ≡ writeBack (sidesIn g) (tableIn g (now (work .entry))) p (g .lines) (g .figures) side (now (pages .entry)) ⌝ }
+{
+    let mut i = g.lines;
+    let mut j = g.figures;
+    let mut c = side;
+    let mut r = p;
+    while 0 < r {
+        let at = 2 * (r - 1);
+        let start = start_of(entry_of(g, work, i, j, c));
+        pages[at] = i as u32;
+        pages[at + 1] = j as u32;
+        i = size(start.line);
+        j = size(start.figure);
+        c = starts::search::side_before(g, c);
+        r -= 1;
+    }
+}
