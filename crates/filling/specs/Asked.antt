@@ -7,7 +7,7 @@ use Rattle.model.specs.Gather.{pick}
 use Rattle.galley.specs.declared.Galley.{Galley}
 use Rattle.galley.specs.Model.{figuresOf, modelOf}
 use Rattle.galley.specs.Sound.{Sound}
-use Rattle.marking.specs.Parts.{Citing}
+use Rattle.rules.specs.Parts.{Citing}
 use Rattle.places.specs.Address.{wordsNeeded}
 use Rattle.places.specs.Table.{tableOf}
 use Rattle.filling.specs.Filled.{Side, Filled}

@@ -5,7 +5,7 @@ use mathlib.Core.List.{List}
 use lib.ListN.{length}
 use Rattle.galley.specs.declared.Galley.{Galley}
 use Rattle.galley.specs.Model.{modelOf}
-use Rattle.marking.specs.Parts.{CitedBefore}
+use Rattle.rules.specs.Parts.{CitedBefore}
 use Rattle.places.specs.Table.{tableOf}
 use Rattle.filling.specs.Fill.{fillColumn, fillColumns, filled}
 use Rattle.filling.specs.Filled.{Filled}

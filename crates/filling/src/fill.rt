@@ -53,7 +53,7 @@ fn last_sweep(
     let mut right = Queue { head: 0, tail: 0 };
     let mut i = 0;
     while i <= g.lines {
-        cited = marking::cites::cited_through(s, g, i, cited);
+        cited = rules::cites::cited_through(s, g, i, cited);
         let from = span;
         span = window::slide::slide(sums, load, from, i);
         left = crate::side::fill_side(s, g, work, evens, even, left, from, span, i, j, 0, cited);

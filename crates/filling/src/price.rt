@@ -6,7 +6,7 @@ ghost use Rattle.model.specs.Leaf.{ends, sidesOf};
 ghost use Rattle.theorems.specs.Waiting.{pageCost};
 ghost use Rattle.theorems.specs.PageGraph.{full};
 ghost use Rattle.galley.specs.Model.{figuresOf, modelOf};
-ghost use Rattle.marking.specs.Parts.{Citing};
+ghost use Rattle.rules.specs.Parts.{Citing};
 ghost use Rattle.starts.specs.Search.{place, mayStop};
 ghost use Rattle.filling.specs.Asked.{Stopping, Priceable};
 use galley::Galley;
@@ -25,7 +25,7 @@ pub fn may_stop(s: &[u8], g: Galley, i: usize, j: usize, c: usize, cited: usize)
     requires { ⌜ Stopping (now s) g i j c cited ⌝ }
     ensures { λ r. ⌜ r ≡ mayStop (modelOf (now (s .entry)) g) i j c ⌝ }
 {
-    marking::rules::may_end(s, g, i)
+    rules::rules::may_end(s, g, i)
         & (!(ends_leaf(g, c) | starts::search::is_full(g, i, j)) | (j <= cited))
 }
 

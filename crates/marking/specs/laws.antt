@@ -1,11 +1,7 @@
 -- The laws behind marking: a galley that was read, one page's tests, its height, its waiting figures, and the run over the
 -- pages.
-pub mod Sane
-pub mod Two
 pub mod Faults
 pub mod Pile
-pub mod Citing
 pub mod Rest
 pub mod Run
-pub mod Counts
 pub mod Page

@@ -5,11 +5,8 @@ ghost use Rattle.marking.specs.Mark.{markOf};
 use galley::Reading;
 use model::answer::Answer;
 
-pub mod cites; // cites.rt: the figures cited so far, and those that wait
-mod counts; // counts.rt: the counts of a list whose pages were judged
 mod pages; // pages.rt: the loop over pages
 mod pile; // pile.rt: the height of a page, block by block
-pub mod rules; // rules.rt: rules 12, 13, 14, 16 and 17
 
 // The marking of any words for any bytes. A refused galley is refused alike; the time is proportional to the pages of the
 // list and the lines and figures on them.

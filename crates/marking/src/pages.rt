@@ -22,12 +22,12 @@ fn judge_pages(s: &[u8], g: Galley, list: &[u32]) -> Answer
     let mut x: u32 = 0;
     let answer = 'pages: loop {
         if done == pages {
-            break 'pages crate::counts::finish(g, pages as u32, a, b, x);
+            break 'pages rules::counts::finish(g, pages as u32, a, b, x);
         }
         let number = (done + 1) as u32;
-        let i = crate::rules::size(list[2 * done]);
-        let j = crate::rules::size(list[2 * done + 1]);
-        let start = crate::rules::start_fault(s, g, a, b, i, j);
+        let i = rules::rules::size(list[2 * done]);
+        let j = rules::rules::size(list[2 * done + 1]);
+        let start = rules::rules::start_fault(s, g, a, b, i, j);
         if 0 < start {
             break 'pages Answer::Refused {
                 number: start,
@@ -56,15 +56,15 @@ fn judge_pages(s: &[u8], g: Galley, list: &[u32]) -> Answer
                 }
             }
         }
-        let end = crate::rules::end_fault(s, g, pile.loose, Page(number), done + 1 == pages, i, j);
+        let end = rules::rules::end_fault(s, g, pile.loose, Page(number), done + 1 == pages, i, j);
         if 0 < end {
             break 'pages Answer::Refused {
                 number: end,
                 place: number,
             };
         }
-        cited = crate::cites::cited_through(s, g, i, cited);
-        x += crate::cites::waiting_at(g, Page(number), cited, j);
+        cited = rules::cites::cited_through(s, g, i, cited);
+        x += rules::cites::waiting_at(g, Page(number), cited, j);
         done += 1;
         a = i;
         b = j;
@@ -77,7 +77,7 @@ pub fn mark_read(s: &[u8], g: Galley, list: &[u32]) -> Answer
     requires { ⌜ Sound (now s) g ⌝ }
     ensures { λ r. ⌜ r ≡ marked (modelOf (now (s .entry)) g) (now (list .entry)) ⌝ }
 {
-    if crate::rules::is_counted(g, list.len()) {
+    if rules::rules::is_counted(g, list.len()) {
         return judge_pages(s, g, list);
     }
     Answer::Refused {

@@ -20,7 +20,7 @@ use Rattle.galley.specs.Whole.{galleyOf}
 use Rattle.galley.specs.Sound.{citation}
 use Rattle.galley.specs.Model.{modelOf}
 use Rattle.marking.specs.Mark.{markRead, markOf}
-use Rattle.marking.specs.laws.Sane.{reads-sane}
+use Rattle.rules.specs.laws.Sane.{reads-sane}
 
 -- The bytes say the galley g, P is a pagination of g on p pages in the sense of the paper, and the words are its page list.
 pub record Paginates (bytes words : List ℕ) (g : Galley) (p : ℕ) (P : Map) : Type 0 where

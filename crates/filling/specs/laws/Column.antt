@@ -13,7 +13,7 @@ use Rattle.model.specs.Galley.{Stream}
 use Rattle.model.specs.Leaf.{sidesOf}
 use Rattle.galley.specs.declared.Galley.{Galley}
 use Rattle.galley.specs.Model.{textOf, figuresOf, modelOf}
-use Rattle.marking.specs.Parts.{Citing}
+use Rattle.rules.specs.Parts.{Citing}
 use Rattle.places.specs.Table.{tableOf}
 use Rattle.window.specs.declared.slide.Window.{Window}
 use Rattle.window.specs.declared.queue.Queue.{Queue}

@@ -15,7 +15,7 @@ use Rattle.theorems.specs.PageGraph.{full}
 use Rattle.theorems.specs.Bounds.{cost-le}
 use Rattle.galley.specs.declared.Galley.{Galley}
 use Rattle.galley.specs.Model.{figuresOf, modelOf}
-use Rattle.marking.specs.Parts.{Citing}
+use Rattle.rules.specs.Parts.{Citing}
 use Rattle.places.specs.declared.Start.{Start}
 use Rattle.places.specs.declared.Entry.the-variants.{Unreached, Least}
 use Rattle.places.specs.Table.{tableOf}

@@ -17,9 +17,9 @@ use Rattle.theorems.specs.Bounds.{allFloats, dearest}
 use Rattle.galley.specs.declared.Galley.{Galley}
 use Rattle.galley.specs.Model.{textOf, figuresOf, modelOf}
 use Rattle.galley.specs.Sound.{Sound}
-use Rattle.marking.specs.Parts.{Citing}
-use Rattle.marking.specs.laws.Two.{closes-two, full-two}
-use Rattle.marking.specs.laws.Citing.{waiting-two}
+use Rattle.rules.specs.Parts.{Citing}
+use Rattle.rules.specs.laws.Two.{closes-two, full-two}
+use Rattle.rules.specs.laws.Citing.{waiting-two}
 use Rattle.starts.specs.Search.{place, mayStop}
 use Rattle.starts.specs.Asked.{allPlaced}
 use Rattle.filling.specs.Asked.{priceOf}

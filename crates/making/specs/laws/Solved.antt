@@ -29,7 +29,7 @@ use Rattle.galley.specs.Whole.{galleyOf}
 use Rattle.galley.specs.Model.{modelOf}
 use Rattle.galley.specs.Laws.Sound.{sound}
 use Rattle.marking.specs.Mark.{markRead, markOf}
-use Rattle.marking.specs.laws.Sane.{reads-sane}
+use Rattle.rules.specs.laws.Sane.{reads-sane}
 use Rattle.places.specs.declared.Entry.{Entry}
 use Rattle.places.specs.declared.Entry.the-variants.{Unreached, Least}
 use Rattle.starts.specs.Search.{Table, before}

@@ -11,7 +11,7 @@ use Rattle.model.specs.Rules.{forward, closes, fits, fills, cited, firstBroken,
 use Rattle.model.specs.laws.Rules.{forward-at}
 use Rattle.galley.specs.declared.Galley.{Galley}
 use Rattle.galley.specs.Model.{modelOf}
-use Rattle.marking.specs.Parts.{startFault, endFault}
+use Rattle.rules.specs.Parts.{startFault, endFault}
 
 start-first : (a b c d e : Bool) (n : ℕ) → n ≡ pick a (pick b 0 14) 13 → 0 < n → n ≡ firstBroken a b c d e
 unfolding firstBroken

@@ -11,8 +11,9 @@ use Rattle.model.specs.Rules.{cited, broken}
 use Rattle.galley.specs.declared.Galley.{Galley}
 use Rattle.galley.specs.Model.{figuresOf, modelOf}
 use Rattle.marking.specs.declared.pile.Pile.{Pile}
-use Rattle.marking.specs.Parts.{Listed, Citing, CitedBefore, startFault, endFault, waitingAt}
-use Rattle.marking.specs.laws.Sane.{sound-sane}
+use Rattle.rules.specs.Parts.{Citing, CitedBefore, startFault, endFault, waitingAt}
+use Rattle.marking.specs.Parts.{Listed}
+use Rattle.rules.specs.laws.Sane.{sound-sane}
 use Rattle.marking.specs.laws.Pile.{Piled, piled-over, piled-fits, piled-fills}
 use Rattle.marking.specs.laws.Faults.{Onward, onward, broken-start, goes-forward, broken-over, broken-end}
 use Rattle.marking.specs.laws.Run.{Run, wholly, run-refused, run-next}

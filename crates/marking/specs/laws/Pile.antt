@@ -15,10 +15,11 @@ use Rattle.model.specs.laws.Gather.{between-sum}
 use Rattle.model.specs.laws.Height.{stacked-grows}
 use Rattle.galley.specs.declared.Galley.{Galley}
 use Rattle.galley.specs.Model.{textOf, figuresOf, modelOf}
-use Rattle.marking.specs.Parts.{added, separation, onPile, apartBy}
+use Rattle.rules.specs.Parts.{separation}
+use Rattle.marking.specs.Parts.{added, onPile, apartBy}
 use Rattle.marking.specs.declared.pile.Pile.{Pile}
 use Rattle.galley.specs.Sound.{Sound}
-use Rattle.marking.specs.laws.Two.{height-two}
+use Rattle.rules.specs.laws.Two.{height-two}
 
 -- Nothing stands between a and a place that is not after it.
 between-none : (f : ℕ → ℕ) (a b : ℕ) → b ≤ a → between a b f ≡ 0

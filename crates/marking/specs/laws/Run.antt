@@ -26,9 +26,10 @@ use Rattle.theorems.specs.Costs.{orderly}
 use Rattle.galley.specs.declared.Galley.{Galley}
 use Rattle.galley.specs.Sound.{Sound}
 use Rattle.galley.specs.Model.{figuresOf, modelOf}
-use Rattle.marking.specs.Parts.{Citing, Listed, rest, waitingAt, counts, finished}
-use Rattle.marking.specs.laws.Two.{full-two, zeros-two, blocks-two}
-use Rattle.marking.specs.laws.Citing.{waiting-two, citing-none}
+use Rattle.rules.specs.Parts.{Citing, waitingAt, counts, finished}
+use Rattle.marking.specs.Parts.{Listed, rest}
+use Rattle.rules.specs.laws.Two.{full-two, zeros-two, blocks-two}
+use Rattle.rules.specs.laws.Citing.{waiting-two, citing-none}
 use Rattle.marking.specs.laws.Rest.{rest-all, rest-none, rest-next, rest-ended}
 
 -- The answer of judging pages numbered from q that start at place u, for the counts of the whole list of words.

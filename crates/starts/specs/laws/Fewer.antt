@@ -12,7 +12,7 @@ use Rattle.model.specs.Rules.{fits}
 use Rattle.model.specs.laws.Height.{stacked-grows}
 use Rattle.galley.specs.declared.Galley.{Galley}
 use Rattle.galley.specs.Model.{figuresOf, modelOf}
-use Rattle.marking.specs.laws.Two.{height-two}
+use Rattle.rules.specs.laws.Two.{height-two}
 use Rattle.places.specs.declared.Entry.the-variants.{Unreached}
 use Rattle.places.specs.Entry.{entryAt, cleared}
 use Rattle.places.specs.laws.Cleared.{cleared-unreached}

@@ -13,8 +13,8 @@ use Rattle.model.specs.laws.Gather.{between-sum}
 use Rattle.galley.specs.declared.Galley.{Galley}
 use Rattle.galley.specs.Model.{textOf, figuresOf, modelOf}
 use Rattle.galley.specs.Sound.{Sound}
-use Rattle.marking.specs.Parts.{separation}
-use Rattle.marking.specs.laws.Two.{height-two}
+use Rattle.rules.specs.Parts.{separation}
+use Rattle.rules.specs.laws.Two.{height-two}
 use Rattle.starts.specs.declared.heights.Heights.{Heights}
 use Rattle.starts.specs.Search.{place}
 use Rattle.starts.specs.Heights.{Stacked, together}

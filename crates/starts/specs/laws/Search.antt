@@ -13,7 +13,7 @@ use Rattle.model.specs.Rules.{fits, fills}
 use Rattle.theorems.specs.PageGraph.{full}
 use Rattle.galley.specs.declared.Galley.{Galley}
 use Rattle.galley.specs.Model.{textOf, figuresOf, modelOf}
-use Rattle.marking.specs.laws.Two.{full-two}
+use Rattle.rules.specs.laws.Two.{full-two}
 use Rattle.places.specs.declared.Start.{Start}
 use Rattle.places.specs.declared.Entry.{Entry}
 use Rattle.places.specs.declared.Entry.the-variants.{Unreached, Least}

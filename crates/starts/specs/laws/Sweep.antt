@@ -16,8 +16,8 @@ use Rattle.model.specs.laws.Gather.{or-cases, or-left, or-right}
 use Rattle.theorems.specs.PageGraph.{full}
 use Rattle.galley.specs.declared.Galley.{Galley}
 use Rattle.galley.specs.Model.{textOf, figuresOf, modelOf}
-use Rattle.marking.specs.Parts.{separation}
-use Rattle.marking.specs.laws.Two.{height-two, full-two}
+use Rattle.rules.specs.Parts.{separation}
+use Rattle.rules.specs.laws.Two.{height-two, full-two}
 use Rattle.places.specs.declared.Start.{Start}
 use Rattle.places.specs.declared.Entry.{Entry}
 use Rattle.places.specs.declared.Entry.the-variants.{Unreached, Least}

@@ -5,11 +5,11 @@ use borrow.Author.Needs.{needs}
 use denote.Ref.{now}
 use mathlib.Core.Path.{_∙_}
 use native.Mathlib.Omega.{arith}
-use Rattle.marking.specs.laws.Citing.{waits-few}
+use Rattle.rules.specs.laws.Citing.{waits-few}
 use Rattle.marking.specs.laws.Page.{begun, begun-refused, begun-onward, begun-over, begun-ended, begun-next, begun-cites}
 use Rattle.marking.specs.laws.Pile.{Piled, piled-start, piled-line, piled-figure}
 use Rattle.marking.specs.laws.Run.{Run, run-start, run-finish}
-use Rattle.marking.specs.laws.Sane.{sound-sane}
+use Rattle.rules.specs.laws.Sane.{sound-sane}
 use Rattle.marking.proofs.pages.judge_pages.Statement.{statement}
 use Rattle.marking.proofs.pages.judge_pages.Tie as tie
 

@@ -1,5 +1,6 @@
 -- `apart_by` meets its contract: its test is that of `separation`.
-use Rattle.marking.specs.Parts.{separation, apartBy}
+use Rattle.rules.specs.Parts.{separation}
+use Rattle.marking.specs.Parts.{apartBy}
 use Rattle.marking.proofs.pile.apart_by.Statement.{statement}
 use Rattle.marking.proofs.pile.apart_by.Tie as tie
 

@@ -4,11 +4,11 @@ use borrow.Author.Tests.{ltb-true}
 use lib.Dec.{ltb}
 use mathlib.Core.Path.{sym}
 use native.Mathlib.Omega.{arith}
-use Rattle.marking.specs.Parts.{waitingAt}
-use Rattle.marking.specs.laws.Citing.{waits-none}
+use Rattle.rules.specs.Parts.{waitingAt}
+use Rattle.rules.specs.laws.Citing.{waits-none}
 use Rattle.model.specs.laws.Gather.{and-left, and-right}
-use Rattle.marking.proofs.cites.waiting_at.Statement.{statement}
-use Rattle.marking.proofs.cites.waiting_at.Tie as tie
+use Rattle.rules.proofs.cites.waiting_at.Statement.{statement}
+use Rattle.rules.proofs.cites.waiting_at.Tie as tie
 
 ends-spread-requires : tie.Need-ends-spread-requires
 ends-spread-requires c κs = search needs

@@ -6,7 +6,7 @@ use Rattle.model.specs.Galley.{Sides, single, double}
 use Rattle.model.specs.Leaf.{leaf, sidesOf}
 use Rattle.model.specs.laws.Leaf.{leaf-mono}
 use Rattle.galley.specs.declared.Galley.{Galley}
-use Rattle.marking.specs.Parts.{Few}
+use Rattle.rules.specs.Parts.{Few}
 
 -- Y is at most the number of pages.
 leaves-few : (sides : Sides) (p : ℕ) → leaf sides p - leaf sides 1 ≤ p

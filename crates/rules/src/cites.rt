@@ -3,7 +3,7 @@ ghost use mathlib.Core.Path.{_≡_};
 ghost use Prim.Native.Nat.{_≤_};
 ghost use Rattle.galley.specs.Model.{figuresOf};
 ghost use Rattle.galley.specs.Sound.{Sound};
-ghost use Rattle.marking.specs.Parts.{CitedBefore, Citing, waitingAt};
+ghost use Rattle.rules.specs.Parts.{CitedBefore, Citing, waitingAt};
 use galley::Galley;
 use model::page::Page;
 

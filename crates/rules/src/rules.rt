@@ -9,7 +9,7 @@ ghost use Rattle.model.specs.Rules.{forward, mayEnd, cited};
 ghost use Rattle.model.specs.Answers.{counted};
 ghost use Rattle.galley.specs.Model.{textOf, modelOf};
 ghost use Rattle.galley.specs.Sound.{Sound};
-ghost use Rattle.marking.specs.Parts.{startFault, endFault};
+ghost use Rattle.rules.specs.Parts.{startFault, endFault};
 use galley::Galley;
 use model::page::Page;
 

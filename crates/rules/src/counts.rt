@@ -2,7 +2,7 @@
 ghost use mathlib.Core.Path.{_≡_};
 ghost use Prim.Native.Nat.{_≤_, _*_};
 ghost use Rattle.galley.specs.Range.{SpecRanged};
-ghost use Rattle.marking.specs.Parts.{Few, finished};
+ghost use Rattle.rules.specs.Parts.{Few, finished};
 use galley::Galley;
 use model::answer::Answer;
 use model::page::Page;

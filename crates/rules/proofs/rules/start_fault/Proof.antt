@@ -2,10 +2,10 @@
 use borrow.Author.Needs.{needs}
 use denote.Ref.{now}
 use mathlib.Core.Path.{sym, _∙_}
-use Rattle.marking.specs.Parts.{startFault}
-use Rattle.marking.specs.laws.Two.{closes-two}
-use Rattle.marking.proofs.rules.start_fault.Statement.{statement}
-use Rattle.marking.proofs.rules.start_fault.Tie as tie
+use Rattle.rules.specs.Parts.{startFault}
+use Rattle.rules.specs.laws.Two.{closes-two}
+use Rattle.rules.proofs.rules.start_fault.Statement.{statement}
+use Rattle.rules.proofs.rules.start_fault.Tie as tie
 
 is-forward-requires : tie.Need-is-forward-requires
 is-forward-requires c κs = search needs

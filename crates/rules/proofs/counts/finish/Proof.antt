@@ -3,11 +3,11 @@ use Prim.Native.Nat.{_-_, _*_}
 use borrow.Author.Needs.{needs}
 use mathlib.Core.Path.{_≡_, ap}
 use native.Mathlib.Omega.{arith}
-use Rattle.marking.specs.Parts.{counts, finished}
-use Rattle.marking.specs.laws.Counts.{few-bounded}
+use Rattle.rules.specs.Parts.{counts, finished}
+use Rattle.rules.specs.laws.Counts.{few-bounded}
 use Rattle.model.specs.Leaf.{leaf, sidesOf}
-use Rattle.marking.proofs.counts.finish.Statement.{statement}
-use Rattle.marking.proofs.counts.finish.Tie as tie
+use Rattle.rules.proofs.counts.finish.Statement.{statement}
+use Rattle.rules.proofs.counts.finish.Tie as tie
 
 spread-of-requires : tie.Need-spread-of-requires
 spread-of-requires c κs = search needs

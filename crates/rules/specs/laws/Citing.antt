@@ -14,7 +14,7 @@ use Rattle.theorems.specs.Waiting.{dangles, waitingIn, waiting}
 use Rattle.theorems.specs.Costs.{cite-mono}
 use Rattle.galley.specs.declared.Galley.{Galley}
 use Rattle.galley.specs.Model.{figuresOf, modelOf}
-use Rattle.marking.specs.Parts.{Citing, waitingAt}
+use Rattle.rules.specs.Parts.{Citing, waitingAt}
 
 module _ (st : Stream) (i j c : ℕ) (h : Citing st i c) where
   past : ℕ → ℕ

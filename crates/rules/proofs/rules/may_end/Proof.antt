@@ -5,8 +5,8 @@ use native.Mathlib.Omega.{arith}
 use Rattle.galley.specs.Laws.Sound.{sound-within}
 use Rattle.model.specs.Rules.{mayEnd}
 use Rattle.model.specs.laws.Gather.{and-left, and-right}
-use Rattle.marking.proofs.rules.may_end.Statement.{statement}
-use Rattle.marking.proofs.rules.may_end.Tie as tie
+use Rattle.rules.proofs.rules.may_end.Statement.{statement}
+use Rattle.rules.proofs.rules.may_end.Tie as tie
 
 line-legal-requires : tie.Need-line-legal-requires
 line-legal-requires c κs =

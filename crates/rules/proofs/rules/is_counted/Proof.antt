@@ -1,10 +1,10 @@
 -- `is_counted` meets its contract: its three tests are those of `counted` for two words a page.
 use borrow.Author.Needs.{needs}
-use Rattle.marking.specs.laws.Two.{blocks-two}
+use Rattle.rules.specs.laws.Two.{blocks-two}
 use Rattle.model.specs.Answers.{counted}
 use Rattle.model.specs.Galley.{streams}
-use Rattle.marking.proofs.rules.is_counted.Statement.{statement}
-use Rattle.marking.proofs.rules.is_counted.Tie as tie
+use Rattle.rules.proofs.rules.is_counted.Statement.{statement}
+use Rattle.rules.proofs.rules.is_counted.Tie as tie
 
 add-result : tie.Need-add-result
 add-result c = search needs

@@ -1,8 +1,8 @@
 -- `is_forward` meets its contract: its tests are those of `forward` for two streams.
 use mathlib.Core.Path.{sym}
-use Rattle.marking.specs.laws.Two.{forward-two}
-use Rattle.marking.proofs.rules.is_forward.Statement.{statement}
-use Rattle.marking.proofs.rules.is_forward.Tie as tie
+use Rattle.rules.specs.laws.Two.{forward-two}
+use Rattle.rules.proofs.rules.is_forward.Statement.{statement}
+use Rattle.rules.proofs.rules.is_forward.Tie as tie
 
 returns : tie.Need-returns
 returns c = λ bytes. sym (forward-two bytes _ _ _ _ _)

@@ -1,8 +1,8 @@
 -- `end_fault` meets its contract: by its two tests, in the order of `endFault`.
 use borrow.Author.Needs.{needs}
-use Rattle.marking.specs.Parts.{endFault}
-use Rattle.marking.proofs.rules.end_fault.Statement.{statement}
-use Rattle.marking.proofs.rules.end_fault.Tie as tie
+use Rattle.rules.specs.Parts.{endFault}
+use Rattle.rules.proofs.rules.end_fault.Statement.{statement}
+use Rattle.rules.proofs.rules.end_fault.Tie as tie
 
 is-cited-requires : tie.Need-is-cited-requires
 is-cited-requires c κs = search needs

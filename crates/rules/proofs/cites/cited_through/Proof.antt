@@ -6,10 +6,10 @@ use denote.Ref.{now}
 use native.Mathlib.Omega.{arith}
 use Rattle.galley.specs.Laws.Sound.{sound-within}
 use Rattle.galley.specs.Model.{figuresOf}
-use Rattle.marking.specs.laws.Citing.{citing-stop, citing-all, upto-next}
-use Rattle.marking.specs.laws.Sane.{sound-sane}
-use Rattle.marking.proofs.cites.cited_through.Statement.{statement}
-use Rattle.marking.proofs.cites.cited_through.Tie as tie
+use Rattle.rules.specs.laws.Citing.{citing-stop, citing-all, upto-next}
+use Rattle.rules.specs.laws.Sane.{sound-sane}
+use Rattle.rules.proofs.cites.cited_through.Statement.{statement}
+use Rattle.rules.proofs.cites.cited_through.Tie as tie
 
 abbrev Inv-loop : tie.InvT-loop
 Inv-loop s g i before c₀ c = (c ≤ g .figures) × ((k : ℕ) → 1 ≤ k → k ≤ c → figuresOf s g .cite k ≤ i)

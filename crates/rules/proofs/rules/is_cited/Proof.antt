@@ -5,10 +5,10 @@ use denote.Ref.{now}
 use lib.Dec.{ltb}
 use mathlib.Core.Bool.{Bool, _||_}
 use Rattle.galley.specs.Laws.Sound.{sound-within}
-use Rattle.marking.specs.laws.Two.{cited-two}
+use Rattle.rules.specs.laws.Two.{cited-two}
 use Rattle.model.specs.laws.Gather.{and-right}
-use Rattle.marking.proofs.rules.is_cited.Statement.{statement}
-use Rattle.marking.proofs.rules.is_cited.Tie as tie
+use Rattle.rules.proofs.rules.is_cited.Statement.{statement}
+use Rattle.rules.proofs.rules.is_cited.Tie as tie
 
 ends-spread-requires : tie.Need-ends-spread-requires
 ends-spread-requires c κs = search needs

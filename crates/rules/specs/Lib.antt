@@ -1,0 +1,3 @@
+-- Rules and counts: their definitions first, then the laws about them.
+pub mod Parts
+pub mod laws

@@ -1,0 +1,5 @@
+-- The laws of rules and counts.
+pub mod Two
+pub mod Citing
+pub mod Counts
+pub mod Sane
