@@ -1,12 +1,11 @@
-// A galley's bytes: one record read at a place, the reader that goes through them, the whole galley, and the fields of line
-// k and figure k. Nothing is copied and nothing is written. Document 01, "The galley file".
-pub mod block; // block.rt: the fields of line k and of figure k, by number
+// A galley's bytes: one record read at a place, the reader that goes through them, and the whole galley. Nothing is copied and
+// nothing is written. Document 01, "The galley file".
 pub mod place; // place.rt: which mark fits where
 mod range; // range.rt: the ranges of the fields
 pub mod reader; // reader.rt: the reader over the lent bytes
 mod records; // records.rt: the record at an offset
 pub mod whole; // whole.rt: a galley, record by record
-mod word; // word.rt: bytes, fields and marks
+pub mod word; // word.rt: bytes, fields and marks
 
 // The page specification that `GS` holds.
 pub struct Spec {

@@ -52,10 +52,10 @@ pub extern "C" fn galley_probe_line(bytes: &[u8], k: usize, out: &mut [u32; 4])
         return;
     }
     *out = [
-        galley::block::line_height(bytes, g, k),
-        galley::block::line_least(bytes, g, k),
-        galley::block::line_most(bytes, g, k),
-        galley::block::line_legal(bytes, g, k),
+        blocks::line_height(bytes, g, k),
+        blocks::line_least(bytes, g, k),
+        blocks::line_most(bytes, g, k),
+        blocks::line_legal(bytes, g, k),
     ];
 }
 
@@ -78,9 +78,9 @@ pub extern "C" fn galley_probe_figure(bytes: &[u8], k: usize, out: &mut [u32; 4]
         return;
     }
     *out = [
-        galley::block::figure_height(bytes, g, k),
-        galley::block::figure_least(bytes, g, k),
-        galley::block::figure_most(bytes, g, k),
-        galley::block::figure_cite(bytes, g, k),
+        blocks::figure_height(bytes, g, k),
+        blocks::figure_least(bytes, g, k),
+        blocks::figure_most(bytes, g, k),
+        blocks::figure_cite(bytes, g, k),
     ];
 }

@@ -28,11 +28,11 @@ pub fn with_line(s: &[u8], g: Galley, pile: Pile, a: usize, k: usize) -> Pile
     requires { ⌜ RoomForLine (now s) g pile a k ⌝ }
     ensures { λ r. ⌜ r ≡ onPile (textOf (now (s .entry)) g) pile a k ⌝ }
 {
-    let height = galley::block::line_height(s, g, k + 1);
+    let height = blocks::line_height(s, g, k + 1);
     if a < k {
         return Pile {
-            tight: pile.tight + (height + galley::block::line_least(s, g, k)),
-            loose: pile.loose + (height + galley::block::line_most(s, g, k)),
+            tight: pile.tight + (height + blocks::line_least(s, g, k)),
+            loose: pile.loose + (height + blocks::line_most(s, g, k)),
         };
     }
     Pile {
@@ -46,11 +46,11 @@ pub fn with_figure(s: &[u8], g: Galley, pile: Pile, b: usize, k: usize) -> Pile
     requires { ⌜ RoomForFigure (now s) g pile b k ⌝ }
     ensures { λ r. ⌜ r ≡ onPile (figuresOf (now (s .entry)) g) pile b k ⌝ }
 {
-    let height = galley::block::figure_height(s, g, k + 1);
+    let height = blocks::figure_height(s, g, k + 1);
     if b < k {
         return Pile {
-            tight: pile.tight + (height + galley::block::figure_least(s, g, k)),
-            loose: pile.loose + (height + galley::block::figure_most(s, g, k)),
+            tight: pile.tight + (height + blocks::figure_least(s, g, k)),
+            loose: pile.loose + (height + blocks::figure_most(s, g, k)),
         };
     }
     Pile {

@@ -14,7 +14,7 @@ pub fn cited_through(s: &[u8], g: Galley, i: usize, before: usize) -> usize
 {
     let mut c = before;
     while c < g.figures {
-        if i < crate::rules::size(galley::block::figure_cite(s, g, c + 1)) {
+        if i < crate::rules::size(blocks::figure_cite(s, g, c + 1)) {
             return c;
         }
         c += 1;

@@ -41,7 +41,7 @@ pub fn may_end(s: &[u8], g: Galley, i: usize) -> bool
     ensures { λ r. ⌜ r ≡ mayEnd (textOf (now (s .entry)) g) i ⌝ }
 {
     if (0 < i) & (i < g.lines) {
-        return galley::block::line_legal(s, g, i) == 1;
+        return blocks::line_legal(s, g, i) == 1;
     }
     true
 }
@@ -52,7 +52,7 @@ fn is_cited(s: &[u8], g: Galley, page: Page, last: bool, i: usize, j: usize) -> 
     ensures { λ r. ⌜ r ≡ cited (modelOf (now (s .entry)) g) (page .0) last (i ∷ j ∷ []) ⌝ }
 {
     if (model::page::ends_spread(g.spec.sides, page) | last) & (0 < j) {
-        return size(galley::block::figure_cite(s, g, j)) <= i;
+        return size(blocks::figure_cite(s, g, j)) <= i;
     }
     true
 }

@@ -18,15 +18,15 @@ pub fn line_before(s: &[u8], g: Galley, h: Heights, a: usize, i: usize) -> Heigh
     if i <= a {
         return h;
     }
-    let height = galley::block::line_height(s, g, a + 1);
+    let height = blocks::line_height(s, g, a + 1);
     if i == a + 1 {
         return Heights {
             tight: height,
             loose: height,
         };
     }
-    let least = galley::block::line_least(s, g, a + 1);
-    let most = galley::block::line_most(s, g, a + 1);
+    let least = blocks::line_least(s, g, a + 1);
+    let most = blocks::line_most(s, g, a + 1);
     Heights {
         tight: h.tight + (height + least),
         loose: h.loose + (height + most),
@@ -41,15 +41,15 @@ pub fn figure_before(s: &[u8], g: Galley, h: Heights, b: usize, j: usize) -> Hei
     if j <= b {
         return h;
     }
-    let height = galley::block::figure_height(s, g, b + 1);
+    let height = blocks::figure_height(s, g, b + 1);
     if j == b + 1 {
         return Heights {
             tight: height,
             loose: height,
         };
     }
-    let least = galley::block::figure_least(s, g, b + 1);
-    let most = galley::block::figure_most(s, g, b + 1);
+    let least = blocks::figure_least(s, g, b + 1);
+    let most = blocks::figure_most(s, g, b + 1);
     Heights {
         tight: h.tight + (height + least),
         loose: h.loose + (height + most),

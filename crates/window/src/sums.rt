@@ -29,9 +29,9 @@ pub fn gather(s: &[u8], g: Galley, sums: &mut [u32])
     let mut k = 0;
     while k < g.lines {
         k += 1;
-        let height = galley::block::line_height(s, g, k);
-        let least = galley::block::line_least(s, g, k);
-        let most = galley::block::line_most(s, g, k);
+        let height = blocks::line_height(s, g, k);
+        let least = blocks::line_least(s, g, k);
+        let most = blocks::line_most(s, g, k);
         let high = tight + height;
         let wide = loose + height;
         tight = high + least;

@@ -1,9 +1,9 @@
--- `galley::block::figure_height` meets its contract. The word read is that field of figure k.
+-- `blocks::figure_least` meets its contract. The word read is that field of figure k.
 use borrow.Author.Needs.{needs}
 use Rattle.galley.specs.Record.{figureOf}
 use Rattle.galley.specs.Block.{figureAt}
-use Rattle.galley.proofs.block.figure_height.Statement.{statement}
-use Rattle.galley.proofs.block.figure_height.Tie as tie
+use Rattle.blocks.proofs.figure_least.Statement.{statement}
+use Rattle.blocks.proofs.figure_least.Tie as tie
 
 figure-offset-requires : tie.Need-figure-offset-requires
 figure-offset-requires c κs = search needs
@@ -18,6 +18,6 @@ returns : tie.Need-returns
 unfolding figureAt figureOf
 returns c = rw (← (c .before .figure-offset .ensures)) (c .word-at .ensures)
 
-pub figure-height-spec : {M : Type 1} → statement M
-figure-height-spec =
+pub figure-least-spec : {M : Type 1} → statement M
+figure-least-spec =
     tie.close (tie.spec figure-offset-requires add-word-at word-at-requires returns)

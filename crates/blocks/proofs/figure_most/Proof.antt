@@ -1,9 +1,9 @@
--- `galley::block::figure_most` meets its contract. The word read is that field of figure k.
+-- `blocks::figure_most` meets its contract. The word read is that field of figure k.
 use borrow.Author.Needs.{needs}
 use Rattle.galley.specs.Record.{figureOf}
 use Rattle.galley.specs.Block.{figureAt}
-use Rattle.galley.proofs.block.figure_most.Statement.{statement}
-use Rattle.galley.proofs.block.figure_most.Tie as tie
+use Rattle.blocks.proofs.figure_most.Statement.{statement}
+use Rattle.blocks.proofs.figure_most.Tie as tie
 
 figure-offset-requires : tie.Need-figure-offset-requires
 figure-offset-requires c κs = search needs

@@ -1,8 +1,8 @@
 // The fields of line k and of figure k of a galley that was read, k from 1, in constant time.
 ghost use mathlib.Core.Path.{_≡_};
 ghost use Prim.Native.Nat.{_+_, _-_, _*_, _^_, _≤_, _<_};
 ghost use Rattle.galley.specs.Block.{HasLine, HasFigure, lineAt, figureAt};
-use crate::Galley;
+use galley::Galley;
 
 // The offset of line k.
 fn line_offset(first: usize, k: usize) -> usize
@@ -25,7 +25,7 @@ pub fn line_height(s: &[u8], g: Galley, k: usize) -> u32
     requires { ⌜ HasLine (now s) g k ⌝ }
     ensures { λ r. ⌜ r ≡ lineAt (now (s .entry)) g k .height ⌝ }
 {
-    crate::word::word_at(s, line_offset(g.first, k) + 2)
+    galley::word::word_at(s, line_offset(g.first, k) + 2)
 }
 
 // The least space after line k.
@@ -33,7 +33,7 @@ pub fn line_least(s: &[u8], g: Galley, k: usize) -> u32
     requires { ⌜ HasLine (now s) g k ⌝ }
     ensures { λ r. ⌜ r ≡ lineAt (now (s .entry)) g k .least ⌝ }
 {
-    crate::word::word_at(s, line_offset(g.first, k) + 6)
+    galley::word::word_at(s, line_offset(g.first, k) + 6)
 }
 
 // The greatest space after line k.
@@ -41,7 +41,7 @@ pub fn line_most(s: &[u8], g: Galley, k: usize) -> u32
     requires { ⌜ HasLine (now s) g k ⌝ }
     ensures { λ r. ⌜ r ≡ lineAt (now (s .entry)) g k .most ⌝ }
 {
-    crate::word::word_at(s, line_offset(g.first, k) + 10)
+    galley::word::word_at(s, line_offset(g.first, k) + 10)
 }
 
 // 1 where a page may end after line k, else 0.
@@ -49,7 +49,7 @@ pub fn line_legal(s: &[u8], g: Galley, k: usize) -> u32
     requires { ⌜ HasLine (now s) g k ⌝ }
     ensures { λ r. ⌜ r ≡ lineAt (now (s .entry)) g k .legal ⌝ }
 {
-    crate::word::word_at(s, line_offset(g.first, k) + 14)
+    galley::word::word_at(s, line_offset(g.first, k) + 14)
 }
 
 // The height of figure k.
@@ -57,7 +57,7 @@ pub fn figure_height(s: &[u8], g: Galley, k: usize) -> u32
     requires { ⌜ HasFigure (now s) g k ⌝ }
     ensures { λ r. ⌜ r ≡ figureAt (now (s .entry)) g k .height ⌝ }
 {
-    crate::word::word_at(s, figure_offset(g.first, g.lines, k) + 2)
+    galley::word::word_at(s, figure_offset(g.first, g.lines, k) + 2)
 }
 
 // The least space after figure k.
@@ -65,7 +65,7 @@ pub fn figure_least(s: &[u8], g: Galley, k: usize) -> u32
     requires { ⌜ HasFigure (now s) g k ⌝ }
     ensures { λ r. ⌜ r ≡ figureAt (now (s .entry)) g k .least ⌝ }
 {
-    crate::word::word_at(s, figure_offset(g.first, g.lines, k) + 6)
+    galley::word::word_at(s, figure_offset(g.first, g.lines, k) + 6)
 }
 
 // The greatest space after figure k.
@@ -73,7 +73,7 @@ pub fn figure_most(s: &[u8], g: Galley, k: usize) -> u32
     requires { ⌜ HasFigure (now s) g k ⌝ }
     ensures { λ r. ⌜ r ≡ figureAt (now (s .entry)) g k .most ⌝ }
 {
-    crate::word::word_at(s, figure_offset(g.first, g.lines, k) + 10)
+    galley::word::word_at(s, figure_offset(g.first, g.lines, k) + 10)
 }
 
 // The number of the line that cites figure k.
@@ -81,5 +81,5 @@ pub fn figure_cite(s: &[u8], g: Galley, k: usize) -> u32
     requires { ⌜ HasFigure (now s) g k ⌝ }
     ensures { λ r. ⌜ r ≡ figureAt (now (s .entry)) g k .cite ⌝ }
 {
-    crate::word::word_at(s, figure_offset(g.first, g.lines, k) + 14)
+    galley::word::word_at(s, figure_offset(g.first, g.lines, k) + 14)
 }

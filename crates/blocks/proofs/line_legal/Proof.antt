@@ -1,9 +1,9 @@
--- `galley::block::line_legal` meets its contract. The word read is that field of line k.
+-- `blocks::line_legal` meets its contract. The word read is that field of line k.
 use borrow.Author.Needs.{needs}
 use Rattle.galley.specs.Record.{lineOf}
 use Rattle.galley.specs.Block.{lineAt}
-use Rattle.galley.proofs.block.line_legal.Statement.{statement}
-use Rattle.galley.proofs.block.line_legal.Tie as tie
+use Rattle.blocks.proofs.line_legal.Statement.{statement}
+use Rattle.blocks.proofs.line_legal.Tie as tie
 
 line-offset-requires : tie.Need-line-offset-requires
 line-offset-requires c κs = search needs
