@@ -25,8 +25,8 @@ fn judge_pages(s: &[u8], g: Galley, list: &[u32]) -> Answer
             break 'pages rules::counts::finish(g, pages as u32, a, b, x);
         }
         let number = (done + 1) as u32;
-        let i = rules::rules::size(list[2 * done]);
-        let j = rules::rules::size(list[2 * done + 1]);
+        let i = galley::word::size(list[2 * done]);
+        let j = galley::word::size(list[2 * done + 1]);
         let start = rules::rules::start_fault(s, g, a, b, i, j);
         if 0 < start {
             break 'pages Answer::Refused {

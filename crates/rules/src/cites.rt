@@ -2,7 +2,6 @@
 ghost use mathlib.Core.Path.{_≡_};
 ghost use Prim.Native.Nat.{_≤_};
 ghost use Rattle.galley.specs.Model.{figuresOf};
-ghost use Rattle.galley.specs.Sound.{Sound};
 ghost use Rattle.rules.specs.Parts.{CitedBefore, Citing, waitingAt};
 use galley::Galley;
 use model::page::Page;
@@ -14,7 +13,7 @@ pub fn cited_through(s: &[u8], g: Galley, i: usize, before: usize) -> usize
 {
     let mut c = before;
     while c < g.figures {
-        if i < crate::rules::size(blocks::figure_cite(s, g, c + 1)) {
+        if i < galley::word::size(blocks::figure_cite(s, g, c + 1)) {
             return c;
         }
         c += 1;

@@ -1,7 +1,6 @@
 // The counts of a list whose pages were judged.
 ghost use mathlib.Core.Path.{_≡_};
-ghost use Prim.Native.Nat.{_≤_, _*_};
-ghost use Rattle.galley.specs.Range.{SpecRanged};
+ghost use Prim.Native.Nat.{_*_};
 ghost use Rattle.rules.specs.Parts.{Few, finished};
 use galley::Galley;
 use model::answer::Answer;

@@ -13,13 +13,6 @@ ghost use Rattle.rules.specs.Parts.{startFault, endFault};
 use galley::Galley;
 use model::page::Page;
 
-// A field as a count.
-pub fn size(x: u32) -> usize
-    ensures { λ r. ⌜ r ≡ x ⌝ }
-{
-    x as usize
-}
-
 // 12: there are words, whole pages of them, and no more pages than blocks.
 pub fn is_counted(g: Galley, words: usize) -> bool
     requires { ⌜ (g .lines ≤ 4000) × (g .figures ≤ 200) ⌝ }
@@ -52,7 +45,7 @@ fn is_cited(s: &[u8], g: Galley, page: Page, last: bool, i: usize, j: usize) -> 
     ensures { λ r. ⌜ r ≡ cited (modelOf (now (s .entry)) g) (page .0) last (i ∷ j ∷ []) ⌝ }
 {
     if (model::page::ends_spread(g.spec.sides, page) | last) & (0 < j) {
-        return size(blocks::figure_cite(s, g, j)) <= i;
+        return galley::word::size(blocks::figure_cite(s, g, j)) <= i;
     }
     true
 }

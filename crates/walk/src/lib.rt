@@ -7,12 +7,6 @@ use galley::Galley;
 use places::Entry;
 use places::Start;
 
-fn size(x: u32) -> usize
-    ensures { λ r. ⌜ r ≡ x ⌝ }
-{
-    x as usize
-}
-
 // The entry of place (i, j) on a side.
 fn entry_of(g: Galley, work: &[u32], i: usize, j: usize, side: usize) -> Entry
     requires { ⌜ Lent g (now work) × Placed g i j side ⌝ }
@@ -84,8 +78,8 @@ pub fn count_pages(g: Galley, work: &[u32], side: usize) -> usize
     let mut p = 0;
     while 0 < i + j {
         let start = start_of(entry_of(g, work, i, j, c));
-        i = size(start.line);
-        j = size(start.figure);
+        i = galley::word::size(start.line);
+        j = galley::word::size(start.figure);
         c = starts::search::side_before(g, c);
         p += 1;
     }
@@ -106,8 +100,8 @@ pub fn write_pages(g: Galley, work: &[u32], side: usize, p: usize, pages: &mut [
         let start = start_of(entry_of(g, work, i, j, c));
         pages[at] = i as u32;
         pages[at + 1] = j as u32;
-        i = size(start.line);
-        j = size(start.figure);
+        i = galley::word::size(start.line);
+        j = galley::word::size(start.figure);
         c = starts::search::side_before(g, c);
         r -= 1;
     }
