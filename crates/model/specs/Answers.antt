@@ -1,4 +1,5 @@
--- The marking of a list of words, and the six numbers that an answer stands for.
+-- The marking of a list of words, and the six numbers that an answer stands for (document 01, "Marking"). The types `Answer`
+-- and `Numbers` are those of src/answer.rt.
 use Prim.Native.Nat.{ℕ, zero, suc, pred, _*_, _/_, _%_}
 use mathlib.Core.Bool.{Bool, true, false, _&&_}
 use mathlib.Core.List.{List, [], _∷_, _++_}
@@ -40,7 +41,7 @@ wordsOf (v ∷ vs) = v ++ wordsOf vs
 unfoldable pub counted : Galley → List ℕ → Bool
 counted g ws = ltb 0 (length ws) && eqb (length ws % streams g) 0 && leb (length ws) (streams g * blocks g)
 
--- Two places are the same, count by count.
+-- Two places are the same, count by count (document 01, rule 18: the last place is the full one).
 unfoldable pub same : Place → Place → Bool
 same [] [] = true
 same [] (y ∷ ys) = false
@@ -52,7 +53,7 @@ abbrev pub ended : List Place → Bool
 ended [] = true
 ended (v ∷ vs) = false
 
--- A broken rule refuses the page; otherwise the answer is that for the pages after it.
+-- A broken rule refuses the page; otherwise the answer is that for the pages after it (document 01, "Marking").
 unfoldable pub refuse : ℕ → ℕ → Answer → Answer
 refuse zero q after = after
 refuse (suc n) q after = Refused (suc n) q
@@ -67,6 +68,7 @@ judge g good q u (v ∷ vs) = refuse (broken g q (ended vs) u v) q (judge g good
 unfoldable pub countsOf : Galley → List Place → Answer
 countsOf g ps = Counted (length ps) (xOf g ps) (yOf g ps) (turns g ps)
 
--- The answer of marking a list of words for a galley that reads without refusal: 12 before any page, then the pages, then 18.
+-- The answer of marking a list of words for a galley that reads without refusal: 12 before any page, then the pages, then 18
+-- (document 01, "Marking").
 unfoldable pub marked : Galley → List ℕ → Answer
 marked g ws = pick (counted g ws) (judge g (countsOf g (pagesOf g ws)) 1 (zeros g) (pagesOf g ws)) (Refused 12 0)

@@ -1,4 +1,5 @@
--- What is to be made up into pages: a page specification and streams of blocks, the text and any number of float streams.
+-- What is to be made up into pages: a page specification and streams of blocks, the text and any number of float streams
+-- (paper, section 2; document 01, "The galley file").
 use Prim.Native.Nat.{ℕ, suc, _≤_}
 use mathlib.Core.Bool.{Bool}
 use mathlib.Core.List.{List}
@@ -29,7 +30,8 @@ pub record Stream : Type 0 where
   pub legal : ℕ → Bool
   pub cite : ℕ → ℕ
 
--- A galley: stream 0 is the text, whose blocks are lines; streams 1 to `floats` are float streams, the first the figures.
+-- A galley: stream 0 is the text, whose blocks are lines; streams 1 to `floats` are float streams, the first the figures
+-- (paper, section 2, which has one float stream).
 pub record Galley : Type 0 where
   pub spec : Spec
   pub floats : ℕ
@@ -65,8 +67,8 @@ pub record Block (g : Galley) (s k : ℕ) : Type 0 where
   pub first : 1 ≤ k
   pub last : k ≤ g .stream s .size
 
--- What is asked of a galley's values: there is a line, and each float stream is cited in order by lines that exist (paper,
--- section 2, on the reference function).
+-- What is asked of a galley's values: there is a line (document 01, "The galley file"), and each float stream is cited in
+-- order by lines that exist (paper, section 2, on the reference function).
 pub record Sane (g : Galley) : Type 0 where
   pub lined : 1 ≤ g .stream 0 .size
   pub cites : (s k : ℕ) → 1 ≤ s → Block g s k → Block g 0 (g .stream s .cite k)

@@ -14,12 +14,12 @@ unfoldable pub kinds : Galley → Place → Place → ℕ
 kinds g u v = total (g .floats) (λ s. one (has u v s))
 
 -- Blocks a + 1 to b of a stream with the spaces strictly between them: the space after block b, like that after a, is at
--- the page's edge and vanishes.
+-- the page's edge and vanishes (paper, section 2, on white space; document 01, "One page").
 unfoldable pub stacked : Stream → (ℕ → ℕ) → ℕ → ℕ → ℕ
 stacked st gap a b = between a b (st .ht) + between a (pred b) gap
 
--- The height of the page with a given height for each space, and one separation for each kind beyond the first (paper, section
--- 2, the left sides of its two inequalities).
+-- The height of the page with a given height for each space (paper, section 2, the left sides of its two inequalities), and
+-- one separation for each kind beyond the first: with one float stream none or one, as in the paper.
 unfoldable pub height : Galley → (Stream → ℕ → ℕ) → ℕ → Place → Place → ℕ
 height g gap separation u v =
     total (g .floats) (λ s. stacked (g .stream s) (gap (g .stream s)) (count u s) (count v s)) + pred (kinds g u v) * separation

@@ -1,4 +1,5 @@
--- What the reader sees at a time: a page in single-sided work, a spread in double-sided work. One family for both.
+-- What the reader sees at a time, here called a leaf: a page in single-sided work, a spread in double-sided work (paper,
+-- section 2). One family for both.
 use Prim.Native.Nat.{ℕ, _+_, _/_, _%_}
 use mathlib.Core.Bool.{Bool, true}
 use lib.Dec.{eqb}
@@ -16,6 +17,6 @@ unfoldable pub ends : Sides → ℕ → Bool
 ends single q = true
 ends double q = eqb (q % 2) 1
 
--- The sidedness that a galley's field `sides` names: 2 is double-sided.
+-- The sidedness that a galley's field `sides` names: 2 is double-sided (document 01, "The galley file").
 unfoldable pub sidesOf : ℕ → Sides
 sidesOf n = pick (eqb n 2) double single

@@ -9,25 +9,25 @@ use Rattle.model.specs.Gather.{implies}
 use Rattle.model.specs.Galley.{Sides, single, double, Galley, Place, zeros}
 use Rattle.model.specs.Turns.{turns}
 
--- By the first order, and where that takes two as equal by the second.
+-- By the first order, and where that takes two as equal by the second (document 01, "Making": one tie after another).
 unfoldable pub thenBy : {A : Type 0} → (A → A → Bool) → (A → A → Bool) → A → A → Bool
 thenBy a b x y = a x y && implies (a y x) (b x y)
 
--- By a value that is computed from each.
+-- By a value that is computed from each (document 01, "Making": by turns, by page count, by starts).
 unfoldable pub by : {A B : Type 0} → (A → B) → (B → B → Bool) → A → A → Bool
 by f le x y = le (f x) (f y)
 
--- By the first entries that differ; a list that ends there comes first.
+-- By the first entries that differ; a list that ends there comes first (document 01, "Making": page by page).
 unfoldable pub lex : {A : Type 0} → (A → A → Bool) → List A → List A → Bool
 lex le [] ys = true
 lex le (x ∷ xs) [] = false
 lex le (x ∷ xs) (y ∷ ys) = le x y && implies (le y x) (lex le xs ys)
 
--- The greater number first.
+-- The greater number first (document 01, "Making": what starts later is preferred).
 unfoldable pub geb : ℕ → ℕ → Bool
 geb a b = leb b a
 
--- 1 for a count of pages that is odd in double-sided work, else 0 (document 01, "Making": an even page count first).
+-- 1 for a count of pages that is odd in double-sided work, else 0: even counts are preferred (document 01, "Making").
 unfoldable pub oddly : Sides → ℕ → ℕ
 oddly single p = 0
 oddly double p = p % 2
@@ -37,8 +37,9 @@ unfoldable pub startsOf : Place → List Place → List Place → List Place
 startsOf u [] after = after
 startsOf u (v ∷ vs) after = startsOf v vs (u ∷ after)
 
--- Of two lists the preferred: fewer turns; in double-sided work an even page count; then, from the last page backwards, the
--- later starting line, then the later starting float of each stream.
+-- The first list is preferred to the second, or is as good: by turns; in double-sided work by evenness of the page count; then
+-- by the starts of the pages, the last page's first, each by its line and then its float of each stream (document 01,
+-- "Making").
 unfoldable pub before : Galley → List Place → List Place → Bool
 before g =
     thenBy (by (turns g) leb)

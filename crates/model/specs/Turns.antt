@@ -13,16 +13,17 @@ unfoldable pub pageOf : ℕ → ℕ → ℕ → List Place → ℕ
 pageOf s k q [] = q
 pageOf s k q (v ∷ vs) = pick (leb k (count v s)) q (pageOf s k (suc q) vs)
 
--- The leaves between float k of stream s and the line that cites it (paper, section 3, the difference under its sum).
+-- The leaves turned from the line that cites float k of stream s to the float itself (paper, section 3, the difference under
+-- its sum, which rule 17 keeps from falling below 0).
 unfoldable pub apart : Galley → List Place → ℕ → ℕ → ℕ
 apart g ps s k =
     leaf (g .spec .sides) (pageOf s k 1 ps) - leaf (g .spec .sides) (pageOf 0 (g .stream s .cite k) 1 ps)
 
--- X: those leaves summed over all floats of all streams (document 01, "Spreads and turns").
+-- X: the leaves so turned, summed over all floats of all streams (document 01, "Spreads and turns").
 unfoldable pub xOf : Galley → List Place → ℕ
 xOf g ps = sum (g .floats) (λ s. sum (g .stream s .size) (apart g ps s))
 
--- Y: the leaves from the first page to the last (document 01, "Spreads and turns").
+-- Y: the leaves turned from the first page to the last, one less than there are (document 01, "Spreads and turns").
 unfoldable pub yOf : Galley → List Place → ℕ
 yOf g ps = leaf (g .spec .sides) (length ps) - leaf (g .spec .sides) 1
 

@@ -1,4 +1,4 @@
-// A page number and a spread number are two counts, and neither serves as the other.
+// Pages and spreads are counted apart: each count has a type of its own, so that no page number can stand for a spread's.
 ghost use mathlib.Core.Path.{_≡_};
 ghost use Rattle.model.specs.Leaf.{leaf, ends, sidesOf};
 
