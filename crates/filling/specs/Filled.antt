@@ -22,4 +22,5 @@ Side sides c = oddly sides c ≡ c
 
 -- Every entry filled before place (i, j), column by column, is such a one.
 pub record Filled (g : Galley) (t : Table) (i j : ℕ) : Type 0 where
-  pub entered : (a b c x : ℕ) (s : Start) → Earlier a b i j → a ≤ g .stream 0 .size → Side (g .spec .sides) c → t a b c ≡ Least x s → Entered a b x s
+  pub entered : (a b c x : ℕ) (s : Start) → Earlier a b i j → a ≤ g .stream 0 .size → Side (g .spec .sides) c → t a b c ≡
+      Least x s → Entered a b x s

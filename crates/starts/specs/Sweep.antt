@@ -12,7 +12,7 @@ use Rattle.galley.specs.Sound.{Sound}
 use Rattle.places.specs.declared.Entry.{Entry}
 use Rattle.places.specs.declared.Entry.the-variants.{Unreached}
 use Rattle.places.specs.Address.{wordsNeeded}
-use Rattle.places.specs.Entry.{entryAt}
+use Rattle.places.specs.Entry.{entryAt, stored}
 use Rattle.places.specs.Table.{tableOf}
 use Rattle.window.specs.declared.slide.Load.{Load}
 use Rattle.window.specs.declared.slide.Window.{Window}
@@ -22,7 +22,7 @@ use Rattle.window.specs.Slide.{Ends}
 use Rattle.window.specs.Queue.{columnOf, Held, frontOf, FrontAsked}
 use Rattle.starts.specs.declared.heights.Heights.{Heights}
 use Rattle.starts.specs.Search.{better}
-use Rattle.starts.specs.Choice.{Best, Between}
+use Rattle.starts.specs.Choice.{chosen, Best, Between}
 use Rattle.starts.specs.Heights.{Stacked}
 use Rattle.starts.specs.Asked.{searchOf, allPlaced, Searched}
 
@@ -41,12 +41,18 @@ abbrev pub aloneOf : Galley → List ℕ → ℕ → ℕ → ℕ → ℕ → Ent
 aloneOf g w i b side loose =
     pick (ltb loose (g .spec .htmin)) Unreached (better (tableOf (suc (g .lines)) w i b side) i b Unreached)
 
+-- The best starts of a column, with the starts of b figures weighed at line i: the first of the queue, and figures alone.
+abbrev pub weighed : Galley → List ℕ → List ℕ → Queue → List ℕ → ℕ → ℕ → ℕ → ℕ → List ℕ
+weighed g w words queue best i b side loose =
+    stored best (4 * i) (chosen (chosen (entryAt best (4 * i)) (frontOf words queue b)) (aloneOf g w i b side loose))
+
 -- Four words hold the best of the starts of P for a page that ends at each place of column j; the last page is left aside.
 abbrev pub Known : List ℕ → Galley → List ℕ → ℕ → ℕ → (ℕ → ℕ → Type 0) → List ℕ → Type 0
 Known bytes g w j side P best =
     (i : ℕ) → i ≤ g .lines → allPlaced g i j ≡ false → Best (searchOf bytes g w i j side) P (entryAt best (4 * i))
 
--- A galley that was read, a column of a work area that is long enough, and room for a queue and for the best start of each place
+-- A galley that was read, a column of a work area that is long enough, and room for a queue and for the best start of each
+-- place
 -- of the column.
 pub record Lent (bytes : List ℕ) (g : Galley) (w words best : List ℕ) (j side : ℕ) : Type 0 where
   pub sound : Sound bytes g
@@ -67,7 +73,8 @@ pub record FewerAsked (bytes : List ℕ) (g : Galley) (w sums words best : List 
   pub summed : Summed bytes g sums
 
 -- The starts with more than b figures placed before them are known, and figures b + 1 to j alone are not too tall.
-pub record SweepAsked (bytes : List ℕ) (g : Galley) (w sums words best : List ℕ) (j b side : ℕ) (figures : Heights) : Type 0 where
+pub record SweepAsked (bytes : List ℕ) (g : Galley) (w sums words best : List ℕ) (j b side : ℕ) (figures : Heights) : Type 0
+    where
   pub lent : Lent bytes g w words best j side
   pub summed : Summed bytes g sums
   pub before : b < j
@@ -76,18 +83,21 @@ pub record SweepAsked (bytes : List ℕ) (g : Galley) (w sums words best : List 
   pub known : Known bytes g w j side (Between (suc b) j) best
 
 -- A sweep has come to line i: the places above it know the starts with b figures too.
-pub record SweepRun (bytes : List ℕ) (g : Galley) (w : List ℕ) (j b side : ℕ) (load : Load) (words₀ words best₀ best : List ℕ) (window : Window) (queue : Queue) (i : ℕ) : Type 0 where
+pub record SweepRun (bytes : List ℕ) (g : Galley) (w : List ℕ) (j b side : ℕ) (load : Load) (words₀ words best₀ best : List ℕ)
+    (window : Window) (queue : Queue) (i : ℕ) : Type 0 where
   pub within : i ≤ suc (g .lines)
   pub wordsSized : length words ≡ length words₀
   pub bestSized : length best ≡ length best₀
   pub ends : Ends (textOf bytes g) load window i
   pub held : Held (columnOf w (g .lines + 1) b side) words queue (window .low) (window .high)
-  pub done : (k : ℕ) → k < i → k ≤ g .lines → allPlaced g k j ≡ false → Best (searchOf bytes g w k j side) (Between b j) (entryAt best (4 * k))
+  pub done : (k : ℕ) → k < i → k ≤ g .lines → allPlaced g k j ≡ false → Best (searchOf bytes g w k j side) (Between b j)
+      (entryAt best (4 * k))
   pub left : (k : ℕ) → i ≤ k → k ≤ g .lines → allPlaced g k j ≡ false
       → Best (searchOf bytes g w k j side) (Between (suc b) j) (entryAt best (4 * k))
 
 -- The starts with b figures or more placed before them are known.
-pub record FewerRun (bytes : List ℕ) (g : Galley) (w words₀ words best₀ best : List ℕ) (j side : ℕ) (figures : Heights) (b : ℕ) : Type 0 where
+pub record FewerRun (bytes : List ℕ) (g : Galley) (w words₀ words best₀ best : List ℕ) (j side : ℕ) (figures : Heights) (b :
+    ℕ) : Type 0 where
   pub lent : Lent bytes g w words best j side
   pub within : b ≤ j
   pub wordsSized : length words ≡ length words₀

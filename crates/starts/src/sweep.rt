@@ -1,11 +1,8 @@
 // The best starts of pages that end in a column with fewer figures placed before them, for all lines of the column at once: one
 // sweep down the column for each number of figures, with a queue of starting lines.
 ghost use mathlib.Core.Path.{_≡_};
-ghost use Prim.Native.Nat.{_*_};
-ghost use Rattle.places.specs.Entry.{entryAt, stored};
-ghost use Rattle.window.specs.Queue.{frontOf};
-ghost use Rattle.starts.specs.Choice.{chosen, Between};
-ghost use Rattle.starts.specs.Sweep.{loadOf, aloneOf, Addable, AloneAsked, ImproveAsked, SweepAsked, FewerAsked, Known};
+ghost use Rattle.starts.specs.Choice.{Between};
+ghost use Rattle.starts.specs.Sweep.{loadOf, aloneOf, weighed, Addable, AloneAsked, ImproveAsked, SweepAsked, FewerAsked, Known};
 use crate::heights::Heights;
 use galley::Galley;
 use places::Entry;
@@ -63,7 +60,7 @@ fn improve(
     loose: u32,
 )
     requires { ⌜ ImproveAsked g (now work) (now words) queue (now best) i b side ⌝ }
-    ensures { λ _. ⌜ now (best .exit) ≡ stored (now (best .entry)) (4 * i) (chosen (chosen (entryAt (now (best .entry)) (4 * i)) (frontOf (now (words .entry)) queue b)) (aloneOf g (now (work .entry)) i b side loose)) ⌝ }
+    ensures { λ _. ⌜ now (best .exit) ≡ weighed g (now (work .entry)) (now (words .entry)) queue (now (best .entry)) i b side loose ⌝ }
 {
     let at = 4 * i;
     let held = places::entry_at(best, at);

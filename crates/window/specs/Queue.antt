@@ -54,7 +54,8 @@ pub record Held (col : ℕ → Entry) (words : List ℕ) (queue : Queue) (low hi
   pub reached : (k : ℕ) → queue .head ≤ k → k < queue .tail → (r : Start) × (col (lineAt words k) ≡ Least (costAt words k) r)
   pub covered : (a x : ℕ) (r : Start) → low ≤ a → a < high → col a ≡ Least x r → Cover words queue a x
 
--- Of the reached lines from `low` on and before `high`, e is the cheapest, and the latest of those that cost the same, as a start
+-- Of the reached lines from `low` on and before `high`, e is the cheapest, and the latest of those that cost the same, as a
+-- start
 -- with b figures placed before it; it is unreached where they all are.
 pub record Cheapest (col : ℕ → Entry) (low high b : ℕ) (e : Entry) : Type 0 where
   pub from : (x : ℕ) (r : Start) → e ≡ Least x r → low ≤ r .line
@@ -107,13 +108,15 @@ tailed queue tail = record { head = queue .head; tail = tail }
 pub record Fed (work : List ℕ) (tall b side : ℕ) (old : List ℕ) (queue : Queue) (from to r : ℕ) (new : List ℕ) : Type 0 where
   pub order : queue .head ≤ r
   pub short : r ≤ to
-  pub held : (low : ℕ) → Held (columnOf work tall b side) old queue low from → Held (columnOf work tall b side) new (tailed queue r) low to
+  pub held : (low : ℕ) → Held (columnOf work tall b side) old queue low from → Held (columnOf work tall b side) new (tailed
+      queue r) low to
 
 abbrev pub AdvanceAsked : List ℕ → ℕ → ℕ → ℕ → List ℕ → Queue → ℕ → Window → Type 0
 AdvanceAsked work tall b side words queue from window = FeedAsked work tall b side words queue from (window .high)
 
 -- What was held of the window before is held of this one, whose first entry is within it.
-pub record Advanced (work : List ℕ) (tall b side : ℕ) (old : List ℕ) (queue : Queue) (from : ℕ) (window : Window) (r : Queue) (new : List ℕ) : Type 0 where
+pub record Advanced (work : List ℕ) (tall b side : ℕ) (old : List ℕ) (queue : Queue) (from : ℕ) (window : Window) (r : Queue)
+    (new : List ℕ) : Type 0 where
   pub order : r .head ≤ r .tail
   pub short : r .tail ≤ window .high
   pub held : (low : ℕ) → low ≤ window .low → Held (columnOf work tall b side) old queue low from

@@ -51,10 +51,12 @@ ready-kept {bytes} {g} {w} {words} {best} {queue} {window} {j} {c} ready i d lin
     long : length v ≡ length w
     long = ap length e ∙ length-side (modelOf bytes g) i j d w
 
-    other : (a b : ℕ) → a ≤ g .lines → ((i ≡ a) × (j ≡ b) → ⊥) → tableOf (suc (g .lines)) v a b (sideOf g c) ≡ tableOf (suc (g .lines)) w a b (sideOf g c)
+    other : (a b : ℕ) → a ≤ g .lines → ((i ≡ a) × (j ≡ b) → ⊥) → tableOf (suc (g .lines)) v a b (sideOf g c) ≡ tableOf (suc
+        (g .lines)) w a b (sideOf g c)
     other a b h differ =
         ap (λ u. tableOf (suc (g .lines)) u a b (sideOf g c)) e
-        ∙ side-other (modelOf bytes g) i j d w (ready .lent .room) line (ready .lent .column) low a b (sideOf g c) h (ready .lent .either)
+        ∙ side-other (modelOf bytes g) i j d w (ready .lent .room) line (ready .lent .column) low a b (sideOf g c) h
+            (ready .lent .either)
         (λ q. differ (q .0, q .1))
 
     lent : Lent bytes g v words best j (sideOf g c)
@@ -70,7 +72,8 @@ ready-kept {bytes} {g} {w} {words} {best} {queue} {window} {j} {c} ready i d lin
 
     held : Held (columnOf v (g .lines + 1) j (sideOf g c)) words queue (window .low) (window .high)
     held =
-        held-same (columnOf w (g .lines + 1) j (sideOf g c)) (columnOf v (g .lines + 1) j (sideOf g c)) words queue (window .low) (window .high)
+        held-same (columnOf w (g .lines + 1) j (sideOf g c)) (columnOf v (g .lines + 1) j (sideOf g c)) words queue
+            (window .low) (window .high)
         (λ a l. rw add-one (other a j (omega arith) (λ q. omega (arith, q .0)))) (ready .held)
 
     known : Known bytes g v j (sideOf g c) (Between 0 j) best
@@ -88,7 +91,8 @@ module _ {bytes : List ℕ} {g : Galley} {w words best : List ℕ} {queue : Queu
   pub side-feeds : FeedAsked w (g .lines + 1) j (sideOf g c) words queue (from .high) (to .high)
   side-feeds =
       let ready = moved .ready in
-      can-feed (ready .lent) j (ready .lent .column) queue from to i line (moved .high) (moved .opened .ends .high) (ready .held .order) (ready .held .short)
+      can-feed (ready .lent) j (ready .lent .column) queue from to i line (moved .high) (moved .opened .ends .high)
+          (ready .held .order) (ready .held .short)
 
   module _ (words′ : List ℕ) (sized : length words′ ≡ length words) (next : Queue)
       (advanced : Advanced w (g .lines + 1) j (sideOf g c) words queue (from .high) to next words′) where
@@ -106,13 +110,16 @@ module _ {bytes : List ℕ} {g : Galley} {w words best : List ℕ} {queue : Queu
           start =
               record {
                 searched = record { placed = moved .asked .placed; room = moved .asked .room; either = lent-next .either };
-                front = can-front lent-next j (lent-next .column) next (to .high) i line (moved .opened .ends .high) (advanced .order) (advanced .short);
+                front = can-front lent-next j (lent-next .column) next (to .high) i line (moved .opened .ends .high)
+                    (advanced .order) (advanced .short);
                 bestRoom = lent-next .bestRoom;
                 fewer = λ inner. moved .ready .known i line inner;
                 same = λ inner.
                     let none = le-ltb j j (le-refl j) in
-                    let cheapest = front-cheapest (columnOf w (g .lines + 1) j (sideOf g c)) words′ next (to .low) (to .high) j held-next (advanced .fresh) in
-                    window-best bytes g w i j (sideOf g c) j (record { tight = 0; loose = 0 }) (no-figures bytes g j) inner (le-refl j) to (rw none (moved .opened))
+                    let cheapest = front-cheapest (columnOf w (g .lines + 1) j (sideOf g c)) words′ next (to .low) (to .high)
+                        j held-next (advanced .fresh) in
+                    window-best bytes g w i j (sideOf g c) j (record { tight = 0; loose = 0 }) (no-figures bytes g j) inner
+                        (le-refl j) to (rw none (moved .opened))
                     (frontOf words′ next j) (rw (← column-named w g j (sideOf g c)) cheapest);
               };
         }
@@ -123,14 +130,16 @@ module _ {bytes : List ℕ} {g : Galley} {w words best : List ℕ} {queue : Queu
         record {
           filled = e;
           ready =
-              ready-kept (record { lent = lent-next; held = held-next; known = moved .ready .known }) i c line (moved .opened .ends .high)
+              ready-kept (record { lent = lent-next; held = held-next; known = moved .ready .known }) i c line
+                  (moved .opened .ends .high)
               (side-low (sidesOf (g .spec .sides)) c (moved .asked .side)) v e;
         }
 
 module _ {bytes : List ℕ} {g : Galley} {w₀ sums evens₀ even odds₀ odd : List ℕ} {j : ℕ}
     (asked : LastAsked bytes g w₀ sums evens₀ even odds₀ odd j) where
   -- What is lent for one side.
-  side-lent : (words best : List ℕ) (c : ℕ) → Side (sidesOf (g .spec .sides)) c → 2 * g .lines ≤ length words → 4 * g .lines + 4 ≤ length best
+  side-lent : (words best : List ℕ) (c : ℕ) → Side (sidesOf (g .spec .sides)) c → 2 * g .lines ≤ length words → 4 * g .lines +
+      4 ≤ length best
       → Lent bytes g w₀ words best j (sideOf g c)
   side-lent words best c side l m =
       record {
@@ -159,7 +168,8 @@ module _ {bytes : List ℕ} {g : Galley} {w₀ sums evens₀ even odds₀ odd : 
         ends = ends-first (textOf bytes g) (plain g);
         left =
             record {
-              lent = side-lent evens₀ even 0 (side-zero (sidesOf (g .spec .sides))) (asked .lent .evensRoom) (asked .lent .evenRoom);
+              lent = side-lent evens₀ even 0 (side-zero (sidesOf (g .spec .sides))) (asked .lent .evensRoom)
+                  (asked .lent .evenRoom);
               held = held-none (columnOf w₀ (g .lines + 1) j (sideOf g 0)) evens₀;
               known = asked .left;
             };
@@ -172,11 +182,13 @@ module _ {bytes : List ℕ} {g : Galley} {w₀ sums evens₀ even odds₀ odd : 
       }
 
   module _ {w evens odds : List ℕ} {cited : ℕ} {window : Window} {leftward rightward : Queue} {i : ℕ}
-      (run : LastRun bytes g w₀ w evens₀ evens even odds₀ odds odd j cited window leftward rightward i) (line : i ≤ g .lines) where
+      (run : LastRun bytes g w₀ w evens₀ evens even odds₀ odds odd j cited window leftward rightward i) (line : i ≤ g .lines)
+          where
     -- The window can be moved on to line i,
     pub last-slides : Slidable sums (plain g) window i
     last-slides =
-        can-slide (run .left .lent) (asked .lent .summed) false j (record { tight = 0; loose = 0 }) (no-figures bytes g j) window i line (run .ends)
+        can-slide (run .left .lent) (asked .lent .summed) false j (record { tight = 0; loose = 0 }) (no-figures bytes g j)
+            window i line (run .ends)
 
     module _ (cited′ : ℕ) (citing : Citing (figuresOf bytes g) i cited′) (new : Window)
         (slid : (st : Stream) (m : ℕ) → Slid sums st m (plain g) window i new) where
@@ -222,7 +234,8 @@ module _ {bytes : List ℕ} {g : Galley} {w₀ sums evens₀ even odds₀ odd : 
             → LastRun bytes g w₀ u evens₀ evens′ even odds₀ odds′ odd j cited′ new left right (i + 1)
         last-next odds′ oddsKept right u second =
             record {
-              column = column-next bytes g w₀ j (asked .lent .column) w cited i cited′ (run .column) line citing u (both (ℕ-discrete (g .spec .sides) 2));
+              column = column-next bytes g w₀ j (asked .lent .column) w cited i cited′ (run .column) line citing u (both
+                  (ℕ-discrete (g .spec .sides) 2));
               evensSized = evensKept ∙ run .evensSized;
               oddsSized = oddsKept ∙ run .oddsSized;
               ends = rw add-one (ends-next (textOf bytes g) (plain g) new i opened);
@@ -237,11 +250,14 @@ module _ {bytes : List ℕ} {g : Galley} {w₀ sums evens₀ even odds₀ odd : 
             both (no n) = second .same n ∙ first .filled ∙ sym (place-single (modelOf bytes g) (g .spec .sides) i j w n)
 
             even-ready : Dec (g .spec .sides ≡ 2) → Ready bytes g u evens′ even left new j 0
-            even-ready (yes e) = ready-kept (first .ready) i 1 line (opened .ends .high) (omega arith) u (second .filled e .filled)
+            even-ready (yes e) = ready-kept (first .ready) i 1 line (opened .ends .high) (omega arith) u (second .filled
+                e .filled)
             even-ready (no n) = rw (second .same n) (first .ready)
 
-module _ {bytes : List ℕ} {g : Galley} {w sums evens even odds odd : List ℕ} {j : ℕ} (asked : ColumnLent bytes g w sums evens even odds odd j) where
-  fewer-on : (words best : List ℕ) (c : ℕ) → Side (sidesOf (g .spec .sides)) c → 2 * g .lines ≤ length words → 4 * g .lines + 4 ≤ length best
+module _ {bytes : List ℕ} {g : Galley} {w sums evens even odds odd : List ℕ} {j : ℕ} (asked : ColumnLent bytes g w sums evens
+    even odds odd j) where
+  fewer-on : (words best : List ℕ) (c : ℕ) → Side (sidesOf (g .spec .sides)) c → 2 * g .lines ≤ length words → 4 * g .lines +
+      4 ≤ length best
       → FewerAsked bytes g w sums words best j (sideOf g c)
   fewer-on words best c side l m =
       record {
@@ -284,8 +300,10 @@ module _ {bytes : List ℕ} {g : Galley} {w sums evens even odds odd : List ℕ}
         right = right .known;
       }
 
-module _ {bytes : List ℕ} {g : Galley} {w₀ sums evens₀ even₀ odds₀ odd₀ : List ℕ} (asked : TableLent bytes g w₀ sums evens₀ even₀ odds₀ odd₀) where
-  module _ {w evens even odds odd : List ℕ} {j : ℕ} (run : ColumnsRun bytes g w₀ w evens₀ evens even₀ even odds₀ odds odd₀ odd j) (l : j ≤ g .figures) where
+module _ {bytes : List ℕ} {g : Galley} {w₀ sums evens₀ even₀ odds₀ odd₀ : List ℕ} (asked : TableLent bytes g w₀ sums evens₀
+    even₀ odds₀ odd₀) where
+  module _ {w evens even odds odd : List ℕ} {j : ℕ} (run : ColumnsRun bytes g w₀ w evens₀ evens even₀ even odds₀ odds odd₀ odd
+      j) (l : j ≤ g .figures) where
     -- The next column can be filled.
     pub columns-lent : ColumnLent bytes g w sums evens even odds odd j
     columns-lent =

@@ -42,7 +42,8 @@ good-pick : (i j : ℕ) (b : Bool) (e f : Entry) → (b ≡ true → Good i j e)
 good-pick i j true e f p q = p refl
 good-pick i j false e f p q = q refl
 
-good-start : (i j a b x : ℕ) → a ≤ i → b ≤ j → a + b < i + j → x ≤ (a + b) * 201000 → Good i j (Least x (record { line = a; figure = b }))
+good-start : (i j a b x : ℕ) → a ≤ i → b ≤ j → a + b < i + j → x ≤ (a + b) * 201000 → Good i j (Least x (record { line = a;
+    figure = b }))
 good-start i j a b x h k l d y r e =
     let p : x ≡ y = cc in
     let q : a ≡ r .line = ap line-of e in
@@ -63,11 +64,13 @@ unfolding better
 good-better i j a b Unreached e h k l d g = g
 good-better i j a b (Least x s) Unreached h k l d g = good-start i j a b x h k l (d x s refl)
 good-better i j a b (Least x s) (Least y r) h k l d g =
-    good-pick i j (ltb x y) (Least x (record { line = a; figure = b })) (Least y r) (λ e. good-start i j a b x h k l (d x s refl)) (λ e. g)
+    good-pick i j (ltb x y) (Least x (record { line = a; figure = b })) (Least y r) (λ e. good-start i j a b x h k l (d x s
+        refl)) (λ e. g)
 
 module _ (s : Search) (fill : Filled (s .galley) (s .table) (s .i) (s .j)) (high : s .i ≤ s .galley .stream 0 .size)
     (side : Side (s .galley .spec .sides) (s .side)) where
-  earlier : (a b : ℕ) → a ≤ s .i → b ≤ s .j → (ltb a (s .i) || ltb b (s .j)) ≡ true → Earlier a b (s .i) (s .j) × (a + b < s .i + s .j)
+  earlier : (a b : ℕ) → a ≤ s .i → b ≤ s .j → (ltb a (s .i) || ltb b (s .j)) ≡ true → Earlier a b (s .i) (s .j) × (a + b <
+      s .i + s .j)
   earlier a b h k t = go (decLt b (s .j)) (or-cases (ltb a (s .i)) (ltb b (s .j)) t)
     where
       last : ¬ (b < s .j) → (ltb a (s .i) ≡ true) ⊎ (ltb b (s .j) ≡ true) → a < s .i
@@ -101,7 +104,8 @@ module _ (s : Search) (fill : Filled (s .galley) (s .table) (s .i) (s .j)) (high
   good-rows zero e h g = g
   good-rows (suc a) e h g =
       good-pick (s .i) (s .j) (fits (s .galley) (place a (s .j)) (place (s .i) (s .j))) (rows s a (row s a (suc (s .j)) e)) e
-      (λ t. good-rows a (row s a (suc (s .j)) e) (omega arith) (good-row a (suc (s .j)) e (omega arith) (le-refl (suc (s .j))) g))
+      (λ t. good-rows a (row s a (suc (s .j)) e) (omega arith) (good-row a (suc (s .j)) e (omega arith) (le-refl (suc (s .j)))
+          g))
       (λ t. g)
 
   -- The best start, if there is one, lies before the place, and its cost is small.
@@ -120,12 +124,14 @@ unfolding oddly before
 side-before single c h = refl
 side-before double c h = omega arith
 
-module _ (g : Galley) (light : dearest g ≤ 201000) (t : Table) (i j c : ℕ) (fill : Filled g t i j) (high : i ≤ g .stream 0 .size)
+module _ (g : Galley) (light : dearest g ≤ 201000) (t : Table) (i j c : ℕ) (fill : Filled g t i j) (high : i ≤ g .stream
+    0 .size)
     (side : Side (g .spec .sides) c) where
   search : Search
   search = record { galley = g; table = t; i = i; j = j; side = before (g .spec .sides) c }
 
-  priced-entered : (e : Entry) → Good i j e → (x : ℕ) (r : Start) → priced (pageCost g c (full g (place i j)) (place i j)) e ≡ Least x r
+  priced-entered : (e : Entry) → Good i j e → (x : ℕ) (r : Start) → priced (pageCost g c (full g (place i j)) (place i j)) e ≡
+      Least x r
       → Entered i j x r
   unfolding priced
   priced-entered Unreached f x r q = let z : _≡_ {A = ℕ} 0 1 = cc in absurd (omega arith)

@@ -57,7 +57,8 @@ module _ (g : Galley) (i j c : ℕ) (w : Words) where
         → held g (fillSide g i j c w) a b d ≡ held g w a b d
     unfolding fillSide tall
     side-other a b d h k differ =
-        table-other (suc (g .stream 0 .size)) i j c a b d w (entryOf g (held g w) i j c) (omega arith) (omega arith) side k differ
+        table-other (suc (g .stream 0 .size)) i j c a b d w (entryOf g (held g w) i j c) (omega arith) (omega arith) side k
+            differ
 
 -- An earlier place is another place.
 earlier-other : (a b i j : ℕ) → Earlier a b i j → (i ≡ a) × (j ≡ b) → ⊥
@@ -96,12 +97,14 @@ module _ (g : Galley) (light : dearest g ≤ 201000) where
 
   module _ (i j : ℕ) (high : i ≤ g .stream 0 .size) (wide : j ≤ g .stream 1 .size) where
     -- One side filled: the earlier entries are as they were,
-    pub filled-keeps : (c : ℕ) (w : Words) → Room g w → c ≤ 1 → Filled g (held g w) i j → Filled g (held g (fillSide g i j c w)) i j
+    pub filled-keeps : (c : ℕ) (w : Words) → Room g w → c ≤ 1 → Filled g (held g w) i j → Filled g (held g (fillSide g i j c
+        w)) i j
     filled-keeps c w room low f =
         record {
           entered = λ a b d x s l h k e.
               f .entered a b d x s l h k
-              (sym (side-other g i j c w room high wide low a b d h (side-low (g .spec .sides) d k) (λ q. earlier-other a b i j l (q .0, q .1))) ∙ e);
+              (sym (side-other g i j c w room high wide low a b d h (side-low (g .spec .sides) d k) (λ q. earlier-other a b i
+                  j l (q .0, q .1))) ∙ e);
         }
 
     -- and the new one is such a one too.
@@ -149,10 +152,12 @@ module _ (g : Galley) (light : dearest g ≤ 201000) where
         side : (c : ℕ) → c < 2 → Side (g .spec .sides) c
         side c l = rw e (omega arith)
 
-        own : (c x : ℕ) (s : Start) → Side (g .spec .sides) c → held g (fillSide g i j 1 left) i j c ≡ Least x s → Entered i j x s
+        own : (c x : ℕ) (s : Start) → Side (g .spec .sides) c → held g (fillSide g i j 1 left) i j c ≡ Least x s → Entered i j
+            x s
         own zero x s k q =
             filled-here 0 w room k f x s
-            (sym (side-other g i j 1 left room′ high wide (omega arith) i j 0 high (omega arith) (λ r. let z = r .2 in omega arith)) ∙ q)
+            (sym (side-other g i j 1 left room′ high wide (omega arith) i j 0 high (omega arith) (λ r. let z = r .2 in omega
+                arith)) ∙ q)
         own (suc zero) x s k q = filled-here 1 left room′ k f′ x s q
         own (suc (suc c)) x s k q = let l = side-low (g .spec .sides) (suc (suc c)) k in absurd (omega arith)
 

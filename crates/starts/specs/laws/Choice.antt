@@ -61,7 +61,8 @@ no-later-false r s t =
         inl (omega arith)
 
 -- What leads an entry's start, at no more than its cost, leads all that the entry leads.
-leads-trans : (e : Entry) (x : ℕ) (r : Start) (a b y : ℕ) → Leads e (r .line) (r .figure) x → Leads (Least x r) a b y → Leads e a b y
+leads-trans : (e : Entry) (x : ℕ) (r : Start) (a b y : ℕ) → Leads e (r .line) (r .figure) x → Leads (Least x r) a b y → Leads
+    e a b y
 unfolding Leads
 leads-trans Unreached x r a b y h k = absurd h
 leads-trans (Least z s) x r a b y (h, f) (k, g) =
@@ -70,7 +71,8 @@ leads-trans (Least z s) x r a b y (h, f) (k, g) =
 -- A start is known by its line and figure.
 pub start-same : (q r : Start) → q .line ≡ r .line → q .figure ≡ r .figure → q ≡ r
 start-same q r l m =
-    let e : _≡_ {A = Start} (record { line = q .line; figure = q .figure }) (record { line = r .line; figure = r .figure }) = cc in
+    let e : _≡_ {A = Start} (record { line = q .line; figure = q .figure }) (record { line = r .line; figure = r .figure }) =
+        cc in
     e
 
 -- An unreached place has no cost.
@@ -116,7 +118,8 @@ module _ (s : Search) where
       leads : (a′ b′ y : ℕ) → P a′ b′ → Candidate s a′ b′ y → (x ≤ y) × (x ≡ y → NoLater a′ b′ a b)
       leads a′ b′ y q d =
           let (e, f) = only a′ b′ y q d in
-          let same : Least x (c .start) ≡ Least y (d .start) = sym (c .reached) ∙ sym (ap (λ n. s .table n b (s .side)) e) ∙ sym (ap (λ n. s .table a′ n (s .side)) f) ∙ d .reached in
+          let same : Least x (c .start) ≡ Least y (d .start) = sym (c .reached) ∙ sym (ap (λ n. s .table n b (s .side)) e) ∙
+              sym (ap (λ n. s .table a′ n (s .side)) f) ∙ d .reached in
           let k : x ≡ y = cc in
           (omega arith, λ _. inr (e, omega arith))
 
@@ -144,7 +147,8 @@ module _ (s : Search) where
 
   -- Of two parts the better best is the best.
   pub best-chosen : (P Q R : ℕ → ℕ → Type 0) → ((a b : ℕ) → P a b → R a b) → ((a b : ℕ) → Q a b → R a b)
-      → ((a b x : ℕ) → Candidate s a b x → R a b → P a b ⊎ Q a b) → (e f : Entry) → Best s P e → Best s Q f → Best s R (chosen e f)
+      → ((a b x : ℕ) → Candidate s a b x → R a b → P a b ⊎ Q a b) → (e f : Entry) → Best s P e → Best s Q f → Best s R (chosen
+          e f)
   unfolding chosen Leads
   best-chosen P Q R left right split e Unreached h k =
       best-as P R e (λ a b x c. left a b) (λ a b x c r. go a b x c (split a b x c r)) h

@@ -42,7 +42,8 @@ module _ {bytes : List ℕ} {g : Galley} {w words₀ best₀ : List ℕ} {j side
     where
       known : Known bytes g w j side (Between j j) best
       known i h inner =
-          let z : entryAt best (4 * i) ≡ Unreached = ap (λ v. entryAt v (4 * i)) e ∙ cleared-unreached n best₀ (4 * i) (omega arith) in
+          let z : entryAt best (4 * i) ≡ Unreached = ap (λ v. entryAt v (4 * i)) e ∙ cleared-unreached n best₀ (4 * i) (omega
+              arith) in
           rw z (best-none (searchOf bytes g w i j side) (Between j j) (λ a b x p c. omega (arith, p .0, p .1)))
 
 module _ {bytes : List ℕ} {g : Galley} {w words₀ words best₀ best : List ℕ} {j side : ℕ} {figures : Heights} {top : ℕ}
@@ -57,7 +58,8 @@ module _ {bytes : List ℕ} {g : Galley} {w words₀ words best₀ best : List �
 
   module _ (figures′ : Heights) (floats : Stacked (figuresOf bytes g) (top - 1) j figures′) where
     -- The sweep of the next number of figures may start.
-    pub fewer-sweeps : {sums : List ℕ} → Summed bytes g sums → figures′ .tight ≤ g .spec .htmax → SweepAsked bytes g w sums words best j (top - 1) side figures′
+    pub fewer-sweeps : {sums : List ℕ} → Summed bytes g sums → figures′ .tight ≤ g .spec .htmax → SweepAsked bytes g w sums
+        words best j (top - 1) side figures′
     fewer-sweeps summed short =
         record {
           lent = run .lent;
@@ -89,7 +91,8 @@ module _ {bytes : List ℕ} {g : Galley} {w words₀ words best₀ best : List �
         best-as (searchOf bytes g w i j side) (Between top j) (Between 0 j) (entryAt best (4 * i))
         (λ a b x c p. (omega arith, p .1)) (λ a b x c p. (high a b x c (decLe top b), p .1)) (run .known i h inner)
       where
-        figures-in : (a b : ℕ) → stacked (figuresOf bytes g) (figuresOf bytes g .least) b j ≤ tightest (modelOf bytes g) (place a b) (place i j)
+        figures-in : (a b : ℕ) → stacked (figuresOf bytes g) (figuresOf bytes g .least) b j ≤ tightest (modelOf bytes g)
+            (place a b) (place i j)
         figures-in a b = let e = height-two bytes g (λ st. st .least) (g .spec .smin) a b i j in omega arith
 
         high : (a b x : ℕ) → Candidate (searchOf bytes g w i j side) a b x → Dec (top ≤ b) → top ≤ b
@@ -97,6 +100,7 @@ module _ {bytes : List ℕ} {g : Galley} {w words₀ words best₀ best : List �
         high a b x c (no l) =
             let fit = leb-true (tightest (modelOf bytes g) (place a b) (place i j)) (g .spec .htmax) (c .fitting) in
             let more = figures-in a b in
-            let grows = stacked-grows (figuresOf bytes g) (figuresOf bytes g .least) (top - 1) j b j (omega arith) (omega (arith, run .within)) (le-refl j) in
+            let grows = stacked-grows (figuresOf bytes g) (figuresOf bytes g .least) (top - 1) j b j (omega arith) (omega
+                (arith, run .within)) (le-refl j) in
             let t = floats .tight in
             absurd (omega arith)

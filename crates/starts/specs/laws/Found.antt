@@ -75,7 +75,8 @@ module _ (s : Search) where
   only-tried a b a′ b′ (e, f) = inr (sym e, omega arith)
 
   -- A start is no later than one that comes after it, by the test.
-  strictly : (a b : ℕ) (r : Start) → NoLater a (suc b) (r .line) (r .figure) → noLater (record { line = a; figure = b }) r ≡ false
+  strictly : (a b : ℕ) (r : Start) → NoLater a (suc b) (r .line) (r .figure) → noLater (record { line = a; figure = b }) r ≡
+      false
   strictly a b r (inl l) =
       let e = le-ltb (r .line) a (omega arith) in
       let n : (r .line ≡ a) → ⊥ = λ q. omega arith in
@@ -90,7 +91,8 @@ module _ (s : Search) where
   better-best : (a b x : ℕ) (e : Entry) (q : Start) → Candidate s a b x → Best s (Tried a (suc b)) e
       → Best s (Tried a b) (better (Least x q) a b e)
   unfolding better chosen
-  better-best a b x e q c h = go e h (best-chosen s (Tried a (suc b)) (Only a b) (Tried a b) (tried-more a b) (only-tried a b) (λ a′ b′ y d. split-tried a b a′ b′) e (Least x (record { line = a; figure = b })) h one)
+  better-best a b x e q c h = go e h (best-chosen s (Tried a (suc b)) (Only a b) (Tried a b) (tried-more a b) (only-tried a b)
+      (λ a′ b′ y d. split-tried a b a′ b′) e (Least x (record { line = a; figure = b })) h one)
     where
       one : Best s (Only a b) (Least x (record { line = a; figure = b }))
       one = best-one s (Only a b) a b x (refl, refl) c (λ a′ b′ y p d. p)
@@ -107,7 +109,8 @@ module _ (s : Search) where
   -- A start that is no candidate changes nothing.
   not-best : (a b : ℕ) (e : Entry) → ((x : ℕ) → Candidate s a b x → ⊥) → Best s (Tried a (suc b)) e → Best s (Tried a b) e
   not-best a b e none h =
-      best-as s (Tried a (suc b)) (Tried a b) e (λ a′ b′ x c. tried-more a b a′ b′) (λ a′ b′ x c t. go a′ b′ x c (split-tried a b a′ b′ t)) h
+      best-as s (Tried a (suc b)) (Tried a b) e (λ a′ b′ x c. tried-more a b a′ b′) (λ a′ b′ x c t. go a′ b′ x c (split-tried
+          a b a′ b′ t)) h
     where
       go : (a′ b′ x : ℕ) → Candidate s a′ b′ x → NoLater a (suc b) a′ b′ ⊎ ((a′ ≡ a) × (b′ ≡ b)) → NoLater a (suc b) a′ b′
       go a′ b′ x c (inl t) = t
@@ -116,14 +119,16 @@ module _ (s : Search) where
   offered-best : (a b : ℕ) (e : Entry) → a ≤ s .i → b ≤ s .j → fits (s .galley) (place a b) (place (s .i) (s .j)) ≡ true
       → Best s (Tried a (suc b)) e → Best s (Tried a b) (offered s a b e)
   unfolding offered better
-  offered-best a b e h k fit best = go (ltb a (s .i) || ltb b (s .j)) (fills (s .galley) (full (s .galley) (place (s .i) (s .j))) (place a b) (place (s .i) (s .j))) refl refl
+  offered-best a b e h k fit best = go (ltb a (s .i) || ltb b (s .j)) (fills (s .galley) (full (s .galley) (place (s .i)
+      (s .j))) (place a b) (place (s .i) (s .j))) refl refl
     where
       weighed : (f : Entry) → s .table a b (s .side) ≡ f → (ltb a (s .i) || ltb b (s .j)) ≡ true
           → fills (s .galley) (full (s .galley) (place (s .i) (s .j))) (place a b) (place (s .i) (s .j)) ≡ true
           → Best s (Tried a b) (better f a b e)
       weighed Unreached t p q = not-best a b e (λ x c. no-reach x (c .start) (sym t ∙ c .reached)) best
       weighed (Least x r) t p q =
-          better-best a b x e r (record { line = h; figure = k; some = p; fitting = fit; filling = q; start = r; reached = t }) best
+          better-best a b x e r (record { line = h; figure = k; some = p; fitting = fit; filling = q; start = r; reached = t
+              }) best
 
       go : (x y : Bool) → (ltb a (s .i) || ltb b (s .j)) ≡ x
           → fills (s .galley) (full (s .galley) (place (s .i) (s .j))) (place a b) (place (s .i) (s .j)) ≡ y
@@ -133,13 +138,16 @@ module _ (s : Search) where
       go false y p q = not-best a b e (λ x c. let t = c .some in let z : _≡_ {A = ℕ} 0 1 = cc in omega arith) best
 
   module _ (two : s .galley .floats ≡ 1) where
-    row-best : (a : ℕ) → a ≤ s .i → (b : ℕ) (e : Entry) → b ≤ suc (s .j) → Best s (Tried a b) e → Best s (Tried a 0) (row s a b e)
+    row-best : (a : ℕ) → a ≤ s .i → (b : ℕ) (e : Entry) → b ≤ suc (s .j) → Best s (Tried a b) e → Best s (Tried a 0) (row s a
+        b e)
     unfolding row
     row-best a h zero e k best = best
     row-best a h (suc b) e k best =
-        go (fits (s .galley) (place a b) (place (s .i) (s .j))) refl (λ fit. row-best a h b (offered s a b e) (omega arith) (offered-best a b e h (omega arith) fit best))
+        go (fits (s .galley) (place a b) (place (s .i) (s .j))) refl (λ fit. row-best a h b (offered s a b e) (omega arith)
+            (offered-best a b e h (omega arith) fit best))
       where
-        over : fits (s .galley) (place a b) (place (s .i) (s .j)) ≡ false → (a′ b′ x : ℕ) → Candidate s a′ b′ x → NoLater a 0 a′ b′ → NoLater a (suc b) a′ b′
+        over : fits (s .galley) (place a b) (place (s .i) (s .j)) ≡ false → (a′ b′ x : ℕ) → Candidate s a′ b′ x → NoLater a 0
+            a′ b′ → NoLater a (suc b) a′ b′
         over f a′ b′ x c (inl l) = inl l
         over f a′ b′ x c (inr (q, l)) = near (decLe (suc b) b′)
           where
@@ -172,7 +180,8 @@ module _ (s : Search) where
         (rows-best a (row s a (suc (s .j)) e) (omega arith) (row-best a (omega arith) (suc (s .j)) e (omega arith) line))
       where
         line : Best s (Tried a (suc (s .j))) e
-        line = best-as s (Tried (suc a) 0) (Tried a (suc (s .j))) e (λ a′ b′ x c. into a′ b′) (λ a′ b′ x c. out a′ b′ (c .figure)) best
+        line = best-as s (Tried (suc a) 0) (Tried a (suc (s .j))) e (λ a′ b′ x c. into a′ b′) (λ a′ b′ x c. out a′ b′
+            (c .figure)) best
           where
             into : (a′ b′ : ℕ) → NoLater (suc a) 0 a′ b′ → NoLater a (suc (s .j)) a′ b′
             into a′ b′ (inl l) = inl (omega arith)
@@ -186,7 +195,8 @@ module _ (s : Search) where
                 near (no m) = inr (omega arith, omega arith)
             out a′ b′ k (inr (q, l)) = absurd (omega arith)
 
-        over : fits (s .galley) (place a (s .j)) (place (s .i) (s .j)) ≡ false → (a′ b′ x : ℕ) → Candidate s a′ b′ x → NoLater (suc a) 0 a′ b′
+        over : fits (s .galley) (place a (s .j)) (place (s .i) (s .j)) ≡ false → (a′ b′ x : ℕ) → Candidate s a′ b′ x → NoLater
+            (suc a) 0 a′ b′
         over f a′ b′ x c = near (decLt (suc a) a′) (decLe a′ a)
           where
             near : Dec (suc a < a′) → Dec (a′ ≤ a) → NoLater (suc a) 0 a′ b′

@@ -22,7 +22,8 @@ use Rattle.starts.specs.laws.Heights.{figures-low}
 
 -- What is lent for a column is the same while the lengths are.
 pub lent-sized : {bytes : List ℕ} {g : Galley} {w words best : List ℕ} {j side : ℕ} (words′ best′ : List ℕ)
-    → length words′ ≡ length words → length best′ ≡ length best → Lent bytes g w words best j side → Lent bytes g w words′ best′ j side
+    → length words′ ≡ length words → length best′ ≡ length best → Lent bytes g w words best j side → Lent bytes g w words′
+        best′ j side
 lent-sized words′ best′ p q l =
     record {
       sound = l .sound;
@@ -51,9 +52,11 @@ module _ {bytes : List ℕ} {g : Galley} {w words best : List ℕ} {j side : ℕ
   small false n l = omega arith
 
   -- Both ends of a window can be moved on to line i.
-  pub can-slide : {sums : List ℕ} → Summed bytes g sums → (mixed : Bool) (b : ℕ) (figures : Heights) → Stacked (figuresOf bytes g) b j figures → (window : Window) (i : ℕ) → i ≤ g .lines
+  pub can-slide : {sums : List ℕ} → Summed bytes g sums → (mixed : Bool) (b : ℕ) (figures : Heights) → Stacked (figuresOf
+      bytes g) b j figures → (window : Window) (i : ℕ) → i ≤ g .lines
       → Ends (textOf bytes g) (loadOf g mixed figures) window i → Slidable sums (loadOf g mixed figures) window i
-  can-slide {sums} summed mixed b figures floats window i h ends = record { low = from (window .low) (ends .low); high = from (window .high) (ends .high) }
+  can-slide {sums} summed mixed b figures floats window i h ends = record { low = from (window .low) (ends .low); high = from
+      (window .high) (ends .high) }
     where
       from : (a : ℕ) → a ≤ i → Reachable sums (loadOf g mixed figures) a i
       from a l =
@@ -72,8 +75,10 @@ module _ {bytes : List ℕ} {g : Galley} {w words best : List ℕ} {j side : ℕ
           }
 
   -- A queue of starts with b figures can be moved on to a window that ends by line i.
-  pub can-feed : (b : ℕ) → b ≤ g .figures → (queue : Queue) (old new : Window) (i : ℕ) → i ≤ g .lines → old .high ≤ new .high → new .high ≤ i
-      → queue .head ≤ queue .tail → queue .tail ≤ old .high → FeedAsked w (g .lines + 1) b side words queue (old .high) (new .high)
+  pub can-feed : (b : ℕ) → b ≤ g .figures → (queue : Queue) (old new : Window) (i : ℕ) → i ≤ g .lines → old .high ≤ new .high
+      → new .high ≤ i
+      → queue .head ≤ queue .tail → queue .tail ≤ old .high → FeedAsked w (g .lines + 1) b side words queue (old .high)
+          (new .high)
   can-feed b k queue old new i h rises inside order short =
       record {
         high = omega (arith, lent .sound .fewLines);
@@ -90,7 +95,8 @@ module _ {bytes : List ℕ} {g : Galley} {w words best : List ℕ} {j side : ℕ
       }
 
   -- The first entry of the queue of such a window can be read.
-  pub can-front : (b : ℕ) → b ≤ g .figures → (queue : Queue) (high i : ℕ) → i ≤ g .lines → high ≤ i → queue .head ≤ queue .tail → queue .tail ≤ high
+  pub can-front : (b : ℕ) → b ≤ g .figures → (queue : Queue) (high i : ℕ) → i ≤ g .lines → high ≤ i → queue .head ≤
+      queue .tail → queue .tail ≤ high
       → FrontAsked words queue b
   can-front b k queue high i h l order short =
       record { order = order; room = omega (arith, lent .wordsRoom); column = omega (arith, lent .sound .fewFigures) }
@@ -108,5 +114,6 @@ module _ {bytes : List ℕ} {g : Galley} {w words best : List ℕ} {j side : ℕ
       }
 
 -- The column that a queue reads, by one name of its height or the other.
-pub column-named : (w : List ℕ) (g : Galley) (b side : ℕ) → columnOf w (g .lines + 1) b side ≡ columnOf w (suc (g .lines)) b side
+pub column-named : (w : List ℕ) (g : Galley) (b side : ℕ) → columnOf w (g .lines + 1) b side ≡ columnOf w (suc (g .lines)) b
+    side
 column-named w g b side = rw add-one

@@ -52,7 +52,8 @@ module _ (bytes : List ℕ) (g : Galley) (w : List ℕ) (i j side b : ℕ) (figu
   search = searchOf bytes g w i j side
 
   -- A page with a line is as high as its lines and its load.
-  tight-sum : (a : ℕ) → a < i → tightest (modelOf bytes g) (place a b) (place i j) ≡ stacked (textOf bytes g) (textOf bytes g .least) a i + load .tight
+  tight-sum : (a : ℕ) → a < i → tightest (modelOf bytes g) (place a b) (place i j) ≡ stacked (textOf bytes g) (textOf bytes
+      g .least) a i + load .tight
   unfolding tightest separation
   tight-sum a l =
       let e = height-two bytes g (λ st. st .least) (g .spec .smin) a b i j in
@@ -61,7 +62,8 @@ module _ (bytes : List ℕ) (g : Galley) (w : List ℕ) (i j side b : ℕ) (figu
       let h = rw t at e in
       omega arith
 
-  loose-sum : (a : ℕ) → a < i → loosest (modelOf bytes g) (place a b) (place i j) ≡ stacked (textOf bytes g) (textOf bytes g .most) a i + load .loose
+  loose-sum : (a : ℕ) → a < i → loosest (modelOf bytes g) (place a b) (place i j) ≡ stacked (textOf bytes g) (textOf bytes
+      g .most) a i + load .loose
   unfolding loosest separation
   loose-sum a l =
       let e = height-two bytes g (λ st. st .most) (g .spec .smax) a b i j in
@@ -107,11 +109,13 @@ module _ (bytes : List ℕ) (g : Galley) (w : List ℕ) (i j side b : ℕ) (figu
             }
           where
             small : (a : ℕ) → window .low ≤ a → a < i
-                → tightest (modelOf bytes g) (place a b) (place i j) ≡ stacked (textOf bytes g) (textOf bytes g .least) a i + load .tight
+                → tightest (modelOf bytes g) (place a b) (place i j) ≡ stacked (textOf bytes g) (textOf bytes g .least) a i +
+                    load .tight
                 → tightest (modelOf bytes g) (place a b) (place i j) ≤ g .spec .htmax
             small a low l tight = go (decLe (tightest (modelOf bytes g) (place a b) (place i j)) (g .spec .htmax))
               where
-                go : Dec (tightest (modelOf bytes g) (place a b) (place i j) ≤ g .spec .htmax) → tightest (modelOf bytes g) (place a b) (place i j) ≤ g .spec .htmax
+                go : Dec (tightest (modelOf bytes g) (place a b) (place i j) ≤ g .spec .htmax) → tightest (modelOf bytes g)
+                    (place a b) (place i j) ≤ g .spec .htmax
                 go (yes h) = h
                 go (no h) = absurd (opened .fits a low l (omega arith))
 
@@ -136,7 +140,8 @@ module _ (bytes : List ℕ) (g : Galley) (w : List ℕ) (i j side b : ℕ) (figu
             high (yes h) = h
             high (no h) =
                 let f = not-full in
-                let fill = leb-true (g .spec .htmin) (loosest (modelOf bytes g) (place a b) (place i j)) (rw f at (c .filling)) in
+                let fill = leb-true (g .spec .htmin) (loosest (modelOf bytes g) (place a b) (place i j)) (rw f at
+                    (c .filling)) in
                 let loose = loose-sum a l in
                 absurd (opened .short a (omega arith) l (omega arith))
 
@@ -224,7 +229,8 @@ module _ (bytes : List ℕ) (g : Galley) (w : List ℕ) (i j side b : ℕ) (figu
             let e = loose in
             best-none search (Level b i)
             (λ a b′ x p c.
-            let h = leb-true (g .spec .htmin) (loosest (modelOf bytes g) (place i b) (place i j)) (rw f at (at-level a b′ x p c .filling)) in
+            let h = leb-true (g .spec .htmin) (loosest (modelOf bytes g) (place i b) (place i j)) (rw f at (at-level a b′ x p
+                c .filling)) in
             omega arith)
         go false t = found (tableOf (suc (g .lines)) w i b side) refl (ltb-false (figures .loose) (g .spec .htmin) t)
 
@@ -234,7 +240,8 @@ module _ (bytes : List ℕ) (g : Galley) (w : List ℕ) (i j side b : ℕ) (figu
     improved k held front alone h f l =
         best-chosen search Most (Level b i) (Between b j) into (λ a′ b′ p. (omega (arith, p .0), omega (arith, p .0)))
         (λ a′ b′ x c r. part a′ b′ (c .line) r) (chosen held front) alone
-        (best-chosen search (Between (suc b) j) (Above b i) Most (λ a′ b′ p. inl p) (λ a′ b′ p. inr p) (λ a′ b′ x c r. r) held front h f) l
+        (best-chosen search (Between (suc b) j) (Above b i) Most (λ a′ b′ p. inl p) (λ a′ b′ p. inr p) (λ a′ b′ x c r. r) held
+            front h f) l
       where
         Most : ℕ → ℕ → Type 0
         Most a′ b′ = Between (suc b) j a′ b′ ⊎ Above b i a′ b′
@@ -283,7 +290,8 @@ best-same bytes g w v i j side P e same h =
       leads = λ a b y p c. h .leads a b y p (moved w v (λ l m. sym (same a b p l m)) c);
     }
   where
-    moved : (v w : List ℕ) {a b x : ℕ} → (a ≤ i → b ≤ j → tableOf (suc (g .lines)) v a b side ≡ tableOf (suc (g .lines)) w a b side)
+    moved : (v w : List ℕ) {a b x : ℕ} → (a ≤ i → b ≤ j → tableOf (suc (g .lines)) v a b side ≡ tableOf (suc (g .lines)) w a b
+        side)
         → Candidate (searchOf bytes g w i j side) a b x → Candidate (searchOf bytes g v i j side) a b x
     moved v w t c =
         record {

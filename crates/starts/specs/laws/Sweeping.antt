@@ -15,7 +15,7 @@ use Rattle.galley.specs.declared.Galley.{Galley}
 use Rattle.galley.specs.Model.{textOf}
 use Rattle.places.specs.declared.Entry.{Entry}
 use Rattle.places.specs.Address.{Apart}
-use Rattle.places.specs.Entry.{entryAt, stored}
+use Rattle.places.specs.Entry.{entryAt}
 use Rattle.places.specs.laws.Stored.{stored-length, stored-same, stored-other}
 use Rattle.window.specs.declared.slide.Window.{Window}
 use Rattle.window.specs.declared.queue.Queue.{Queue}
@@ -28,14 +28,15 @@ use Rattle.starts.specs.declared.heights.Heights.{Heights}
 use Rattle.starts.specs.Search.{place}
 use Rattle.starts.specs.Choice.{chosen, Best, Between}
 use Rattle.starts.specs.Asked.{searchOf, allPlaced}
-use Rattle.starts.specs.Sweep.{loadOf, aloneOf, Known, Lent, SweepAsked, SweepRun, ImproveAsked}
+use Rattle.starts.specs.Sweep.{loadOf, aloneOf, weighed, Known, Lent, SweepAsked, SweepRun, ImproveAsked}
 use Rattle.starts.specs.laws.Sweep.{window-best, alone-best, improved}
 use Rattle.starts.specs.laws.Lending.{lent-sized, can-feed, can-front, can-alone, column-named}
 
 module _ {bytes : List ℕ} {g : Galley} {w sums words₀ best₀ : List ℕ} {j b side : ℕ} {figures : Heights}
     (asked : SweepAsked bytes g w sums words₀ best₀ j b side figures) where
   -- A sweep starts with nothing in its queue.
-  pub sweep-first : SweepRun bytes g w j b side (loadOf g true figures) words₀ words₀ best₀ best₀ (record { low = 0; high = 0 }) (record { head = 0; tail = 0 }) 0
+  pub sweep-first : SweepRun bytes g w j b side (loadOf g true figures) words₀ words₀ best₀ best₀ (record { low = 0; high = 0
+      }) (record { head = 0; tail = 0 }) 0
   sweep-first =
       record {
         within = omega arith;
@@ -48,7 +49,8 @@ module _ {bytes : List ℕ} {g : Galley} {w sums words₀ best₀ : List ℕ} {j
       }
 
   -- A sweep ends below the last line.
-  pub sweep-last : (words best : List ℕ) (window : Window) (queue : Queue) (i : ℕ) → SweepRun bytes g w j b side (loadOf g true figures) words₀ words best₀ best window queue i
+  pub sweep-last : (words best : List ℕ) (window : Window) (queue : Queue) (i : ℕ) → SweepRun bytes g w j b side (loadOf g
+      true figures) words₀ words best₀ best window queue i
       → g .lines < i → Known bytes g w j side (Between b j) best
   sweep-last words best window queue i run l k h = run .done k (omega arith) h
 
@@ -64,7 +66,8 @@ module _ {bytes : List ℕ} {g : Galley} {w sums words₀ best₀ : List ℕ} {j
     pub sweep-feeds : FeedAsked w (g .lines + 1) b side words queue (window .high) (new .high)
     sweep-feeds =
         let s = slid (textOf bytes g) (g .lines) in
-        can-feed lent-now b (omega (arith, asked .before, asked .lent .column)) queue window new i line (s .high) (s .inside) (run .held .order) (run .held .short)
+        can-feed lent-now b (omega (arith, asked .before, asked .lent .column)) queue window new i line (s .high) (s .inside)
+            (run .held .order) (run .held .short)
 
     module _ (words′ : List ℕ) (sized : length words′ ≡ length words) (next : Queue)
         (advanced : Advanced w (g .lines + 1) b side words queue (window .high) new next words′) where
@@ -74,7 +77,8 @@ module _ {bytes : List ℕ} {g : Galley} {w sums words₀ best₀ : List ℕ} {j
           let lent = lent-sized words′ best sized refl lent-now in
           record {
             place = can-alone lent i b line k;
-            front = can-front lent b k next (new .high) i line (slid (textOf bytes g) (g .lines) .inside) (advanced .order) (advanced .short);
+            front = can-front lent b k next (new .high) i line (slid (textOf bytes g) (g .lines) .inside) (advanced .order)
+                (advanced .short);
             room = lent .bestRoom;
           }
 
@@ -83,7 +87,7 @@ module _ {bytes : List ℕ} {g : Galley} {w sums words₀ best₀ : List ℕ} {j
 
       -- The places down to line i know the starts with b figures.
       pub sweep-next : (best′ : List ℕ)
-          → best′ ≡ stored best (4 * i) (chosen (chosen (entryAt best (4 * i)) (frontOf words′ next b)) (aloneOf g w i b side (figures .loose)))
+          → best′ ≡ weighed g w words′ next best i b side (figures .loose)
           → SweepRun bytes g w j b side (loadOf g true figures) words₀ words′ best₀ best′ new next (i + 1)
       sweep-next best′ e =
           record {
@@ -112,14 +116,18 @@ module _ {bytes : List ℕ} {g : Galley} {w sums words₀ best₀ : List ℕ} {j
           here : allPlaced g i j ≡ false → Best (searchOf bytes g w i j side) (Between b j) found
           here inner =
               let mixed = lt-ltb b j (asked .before) in
-              let cheapest = front-cheapest (columnOf w (g .lines + 1) b side) words′ next (new .low) (new .high) b held-next (advanced .fresh) in
-              improved bytes g w i j side b figures (asked .floats) inner (asked .before) (entryAt best (4 * i)) (frontOf words′ next b)
+              let cheapest = front-cheapest (columnOf w (g .lines + 1) b side) words′ next (new .low) (new .high) b held-next
+                  (advanced .fresh) in
+              improved bytes g w i j side b figures (asked .floats) inner (asked .before) (entryAt best (4 * i)) (frontOf
+                  words′ next b)
               (aloneOf g w i b side (figures .loose))
               (run .left i (le-refl i) line inner)
-              (window-best bytes g w i j side b figures (asked .floats) inner (omega (arith, asked .before)) new (rw mixed opened) (frontOf words′ next b)
+              (window-best bytes g w i j side b figures (asked .floats) inner (omega (arith, asked .before)) new (rw mixed
+                  opened) (frontOf words′ next b)
               (rw (← column-named w g b side) cheapest))
               (alone-best bytes g w i j side b figures (asked .floats) inner (asked .before) (asked .short))
 
-          down : (k : ℕ) → k < i + 1 → k ≤ g .lines → allPlaced g k j ≡ false → Dec (k ≡ i) → Best (searchOf bytes g w k j side) (Between b j) (entryAt best′ (4 * k))
+          down : (k : ℕ) → k < i + 1 → k ≤ g .lines → allPlaced g k j ≡ false → Dec (k ≡ i) → Best (searchOf bytes g w k j
+              side) (Between b j) (entryAt best′ (4 * k))
           down k l h inner (yes p) = let q = own in rw (p, q) (here (rw p at inner))
           down k l h inner (no p) = rw (other k p) (run .done k (omega arith) h inner)

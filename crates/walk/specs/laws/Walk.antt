@@ -1,4 +1,5 @@
--- One page back on the walk: it stays within the galley, falls towards the place where nothing is placed, and is one step of the
+-- One page back on the walk: it stays within the galley, falls towards the place where nothing is placed, and is one step of
+-- the
 -- counting and of the writing.
 use Prim.Native.Nat.{ℕ, zero, suc, _+_, _*_, _-_, _≤_, _<_}
 use native.Mathlib.Omega.{arith}
@@ -56,7 +57,8 @@ pub record Precedes (s : Start) (i j : ℕ) : Type 0 where
   pub less : 0 < i + j → s .line + s .figure < i + j
 
 -- So does the start that any entry holds, an unreached one too.
-pub start-precedes : (g : Galley) (w : List ℕ) (i j c : ℕ) → Traceable g w → Visits g i j c → Precedes (startOf (tableIn g w i j c)) i j
+pub start-precedes : (g : Galley) (w : List ℕ) (i j c : ℕ) → Traceable g w → Visits g i j c → Precedes (startOf (tableIn g w i
+    j c)) i j
 unfolding startOf
 start-precedes g w i j c tr v = go (tableIn g w i j c) refl
   where
@@ -185,9 +187,11 @@ pub filled-traceable :
     (bytes : List ℕ) (g : Galley) (w : List ℕ) → Lent g w → Filled (modelOf bytes g) (tableIn g w) (suc (g .lines)) (g .figures)
     → Traceable g w
 filled-traceable bytes g w l f =
-    record { lent = l; entered = λ a b c x s h k side e. f .entered a b c x s (earlier a b h k (ltb b (g .figures)) refl) h side e }
+    record { lent = l; entered = λ a b c x s h k side e. f .entered a b c x s (earlier a b h k (ltb b (g .figures)) refl) h
+        side e }
   where
     earlier :
-        (a b : ℕ) → a ≤ g .lines → b ≤ g .figures → (v : Bool) → ltb b (g .figures) ≡ v → Earlier a b (suc (g .lines)) (g .figures)
+        (a b : ℕ) → a ≤ g .lines → b ≤ g .figures → (v : Bool) → ltb b (g .figures) ≡ v → Earlier a b (suc (g .lines))
+            (g .figures)
     earlier a b h k true e = inl (ltb-true b (g .figures) e)
     earlier a b h k false e = let l = ltb-false b (g .figures) e in inr (omega arith, omega arith)

@@ -171,7 +171,8 @@ four-each P (suc n) h k l =
     go below here (no a) (no b) (no c) (no d) = let e : k ≡ 4 * n + 3 = omega arith in rw e (here .3)
 
 -- The words of the sums up to a line are small.
-pub sums-small : (bytes : List ℕ) (g : Galley) → Sound bytes g → (sums : List ℕ) → Sums (textOf bytes g) (g .lines) sums → (i : ℕ)
+pub sums-small : (bytes : List ℕ) (g : Galley) → Sound bytes g → (sums : List ℕ) → Sums (textOf bytes g) (g .lines) sums → (i
+    : ℕ)
     → i ≤ g .lines → (k : ℕ) → k < 4 * i + 4 → getD sums k 0 ≤ 1000000000
 sums-small bytes g sound sums rows i m k h =
     four-each (λ n. getD sums n 0 ≤ 1000000000) (suc i)
@@ -189,7 +190,8 @@ sums-small bytes g sound sums rows i m k h =
     (omega arith, omega arith, omega arith, omega arith)) k (omega arith)
 
 -- The row of zeros is that of the place before the first line.
-pub sums-first : (bytes : List ℕ) (g : Galley) (sums new : List ℕ) → 4 * g .lines + 4 ≤ length sums → new ≡ rowPut sums 0 0 0 0 0
+pub sums-first : (bytes : List ℕ) (g : Galley) (sums new : List ℕ) → 4 * g .lines + 4 ≤ length sums → new ≡ rowPut sums 0 0 0
+    0 0
     → SumsRun bytes g new new 0 0 0
 sums-first bytes g sums new room e =
     record {

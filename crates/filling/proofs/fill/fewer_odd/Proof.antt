@@ -14,7 +14,9 @@ side-before-requires c κs =
 
 fewer-figures-requires : tie.Need-fewer-figures-requires
 fewer-figures-requires c κs =
-    rw (c .before .before .side-before .ensures) (c .before .before .before .before .before .before .before .before .before .before .pre .fewer (c .before .before .before .if1 .left))
+    rw (c .before .before .side-before .ensures)
+        (c .before .before .before .before .before .before .before .before .before .before .pre .fewer
+        (c .before .before .before .if1 .left))
 
 same-length : tie.Need-same-length
 same-length c = search needs
@@ -24,7 +26,8 @@ same-length-2 c = search needs
 
 returns-2 : tie.Need-returns-2
 returns-2 c =
-    record { known = λ e. rw (← c .before .before .before .before .before .before .before .side-before .ensures) (c .before .before .before .before .fewer-figures .ensures) }
+    record { known = λ e. rw (← c .before .before .before .before .before .before .before .side-before .ensures)
+        (c .before .before .before .before .fewer-figures .ensures) }
 
 pub fewer-odd-spec : {M : Type 1} → statement M
 fewer-odd-spec =

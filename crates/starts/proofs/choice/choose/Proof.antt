@@ -1,4 +1,5 @@
--- `choose` meets its contract: each way through the matches is a clause of `chosen`, and where both are reached the test decides.
+-- `choose` meets its contract: each way through the matches is a clause of `chosen`, and where both are reached the test
+-- decides.
 use mathlib.Core.Path.{sym, _∙_}
 use borrow.Author.Needs.{needs}
 use Rattle.starts.specs.Choice.{chosen}

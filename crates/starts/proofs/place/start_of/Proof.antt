@@ -1,4 +1,5 @@
--- `start_of` meets its contract: the last page is searched for; else what is known of fewer figures and what the queue holds are
+-- `start_of` meets its contract: the last page is searched for; else what is known of fewer figures and what the queue holds
+-- are
 -- all starts that there are.
 use Prim.Native.Nat.{_*_}
 use mathlib.Core.Path.{sym, _∙_}

@@ -29,7 +29,8 @@ clear-requires c κs =
 
 loop-holds : tie.Need-loop-holds Inv-loop μ-loop
 loop-holds c =
-    fewer-first (c .before .before .before .before .before .before .before .before .before .before .pre .lent) _ refl _ (c .before .before .clear .ensures) (search needs)
+    fewer-first (c .before .before .before .before .before .before .before .before .before .before .pre .lent) _ refl _
+        (c .before .before .clear .ensures) (search needs)
 
 sub-b : tie.Need-sub-b Inv-loop μ-loop
 sub-b c = search needs
@@ -48,12 +49,17 @@ same-length-2 c = search needs
 returns : tie.Need-returns Inv-loop μ-loop
 returns c =
     let st = c .before .before .before .before .before .loop in
-    fewer-over (st .inv) (c .before .before .before .before .loop-test .taken) (c .before .before .before .figure-before .result) (c .before .before .before .figure-before .ensures) (c .if1 .taken)
+    fewer-over (st .inv) (c .before .before .before .before .loop-test .taken)
+        (c .before .before .before .figure-before .result) (c .before .before .before .figure-before .ensures) (c .if1 .taken)
 
 sweep-requires : tie.Need-sweep-requires Inv-loop μ-loop
 sweep-requires c κs =
     let st = c .before .before .before .before .before .before .before .loop in
-    fewer-sweeps (st .inv) (c .before .before .before .before .before .before .loop-test .taken) (c .before .before .before .before .before .figure-before .result) (c .before .before .before .before .before .figure-before .ensures) (c .before .before .before .before .before .before .before .before .before .before .before .before .before .before .before .before .before .before .pre .summed) (omega (arith, c .before .before .if1 .left))
+    fewer-sweeps (st .inv) (c .before .before .before .before .before .before .loop-test .taken)
+        (c .before .before .before .before .before .figure-before .result)
+        (c .before .before .before .before .before .figure-before .ensures)
+        (c .before .before .before .before .before .before .before .before .before .before .before .before .before .before .before .before .before .before .pre .summed)
+        (omega (arith, c .before .before .if1 .left))
 
 loop-less : tie.Need-loop-less Inv-loop μ-loop
 loop-less c = search needs
@@ -61,7 +67,11 @@ loop-less c = search needs
 loop-again : tie.Need-loop-again Inv-loop μ-loop
 loop-again c =
     let st = c .before .before .before .before .before .before .before .before .before .before .before .before .loop in
-    fewer-next (st .inv) (c .before .before .before .before .before .before .before .before .before .before .before .loop-test .taken) (c .before .before .before .before .before .before .before .before .before .before .figure-before .result) (c .before .before .before .before .before .before .before .before .before .before .figure-before .ensures) _ _ (search needs) (search needs) (c .before .before .before .before .sweep .ensures)
+    fewer-next (st .inv)
+        (c .before .before .before .before .before .before .before .before .before .before .before .loop-test .taken)
+        (c .before .before .before .before .before .before .before .before .before .before .figure-before .result)
+        (c .before .before .before .before .before .before .before .before .before .before .figure-before .ensures) _ _
+        (search needs) (search needs) (c .before .before .before .before .sweep .ensures)
 
 same-length-3 : tie.Need-same-length-3 Inv-loop μ-loop
 same-length-3 c = search needs

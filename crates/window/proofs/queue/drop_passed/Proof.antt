@@ -46,7 +46,8 @@ loop-again c =
       from = omega arith;
       to = omega arith;
       passed =
-          upto-next (λ (k : ℕ). lineAt (start .args .words .now) k < start .args .low) (start .args .head) (st .h) (st .inv .passed)
+          upto-next (λ (k : ℕ). lineAt (start .args .words .now) k < start .args .low) (start .args .head) (st .h)
+              (st .inv .passed)
           (omega (arith, c .if1 .left));
     }
 

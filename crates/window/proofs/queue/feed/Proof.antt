@@ -14,7 +14,8 @@ use Rattle.window.proofs.queue.feed.Statement.{statement}
 use Rattle.window.proofs.queue.feed.Tie as tie
 
 abbrev Inv-loop : tie.InvT-loop
-Inv-loop work tall b side words₀ queue from to tail₀ a₀ words tail a = FeedRun work tall b side words₀ words queue from to tail a
+Inv-loop work tall b side words₀ queue from to tail₀ a₀ words tail a = FeedRun work tall b side words₀ words queue from to
+    tail a
 
 abbrev μ-loop : tie.MeasureT-loop
 μ-loop work tall b side words₀ queue from to tail₀ a₀ words tail a = to - a
@@ -80,7 +81,9 @@ loop-less-2 c = search needs
 
 loop-again-2 : tie.Need-loop-again-2 Inv-loop μ-loop
 loop-again-2 c =
-    let start = c .before .before .before .before .before .before .before .before .before .before .before .before .before .before .before in
+    let start =
+        c .before .before .before .before .before .before .before .before .before .before .before .before .before .before .before
+        in
     let a = start .args in
     let st = c .before .before .before .before .before .before .before .before .before .before .before .before .loop in
     let col = columnOf (a .work .now) (a .tall) (a .b) (a .side) in
