@@ -33,15 +33,15 @@ pub record EntryAsked (bytes : List ℕ) (g : Galley) (w words best : List ℕ) 
   pub start : StartAsked bytes g w words best queue i j (sideOf g c)
 
 -- For pages on side c that end in column j: the best starts with fewer figures, and the queue of those with j in a window.
-pub record Ready (bytes : List ℕ) (g : Galley) (w words best : List ℕ) (queue : Queue) (window : Window) (j c : ℕ) : Type 0
-    where
+pub record Ready (bytes : List ℕ) (g : Galley) (w words best : List ℕ) (queue : Queue) (window : Window)
+    (j c : ℕ) : Type 0 where
   pub lent : Lent bytes g w words best j (sideOf g c)
   pub held : Held (columnOf w (g .lines + 1) j (sideOf g c)) words queue (window .low) (window .high)
   pub known : Known bytes g w j (sideOf g c) (Between 0 j) best
 
 -- Side c of place (i, j) comes next, and `to` is the window of line i.
-pub record SideMoved (bytes : List ℕ) (g : Galley) (w words best : List ℕ) (queue : Queue) (from to : Window) (i j c cited :
-    ℕ) : Type 0 where
+pub record SideMoved (bytes : List ℕ) (g : Galley) (w words best : List ℕ) (queue : Queue) (from to : Window)
+    (i j c cited : ℕ) : Type 0 where
   pub asked : SideAsked bytes g w i j c cited
   pub ready : Ready bytes g w words best queue from j c
   pub opened : Open (textOf bytes g) (plain g) to i
@@ -49,25 +49,27 @@ pub record SideMoved (bytes : List ℕ) (g : Galley) (w words best : List ℕ) (
   pub high : from .high ≤ to .high
 
 -- Side c of place (i, j) is filled, and its queue is that of the window.
-pub record SideFilled (bytes : List ℕ) (g : Galley) (w v words best : List ℕ) (queue : Queue) (to : Window) (i j c : ℕ) : Type
-    0 where
+pub record SideFilled (bytes : List ℕ) (g : Galley) (w v words best : List ℕ) (queue : Queue) (to : Window)
+    (i j c : ℕ) : Type 0 where
   pub filled : v ≡ fillSide (modelOf bytes g) i j c w
   pub ready : Ready bytes g v words best queue to j c
 
--- The same for side 1, where it occurs.
-pub record OddMoved (bytes : List ℕ) (g : Galley) (w words best : List ℕ) (queue : Queue) (from to : Window) (i j cited : ℕ) :
-    Type 0 where
+-- Side 1 of place (i, j) comes next, where that side occurs.
+pub record OddMoved (bytes : List ℕ) (g : Galley) (w words best : List ℕ) (queue : Queue) (from to : Window)
+    (i j cited : ℕ) : Type 0 where
   pub moved : g .spec .sides ≡ 2 → SideMoved bytes g w words best queue from to i j 1 cited
 
-pub record OddFilled (bytes : List ℕ) (g : Galley) (w v words best : List ℕ) (queue : Queue) (to : Window) (i j : ℕ) : Type 0
-    where
+-- Side 1 is filled where it occurs, and else nothing has changed.
+pub record OddFilled (bytes : List ℕ) (g : Galley) (w v words best : List ℕ) (queue : Queue) (to : Window)
+    (i j : ℕ) : Type 0 where
   pub same : (g .spec .sides ≡ 2 → ⊥) → v ≡ w
   pub filled : g .spec .sides ≡ 2 → SideFilled bytes g w v words best queue to i j 1
 
--- The starts with fewer figures of pages on side 1 can be gathered, and are known, where that side occurs.
+-- The starts with fewer figures of pages on side 1 can be gathered, where that side occurs.
 pub record OddAsked (bytes : List ℕ) (g : Galley) (w sums words best : List ℕ) (j : ℕ) : Type 0 where
   pub fewer : g .spec .sides ≡ 2 → FewerAsked bytes g w sums words best j (sideOf g 1)
 
+-- They are known, where that side occurs.
 pub record OddKnown (bytes : List ℕ) (g : Galley) (w : List ℕ) (j : ℕ) (best : List ℕ) : Type 0 where
   pub known : g .spec .sides ≡ 2 → Known bytes g w j (sideOf g 1) (Between 0 j) best
 
@@ -87,8 +89,8 @@ pub record LastAsked (bytes : List ℕ) (g : Galley) (w sums evens even odds odd
   pub right : g .spec .sides ≡ 2 → Known bytes g w j (sideOf g 1) (Between 0 j) odd
 
 -- Column j is filled above line i, and the queues are those of the window of the line above.
-pub record LastRun (bytes : List ℕ) (g : Galley) (w₀ w evens₀ evens even odds₀ odds odd : List ℕ) (j cited : ℕ) (window :
-    Window) (leftward rightward : Queue) (i : ℕ) : Type 0 where
+pub record LastRun (bytes : List ℕ) (g : Galley) (w₀ w evens₀ evens even odds₀ odds odd : List ℕ) (j cited : ℕ)
+    (window : Window) (leftward rightward : Queue) (i : ℕ) : Type 0 where
   pub column : ColumnRun bytes g w₀ w j cited i
   pub evensSized : length evens ≡ length evens₀
   pub oddsSized : length odds ≡ length odds₀
@@ -106,8 +108,8 @@ pub record TableLent (bytes : List ℕ) (g : Galley) (w sums evens even odds odd
   pub oddRoom : 4 * g .lines + 4 ≤ length odd
 
 -- The columns before j are filled, and the scratch is as long as it was.
-pub record ColumnsRun (bytes : List ℕ) (g : Galley) (w₀ w evens₀ evens even₀ even odds₀ odds odd₀ odd : List ℕ) (j : ℕ) : Type
-    0 where
+pub record ColumnsRun (bytes : List ℕ) (g : Galley) (w₀ w evens₀ evens even₀ even odds₀ odds odd₀ odd : List ℕ)
+    (j : ℕ) : Type 0 where
   pub table : TableRun bytes g w₀ w j
   pub evensSized : length evens ≡ length evens₀
   pub evenSized : length even ≡ length even₀

@@ -1,6 +1,5 @@
--- The best of several starts of a page, whatever the order in which they are found: the least cost, then the later line, then
--- the
--- later figure (document 01, "Making").
+-- The best of several starts of a page, whatever the order in which they are found: the least cost, then the later line,
+-- then the later figure (document 01, "Making").
 use Prim.Native.Nat.{ℕ, _≤_, _<_}
 use mathlib.Core.Path.{_≡_}
 use mathlib.Core.Logic.{_⊎_}

@@ -43,7 +43,7 @@ pub record Search : Type 0 where
 unfoldable pub offered : Search → ℕ → ℕ → Entry → Entry
 offered s a b best =
     pick ((ltb a (s .i) || ltb b (s .j)) && fills (s .galley) (full (s .galley) (place (s .i) (s .j))) (place a b) (place
-        (s .i) (s .j)))
+    (s .i) (s .j)))
     (better (s .table a b (s .side)) a b best)
     best
 

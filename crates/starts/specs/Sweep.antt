@@ -52,8 +52,7 @@ Known bytes g w j side P best =
     (i : ℕ) → i ≤ g .lines → allPlaced g i j ≡ false → Best (searchOf bytes g w i j side) P (entryAt best (4 * i))
 
 -- A galley that was read, a column of a work area that is long enough, and room for a queue and for the best start of each
--- place
--- of the column.
+-- place of the column.
 pub record Lent (bytes : List ℕ) (g : Galley) (w words best : List ℕ) (j side : ℕ) : Type 0 where
   pub sound : Sound bytes g
   pub column : j ≤ g .figures
@@ -73,8 +72,8 @@ pub record FewerAsked (bytes : List ℕ) (g : Galley) (w sums words best : List 
   pub summed : Summed bytes g sums
 
 -- The starts with more than b figures placed before them are known, and figures b + 1 to j alone are not too tall.
-pub record SweepAsked (bytes : List ℕ) (g : Galley) (w sums words best : List ℕ) (j b side : ℕ) (figures : Heights) : Type 0
-    where
+pub record SweepAsked (bytes : List ℕ) (g : Galley) (w sums words best : List ℕ) (j b side : ℕ)
+    (figures : Heights) : Type 0 where
   pub lent : Lent bytes g w words best j side
   pub summed : Summed bytes g sums
   pub before : b < j
@@ -90,14 +89,14 @@ pub record SweepRun (bytes : List ℕ) (g : Galley) (w : List ℕ) (j b side : �
   pub bestSized : length best ≡ length best₀
   pub ends : Ends (textOf bytes g) load window i
   pub held : Held (columnOf w (g .lines + 1) b side) words queue (window .low) (window .high)
-  pub done : (k : ℕ) → k < i → k ≤ g .lines → allPlaced g k j ≡ false → Best (searchOf bytes g w k j side) (Between b j)
-      (entryAt best (4 * k))
+  pub done : (k : ℕ) → k < i → k ≤ g .lines → allPlaced g k j ≡ false
+      → Best (searchOf bytes g w k j side) (Between b j) (entryAt best (4 * k))
   pub left : (k : ℕ) → i ≤ k → k ≤ g .lines → allPlaced g k j ≡ false
       → Best (searchOf bytes g w k j side) (Between (suc b) j) (entryAt best (4 * k))
 
 -- The starts with b figures or more placed before them are known.
-pub record FewerRun (bytes : List ℕ) (g : Galley) (w words₀ words best₀ best : List ℕ) (j side : ℕ) (figures : Heights) (b :
-    ℕ) : Type 0 where
+pub record FewerRun (bytes : List ℕ) (g : Galley) (w words₀ words best₀ best : List ℕ) (j side : ℕ)
+    (figures : Heights) (b : ℕ) : Type 0 where
   pub lent : Lent bytes g w words best j side
   pub within : b ≤ j
   pub wordsSized : length words ≡ length words₀

@@ -46,7 +46,7 @@ pub record Traceable (g : Galley) (w : List ℕ) : Type 0 where
   pub lent : Lent g w
   pub entered :
       (a b c x : ℕ) (s : Start) → a ≤ g .lines → b ≤ g .figures → Side (sidesIn g) c → tableIn g w a b c ≡ Least x s → Entered
-          a b x s
+      a b x s
 
 -- A walk over such a table may start on side c.
 pub record Walkable (g : Galley) (w : List ℕ) (c : ℕ) : Type 0 where

@@ -13,10 +13,11 @@ use Rattle.places.specs.Table.{tableOf}
 use Rattle.window.specs.declared.slide.Window.{Window}
 use Rattle.window.specs.declared.queue.Queue.{Queue}
 
--- The line of entry k, and its cost.
+-- The line of entry k.
 abbrev pub lineAt : List ℕ → ℕ → ℕ
 lineAt words k = getD words (2 * k) 0
 
+-- Its cost.
 abbrev pub costAt : List ℕ → ℕ → ℕ
 costAt words k = getD words (2 * k + 1) 0
 
@@ -55,8 +56,7 @@ pub record Held (col : ℕ → Entry) (words : List ℕ) (queue : Queue) (low hi
   pub covered : (a x : ℕ) (r : Start) → low ≤ a → a < high → col a ≡ Least x r → Cover words queue a x
 
 -- Of the reached lines from `low` on and before `high`, e is the cheapest, and the latest of those that cost the same, as a
--- start
--- with b figures placed before it; it is unreached where they all are.
+-- start with b figures placed before it; it is unreached where they all are.
 pub record Cheapest (col : ℕ → Entry) (low high b : ℕ) (e : Entry) : Type 0 where
   pub from : (x : ℕ) (r : Start) → e ≡ Least x r → low ≤ r .line
   pub to : (x : ℕ) (r : Start) → e ≡ Least x r → r .line < high
@@ -67,7 +67,7 @@ pub record Cheapest (col : ℕ → Entry) (low high b : ℕ) (e : Entry) : Type 
   pub latest : (x : ℕ) (r : Start) → e ≡ Least x r → (a : ℕ) (q : Start) → low ≤ a → a < high → col a ≡ Least x q → a ≤ r .line
 
 -- A queue of so many entries lies in the words.
-pub record DearerAsked (words : List ℕ) (head tail : ℕ) : Type 0 where
+pub record Entries (words : List ℕ) (head tail : ℕ) : Type 0 where
   pub order : head ≤ tail
   pub room : 2 * tail ≤ length words
 
@@ -77,9 +77,6 @@ pub record Dropped (words : List ℕ) (head tail x r : ℕ) : Type 0 where
   pub to : r ≤ tail
   pub dearer : (k : ℕ) → r ≤ k → k < tail → x ≤ costAt words k
   pub cheaper : (k : ℕ) → head ≤ k → suc k ≡ r → costAt words k < x
-
-abbrev pub PassedAsked : List ℕ → ℕ → ℕ → Type 0
-PassedAsked = DearerAsked
 
 -- Before r every entry's line is before `low`; that of r, if there is one, is not.
 pub record Passed (words : List ℕ) (head tail low r : ℕ) : Type 0 where
@@ -108,9 +105,10 @@ tailed queue tail = record { head = queue .head; tail = tail }
 pub record Fed (work : List ℕ) (tall b side : ℕ) (old : List ℕ) (queue : Queue) (from to r : ℕ) (new : List ℕ) : Type 0 where
   pub order : queue .head ≤ r
   pub short : r ≤ to
-  pub held : (low : ℕ) → Held (columnOf work tall b side) old queue low from → Held (columnOf work tall b side) new (tailed
-      queue r) low to
+  pub held : (low : ℕ) → Held (columnOf work tall b side) old queue low from
+      → Held (columnOf work tall b side) new (tailed queue r) low to
 
+-- The same for the lines before the window's end.
 abbrev pub AdvanceAsked : List ℕ → ℕ → ℕ → ℕ → List ℕ → Queue → ℕ → Window → Type 0
 AdvanceAsked work tall b side words queue from window = FeedAsked work tall b side words queue from (window .high)
 

@@ -3,7 +3,7 @@
 ghost use mathlib.Core.Path.{_≡_};
 ghost use Prim.Native.Nat.{_+_, _*_, _≤_};
 ghost use lib.ListN.{length};
-ghost use Rattle.window.specs.Queue.{pushed, frontOf, DearerAsked, Dropped, PassedAsked, Passed, FeedAsked, Fed, AdvanceAsked, Advanced, FrontAsked};
+ghost use Rattle.window.specs.Queue.{pushed, frontOf, Entries, Dropped, Passed, FeedAsked, Fed, AdvanceAsked, Advanced, FrontAsked};
 use crate::slide::Window;
 use places::Entry;
 use places::Start;
@@ -16,7 +16,7 @@ pub struct Queue {
 
 // The tail after entries that cost x or more are dropped from the back: of equal costs the later line is kept.
 fn drop_dearer(words: &[u32], head: usize, tail: usize, x: u32) -> usize
-    requires { ⌜ DearerAsked (now words) head tail ⌝ }
+    requires { ⌜ Entries (now words) head tail ⌝ }
     ensures { λ r. ⌜ Dropped (now (words .entry)) head tail x r ⌝ }
 {
     let mut t = tail;
@@ -31,7 +31,7 @@ fn drop_dearer(words: &[u32], head: usize, tail: usize, x: u32) -> usize
 
 // The head after lines before `low` are dropped from the front.
 fn drop_passed(words: &[u32], head: usize, tail: usize, low: usize) -> usize
-    requires { ⌜ PassedAsked (now words) head tail ⌝ }
+    requires { ⌜ Entries (now words) head tail ⌝ }
     ensures { λ r. ⌜ Passed (now (words .entry)) head tail low r ⌝ }
 {
     let mut h = head;

@@ -11,6 +11,7 @@ use lib.ListN.{length}
 use borrow.Author.Tests.{le-ltb}
 use Rattle.model.specs.Galley.{Stream}
 use Rattle.model.specs.Leaf.{sidesOf}
+use Rattle.theorems.specs.PageSides.{side-zero}
 use Rattle.galley.specs.declared.Galley.{Galley}
 use Rattle.galley.specs.Model.{textOf, figuresOf, modelOf}
 use Rattle.rules.specs.Parts.{Citing}
@@ -34,7 +35,7 @@ use Rattle.filling.specs.Asked.{PlaceAsked}
 use Rattle.filling.specs.Column.{sideOf, plain, EntryAsked, Ready, SideMoved, SideFilled, OddMoved, OddFilled, OddAsked, OddKnown, ColumnLent, LastAsked, LastRun, TableLent, ColumnsRun}
 use Rattle.filling.specs.laws.Entered.{side-low, side-before}
 use Rattle.filling.specs.laws.Fill.{Room, length-side, side-other}
-use Rattle.filling.specs.laws.Filling.{side-zero, side-one, place-single, place-double, side-first, side-second, column-start, column-place, column-next, table-column}
+use Rattle.filling.specs.laws.Filling.{side-one, place-single, place-double, side-first, side-second, column-start, column-place, column-next, table-column}
 
 -- No figures, no height.
 no-figures : (bytes : List ℕ) (g : Galley) (j : ℕ) → Stacked (figuresOf bytes g) j j (record { tight = 0; loose = 0 })
@@ -56,7 +57,7 @@ ready-kept {bytes} {g} {w} {words} {best} {queue} {window} {j} {c} ready i d lin
     other a b h differ =
         ap (λ u. tableOf (suc (g .lines)) u a b (sideOf g c)) e
         ∙ side-other (modelOf bytes g) i j d w (ready .lent .room) line (ready .lent .column) low a b (sideOf g c) h
-            (ready .lent .either)
+        (ready .lent .either)
         (λ q. differ (q .0, q .1))
 
     lent : Lent bytes g v words best j (sideOf g c)
@@ -73,7 +74,7 @@ ready-kept {bytes} {g} {w} {words} {best} {queue} {window} {j} {c} ready i d lin
     held : Held (columnOf v (g .lines + 1) j (sideOf g c)) words queue (window .low) (window .high)
     held =
         held-same (columnOf w (g .lines + 1) j (sideOf g c)) (columnOf v (g .lines + 1) j (sideOf g c)) words queue
-            (window .low) (window .high)
+        (window .low) (window .high)
         (λ a l. rw add-one (other a j (omega arith) (λ q. omega (arith, q .0)))) (ready .held)
 
     known : Known bytes g v j (sideOf g c) (Between 0 j) best
@@ -92,7 +93,7 @@ module _ {bytes : List ℕ} {g : Galley} {w words best : List ℕ} {queue : Queu
   side-feeds =
       let ready = moved .ready in
       can-feed (ready .lent) j (ready .lent .column) queue from to i line (moved .high) (moved .opened .ends .high)
-          (ready .held .order) (ready .held .short)
+      (ready .held .order) (ready .held .short)
 
   module _ (words′ : List ℕ) (sized : length words′ ≡ length words) (next : Queue)
       (advanced : Advanced w (g .lines + 1) j (sideOf g c) words queue (from .high) to next words′) where
@@ -117,9 +118,9 @@ module _ {bytes : List ℕ} {g : Galley} {w words best : List ℕ} {queue : Queu
                 same = λ inner.
                     let none = le-ltb j j (le-refl j) in
                     let cheapest = front-cheapest (columnOf w (g .lines + 1) j (sideOf g c)) words′ next (to .low) (to .high)
-                        j held-next (advanced .fresh) in
+                    j held-next (advanced .fresh) in
                     window-best bytes g w i j (sideOf g c) j (record { tight = 0; loose = 0 }) (no-figures bytes g j) inner
-                        (le-refl j) to (rw none (moved .opened))
+                    (le-refl j) to (rw none (moved .opened))
                     (frontOf words′ next j) (rw (← column-named w g j (sideOf g c)) cheapest);
               };
         }
@@ -131,7 +132,7 @@ module _ {bytes : List ℕ} {g : Galley} {w words best : List ℕ} {queue : Queu
           filled = e;
           ready =
               ready-kept (record { lent = lent-next; held = held-next; known = moved .ready .known }) i c line
-                  (moved .opened .ends .high)
+              (moved .opened .ends .high)
               (side-low (sidesOf (g .spec .sides)) c (moved .asked .side)) v e;
         }
 
@@ -183,76 +184,76 @@ module _ {bytes : List ℕ} {g : Galley} {w₀ sums evens₀ even odds₀ odd : 
 
   module _ {w evens odds : List ℕ} {cited : ℕ} {window : Window} {leftward rightward : Queue} {i : ℕ}
       (run : LastRun bytes g w₀ w evens₀ evens even odds₀ odds odd j cited window leftward rightward i) (line : i ≤ g .lines)
-          where
-    -- The window can be moved on to line i,
-    pub last-slides : Slidable sums (plain g) window i
-    last-slides =
-        can-slide (run .left .lent) (asked .lent .summed) false j (record { tight = 0; loose = 0 }) (no-figures bytes g j)
-            window i line (run .ends)
+    where
+      -- The window can be moved on to line i,
+      pub last-slides : Slidable sums (plain g) window i
+      last-slides =
+          can-slide (run .left .lent) (asked .lent .summed) false j (record { tight = 0; loose = 0 }) (no-figures bytes g j)
+          window i line (run .ends)
 
-    module _ (cited′ : ℕ) (citing : Citing (figuresOf bytes g) i cited′) (new : Window)
-        (slid : (st : Stream) (m : ℕ) → Slid sums st m (plain g) window i new) where
-      opened : Open (textOf bytes g) (plain g) new i
-      opened = slid (textOf bytes g) (g .lines) .opens (asked .lent .summed .rows) line (run .ends)
+      module _ (cited′ : ℕ) (citing : Citing (figuresOf bytes g) i cited′) (new : Window)
+          (slid : (st : Stream) (m : ℕ) → Slid sums st m (plain g) window i new) where
+        opened : Open (textOf bytes g) (plain g) new i
+        opened = slid (textOf bytes g) (g .lines) .opens (asked .lent .summed .rows) line (run .ends)
 
-      next-place : PlaceAsked bytes g w i j cited′
-      next-place = column-place bytes g w₀ j (asked .lent .column) w cited i cited′ (run .column) line citing
+        next-place : PlaceAsked bytes g w i j cited′
+        next-place = column-place bytes g w₀ j (asked .lent .column) w cited i cited′ (run .column) line citing
 
-      -- side 0 of the place can be filled,
-      pub last-left : SideMoved bytes g w evens even leftward window new i j 0 cited′
-      last-left =
-          record {
-            asked = side-first bytes g w i j cited′ next-place;
-            ready = run .left;
-            opened = opened;
-            low = slid (textOf bytes g) (g .lines) .low;
-            high = slid (textOf bytes g) (g .lines) .high;
-          }
-
-      module _ (evens′ : List ℕ) (evensKept : length evens′ ≡ length evens) (left : Queue) (v : List ℕ)
-          (first : SideFilled bytes g w v evens′ even left new i j 0) where
-        -- then side 1,
-        pub last-right : OddMoved bytes g v odds odd rightward window new i j cited′
-        last-right =
+        -- side 0 of the place can be filled,
+        pub last-left : SideMoved bytes g w evens even leftward window new i j 0 cited′
+        last-left =
             record {
-              moved = λ e.
-                  record {
-                    asked = rw (first .filled) (side-second bytes g w i j cited′ next-place e);
-                    ready = ready-kept (run .right e) i 0 line (high (run .ends)) (omega arith) v (first .filled);
-                    opened = opened;
-                    low = slid (textOf bytes g) (g .lines) .low;
-                    high = slid (textOf bytes g) (g .lines) .high;
-                  };
+              asked = side-first bytes g w i j cited′ next-place;
+              ready = run .left;
+              opened = opened;
+              low = slid (textOf bytes g) (g .lines) .low;
+              high = slid (textOf bytes g) (g .lines) .high;
             }
-          where
-            high : Ends (textOf bytes g) (plain g) window i → window .high ≤ i
-            high ends = ends .high
 
-        -- and the place is filled.
-        pub last-next : (odds′ : List ℕ) → length odds′ ≡ length odds → (right : Queue) (u : List ℕ)
-            → OddFilled bytes g v u odds′ odd right new i j
-            → LastRun bytes g w₀ u evens₀ evens′ even odds₀ odds′ odd j cited′ new left right (i + 1)
-        last-next odds′ oddsKept right u second =
-            record {
-              column = column-next bytes g w₀ j (asked .lent .column) w cited i cited′ (run .column) line citing u (both
-                  (ℕ-discrete (g .spec .sides) 2));
-              evensSized = evensKept ∙ run .evensSized;
-              oddsSized = oddsKept ∙ run .oddsSized;
-              ends = rw add-one (ends-next (textOf bytes g) (plain g) new i opened);
-              left = even-ready (ℕ-discrete (g .spec .sides) 2);
-              right = λ e. second .filled e .ready;
-            }
-          where
-            both : Dec (g .spec .sides ≡ 2) → u ≡ fillPlace (sidesOf (g .spec .sides)) (modelOf bytes g) i j w
-            both (yes e) =
-                second .filled e .filled ∙ ap (fillSide (modelOf bytes g) i j 1) (first .filled)
-                ∙ sym (place-double (modelOf bytes g) (g .spec .sides) i j w e)
-            both (no n) = second .same n ∙ first .filled ∙ sym (place-single (modelOf bytes g) (g .spec .sides) i j w n)
+        module _ (evens′ : List ℕ) (evensKept : length evens′ ≡ length evens) (left : Queue) (v : List ℕ)
+            (first : SideFilled bytes g w v evens′ even left new i j 0) where
+          -- then side 1,
+          pub last-right : OddMoved bytes g v odds odd rightward window new i j cited′
+          last-right =
+              record {
+                moved = λ e.
+                    record {
+                      asked = rw (first .filled) (side-second bytes g w i j cited′ next-place e);
+                      ready = ready-kept (run .right e) i 0 line (high (run .ends)) (omega arith) v (first .filled);
+                      opened = opened;
+                      low = slid (textOf bytes g) (g .lines) .low;
+                      high = slid (textOf bytes g) (g .lines) .high;
+                    };
+              }
+            where
+              high : Ends (textOf bytes g) (plain g) window i → window .high ≤ i
+              high ends = ends .high
 
-            even-ready : Dec (g .spec .sides ≡ 2) → Ready bytes g u evens′ even left new j 0
-            even-ready (yes e) = ready-kept (first .ready) i 1 line (opened .ends .high) (omega arith) u (second .filled
-                e .filled)
-            even-ready (no n) = rw (second .same n) (first .ready)
+          -- and the place is filled.
+          pub last-next : (odds′ : List ℕ) → length odds′ ≡ length odds → (right : Queue) (u : List ℕ)
+              → OddFilled bytes g v u odds′ odd right new i j
+              → LastRun bytes g w₀ u evens₀ evens′ even odds₀ odds′ odd j cited′ new left right (i + 1)
+          last-next odds′ oddsKept right u second =
+              record {
+                column = column-next bytes g w₀ j (asked .lent .column) w cited i cited′ (run .column) line citing u (both
+                    (ℕ-discrete (g .spec .sides) 2));
+                evensSized = evensKept ∙ run .evensSized;
+                oddsSized = oddsKept ∙ run .oddsSized;
+                ends = rw add-one (ends-next (textOf bytes g) (plain g) new i opened);
+                left = even-ready (ℕ-discrete (g .spec .sides) 2);
+                right = λ e. second .filled e .ready;
+              }
+            where
+              both : Dec (g .spec .sides ≡ 2) → u ≡ fillPlace (sidesOf (g .spec .sides)) (modelOf bytes g) i j w
+              both (yes e) =
+                  second .filled e .filled ∙ ap (fillSide (modelOf bytes g) i j 1) (first .filled)
+                  ∙ sym (place-double (modelOf bytes g) (g .spec .sides) i j w e)
+              both (no n) = second .same n ∙ first .filled ∙ sym (place-single (modelOf bytes g) (g .spec .sides) i j w n)
+
+              even-ready : Dec (g .spec .sides ≡ 2) → Ready bytes g u evens′ even left new j 0
+              even-ready (yes e) = ready-kept (first .ready) i 1 line (opened .ends .high) (omega arith) u (second .filled
+                  e .filled)
+              even-ready (no n) = rw (second .same n) (first .ready)
 
 module _ {bytes : List ℕ} {g : Galley} {w sums evens even odds odd : List ℕ} {j : ℕ} (asked : ColumnLent bytes g w sums evens
     even odds odd j) where

@@ -42,8 +42,10 @@ good-pick : (i j : ℕ) (b : Bool) (e f : Entry) → (b ≡ true → Good i j e)
 good-pick i j true e f p q = p refl
 good-pick i j false e f p q = q refl
 
-good-start : (i j a b x : ℕ) → a ≤ i → b ≤ j → a + b < i + j → x ≤ (a + b) * 201000 → Good i j (Least x (record { line = a;
-    figure = b }))
+good-start : (i j a b x : ℕ) → a ≤ i → b ≤ j → a + b < i + j → x ≤ (a + b) * 201000 → Good i j (Least x (record {
+  line = a;
+  figure = b;
+}))
 good-start i j a b x h k l d y r e =
     let p : x ≡ y = cc in
     let q : a ≡ r .line = ap line-of e in
@@ -65,7 +67,7 @@ good-better i j a b Unreached e h k l d g = g
 good-better i j a b (Least x s) Unreached h k l d g = good-start i j a b x h k l (d x s refl)
 good-better i j a b (Least x s) (Least y r) h k l d g =
     good-pick i j (ltb x y) (Least x (record { line = a; figure = b })) (Least y r) (λ e. good-start i j a b x h k l (d x s
-        refl)) (λ e. g)
+    refl)) (λ e. g)
 
 module _ (s : Search) (fill : Filled (s .galley) (s .table) (s .i) (s .j)) (high : s .i ≤ s .galley .stream 0 .size)
     (side : Side (s .galley .spec .sides) (s .side)) where
@@ -105,7 +107,7 @@ module _ (s : Search) (fill : Filled (s .galley) (s .table) (s .i) (s .j)) (high
   good-rows (suc a) e h g =
       good-pick (s .i) (s .j) (fits (s .galley) (place a (s .j)) (place (s .i) (s .j))) (rows s a (row s a (suc (s .j)) e)) e
       (λ t. good-rows a (row s a (suc (s .j)) e) (omega arith) (good-row a (suc (s .j)) e (omega arith) (le-refl (suc (s .j)))
-          g))
+      g))
       (λ t. g)
 
   -- The best start, if there is one, lies before the place, and its cost is small.

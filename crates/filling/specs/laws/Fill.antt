@@ -58,7 +58,7 @@ module _ (g : Galley) (i j c : ℕ) (w : Words) where
     unfolding fillSide tall
     side-other a b d h k differ =
         table-other (suc (g .stream 0 .size)) i j c a b d w (entryOf g (held g w) i j c) (omega arith) (omega arith) side k
-            differ
+        differ
 
 -- An earlier place is another place.
 earlier-other : (a b i j : ℕ) → Earlier a b i j → (i ≡ a) × (j ≡ b) → ⊥
@@ -104,7 +104,7 @@ module _ (g : Galley) (light : dearest g ≤ 201000) where
           entered = λ a b d x s l h k e.
               f .entered a b d x s l h k
               (sym (side-other g i j c w room high wide low a b d h (side-low (g .spec .sides) d k) (λ q. earlier-other a b i
-                  j l (q .0, q .1))) ∙ e);
+              j l (q .0, q .1))) ∙ e);
         }
 
     -- and the new one is such a one too.
@@ -157,7 +157,7 @@ module _ (g : Galley) (light : dearest g ≤ 201000) where
         own zero x s k q =
             filled-here 0 w room k f x s
             (sym (side-other g i j 1 left room′ high wide (omega arith) i j 0 high (omega arith) (λ r. let z = r .2 in omega
-                arith)) ∙ q)
+            arith)) ∙ q)
         own (suc zero) x s k q = filled-here 1 left room′ k f′ x s q
         own (suc (suc c)) x s k q = let l = side-low (g .spec .sides) (suc (suc c)) k in absurd (omega arith)
 

@@ -7,11 +7,11 @@ use mathlib.Core.List.{List}
 use lib.ListN.{length}
 use borrow.Author.Tests.{eq-eqb, ne-eqb}
 use Rattle.model.specs.Galley as model
-use Rattle.model.specs.Galley.{Sides, single, double}
 use Rattle.model.specs.Leaf.{sidesOf}
 use Rattle.model.specs.Order.{oddly}
 use Rattle.theorems.specs.Waiting.{pageCost}
 use Rattle.theorems.specs.PageGraph.{full}
+use Rattle.theorems.specs.PageSides.{side-zero}
 use Rattle.theorems.specs.Bounds.{cost-le}
 use Rattle.galley.specs.declared.Galley.{Galley}
 use Rattle.galley.specs.Model.{figuresOf, modelOf}
@@ -79,12 +79,7 @@ cost-low bytes g w i j c cited asked x r e =
     let cost = cost-le (modelOf bytes g) c (full (modelOf bytes g) (place i j)) (place i j) in
     omega (arith, start .less, start .dear)
 
--- Side 0 occurs, and side 1 in double-sided work.
-pub side-zero : (sides : Sides) → Side sides 0
-unfolding oddly
-side-zero single = refl
-side-zero double = refl
-
+-- Side 1 occurs in double-sided work; `side-zero` of theorems says that side 0 always does.
 pub side-one : (n : ℕ) → n ≡ 2 → Side (sidesOf n) 1
 unfolding oddly sidesOf
 side-one n e = rw (eq-eqb n 2 e)

@@ -5,7 +5,7 @@ use native.Mathlib.Decide.{decLe}
 use native.Mathlib.Omega.{arith}
 use mathlib.Core.Path.{_≡_, refl, sym, _∙_, ap}
 use mathlib.Core.Logic.{_⊎_, inl, inr}
-use mathlib.Core.Bool.{Bool, true, false, _&&_, _||_}
+use mathlib.Core.Bool.{Bool, true, false, _||_}
 use mathlib.Core.List.{[], _∷_}
 use lib.ListN.{length, getD}
 use lib.Dec.{ltb, eqb}
@@ -31,6 +31,7 @@ use Rattle.starts.specs.Search.{place, Table, before, Search, bestStart, priced
 use Rattle.starts.specs.Choice.{NoLater, Candidate, Leads, Best, Any}
 use Rattle.starts.specs.laws.Found.{best-start}
 use Rattle.filling.specs.Filled.{Side}
+use Rattle.filling.specs.laws.Entered.{side-before}
 use Rattle.making.specs.Shown.{shown, tableAt}
 use Rattle.making.specs.laws.Shown.{zeros-two}
 
@@ -62,11 +63,6 @@ side-only : (sides : Sides) (c e : ℕ) → oddly sides e ≡ e → c ≡ oddly 
 unfolding oddly before
 side-only single c e h k = sym h
 side-only double c e h k = omega arith
-
-before-side : (sides : Sides) (c : ℕ) → Side sides c → oddly sides (before sides c) ≡ before sides c
-unfolding oddly before
-before-side single c h = refl
-before-side double c h = omega arith
 
 -- What is seen of a place (i, j) on side c, the end of a page.
 module _ (g : Galley) (two : g .floats ≡ 1) (t : Table) (i j c : ℕ) (inside : Inside (sizes g) (place i j))
@@ -128,7 +124,7 @@ module _ (g : Galley) (two : g .floats ≡ 1) (t : Table) (i j c : ℕ) (inside 
   unfolding Step Within here from mayStop count
   page-from a b h k some may fit fill =
       record {
-        within = (record { long = inside .long; under = below }, before-side (g .spec .sides) c side);
+        within = (record { long = inside .long; under = below }, side-before (g .spec .sides) c side);
         next = side-after (g .spec .sides) c side;
         may =
             kept-allowed

@@ -12,7 +12,7 @@ use Rattle.model.specs.Galley.{Stream}
 use Rattle.model.specs.Height.{stacked, height, tightest, loosest}
 use Rattle.model.specs.Rules.{fits, fills}
 use Rattle.model.specs.laws.Gather.{between-sum}
-use Rattle.model.specs.laws.Height.{stacked-grows}
+use Rattle.model.specs.laws.Height.{between-none, stacked-grows}
 use Rattle.galley.specs.declared.Galley.{Galley}
 use Rattle.galley.specs.Model.{textOf, figuresOf, modelOf}
 use Rattle.rules.specs.Parts.{separation}
@@ -20,11 +20,6 @@ use Rattle.marking.specs.Parts.{added, onPile, apartBy}
 use Rattle.marking.specs.declared.pile.Pile.{Pile}
 use Rattle.galley.specs.Sound.{Sound}
 use Rattle.rules.specs.laws.Two.{height-two}
-
--- Nothing stands between a and a place that is not after it.
-between-none : (f : ℕ → ℕ) (a b : ℕ) → b ≤ a → between a b f ≡ 0
-unfolding between sum
-between-none f a b h = let e : b - a ≡ 0 = omega arith in ap (λ n. sum n (λ k. f (a + k))) e
 
 between-next : (f : ℕ → ℕ) (a k : ℕ) → a ≤ k → between a (suc k) f ≡ between a k f + f (suc k)
 unfolding sum

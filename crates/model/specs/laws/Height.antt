@@ -30,7 +30,7 @@ between-grows f a b a′ b′ h i j =
     omega arith
 
 -- Nothing stands between a and a place before it.
-between-none : (f : ℕ → ℕ) (a b : ℕ) → b ≤ a → between a b f ≡ 0
+pub between-none : (f : ℕ → ℕ) (a b : ℕ) → b ≤ a → between a b f ≡ 0
 unfolding between sum
 between-none f a b h = let e : b - a ≡ 0 = omega arith in ap (λ n. sum n (λ k. f (a + k))) e
 

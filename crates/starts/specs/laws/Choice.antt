@@ -72,7 +72,7 @@ leads-trans (Least z s) x r a b y (h, f) (k, g) =
 pub start-same : (q r : Start) → q .line ≡ r .line → q .figure ≡ r .figure → q ≡ r
 start-same q r l m =
     let e : _≡_ {A = Start} (record { line = q .line; figure = q .figure }) (record { line = r .line; figure = r .figure }) =
-        cc in
+    cc in
     e
 
 -- An unreached place has no cost.
@@ -119,7 +119,7 @@ module _ (s : Search) where
       leads a′ b′ y q d =
           let (e, f) = only a′ b′ y q d in
           let same : Least x (c .start) ≡ Least y (d .start) = sym (c .reached) ∙ sym (ap (λ n. s .table n b (s .side)) e) ∙
-              sym (ap (λ n. s .table a′ n (s .side)) f) ∙ d .reached in
+          sym (ap (λ n. s .table a′ n (s .side)) f) ∙ d .reached in
           let k : x ≡ y = cc in
           (omega arith, λ _. inr (e, omega arith))
 
@@ -148,7 +148,7 @@ module _ (s : Search) where
   -- Of two parts the better best is the best.
   pub best-chosen : (P Q R : ℕ → ℕ → Type 0) → ((a b : ℕ) → P a b → R a b) → ((a b : ℕ) → Q a b → R a b)
       → ((a b x : ℕ) → Candidate s a b x → R a b → P a b ⊎ Q a b) → (e f : Entry) → Best s P e → Best s Q f → Best s R (chosen
-          e f)
+      e f)
   unfolding chosen Leads
   best-chosen P Q R left right split e Unreached h k =
       best-as P R e (λ a b x c. left a b) (λ a b x c r. go a b x c (split a b x c r)) h

@@ -43,7 +43,7 @@ module _ {bytes : List ℕ} {g : Galley} {w words₀ best₀ : List ℕ} {j side
       known : Known bytes g w j side (Between j j) best
       known i h inner =
           let z : entryAt best (4 * i) ≡ Unreached = ap (λ v. entryAt v (4 * i)) e ∙ cleared-unreached n best₀ (4 * i) (omega
-              arith) in
+          arith) in
           rw z (best-none (searchOf bytes g w i j side) (Between j j) (λ a b x p c. omega (arith, p .0, p .1)))
 
 module _ {bytes : List ℕ} {g : Galley} {w words₀ words best₀ best : List ℕ} {j side : ℕ} {figures : Heights} {top : ℕ}
@@ -101,6 +101,6 @@ module _ {bytes : List ℕ} {g : Galley} {w words₀ words best₀ best : List �
             let fit = leb-true (tightest (modelOf bytes g) (place a b) (place i j)) (g .spec .htmax) (c .fitting) in
             let more = figures-in a b in
             let grows = stacked-grows (figuresOf bytes g) (figuresOf bytes g .least) (top - 1) j b j (omega arith) (omega
-                (arith, run .within)) (le-refl j) in
+            (arith, run .within)) (le-refl j) in
             let t = floats .tight in
             absurd (omega arith)

@@ -21,10 +21,7 @@ use Rattle.places.specs.declared.Entry.the-variants.{Unreached, Least}
 use Rattle.starts.specs.Search.{place, better, Search, offered, row, rows, bestStart}
 use Rattle.starts.specs.Choice.{noLater, chosen, NoLater, Candidate, Best, Any}
 use Rattle.starts.specs.laws.Choice.{no-reach, best-as, best-none, best-one, best-chosen}
-
-and-false : (a : Bool) → (a && false) ≡ false
-and-false true = refl
-and-false false = refl
+use Rattle.starts.specs.laws.Search.{and-false}
 
 or-false : (a : Bool) → (a || false) ≡ a
 or-false true = refl
@@ -110,7 +107,7 @@ module _ (s : Search) where
   not-best : (a b : ℕ) (e : Entry) → ((x : ℕ) → Candidate s a b x → ⊥) → Best s (Tried a (suc b)) e → Best s (Tried a b) e
   not-best a b e none h =
       best-as s (Tried a (suc b)) (Tried a b) e (λ a′ b′ x c. tried-more a b a′ b′) (λ a′ b′ x c t. go a′ b′ x c (split-tried
-          a b a′ b′ t)) h
+      a b a′ b′ t)) h
     where
       go : (a′ b′ x : ℕ) → Candidate s a′ b′ x → NoLater a (suc b) a′ b′ ⊎ ((a′ ≡ a) × (b′ ≡ b)) → NoLater a (suc b) a′ b′
       go a′ b′ x c (inl t) = t
@@ -127,8 +124,15 @@ module _ (s : Search) where
           → Best s (Tried a b) (better f a b e)
       weighed Unreached t p q = not-best a b e (λ x c. no-reach x (c .start) (sym t ∙ c .reached)) best
       weighed (Least x r) t p q =
-          better-best a b x e r (record { line = h; figure = k; some = p; fitting = fit; filling = q; start = r; reached = t
-              }) best
+          better-best a b x e r (record {
+            line = h;
+            figure = k;
+            some = p;
+            fitting = fit;
+            filling = q;
+            start = r;
+            reached = t;
+          }) best
 
       go : (x y : Bool) → (ltb a (s .i) || ltb b (s .j)) ≡ x
           → fills (s .galley) (full (s .galley) (place (s .i) (s .j))) (place a b) (place (s .i) (s .j)) ≡ y
@@ -144,7 +148,7 @@ module _ (s : Search) where
     row-best a h zero e k best = best
     row-best a h (suc b) e k best =
         go (fits (s .galley) (place a b) (place (s .i) (s .j))) refl (λ fit. row-best a h b (offered s a b e) (omega arith)
-            (offered-best a b e h (omega arith) fit best))
+        (offered-best a b e h (omega arith) fit best))
       where
         over : fits (s .galley) (place a b) (place (s .i) (s .j)) ≡ false → (a′ b′ x : ℕ) → Candidate s a′ b′ x → NoLater a 0
             a′ b′ → NoLater a (suc b) a′ b′

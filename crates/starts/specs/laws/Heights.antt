@@ -10,6 +10,7 @@ use Rattle.model.specs.Gather.{sum, between}
 use Rattle.model.specs.Galley.{Stream}
 use Rattle.model.specs.Height.{stacked, tightest, loosest}
 use Rattle.model.specs.laws.Gather.{between-sum}
+use Rattle.model.specs.laws.Height.{between-none}
 use Rattle.galley.specs.declared.Galley.{Galley}
 use Rattle.galley.specs.Model.{textOf, figuresOf, modelOf}
 use Rattle.galley.specs.Sound.{Sound}
@@ -18,11 +19,6 @@ use Rattle.rules.specs.laws.Two.{height-two}
 use Rattle.starts.specs.declared.heights.Heights.{Heights}
 use Rattle.starts.specs.Search.{place}
 use Rattle.starts.specs.Heights.{Stacked, together}
-
--- Nothing stands between a and a place that is not after it.
-between-none : (f : ℕ → ℕ) (a b : ℕ) → b ≤ a → between a b f ≡ 0
-unfolding between sum
-between-none f a b h = let e : b - a ≡ 0 = omega arith in ap (λ n. sum n (λ k. f (a + k))) e
 
 -- The first of what stands between a and b, and the rest.
 between-front : (f : ℕ → ℕ) (a b : ℕ) → a < b → between a b f ≡ between (suc a) b f + f (suc a)

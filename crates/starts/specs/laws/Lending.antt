@@ -23,7 +23,7 @@ use Rattle.starts.specs.laws.Heights.{figures-low}
 -- What is lent for a column is the same while the lengths are.
 pub lent-sized : {bytes : List ℕ} {g : Galley} {w words best : List ℕ} {j side : ℕ} (words′ best′ : List ℕ)
     → length words′ ≡ length words → length best′ ≡ length best → Lent bytes g w words best j side → Lent bytes g w words′
-        best′ j side
+    best′ j side
 lent-sized words′ best′ p q l =
     record {
       sound = l .sound;
@@ -55,8 +55,11 @@ module _ {bytes : List ℕ} {g : Galley} {w words best : List ℕ} {j side : ℕ
   pub can-slide : {sums : List ℕ} → Summed bytes g sums → (mixed : Bool) (b : ℕ) (figures : Heights) → Stacked (figuresOf
       bytes g) b j figures → (window : Window) (i : ℕ) → i ≤ g .lines
       → Ends (textOf bytes g) (loadOf g mixed figures) window i → Slidable sums (loadOf g mixed figures) window i
-  can-slide {sums} summed mixed b figures floats window i h ends = record { low = from (window .low) (ends .low); high = from
-      (window .high) (ends .high) }
+  can-slide {sums} summed mixed b figures floats window i h ends = record {
+    low = from (window .low) (ends .low);
+    high = from
+        (window .high) (ends .high);
+  }
     where
       from : (a : ℕ) → a ≤ i → Reachable sums (loadOf g mixed figures) a i
       from a l =
@@ -78,7 +81,7 @@ module _ {bytes : List ℕ} {g : Galley} {w words best : List ℕ} {j side : ℕ
   pub can-feed : (b : ℕ) → b ≤ g .figures → (queue : Queue) (old new : Window) (i : ℕ) → i ≤ g .lines → old .high ≤ new .high
       → new .high ≤ i
       → queue .head ≤ queue .tail → queue .tail ≤ old .high → FeedAsked w (g .lines + 1) b side words queue (old .high)
-          (new .high)
+      (new .high)
   can-feed b k queue old new i h rises inside order short =
       record {
         high = omega (arith, lent .sound .fewLines);

@@ -26,7 +26,8 @@ use Rattle.starts.specs.Heights.{Stacked, together}
 use Rattle.starts.specs.Asked.{searchOf, worth}
 use Rattle.starts.specs.laws.Heights.{together-tight, together-loose, stacked-nothing}
 
-and-false : (a : Bool) → (a && false) ≡ false
+-- A test and false is false.
+pub and-false : (a : Bool) → (a && false) ≡ false
 and-false true = refl
 and-false false = refl
 

@@ -110,7 +110,7 @@ module _ (bytes : List ℕ) (g : Galley) (w : List ℕ) (i j side b : ℕ) (figu
           where
             small : (a : ℕ) → window .low ≤ a → a < i
                 → tightest (modelOf bytes g) (place a b) (place i j) ≡ stacked (textOf bytes g) (textOf bytes g .least) a i +
-                    load .tight
+                load .tight
                 → tightest (modelOf bytes g) (place a b) (place i j) ≤ g .spec .htmax
             small a low l tight = go (decLe (tightest (modelOf bytes g) (place a b) (place i j)) (g .spec .htmax))
               where
@@ -141,7 +141,7 @@ module _ (bytes : List ℕ) (g : Galley) (w : List ℕ) (i j side b : ℕ) (figu
             high (no h) =
                 let f = not-full in
                 let fill = leb-true (g .spec .htmin) (loosest (modelOf bytes g) (place a b) (place i j)) (rw f at
-                    (c .filling)) in
+                (c .filling)) in
                 let loose = loose-sum a l in
                 absurd (opened .short a (omega arith) l (omega arith))
 
@@ -230,7 +230,7 @@ module _ (bytes : List ℕ) (g : Galley) (w : List ℕ) (i j side b : ℕ) (figu
             best-none search (Level b i)
             (λ a b′ x p c.
             let h = leb-true (g .spec .htmin) (loosest (modelOf bytes g) (place i b) (place i j)) (rw f at (at-level a b′ x p
-                c .filling)) in
+            c .filling)) in
             omega arith)
         go false t = found (tableOf (suc (g .lines)) w i b side) refl (ltb-false (figures .loose) (g .spec .htmin) t)
 
@@ -241,7 +241,7 @@ module _ (bytes : List ℕ) (g : Galley) (w : List ℕ) (i j side b : ℕ) (figu
         best-chosen search Most (Level b i) (Between b j) into (λ a′ b′ p. (omega (arith, p .0), omega (arith, p .0)))
         (λ a′ b′ x c r. part a′ b′ (c .line) r) (chosen held front) alone
         (best-chosen search (Between (suc b) j) (Above b i) Most (λ a′ b′ p. inl p) (λ a′ b′ p. inr p) (λ a′ b′ x c r. r) held
-            front h f) l
+        front h f) l
       where
         Most : ℕ → ℕ → Type 0
         Most a′ b′ = Between (suc b) j a′ b′ ⊎ Above b i a′ b′

@@ -35,8 +35,10 @@ use Rattle.starts.specs.laws.Lending.{lent-sized, can-feed, can-front, c
 module _ {bytes : List ℕ} {g : Galley} {w sums words₀ best₀ : List ℕ} {j b side : ℕ} {figures : Heights}
     (asked : SweepAsked bytes g w sums words₀ best₀ j b side figures) where
   -- A sweep starts with nothing in its queue.
-  pub sweep-first : SweepRun bytes g w j b side (loadOf g true figures) words₀ words₀ best₀ best₀ (record { low = 0; high = 0
-      }) (record { head = 0; tail = 0 }) 0
+  pub sweep-first : SweepRun bytes g w j b side (loadOf g true figures) words₀ words₀ best₀ best₀ (record {
+    low = 0;
+    high = 0;
+  }) (record { head = 0; tail = 0 }) 0
   sweep-first =
       record {
         within = omega arith;
@@ -67,7 +69,7 @@ module _ {bytes : List ℕ} {g : Galley} {w sums words₀ best₀ : List ℕ} {j
     sweep-feeds =
         let s = slid (textOf bytes g) (g .lines) in
         can-feed lent-now b (omega (arith, asked .before, asked .lent .column)) queue window new i line (s .high) (s .inside)
-            (run .held .order) (run .held .short)
+        (run .held .order) (run .held .short)
 
     module _ (words′ : List ℕ) (sized : length words′ ≡ length words) (next : Queue)
         (advanced : Advanced w (g .lines + 1) b side words queue (window .high) new next words′) where
@@ -117,13 +119,13 @@ module _ {bytes : List ℕ} {g : Galley} {w sums words₀ best₀ : List ℕ} {j
           here inner =
               let mixed = lt-ltb b j (asked .before) in
               let cheapest = front-cheapest (columnOf w (g .lines + 1) b side) words′ next (new .low) (new .high) b held-next
-                  (advanced .fresh) in
+              (advanced .fresh) in
               improved bytes g w i j side b figures (asked .floats) inner (asked .before) (entryAt best (4 * i)) (frontOf
-                  words′ next b)
+              words′ next b)
               (aloneOf g w i b side (figures .loose))
               (run .left i (le-refl i) line inner)
               (window-best bytes g w i j side b figures (asked .floats) inner (omega (arith, asked .before)) new (rw mixed
-                  opened) (frontOf words′ next b)
+              opened) (frontOf words′ next b)
               (rw (← column-named w g b side) cheapest))
               (alone-best bytes g w i j side b figures (asked .floats) inner (asked .before) (asked .short))
 

@@ -1,6 +1,5 @@
 -- `count_pages` counts the pages on the way back. The invariant says that the count from here on is the whole count; each
--- turn is
--- one step of it, to a place with fewer blocks, which is the measure.
+-- turn is one step of it, to a place with fewer blocks, which is the measure.
 use Prim.Native.Nat.{_+_}
 use native.Mathlib.Omega.{arith}
 use borrow.Author.Needs.{needs}

@@ -18,8 +18,12 @@ better-side-requires c κs = search needs
 returns : tie.Need-returns
 unfolding lastSide sidesOf
 returns c =
-    simp (eq-eqb _ _ (c .before .before .before .if1 .taken), c .better-side .ensures, c .before .entry-of2 .ensures,
-        c .before .before .entry-of .ensures)
+    simp (
+      eq-eqb _ _ (c .before .before .before .if1 .taken),
+      c .better-side .ensures,
+      c .before .entry-of2 .ensures,
+      c .before .before .entry-of .ensures,
+    )
 
 returns-2 : tie.Need-returns-2
 unfolding lastSide sidesOf

@@ -1,6 +1,5 @@
 -- `write_pages` writes the pages on the way back. The invariant says that the writing from here on is the whole writing, and
--- that
--- there is room for the pages left, whose number is the measure.
+-- that there is room for the pages left, whose number is the measure.
 use native.Mathlib.Omega.{arith}
 use lib.ListN.{length-set}
 use borrow.Author.Needs.{needs}
@@ -25,8 +24,11 @@ mul-at : tie.Need-mul-at Inv-loop μ-loop
 mul-at c = search needs
 
 entry-of-requires : tie.Need-entry-of-requires Inv-loop μ-loop
-entry-of-requires c κs = (c .before .before .before .before .pre .walk .table .lent, visits-placed
-    (c .before .loop .inv .visits))
+entry-of-requires c κs = (
+  c .before .before .before .before .pre .walk .table .lent,
+  visits-placed
+      (c .before .loop .inv .visits),
+)
 
 start-of-requires : tie.Need-start-of-requires Inv-loop μ-loop
 start-of-requires c κs = search needs

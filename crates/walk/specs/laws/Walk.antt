@@ -1,6 +1,5 @@
 -- One page back on the walk: it stays within the galley, falls towards the place where nothing is placed, and is one step of
--- the
--- counting and of the writing.
+-- the counting and of the writing.
 use Prim.Native.Nat.{ℕ, zero, suc, _+_, _*_, _-_, _≤_, _<_}
 use native.Mathlib.Omega.{arith}
 use mathlib.Core.Path.{_≡_, refl, sym, _∙_, ap}
@@ -22,6 +21,7 @@ use Rattle.starts.specs.Search.{Table, before}
 use Rattle.filling.specs.Filled.{Side, Filled}
 use Rattle.walk.specs.Trace.{startOf, countBack, writeBack}
 use Rattle.walk.specs.Traceable.{sidesIn, tableIn, isReached, Lent, Placed, Traceable, Visits, Counting, Writing}
+use Rattle.filling.specs.laws.Entered.{side-before}
 
 -- A reached entry holds a cost and a start,
 pub reached-least : (e : Entry) → isReached e ≡ true → (x : ℕ) × (s : Start) × (e ≡ Least x s)
@@ -38,12 +38,6 @@ pub side-small : (sides : Sides) (c : ℕ) → Side sides c → c ≤ 1
 unfolding oddly
 side-small single c h = omega arith
 side-small double c h = omega arith
-
--- The side of the page before occurs too.
-pub before-side : (sides : Sides) (c : ℕ) → Side sides c → Side sides (before sides c)
-unfolding oddly before
-before-side single c h = refl
-before-side double c h = omega arith
 
 -- Where the walk is, an entry can be read.
 pub visits-placed : {g : Galley} {i j c : ℕ} → Visits g i j c → Placed g i j c
@@ -123,7 +117,7 @@ module _ (g : Galley) (w : List ℕ) (tr : Traceable g w) where
       record {
         line = omega (arith, s .line);
         figure = omega (arith, s .figure);
-        side = rw (s .side) (before-side (sidesIn g) c (v .side));
+        side = rw (s .side) (side-before (sidesIn g) c (v .side));
       }
 
   -- and goes to a place with fewer blocks.
@@ -187,11 +181,14 @@ pub filled-traceable :
     (bytes : List ℕ) (g : Galley) (w : List ℕ) → Lent g w → Filled (modelOf bytes g) (tableIn g w) (suc (g .lines)) (g .figures)
     → Traceable g w
 filled-traceable bytes g w l f =
-    record { lent = l; entered = λ a b c x s h k side e. f .entered a b c x s (earlier a b h k (ltb b (g .figures)) refl) h
-        side e }
+    record {
+      lent = l;
+      entered = λ a b c x s h k side e. f .entered a b c x s (earlier a b h k (ltb b (g .figures)) refl) h
+          side e;
+    }
   where
     earlier :
         (a b : ℕ) → a ≤ g .lines → b ≤ g .figures → (v : Bool) → ltb b (g .figures) ≡ v → Earlier a b (suc (g .lines))
-            (g .figures)
+        (g .figures)
     earlier a b h k true e = inl (ltb-true b (g .figures) e)
     earlier a b h k false e = let l = ltb-false b (g .figures) e in inr (omega arith, omega arith)

@@ -15,8 +15,8 @@ side-before-requires c κs =
 fewer-figures-requires : tie.Need-fewer-figures-requires
 fewer-figures-requires c κs =
     rw (c .before .before .side-before .ensures)
-        (c .before .before .before .before .before .before .before .before .before .before .pre .fewer
-        (c .before .before .before .if1 .left))
+    (c .before .before .before .before .before .before .before .before .before .before .pre .fewer
+    (c .before .before .before .if1 .left))
 
 same-length : tie.Need-same-length
 same-length c = search needs
@@ -26,8 +26,10 @@ same-length-2 c = search needs
 
 returns-2 : tie.Need-returns-2
 returns-2 c =
-    record { known = λ e. rw (← c .before .before .before .before .before .before .before .side-before .ensures)
-        (c .before .before .before .before .fewer-figures .ensures) }
+    record {
+      known = λ e. rw (← c .before .before .before .before .before .before .before .side-before .ensures)
+          (c .before .before .before .before .fewer-figures .ensures);
+    }
 
 pub fewer-odd-spec : {M : Type 1} → statement M
 fewer-odd-spec =

@@ -28,8 +28,10 @@ fill-columns-requires : tie.Need-fill-columns-requires
 fill-columns-requires c κs =
     record {
       fill = c .before .before .before .before .before .before .before .before .before .before .before .pre;
-      summed = record { rows = c .before .before .before .before .before .before .before .gather .ensures; room = search needs
-          };
+      summed = record {
+        rows = c .before .before .before .before .before .before .before .gather .ensures;
+        room = search needs;
+      };
       evensRoom = search needs;
       evenRoom = search needs;
       oddsRoom = search needs;

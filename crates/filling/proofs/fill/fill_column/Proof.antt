@@ -12,32 +12,41 @@ side-before-requires c κs =
 fewer-figures-requires : tie.Need-fewer-figures-requires
 fewer-figures-requires c κs =
     rw (c .before .before .before .side-before .ensures) (column-even
-        (c .before .before .before .before .before .before .before .before .before .before .before .pre))
+    (c .before .before .before .before .before .before .before .before .before .before .before .pre))
 
 fewer-odd-requires : tie.Need-fewer-odd-requires
 fewer-odd-requires c κs =
     column-odd
-        (c .before .before .before .before .before .before .before .before .before .before .before .before .before .before .before .before .before .before .before .pre)
+    (c .before .before .before .before .before .before .before .before .before .before .before .before .before .before .before .before .before .before .before .pre)
 
 last-sweep-requires : tie.Need-last-sweep-requires
 last-sweep-requires c κs =
     column-last
-        (c .before .before .before .before .before .before .before .before .before .before .before .before .before .before .before .before .before .before .before .before .before .before .before .before .before .before .before .before .before .pre)
-        _ _ _ _
-    (search (needs,
-        c .before .before .before .before .before .before .before .before .before .before .before .before .before .before .before .slice-known6 .given,
-        c .before .before .before .before .before .before .before .before .before .before .before .before .before .before .before .before .evens .given))
-        (search (needs,
-        c .before .before .before .before .before .before .before .before .before .before .before .before .before .slice-known7 .given,
-        c .before .before .before .before .before .before .before .before .before .before .before .before .before .before .even .given))
-    (search (needs, c .before .before .before .before .before .before .before .slice-known8 .given,
-        c .before .before .before .before .before .before .before .before .odds .given)) (search (needs,
-        c .before .before .before .before .before .slice-known9 .given,
-        c .before .before .before .before .before .before .odd .given))
+    (c .before .before .before .before .before .before .before .before .before .before .before .before .before .before .before .before .before .before .before .before .before .before .before .before .before .before .before .before .before .pre)
+    _ _ _ _
+    (search (
+      needs,
+      c .before .before .before .before .before .before .before .before .before .before .before .before .before .before .before .slice-known6 .given,
+      c .before .before .before .before .before .before .before .before .before .before .before .before .before .before .before .before .evens .given,
+    ))
+    (search (
+      needs,
+      c .before .before .before .before .before .before .before .before .before .before .before .before .before .slice-known7 .given,
+      c .before .before .before .before .before .before .before .before .before .before .before .before .before .before .even .given,
+    ))
+    (search (
+      needs,
+      c .before .before .before .before .before .before .before .slice-known8 .given,
+      c .before .before .before .before .before .before .before .before .odds .given,
+    )) (search (
+      needs,
+      c .before .before .before .before .before .slice-known9 .given,
+      c .before .before .before .before .before .before .odd .given,
+    ))
     (rw (←
-        c .before .before .before .before .before .before .before .before .before .before .before .before .before .before .before .before .before .before .before .before .before .side-before .ensures)
-        (c .before .before .before .before .before .before .before .before .before .before .before .before .before .before .before .before .before .fewer-figures .ensures))
-        (c .before .before .before .before .before .before .before .before .before .fewer-odd .ensures)
+    c .before .before .before .before .before .before .before .before .before .before .before .before .before .before .before .before .before .before .before .before .before .side-before .ensures)
+    (c .before .before .before .before .before .before .before .before .before .before .before .before .before .before .before .before .before .fewer-figures .ensures))
+    (c .before .before .before .before .before .before .before .before .before .fewer-odd .ensures)
 
 same-length : tie.Need-same-length
 same-length c = search needs

@@ -33,15 +33,19 @@ loop-holds c =
 fill-column-requires : tie.Need-fill-column-requires Inv-loop μ-loop
 fill-column-requires c κs =
     columns-lent
-        (c .before .before .before .before .before .before .before .before .before .before .before .before .before .before .before .pre)
-        (c .before .before .before .before .before .before .before .loop .inv) (omega (arith,
-        c .before .before .before .before .before .if1 .taken))
+    (c .before .before .before .before .before .before .before .before .before .before .before .before .before .before .before .pre)
+    (c .before .before .before .before .before .before .before .loop .inv) (omega (
+      arith,
+      c .before .before .before .before .before .if1 .taken,
+    ))
 
 add-j : tie.Need-add-j Inv-loop μ-loop
 add-j c =
-    omega (arith,
-        c .before .before .before .before .before .before .before .before .before .before .before .before .before .before .before .before .before .before .before .before .before .before .before .before .before .before .pre .fill .sound .fewFigures,
-        c .before .before .before .before .before .before .before .before .before .before .before .before .before .before .before .before .if1 .taken)
+    omega (
+      arith,
+      c .before .before .before .before .before .before .before .before .before .before .before .before .before .before .before .before .before .before .before .before .before .before .before .before .before .before .pre .fill .sound .fewFigures,
+      c .before .before .before .before .before .before .before .before .before .before .before .before .before .before .before .before .if1 .taken,
+    )
 
 loop-less : tie.Need-loop-less Inv-loop μ-loop
 loop-less c = search needs
@@ -49,24 +53,38 @@ loop-less c = search needs
 loop-again : tie.Need-loop-again Inv-loop μ-loop
 loop-again c =
     let start =
-        c .before .before .before .before .before .before .before .before .before .before .before .before .before .before .before .before .before .before .before .before .before .before .before .before .before .before
-        in
+    c .before .before .before .before .before .before .before .before .before .before .before .before .before .before .before .before .before .before .before .before .before .before .before .before .before .before
+    in
     let a = start .args in
     let st =
-        c .before .before .before .before .before .before .before .before .before .before .before .before .before .before .before .before .before .before .loop
-        in
+    c .before .before .before .before .before .before .before .before .before .before .before .before .before .before .before .before .before .before .loop
+    in
     record {
       table =
-          table-next (a .s .now) (a .g) (a .work .now) (start .pre .fill) (st .work) (st .j) (st .inv .table) (omega (arith,
-              c .before .before .before .before .before .before .before .before .before .before .before .before .before .before .before .before .if1 .taken))
-              _
+          table-next (a .s .now) (a .g) (a .work .now) (start .pre .fill) (st .work) (st .j) (st .inv .table) (omega (
+            arith,
+            c .before .before .before .before .before .before .before .before .before .before .before .before .before .before .before .before .if1 .taken,
+          ))
+          _
           (c .before .before .before .before .before .before .before .before .before .before .fill-column .ensures);
-      evensSized = search (needs, c .before .before .before .before .before .before .before .evens .given,
-          c .before .before .before .before .before .before .slice-known7 .given, st .inv .evensSized);
-      evenSized = search (needs, c .before .before .before .before .before .even .given,
-          c .before .before .before .before .slice-known8 .given, st .inv .evenSized);
-      oddsSized = search (needs, c .before .before .before .odds .given, c .before .before .slice-known9 .given,
-          st .inv .oddsSized);
+      evensSized = search (
+        needs,
+        c .before .before .before .before .before .before .before .evens .given,
+        c .before .before .before .before .before .before .slice-known7 .given,
+        st .inv .evensSized,
+      );
+      evenSized = search (
+        needs,
+        c .before .before .before .before .before .even .given,
+        c .before .before .before .before .slice-known8 .given,
+        st .inv .evenSized,
+      );
+      oddsSized = search (
+        needs,
+        c .before .before .before .odds .given,
+        c .before .before .slice-known9 .given,
+        st .inv .oddsSized,
+      );
       oddSized = search (needs, c .before .odd .given, c .slice-known10 .given, st .inv .oddSized);
     }
 

@@ -1,6 +1,5 @@
 -- `last_sweep` meets its contract. The loop's invariant is `LastRun`: the column is filled above line i, and the queues hold
--- the starts
--- of the window.
+-- the starts of the window.
 use Prim.Native.Nat.{_+_, _-_}
 use native.Mathlib.Omega.{arith}
 use Rattle.filling.specs.Column.{LastRun}
@@ -34,39 +33,43 @@ slide-requires : tie.Need-slide-requires Inv-loop μ-loop
 slide-requires c κs =
     let st = c .before .before .before .loop in
     rw (c .before .before .before .before .load-of .ensures) (last-slides
-        (c .before .before .before .before .before .before .before .before .before .before .before .before .pre) (st .inv)
-        (omega (arith, c .before .if1 .taken)))
+    (c .before .before .before .before .before .before .before .before .before .before .before .before .pre) (st .inv)
+    (omega (arith, c .before .if1 .taken)))
 
 fill-side-requires : tie.Need-fill-side-requires Inv-loop μ-loop
 fill-side-requires c κs =
     let st = c .before .before .before .before .before .before .loop in
     last-left
-        (c .before .before .before .before .before .before .before .before .before .before .before .before .before .before .before .pre)
-        (st .inv) (omega (arith, c .before .before .before .before .if1 .taken))
-        (c .before .before .before .cited-through .result) (c .before .before .before .cited-through .ensures)
+    (c .before .before .before .before .before .before .before .before .before .before .before .before .before .before .before .pre)
+    (st .inv) (omega (arith, c .before .before .before .before .if1 .taken))
+    (c .before .before .before .cited-through .result) (c .before .before .before .cited-through .ensures)
     (c .before .before .slide .result) (rw (← c .before .before .before .before .before .before .before .load-of .ensures)
-        (c .before .before .slide .ensures))
+    (c .before .before .slide .ensures))
 
 fill-odd-requires : tie.Need-fill-odd-requires Inv-loop μ-loop
 fill-odd-requires c κs =
     let st = c .before .before .before .before .before .before .before .before .before .before .before .before .before .loop in
     last-right
-        (c .before .before .before .before .before .before .before .before .before .before .before .before .before .before .before .before .before .before .before .before .before .before .pre)
-        (st .inv) (omega (arith,
-        c .before .before .before .before .before .before .before .before .before .before .before .if1 .taken))
-        (c .before .before .before .before .before .before .before .before .before .before .cited-through .result)
-        (c .before .before .before .before .before .before .before .before .before .before .cited-through .ensures)
+    (c .before .before .before .before .before .before .before .before .before .before .before .before .before .before .before .before .before .before .before .before .before .before .pre)
+    (st .inv) (omega (
+      arith,
+      c .before .before .before .before .before .before .before .before .before .before .before .if1 .taken,
+    ))
+    (c .before .before .before .before .before .before .before .before .before .before .cited-through .result)
+    (c .before .before .before .before .before .before .before .before .before .before .cited-through .ensures)
     (c .before .before .before .before .before .before .before .before .before .slide .result) (rw (←
-        c .before .before .before .before .before .before .before .before .before .before .before .before .before .before .load-of .ensures)
-        (c .before .before .before .before .before .before .before .before .before .slide .ensures)) _ (search needs)
-        (c .before .before .before .before .before .before .fill-side .result) _
-        (c .before .before .before .before .before .before .fill-side .ensures)
+    c .before .before .before .before .before .before .before .before .before .before .before .before .before .before .load-of .ensures)
+    (c .before .before .before .before .before .before .before .before .before .slide .ensures)) _ (search needs)
+    (c .before .before .before .before .before .before .fill-side .result) _
+    (c .before .before .before .before .before .before .fill-side .ensures)
 
 add-i : tie.Need-add-i Inv-loop μ-loop
 add-i c =
-    omega (arith,
-        c .before .before .before .before .before .before .before .before .before .before .before .before .before .before .before .before .before .before .before .before .before .before .before .before .before .before .before .pre .lent .column .sound .fewLines,
-        c .before .before .before .before .before .before .before .before .before .before .before .before .before .before .before .before .if1 .taken)
+    omega (
+      arith,
+      c .before .before .before .before .before .before .before .before .before .before .before .before .before .before .before .before .before .before .before .before .before .before .before .before .before .before .before .pre .lent .column .sound .fewLines,
+      c .before .before .before .before .before .before .before .before .before .before .before .before .before .before .before .before .if1 .taken,
+    )
 
 loop-less : tie.Need-loop-less Inv-loop μ-loop
 loop-less c = search needs
@@ -74,24 +77,29 @@ loop-less c = search needs
 loop-again : tie.Need-loop-again Inv-loop μ-loop
 loop-again c =
     let st =
-        c .before .before .before .before .before .before .before .before .before .before .before .before .before .before .before .before .before .before .loop
-        in
+    c .before .before .before .before .before .before .before .before .before .before .before .before .before .before .before .before .before .before .loop
+    in
     last-next
-        (c .before .before .before .before .before .before .before .before .before .before .before .before .before .before .before .before .before .before .before .before .before .before .before .before .before .before .before .pre)
-        (st .inv) (omega (arith,
-        c .before .before .before .before .before .before .before .before .before .before .before .before .before .before .before .before .if1 .taken))
-        (c .before .before .before .before .before .before .before .before .before .before .before .before .before .before .before .cited-through .result)
-        (c .before .before .before .before .before .before .before .before .before .before .before .before .before .before .before .cited-through .ensures)
+    (c .before .before .before .before .before .before .before .before .before .before .before .before .before .before .before .before .before .before .before .before .before .before .before .before .before .before .before .pre)
+    (st .inv) (omega (
+      arith,
+      c .before .before .before .before .before .before .before .before .before .before .before .before .before .before .before .before .if1 .taken,
+    ))
+    (c .before .before .before .before .before .before .before .before .before .before .before .before .before .before .before .cited-through .result)
+    (c .before .before .before .before .before .before .before .before .before .before .before .before .before .before .before .cited-through .ensures)
     (c .before .before .before .before .before .before .before .before .before .before .before .before .before .before .slide .result)
-        (rw (←
-        c .before .before .before .before .before .before .before .before .before .before .before .before .before .before .before .before .before .before .before .load-of .ensures)
-        (c .before .before .before .before .before .before .before .before .before .before .before .before .before .before .slide .ensures))
-        _ (search (needs, c .before .before .before .before .before .before .before .slice-known5 .given,
-        c .before .before .before .before .before .before .before .before .evens .given))
-        (c .before .before .before .before .before .before .before .before .before .before .before .fill-side .result) _
-        (c .before .before .before .before .before .before .before .before .before .before .before .fill-side .ensures)
+    (rw (←
+    c .before .before .before .before .before .before .before .before .before .before .before .before .before .before .before .before .before .before .before .load-of .ensures)
+    (c .before .before .before .before .before .before .before .before .before .before .before .before .before .before .slide .ensures))
+    _ (search (
+      needs,
+      c .before .before .before .before .before .before .before .slice-known5 .given,
+      c .before .before .before .before .before .before .before .before .evens .given,
+    ))
+    (c .before .before .before .before .before .before .before .before .before .before .before .fill-side .result) _
+    (c .before .before .before .before .before .before .before .before .before .before .before .fill-side .ensures)
     _ (search needs) (c .before .before .before .before .fill-odd .result) _
-        (c .before .before .before .before .fill-odd .ensures)
+    (c .before .before .before .before .fill-odd .ensures)
 
 same-length : tie.Need-same-length Inv-loop μ-loop
 same-length c = search needs
@@ -107,8 +115,10 @@ returns c =
     let start = c .before .before .before .before .before .before .before .before .before .before .before in
     let a = start .args in
     let st = c .before .before .loop in
-    column-end (a .s .now) (a .g) (a .work .now) (a .j) (st .work) (st .cited) (st .i) (st .inv .column) (omega (arith,
-        c .if1 .left))
+    column-end (a .s .now) (a .g) (a .work .now) (a .j) (st .work) (st .cited) (st .i) (st .inv .column) (omega (
+      arith,
+      c .if1 .left,
+    ))
 
 pub last-sweep-spec : {M : Type 1} → statement M
 last-sweep-spec =

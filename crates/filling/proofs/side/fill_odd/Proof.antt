@@ -20,8 +20,11 @@ same-length-2 c = search needs
 
 returns-2 : tie.Need-returns-2
 returns-2 c =
-    record { same = λ n. absurd (n (c .before .before .before .before .before .before .before .if1 .left)); filled = λ e.
-        c .before .before .before .before .fill-side .ensures }
+    record {
+      same = λ n. absurd (n (c .before .before .before .before .before .before .before .if1 .left));
+      filled = λ e.
+          c .before .before .before .before .fill-side .ensures;
+    }
 
 pub fill-odd-spec : {M : Type 1} → statement M
 fill-odd-spec =

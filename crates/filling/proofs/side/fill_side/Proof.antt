@@ -1,6 +1,5 @@
--- `fill_side` meets its contract: the queue moves on by `advance`, and the entry is stored at the place's address, which lies
--- within the
--- words needed.
+-- `fill_side` meets its contract: the queue moves on by `advance`, and the entry is stored at the place's address, which
+-- lies within the words needed.
 use mathlib.Core.Path.{ap, _∙_}
 use Prim.Native.Nat.{ℕ, suc}
 use native.Mathlib.Numerals.{add-one}
@@ -28,26 +27,28 @@ add-advance c =
 advance-requires : tie.Need-advance-requires
 advance-requires c κs =
     rw (c .before .before .before .side-before .ensures) (side-feeds
-        (c .before .before .before .before .before .before .before .before .pre))
+    (c .before .before .before .before .before .before .before .before .pre))
 
 entry-of-requires : tie.Need-entry-of-requires
 entry-of-requires c κs =
     side-starts
-        (c .before .before .before .before .before .before .before .before .before .before .before .before .before .pre) _
-        (search needs) (c .before .before .before .before .advance .result) (rw (←
-        c .before .before .before .before .before .before .before .before .side-before .ensures)
-        (c .before .before .before .before .advance .ensures))
+    (c .before .before .before .before .before .before .before .before .before .before .before .before .before .pre) _
+    (search needs) (c .before .before .before .before .advance .result) (rw (←
+    c .before .before .before .before .before .before .before .before .side-before .ensures)
+    (c .before .before .before .before .advance .ensures))
 
 add-address-of : tie.Need-add-address-of
 add-address-of c =
-    omega (arith,
-        c .before .before .before .before .before .before .before .before .before .before .before .before .before .before .before .pre .asked .placed .sound .fewLines)
+    omega (
+      arith,
+      c .before .before .before .before .before .before .before .before .before .before .before .before .before .before .before .pre .asked .placed .sound .fewLines,
+    )
 
 address-of-requires : tie.Need-address-of-requires
 address-of-requires c κs =
     let start =
-        c .before .before .before .before .before .before .before .before .before .before .before .before .before .before .before
-        in
+    c .before .before .before .before .before .before .before .before .before .before .before .before .before .before .before
+    in
     let a = start .args in
     let low = side-low (sidesOf (a .g .spec .sides)) (a .c) (start .pre .asked .side) in
     let placed = start .pre .asked .placed in
@@ -61,8 +62,8 @@ address-of-requires c κs =
 store-requires : tie.Need-store-requires
 store-requires c κs =
     let start =
-        c .before .before .before .before .before .before .before .before .before .before .before .before .before .before .before .before .before
-        in
+    c .before .before .before .before .before .before .before .before .before .before .before .before .before .before .before .before .before
+    in
     let a = start .args in
     let low = side-low (sidesOf (a .g .spec .sides)) (a .c) (start .pre .asked .side) in
     let placed = start .pre .asked .placed in
@@ -79,22 +80,24 @@ returns : tie.Need-returns
 unfolding fillSide tall
 returns c =
     let start =
-        c .before .before .before .before .before .before .before .before .before .before .before .before .before .before .before .before .before .before .before .before
-        in
+    c .before .before .before .before .before .before .before .before .before .before .before .before .before .before .before .before .before .before .before .before
+    in
     let a = start .args in
     let at = c .before .before .before .before .address-of .ensures
     ∙ ap (λ (n : ℕ). address n (a .i) (a .j) (a .c)) (add-one (a .g .lines)) in
     let filled = c .before .before .store .ensures ∙ ap (λ (n : ℕ). stored (a .work .now) n
-        (c .before .before .before .before .before .before .entry-of .result)) at
+    (c .before .before .before .before .before .before .entry-of .result)) at
     ∙ ap (stored (a .work .now) (address (suc (a .g .lines)) (a .i) (a .j) (a .c)))
-        (c .before .before .before .before .before .before .entry-of .ensures) in
-    side-done (start .pre) _ (search (needs,
-        c .before .before .before .before .before .before .before .before .before .slice-known3 .given,
-        c .before .before .before .before .before .before .before .before .before .before .words .given))
-        (c .before .before .before .before .before .before .before .before .before .before .before .advance .result) (rw (←
-        c .before .before .before .before .before .before .before .before .before .before .before .before .before .before .before .side-before .ensures)
-        (c .before .before .before .before .before .before .before .before .before .before .before .advance .ensures)) _
-        filled
+    (c .before .before .before .before .before .before .entry-of .ensures) in
+    side-done (start .pre) _ (search (
+      needs,
+      c .before .before .before .before .before .before .before .before .before .slice-known3 .given,
+      c .before .before .before .before .before .before .before .before .before .before .words .given,
+    ))
+    (c .before .before .before .before .before .before .before .before .before .before .before .advance .result) (rw (←
+    c .before .before .before .before .before .before .before .before .before .before .before .before .before .before .before .side-before .ensures)
+    (c .before .before .before .before .before .before .before .before .before .before .before .advance .ensures)) _
+    filled
 
 pub fill-side-spec : {M : Type 1} → statement M
 fill-side-spec =

@@ -30,8 +30,12 @@ word-at-requires-4 c κs = search needs
 
 returns : tie.Need-returns
 unfolding figureOf
-returns c = simp (c .word-at4 .ensures, c .before .word-at3 .ensures, c .before .before .word-at2 .ensures,
-    c .before .before .before .word-at .ensures)
+returns c = simp (
+  c .word-at4 .ensures,
+  c .before .word-at3 .ensures,
+  c .before .before .word-at2 .ensures,
+  c .before .before .before .word-at .ensures,
+)
 
 pub figure-fields-spec : {M : Type 1} → statement M
 figure-fields-spec =

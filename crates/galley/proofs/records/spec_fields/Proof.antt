@@ -48,10 +48,15 @@ word-at-requires-7 c κs = search needs
 
 returns : tie.Need-returns
 unfolding specOf
-returns c = simp (c .word-at7 .ensures, c .before .word-at6 .ensures, c .before .before .word-at5 .ensures,
-    c .before .before .before .word-at4 .ensures, c .before .before .before .before .word-at3 .ensures,
-    c .before .before .before .before .before .word-at2 .ensures,
-    c .before .before .before .before .before .before .word-at .ensures)
+returns c = simp (
+  c .word-at7 .ensures,
+  c .before .word-at6 .ensures,
+  c .before .before .word-at5 .ensures,
+  c .before .before .before .word-at4 .ensures,
+  c .before .before .before .before .word-at3 .ensures,
+  c .before .before .before .before .before .word-at2 .ensures,
+  c .before .before .before .before .before .before .word-at .ensures,
+)
 
 pub spec-fields-spec : {M : Type 1} → statement M
 spec-fields-spec =

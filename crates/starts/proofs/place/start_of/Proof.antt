@@ -1,6 +1,5 @@
 -- `start_of` meets its contract: the last page is searched for; else what is known of fewer figures and what the queue holds
--- are
--- all starts that there are.
+-- are all starts that there are.
 use Prim.Native.Nat.{_*_}
 use mathlib.Core.Path.{sym, _∙_}
 use Rattle.places.specs.Entry.{entryAt}

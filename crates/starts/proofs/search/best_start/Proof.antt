@@ -82,7 +82,7 @@ loop-again c =
       c .before .before .before .before .line-before .ensures,
       best ∙ sym (rows-next (a .s .now) (a .g) (a .work .now) (a .i) (a .j) (a .side) (st .a - 1) _
           (c .before .before .before .before .line-before .ensures) (st .a) next (st .best) (c .before .if1 .left)) ∙
-              st .inv .2,
+          st .inv .2,
     )
 
 returns-2 : tie.Need-returns-2 Inv-loop μ-loop

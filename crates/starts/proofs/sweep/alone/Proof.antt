@@ -23,7 +23,7 @@ entry-at-requires c κs =
     let start = c .before .before .before .before .before in
     let a = start .args in
     let within = address-in (a .g .lines) (a .g .figures) (a .i) (a .b) (a .side) (start .pre .line) (start .pre .within)
-        (start .pre .either) in
+    (start .pre .either) in
     omega (arith, within, c .address-of .ensures, start .pre .room)
 
 enum-known-entry : tie.Need-enum-known-entry
@@ -51,7 +51,7 @@ unfolding better
 returns-3 c =
     let a = c .before .before .before .before .before .before .before .before .before .args in
     let read = table-read (a .g) (a .work .now) (a .i) (a .b) (a .side) _
-        (c .before .before .before .before .address-of .ensures) in
+    (c .before .before .before .before .address-of .ensures) in
     let entry = read ∙ sym (c .before .before .before .entry-at .ensures) ∙ c .before .entry .given .1 in
     rw (le-ltb _ _ (c .before .before .before .before .before .before .if1 .left), entry)
 

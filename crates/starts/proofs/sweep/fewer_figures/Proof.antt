@@ -30,7 +30,7 @@ clear-requires c κs =
 loop-holds : tie.Need-loop-holds Inv-loop μ-loop
 loop-holds c =
     fewer-first (c .before .before .before .before .before .before .before .before .before .before .pre .lent) _ refl _
-        (c .before .before .clear .ensures) (search needs)
+    (c .before .before .clear .ensures) (search needs)
 
 sub-b : tie.Need-sub-b Inv-loop μ-loop
 sub-b c = search needs
@@ -50,16 +50,16 @@ returns : tie.Need-returns Inv-loop μ-loop
 returns c =
     let st = c .before .before .before .before .before .loop in
     fewer-over (st .inv) (c .before .before .before .before .loop-test .taken)
-        (c .before .before .before .figure-before .result) (c .before .before .before .figure-before .ensures) (c .if1 .taken)
+    (c .before .before .before .figure-before .result) (c .before .before .before .figure-before .ensures) (c .if1 .taken)
 
 sweep-requires : tie.Need-sweep-requires Inv-loop μ-loop
 sweep-requires c κs =
     let st = c .before .before .before .before .before .before .before .loop in
     fewer-sweeps (st .inv) (c .before .before .before .before .before .before .loop-test .taken)
-        (c .before .before .before .before .before .figure-before .result)
-        (c .before .before .before .before .before .figure-before .ensures)
-        (c .before .before .before .before .before .before .before .before .before .before .before .before .before .before .before .before .before .before .pre .summed)
-        (omega (arith, c .before .before .if1 .left))
+    (c .before .before .before .before .before .figure-before .result)
+    (c .before .before .before .before .before .figure-before .ensures)
+    (c .before .before .before .before .before .before .before .before .before .before .before .before .before .before .before .before .before .before .pre .summed)
+    (omega (arith, c .before .before .if1 .left))
 
 loop-less : tie.Need-loop-less Inv-loop μ-loop
 loop-less c = search needs
@@ -68,10 +68,10 @@ loop-again : tie.Need-loop-again Inv-loop μ-loop
 loop-again c =
     let st = c .before .before .before .before .before .before .before .before .before .before .before .before .loop in
     fewer-next (st .inv)
-        (c .before .before .before .before .before .before .before .before .before .before .before .loop-test .taken)
-        (c .before .before .before .before .before .before .before .before .before .before .figure-before .result)
-        (c .before .before .before .before .before .before .before .before .before .before .figure-before .ensures) _ _
-        (search needs) (search needs) (c .before .before .before .before .sweep .ensures)
+    (c .before .before .before .before .before .before .before .before .before .before .before .loop-test .taken)
+    (c .before .before .before .before .before .before .before .before .before .before .figure-before .result)
+    (c .before .before .before .before .before .before .before .before .before .before .figure-before .ensures) _ _
+    (search needs) (search needs) (c .before .before .before .before .sweep .ensures)
 
 same-length-3 : tie.Need-same-length-3 Inv-loop μ-loop
 same-length-3 c = search needs

@@ -16,9 +16,9 @@ returns c =
     let a = c .before .args in
     let e = c .page-heights .ensures in
     let t : c .page-heights .result .tight ≡ a .figures .tight + pick (a .mixed) (a .g .spec .smin) 0 = ap (λ (h : Heights).
-        h .tight) e ∙ omega arith in
+    h .tight) e ∙ omega arith in
     let l : c .page-heights .result .loose ≡ a .figures .loose + pick (a .mixed) (a .g .spec .smax) 0 = ap (λ (h : Heights).
-        h .loose) e ∙ omega arith in
+    h .loose) e ∙ omega arith in
     rw (t, l)
 
 pub load-of-spec : {M : Type 1} → statement M

@@ -40,13 +40,15 @@ slide-requires c κs =
     let load = c .before .before .before .before .load-of .ensures in
     rw load
     (can-slide (start .pre .lent) (start .pre .summed) true (start .args .b) (start .args .figures) (start .pre .floats)
-        (st .starts)
+    (st .starts)
     (st .i) (omega (arith, c .if1 .taken)) (rw (← load) (st .inv .ends)))
 
 add-advance : tie.Need-add-advance Inv-loop μ-loop
 add-advance c =
-    omega (arith,
-        c .before .before .before .before .before .before .before .before .before .before .before .before .pre .lent .sound .fewLines)
+    omega (
+      arith,
+      c .before .before .before .before .before .before .before .before .before .before .before .before .pre .lent .sound .fewLines,
+    )
 
 advance-requires : tie.Need-advance-requires Inv-loop μ-loop
 advance-requires c κs =
@@ -55,27 +57,29 @@ advance-requires c κs =
     let load = c .before .before .before .before .before .before .before .load-of .ensures in
     sweep-feeds (start .pre) (st .words) (st .best) (st .starts) (st .queue) (st .i) (rw (← load) (st .inv))
     (omega (arith, c .before .before .before .if1 .taken)) (c .before .before .slide .result) (rw (← load)
-        (c .before .before .slide .ensures))
+    (c .before .before .slide .ensures))
 
 improve-requires : tie.Need-improve-requires Inv-loop μ-loop
 improve-requires c κs =
     let start =
-        c .before .before .before .before .before .before .before .before .before .before .before .before .before .before .before .before .before .before
-        in
+    c .before .before .before .before .before .before .before .before .before .before .before .before .before .before .before .before .before .before
+    in
     let st = c .before .before .before .before .before .before .before .before .before .before .loop in
     let load =
-        c .before .before .before .before .before .before .before .before .before .before .before .before .load-of .ensures in
+    c .before .before .before .before .before .before .before .before .before .before .before .before .load-of .ensures in
     sweep-improves (start .pre) (st .words) (st .best) (st .starts) (st .queue) (st .i) (rw (← load) (st .inv))
     (omega (arith, c .before .before .before .before .before .before .before .before .if1 .taken))
-        (c .before .before .before .before .before .before .before .slide .result) (rw (← load)
-        (c .before .before .before .before .before .before .before .slide .ensures))
+    (c .before .before .before .before .before .before .before .slide .result) (rw (← load)
+    (c .before .before .before .before .before .before .before .slide .ensures))
     _ (search needs) (c .before .before .before .before .advance .result) (c .before .before .before .before .advance .ensures)
 
 add-i : tie.Need-add-i Inv-loop μ-loop
 add-i c =
-    omega (arith,
-        c .before .before .before .before .before .before .before .before .before .before .before .before .before .before .before .before .before .before .before .before .before .pre .lent .sound .fewLines,
-        c .before .before .before .before .before .before .before .before .before .before .before .if1 .taken)
+    omega (
+      arith,
+      c .before .before .before .before .before .before .before .before .before .before .before .before .before .before .before .before .before .before .before .before .before .pre .lent .sound .fewLines,
+      c .before .before .before .before .before .before .before .before .before .before .before .if1 .taken,
+    )
 
 loop-less : tie.Need-loop-less Inv-loop μ-loop
 loop-less c = search needs
@@ -83,26 +87,26 @@ loop-less c = search needs
 loop-again : tie.Need-loop-again Inv-loop μ-loop
 loop-again c =
     let start =
-        c .before .before .before .before .before .before .before .before .before .before .before .before .before .before .before .before .before .before .before .before .before
-        in
+    c .before .before .before .before .before .before .before .before .before .before .before .before .before .before .before .before .before .before .before .before .before
+    in
     let st = c .before .before .before .before .before .before .before .before .before .before .before .before .before .loop in
     let load =
-        c .before .before .before .before .before .before .before .before .before .before .before .before .before .before .before .load-of .ensures
-        in
+    c .before .before .before .before .before .before .before .before .before .before .before .before .before .before .before .load-of .ensures
+    in
     let bare :
-        c .before .before .before .before .before .before .before .before .before .before .before .before .before .before .load-of2 .result .loose
-        ≡ start .args .figures .loose =
+    c .before .before .before .before .before .before .before .before .before .before .before .before .before .before .load-of2 .result .loose
+    ≡ start .args .figures .loose =
     ap (λ (l : Load). l .loose)
-        (c .before .before .before .before .before .before .before .before .before .before .before .before .before .before .load-of2 .ensures)
-        ∙ omega arith in
+    (c .before .before .before .before .before .before .before .before .before .before .before .before .before .before .load-of2 .ensures)
+    ∙ omega arith in
     rw load
     (sweep-next (start .pre) (st .words) (st .best) (st .starts) (st .queue) (st .i) (rw (← load) (st .inv))
     (omega (arith, c .before .before .before .before .before .before .before .before .before .before .before .if1 .taken))
-        (c .before .before .before .before .before .before .before .before .before .before .slide .result) (rw (← load)
-        (c .before .before .before .before .before .before .before .before .before .before .slide .ensures))
+    (c .before .before .before .before .before .before .before .before .before .before .slide .result) (rw (← load)
+    (c .before .before .before .before .before .before .before .before .before .before .slide .ensures))
     _ (search needs) (c .before .before .before .before .before .before .before .advance .result)
-        (c .before .before .before .before .before .before .before .advance .ensures) _ (rw bare at
-        (c .before .before .improve .ensures)))
+    (c .before .before .before .before .before .before .before .advance .ensures) _ (rw bare at
+    (c .before .before .improve .ensures)))
 
 same-length : tie.Need-same-length Inv-loop μ-loop
 same-length c = search needs
@@ -115,7 +119,7 @@ returns c =
     let start = c .before .before .before .before .before .before .before .before .before .before in
     let st = c .before .before .loop in
     sweep-last (start .pre) (st .words) (st .best) (st .starts) (st .queue) (st .i) (rw (←
-        c .before .before .before .before .load-of .ensures) (st .inv))
+    c .before .before .before .before .load-of .ensures) (st .inv))
     (omega (arith, c .if1 .left))
 
 pub sweep-spec : {M : Type 1} → statement M

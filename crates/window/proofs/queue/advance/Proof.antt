@@ -26,7 +26,7 @@ returns c =
       short = fed .ensures .short;
       held = λ low l h.
           held-dropped (columnOf (a .work .now) (a .tall) (a .b) (a .side)) _ (a .queue .head) (fed .result)
-              (c .drop-passed .result)
+          (c .drop-passed .result)
           low (a .window .low) (a .window .high) l passed (fed .ensures .held low h);
       fresh = passed .kept;
     }

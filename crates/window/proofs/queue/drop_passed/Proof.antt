@@ -47,7 +47,7 @@ loop-again c =
       to = omega arith;
       passed =
           upto-next (λ (k : ℕ). lineAt (start .args .words .now) k < start .args .low) (start .args .head) (st .h)
-              (st .inv .passed)
+          (st .inv .passed)
           (omega (arith, c .if1 .left));
     }
 

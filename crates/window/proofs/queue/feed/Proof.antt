@@ -82,8 +82,8 @@ loop-less-2 c = search needs
 loop-again-2 : tie.Need-loop-again-2 Inv-loop μ-loop
 loop-again-2 c =
     let start =
-        c .before .before .before .before .before .before .before .before .before .before .before .before .before .before .before
-        in
+    c .before .before .before .before .before .before .before .before .before .before .before .before .before .before .before
+    in
     let a = start .args in
     let st = c .before .before .before .before .before .before .before .before .before .before .before .before .loop in
     let col = columnOf (a .work .now) (a .tall) (a .b) (a .side) in

@@ -75,7 +75,7 @@ loop-again c =
       passed =
           upto-next
           (λ (k : ℕ). a .load .htmin + getD (a .sums .now) (4 * k + 2) 0 ≤ getD (a .sums .now) (4 * a .i + 3) 0 +
-              a .load .loose)
+          a .load .loose)
           (a .from) (st .a) (st .inv .passed) (omega (arith, c .if1 .left));
     }
 

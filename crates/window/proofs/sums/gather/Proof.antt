@@ -108,7 +108,7 @@ returns : tie.Need-returns Inv-loop μ-loop
 returns c =
     let st = c .before .before .loop in
     let done : st .k ≡ c .before .before .before .before .before .before .before .before .before .args .g .lines = omega arith
-        in
+    in
     λ q l. st .inv .rows q (omega arith)
 
 pub gather-spec : {M : Type 1} → statement M
