@@ -1,9 +1,15 @@
 /* Barleychime: page make-up and marking for galleys with figures.
  *
  * Making gives the pagination with the fewest page turns that a galley's page specification allows; marking judges a
- * pagination that is handed in. Both work on lent memory alone: they allocate nothing, keep nothing between calls, call
- * nothing and print nothing. Calls on memory that is not shared may run at the same time. Making takes up to 258,000 bytes of
- * stack, marking under 1,000.
+ * pagination that is handed in. Both work on lent memory alone: they allocate nothing, keep nothing between calls, print
+ * nothing, and call nothing but memset of the C library. Calls on memory that is not shared may run at the same time.
+ *
+ * What the caller owes, because no call can see it:
+ *   - A pointer leads to as many bytes or words as its length says, or to the 6 words of an answer. It is aligned as its type
+ *     is, and it is not null, not even where the length is 0 and nothing is read.
+ *   - An area that is written overlaps no other area of the call, and nobody else reads or writes it during the call. Nobody
+ *     writes an area that is only read.
+ *   - The thread has BARLEYCHIME_STACK_BYTES of stack left.
  *
  * A galley has m lines (1 to 4,000) and n figures (0 to 200). A page list has two words a page: the lines placed so far and
  * the figures placed so far. A word is 32 bits in the machine's own byte order; the galley's bytes are the same everywhere.
@@ -53,6 +59,13 @@
 /* Bytes of the longest galley. Whatever is longer is refused, and its first bytes, one more than these, decide how. */
 #define BARLEYCHIME_LONGEST_GALLEY ((size_t)30 + 4200 * 18 + 2)
 
+/* Bytes of stack that a call takes below the frame of its caller, at most: either call, and marking alone. They are what the
+ * archive's machine code takes, rounded up; the tests compare them. Making needs 4,096 bytes more where the dynamic linker
+ * binds memset at its first call, as in a program that is linked without -z now. Signal handlers are not counted.
+ */
+#define BARLEYCHIME_STACK_BYTES ((size_t)258048)
+#define BARLEYCHIME_MARK_STACK_BYTES ((size_t)1024)
+
 /* What the six words of an answer are. */
 enum {
     BARLEYCHIME_NUMBER = 0, /* 0, or the number of the refusal */
@@ -69,8 +82,7 @@ extern "C" {
 
 /* Makes the pages of a galley.
  *
- * The caller owns all memory and lends it for the length of the call. The areas must not overlap. A pointer whose length
- * is 0 is not read, but must not be null.
+ * The caller owns all memory and lends it for the length of the call.
  *   galley      galley_len bytes, only read
  *   work        at least BARLEYCHIME_WORK_WORDS(m, n) words, of any contents
  *   pages       at least BARLEYCHIME_LIST_WORDS(m, n) words, of any contents
