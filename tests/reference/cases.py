@@ -7,8 +7,8 @@ from .galley import Figure, Galley, Line, Spec
 
 def plain(spec, heights, figures):
     """A galley without spaces, page ends allowed everywhere; figures as (height, citation)."""
-    return Galley(spec, tuple(Line(height, 0, 0, 1) for height in heights),
-                  tuple(Figure(height, 0, 0, cite) for height, cite in figures))
+    return Galley(spec, (tuple(Line(height, 0, 0, 1) for height in heights),
+                         tuple(Figure(height, 0, 0, cite) for height, cite in figures)))
 
 
 def respec(galley, **fields):
@@ -18,7 +18,7 @@ def respec(galley, **fields):
 def forbid(galley, number):
     lines = list(galley.lines)
     lines[number - 1] = lines[number - 1]._replace(legal=0)
-    return replace(galley, lines=tuple(lines))
+    return replace(galley, streams=(tuple(lines), *galley.floats))
 
 
 A = plain(Spec(30, 30, 0, 0, 1, 1, 1), (10, 10, 10), [(20, 1)])
@@ -28,7 +28,7 @@ C = plain(A.spec._replace(htmin=10, htmax=20, sides=2), (10, 10, 20, 20), [(20, 
 # Two pages and three both turn one leaf; the even page count decides, then the later start of the last page.
 EVEN = plain(A.spec._replace(htmin=0, htmax=20, sides=2), (10, 10, 10), [])
 PAIR = plain(A.spec._replace(htmin=0, alpha=0, beta=0), (10,), [(10, 1), (10, 1)])
-SPACED = Galley(A.spec._replace(htmin=28), 3 * (Line(10, 5, 8, 1),), ())
+SPACED = Galley(A.spec._replace(htmin=28), (3 * (Line(10, 5, 8, 1),), ()))
 LONGEST = plain(Spec(0, 1, 0, 0, 1, 1_000, 1_000), 4_000 * (0,), 200 * [(0, 1)])
 ONE_A_PAGE = tuple(word for page in range(1, 4_201) for word in (min(page, 4_000), max(page - 4_000, 0)))
 
