@@ -22,6 +22,7 @@ import c_interface  # noqa: E402
 import command_line  # noqa: E402
 import examples  # noqa: E402
 import explained  # noqa: E402
+import folding  # noqa: E402
 import round_trips  # noqa: E402
 import samples  # noqa: E402
 import table  # noqa: E402
@@ -47,6 +48,7 @@ def main():
         examples.run(tally, command, ROOT, library, folder)
         samples.run(tally, command, ROOT, folder)
         table.run(tally, command, ROOT)
+        folding.run(tally, command, library, folder)
     print(f'{tally.passed} passed, {tally.failed} failed')
     return 0 if tally.failed == 0 and tally.passed > 0 else 1
 

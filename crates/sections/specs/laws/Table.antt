@@ -2,11 +2,12 @@
 -- what that means for a section of n pages.
 use Prim.Native.Nat.{ℕ, _+_, _-_, _*_, _/_, _≤_, _<_}
 use native.Mathlib.Omega.{arith}
-use mathlib.Core.Path.{_≡_, refl, ap}
+use mathlib.Core.Path.{_≡_, refl, sym, ap, _∙_}
 use mathlib.Core.Bool.{Bool, true, _&&_}
 use mathlib.Core.List.{List, _++_}
 use lib.Dec.{eqb}
-use lib.ListN.{length, drop}
+use lib.ListN.{length, take, drop}
+use lib.Seq.{take-at}
 use borrow.Author.Tests.{eqb-true}
 use Rattle.model.specs.Gather.{each, every}
 use Rattle.model.specs.Answers.{same}
@@ -16,7 +17,7 @@ use Rattle.sections.specs.Folding.{sheetsFrom, section, sectionsFrom, al
 use Rattle.sections.specs.Standing.{times, leftOf, rightOf, folds, hasPages, addsUp, everySize}
 use Rattle.sections.specs.Answer.{isSize, Size, numbersAfter}
 use Rattle.sections.specs.Copying.{overwritten}
-use Rattle.sections.specs.laws.Size.{size-facts}
+use Rattle.sections.specs.laws.Size.{size-facts, size-test}
 
 -- What holds at every size holds at n.
 size-at : (test : ℕ → Bool) → everySize test ≡ true → (n : ℕ) → Size n → test n ≡ true
@@ -79,3 +80,11 @@ side-adds-up n size side there =
     eqb-true (leftOf (partOf allSections n) side + rightOf (partOf allSections n) side) (n + 1)
     (every-at (n / 2 - 1) (λ s. eqb (leftOf (partOf allSections n) s + rightOf (partOf allSections n) s) (n + 1))
     (size-at (addsUp allSections) table-adds-up n size) side (omega (arith, there, size .fours)))
+
+-- The first n words after a request are the section of n pages as it stands in the table, so that all of this holds of them.
+pub first-words : (n : ℕ) (words : List ℕ) → Size n → take n (numbersAfter n words) ≡ partOf allSections n
+unfolding numbersAfter
+first-words n words size =
+    let folds = section-folds n size in
+    let long : length (section n) ≡ n = sym (ap length folds) ∙ section-length n size in
+    rw (size-test n size) (take-at (section n) (drop n words) n long ∙ sym folds)
