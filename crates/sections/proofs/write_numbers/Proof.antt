@@ -1,6 +1,6 @@
 -- `write_numbers` meets its contract: past the test the size is one that there are sections of, and what is copied is the section.
 use native.Mathlib.Omega.{arith}
-use mathlib.Core.Path.{_≡_, sym, ap, _∙_}
+use mathlib.Core.Path.{sym, ap, _∙_}
 use mathlib.Core.List.{List}
 use lib.ListN.{length}
 use Prim.Native.Nat.{ℕ}
