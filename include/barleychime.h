@@ -39,6 +39,8 @@
  *   16  the page is lower than htMin even at its loosest, and it is not the last
  *   17  a figure stands on a spread that ends before the line that cites it
  *   18  the list ends before everything is placed
+ * Whoever asked for the section can mend this, which only barleychime_section answers. Place: the size.
+ *   33  no section has so many pages: their number is a multiple of 4 from 4 to 64
  *
  * Both calls read the galley first and answer 1 to 8 in the same way. Making then looks at the lengths, 9 before 10, and
  * searches only where both suffice. Of several broken rules marking answers the one on the earliest page, and there the
@@ -104,6 +106,16 @@ uint32_t barleychime_make(const uint8_t *galley, size_t galley_len, uint32_t *wo
  */
 uint32_t barleychime_mark(const uint8_t *galley, size_t galley_len, const uint32_t *pages, size_t pages_len,
                           uint32_t answer[6]);
+
+/* Gives the folding order of a stitched section of size pages, a multiple of 4 from 4 to 64: its pages as they stand on the
+ * nested sheets, the outermost first, four a sheet: front left, front right, back left, back right. The areas must not
+ * overlap. Like the other calls it works on lent memory alone; it takes under 1,000 bytes of stack.
+ *   numbers     64 words, of any contents
+ *   answer      2 words, always written: number, place
+ * Returns 0 for success. Afterwards the first size words of numbers hold the pages, and the rest is as before; after a
+ * refusal (33) all of it is.
+ */
+uint32_t barleychime_section(uint32_t size, uint32_t numbers[64], uint32_t answer[2]);
 
 #ifdef __cplusplus
 }

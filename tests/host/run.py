@@ -23,6 +23,7 @@ import c_interface  # noqa: E402
 import command_line  # noqa: E402
 import examples  # noqa: E402
 import explained  # noqa: E402
+import folding  # noqa: E402
 import round_trips  # noqa: E402
 import samples  # noqa: E402
 import stack  # noqa: E402
@@ -51,6 +52,7 @@ def main():
         table.run(tally, command, ROOT)
         if library == PROVED.resolve():  # the header's figures are the proved archive's
             stack.run(tally, command, ROOT, library, folder)
+        folding.run(tally, command, library, folder)
     print(f'{tally.passed} passed, {tally.failed} failed')
     return 0 if tally.failed == 0 and tally.passed > 0 else 1
 
