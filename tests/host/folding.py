@@ -1,39 +1,27 @@
 """Stitched sections through the C interface and the command, against the formulas."""
 
-import ctypes
 import random
-import subprocess
 
+import engine
 from reference import folding
 
-WORD = ctypes.c_uint32
 BEYOND = 5  # words after the lent ones, to see that they stay
 TRIED = (*range(71), 2**31, 2**32 - 4, 2**32 - 1)
 NO_NUMBERS = ('abc', '', '-', '4.0', '+4', '4 8', '٤', '0x8', '4294967296', '9' * 5_000)
 
 
-def load(archive, folder):
-    """The archive as a shared library, with its function pulled in."""
-    shared = folder / 'libsection.so'
-    subprocess.run(['cc', '-shared', '-o', shared, '-Wl,-u,barleychime_section', archive], check=True)
-    call = ctypes.CDLL(str(shared)).barleychime_section
-    call.argtypes, call.restype = [WORD, ctypes.POINTER(WORD), ctypes.POINTER(WORD)], WORD
-    return call
-
-
 def c_call(tally, archive, folder):
     """Every answer, and every word of the lent memory and after it, whatever it held."""
-    call = load(archive, folder)
+    called = engine.Engine(engine.load(archive, folder))
     rng = random.Random(13)
     for size in TRIED:
         words = [rng.randrange(2**32) for _ in range(folding.WORDS + BEYOND)]
         told = [rng.randrange(2**32) for _ in range(2 + BEYOND)]
-        numbers, answer = (WORD * len(words))(*words), (WORD * len(told))(*told)
-        returned = call(size, numbers, answer)
+        returned, numbers, answer = called.section(size, words, told)
         due = folding.answer(size)
-        tally.same(f'answer to {size}', (returned, tuple(answer)), (due[0], (*due, *told[2:])))
+        tally.same(f'answer to {size}', (returned, answer), (due[0], (*due, *told[2:])))
         written = folding.numbers_after(size, words[:folding.WORDS])
-        tally.same(f'words after {size}', tuple(numbers), (*written, *words[folding.WORDS:]))
+        tally.same(f'words after {size}', numbers, (*written, *words[folding.WORDS:]))
     tally.group('archive: sections')
 
 

@@ -29,7 +29,7 @@ import samples  # noqa: E402
 import stack  # noqa: E402
 import table  # noqa: E402
 from command import Command  # noqa: E402
-from reference.check import Tally  # noqa: E402
+from tally import Tally  # noqa: E402
 
 
 def main():
@@ -53,8 +53,7 @@ def main():
         if library == PROVED.resolve():  # the header's figures are the proved archive's
             stack.run(tally, command, ROOT, library, folder)
         folding.run(tally, command, library, folder)
-    print(f'{tally.passed} passed, {tally.failed} failed')
-    return 0 if tally.failed == 0 and tally.passed > 0 else 1
+    return tally.end()
 
 
 if __name__ == '__main__':

@@ -7,8 +7,8 @@ import re
 import signal
 import subprocess
 
-from archive import six
 from c_interface import STRICT
+from engine import six
 from frames import Unknown, needed, symbols
 from reference import marking
 from reference.galley import read

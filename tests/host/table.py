@@ -44,11 +44,12 @@ def turns(x, y, t):
 
 def latex(command, galley, words):
     """X + Y = T by the goal functions, and the first rule that the engine says is broken."""
-    counted = turns(*marking.turns(galley, marking.pairs(words)))
+    ends = marking.places(galley, words)
+    counted = turns(*marking.turns(galley, ends))
     with tempfile.NamedTemporaryFile(suffix='.galley') as file:
         file.write(write(galley))
         file.flush()
-        listed = ''.join(f'{i} {j}\n' for i, j in marking.pairs(words))
+        listed = ''.join(' '.join(map(str, end)) + '\n' for end in ends)
         _, output, _ = command.text('mark', file.name, '-', given=listed.encode())
     found = output.split()
     if found[0] == 'R':

@@ -7,7 +7,7 @@ import sys
 ROOT = pathlib.Path(__file__).resolve().parents[2]
 sys.path.insert(0, str(ROOT / 'tests'))
 from reference import folding  # noqa: E402
-from reference.check import Tally  # noqa: E402
+from tally import Tally  # noqa: E402
 
 PROGRAM = ROOT / 'target' / 'bin' / 'folding'
 
@@ -26,8 +26,7 @@ def main():
         tally.same(f'the program, given {given}', (ran.returncode, ran.stdout.decode(), ran.stderr), (0, due, b''))
     tally.same('its expected output', (ROOT / 'crates/folding/stdout').read_text(), due)
     tally.group('the program')
-    print(f'{tally.passed} passed, {tally.failed} failed')
-    return 0 if tally.failed == 0 and tally.passed > 0 else 1
+    return tally.end()
 
 
 if __name__ == '__main__':
