@@ -75,12 +75,6 @@ leaf-of-float g s k q u ps h b a =
         → unplaced q last v ≡ 1 * uncited q last v + 1 * dangling q last v
     at q last u v o = by-end v (ends (g .spec .sides) q) (λ e. o .heeds e s k h b)
 
--- No subtraction in `apart` is cut off: a float's leaf is its citation's and the leaves that they are apart.
-pub apart-exact : (g : Galley) (s k : ℕ) (u : Place) (ps : List Place) → 1 ≤ s → Block g s k → Along (Orderly g) 1 u ps
-    → leaf (g .spec .sides) (pageOf s k 1 ps) ≡ leaf (g .spec .sides) (pageOf 0 (g .stream s .cite k) 1 ps) + apart g ps s k
-unfolding apart
-apart-exact g s k u ps h b a = let law = leaf-of-float g s k 1 u ps h b a in omega arith
-
 -- Sums at leaf ends may be taken in either order.
 ends-swap : (sides : Sides) (n : ℕ) (f : ℕ → Place → ℕ) (q : ℕ) (ps : List Place)
     → sum n (λ k. pageSum (atEnd sides (f k)) q ps) ≡ pageSum (atEnd sides (λ v. sum n (λ k. f k v))) q ps

@@ -1,11 +1,10 @@
 -- The theorems behind least turns, over the definitions of the page model.
 
--- The principle of optimality, for any graph of states: its definitions, the theorem, and the steps of a loop.
+-- The principle of optimality, for any graph of states: its definitions, the theorem, and a table filled entry by entry.
 pub mod Graph
 pub mod Cell
 pub mod Optimality
-pub mod LoopStep
-mod Example
+pub mod Storing
 -- Turns as a sum of what each page costs.
 pub mod Waiting
 pub mod Pages
@@ -21,7 +20,6 @@ pub mod PageLaws
 pub mod PageWays
 pub mod PageLists
 pub mod PageTies
-pub mod PageBounds
 pub mod PageTheorem
 pub mod LeastTurns
 -- The published model: document 01's rules and numbers are the paper's.

@@ -12,7 +12,6 @@ use Rattle.model.specs.Galley.{Galley, Place, Sane, count}
 use Rattle.model.specs.Answers.{wordsOf}
 use Rattle.model.specs.Turns.{turns}
 use Rattle.model.specs.Best as model
-use Rattle.theorems.specs.Graph as graph
 use Rattle.theorems.specs.Cell.{Right, Trace}
 use Rattle.theorems.specs.Optimality.{step-back, trace-length}
 use Rattle.theorems.specs.PageGraph.{State, stop, end, Within, pageGraph, pagesTo, pagesOn}

@@ -10,11 +10,9 @@ use Rattle.model.specs.Order.{oddly}
 use Rattle.model.specs.laws.Rules.{kept, forward-at}
 use Rattle.model.specs.laws.Lists.{Inside}
 use Rattle.model.specs.laws.Valid.{count-sizes}
-use Rattle.theorems.specs.Graph as graph
 use Rattle.theorems.specs.Cell.{Cell, Right, Table as Table′}
-use Rattle.theorems.specs.LoopStep as step
+use Rattle.theorems.specs.Storing as storing
 use Rattle.theorems.specs.PageGraph.{State, stop, end, Within, Step, pageGraph}
-use Rattle.theorems.specs.PageLaws.{page-laws}
 use Rattle.places.specs.Address.{Earlier}
 use Rattle.starts.specs.Search.{place}
 use Rattle.filling.specs.Filled.{Side}
@@ -95,7 +93,7 @@ module _ (g : Galley) (two : g .floats ≡ 1) where
         → Right (pageGraph g) (tableAt g (held g (fillSide g i j c w))) (Done g i j (suc c))
     unfolding Done tableAt count
     right-side c w room k right =
-        step.stored (pageGraph g) (page-laws g) (tableAt g (held g w)) (tableAt g (held g w′)) (done-closed i j c) starts-done only same right
+        storing.stored (pageGraph g) (tableAt g (held g w)) (tableAt g (held g w′)) (done-closed i j c) starts-done only same right
         (rw (side-same g i j c w room high wide low) (entry-cell g two (held g w) i j c inside k))
       where
         w′ : Words

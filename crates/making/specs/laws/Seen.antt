@@ -20,10 +20,9 @@ use Rattle.model.specs.laws.Lists.{Inside}
 use Rattle.model.specs.laws.Valid.{count-sizes}
 use Rattle.theorems.specs.Waiting.{pageCost}
 use Rattle.theorems.specs.Graph as graph
-use Rattle.theorems.specs.Cell.{All, Ahead, Offer, Seen, Cell}
-use Rattle.theorems.specs.LoopStep as step
+use Rattle.theorems.specs.Cell.{Ahead, Offer, Seen, Cell}
+use Rattle.theorems.specs.Storing.{none-reached}
 use Rattle.theorems.specs.PageGraph.{State, stop, end, full, Within, Step, price, Prefers, pageGraph}
-use Rattle.theorems.specs.PageLaws.{page-laws}
 use Rattle.places.specs.declared.Start.{Start}
 use Rattle.places.specs.declared.Entry.{Entry}
 use Rattle.places.specs.declared.Entry.the-variants.{Unreached, Least}
@@ -172,7 +171,7 @@ module _ (g : Galley) (two : g .floats ≡ 1) (t : Table) (i j c : ℕ) (inside 
 
   module _ (may : mayStop g i j c ≡ true) where
     -- The best start, with the price of the page, is offered by the graph,
-    offered : (e : Entry) → Best search Any e → (x : ℕ) (u : State) → now e ≡ graph.least x u → Offer (pageGraph g) (tableAt g t) All here x u
+    offered : (e : Entry) → Best search Any e → (x : ℕ) (u : State) → now e ≡ graph.least x u → Offer (pageGraph g) (tableAt g t) here x u
     unfolding now priced shown search tableAt here price cost from count
     offered Unreached best x u q = let z : _≡_ {A = ℕ} 0 1 = cc in absurd (omega arith)
     offered (Least y r) best x u q =
@@ -181,7 +180,6 @@ module _ (g : Galley) (two : g .floats ≡ 1) (t : Table) (i j c : ℕ) (inside 
         let sum : y + cost ≡ x = cc in
         rw (← at, ← sum)
         (record {
-          among = tt;
           may = page-from (r .line) (r .figure) (d .line) (d .figure) (d .some) may (d .fitting) (d .filling);
           cost = y;
           start = stop (place (d .start .line) (d .start .figure)) (before (g .spec .sides) (before (g .spec .sides) c));
@@ -195,7 +193,7 @@ module _ (g : Galley) (two : g .floats ≡ 1) (t : Table) (i j c : ℕ) (inside 
     ahead Unreached a b y l = absurd l
     ahead (Least x r) a b y (l, f) = (omega arith, λ q. (later a b (r .line) (r .figure) (f (omega arith)), λ _. le-refl _))
 
-    best-ahead : (e : Entry) → Best search Any e → (x : ℕ) (u : State) → Offer (pageGraph g) (tableAt g t) All here x u
+    best-ahead : (e : Entry) → Best search Any e → (x : ℕ) (u : State) → Offer (pageGraph g) (tableAt g t) here x u
         → Ahead (pageGraph g) (now e) (graph.least x u)
     unfolding here Step tableAt price cost shown from
     best-ahead e best x (stop u d) o = go (t (count u 0) (count u 1) d) refl
@@ -218,16 +216,16 @@ module _ (g : Galley) (two : g .floats ≡ 1) (t : Table) (i j c : ℕ) (inside 
     best-ahead e best x end o = absurd (o .may)
 
     -- So what the search finds is the best of all starts.
-    best-seen : Seen (pageGraph g) (tableAt g t) All here (now (bestStart search))
+    best-seen : Seen (pageGraph g) (tableAt g t) here (now (bestStart search))
     unfolding search
     best-seen =
         let best = best-start search two in
         record { offered = offered (bestStart search) best; best = best-ahead (bestStart search) best }
 
   -- Where no page may end at (i, j), nothing has a page to it.
-  none-seen : mayStop g i j c ≡ false → Seen (pageGraph g) (tableAt g t) All here (now Unreached)
+  none-seen : mayStop g i j c ≡ false → Seen (pageGraph g) (tableAt g t) here (now Unreached)
   unfolding now priced shown here mayStop
-  none-seen shut = step.started (pageGraph g) (page-laws g) (tableAt g t) none
+  none-seen shut = none-reached (pageGraph g) (tableAt g t) none
     where
       never : (u : Place) (d : ℕ) → Starts u d → ⊥
       never u d st =
@@ -235,9 +233,9 @@ module _ (g : Galley) (two : g .floats ≡ 1) (t : Table) (i j c : ℕ) (inside 
           let z : _≡_ {A = ℕ} 0 1 = cc in
           omega arith
 
-      none : (u : State) → All u → Step g u (stop (place i j) c) → tableAt g t u ≡ graph.unreached
-      none (stop u d) p st = absurd (never u d (starts u d st))
-      none end p st = unfold Step in absurd st
+      none : (u : State) → Step g u (stop (place i j) c) → tableAt g t u ≡ graph.unreached
+      none (stop u d) st = absurd (never u d (starts u d st))
+      none end st = unfold Step in absurd st
 
   -- Only where nothing is placed, on side 0, is (i, j) the origin.
   not-origin : ¬ (i + j + c ≡ 0) → ¬ (here ≡ stop (zeros g) 0)
@@ -280,7 +278,5 @@ module _ (g : Galley) (two : g .floats ≡ 1) (t : Table) (i j c : ℕ) (inside 
           let k : c ≡ 0 = omega arith in
           let o : stop (place i j) c ≡ stop (zeros g) 0 = cc (zeros-two g two) in
           Cell.base o (stop (place 0 0) (before (g .spec .sides) c)) refl
-      go false e true m =
-          step.finished (pageGraph g) (page-laws g) (tableAt g t) (not-origin (eqb-false (i + j + c) 0 e)) (λ u p. inl tt) (best-seen m)
-      go false e false m =
-          step.finished (pageGraph g) (page-laws g) (tableAt g t) (not-origin (eqb-false (i + j + c) 0 e)) (λ u p. inl tt) (none-seen m)
+      go false e true m = Cell.inner (not-origin (eqb-false (i + j + c) 0 e)) (best-seen m)
+      go false e false m = Cell.inner (not-origin (eqb-false (i + j + c) 0 e)) (none-seen m)

@@ -10,7 +10,7 @@ use Rattle.model.specs.Galley.{Sides, single, double, Galley, Place, count, str
 use Rattle.model.specs.Order.{oddly}
 use Rattle.model.specs.laws.Rules.{placed}
 use Rattle.theorems.specs.Graph as graph
-use Rattle.theorems.specs.Cell.{All, Ahead, Offer, Cell, inner}
+use Rattle.theorems.specs.Cell.{Ahead, Offer, Cell, inner}
 use Rattle.theorems.specs.PageGraph.{State, stop, end, Within, Step, Prefers, price, pageGraph}
 use Rattle.theorems.specs.PageLaws.{page-laws}
 use Rattle.places.specs.declared.Start.{Start}
@@ -172,7 +172,7 @@ module _ (g : Galley) (one : g .floats ≡ 1) where
         last : ℕ
         last = lastSide (g .spec .sides) t (g .stream 0 .size) (g .stream 1 .size)
 
-        offered : (c : ℕ) (u : State) → tableAt g t end ≡ graph.least c u → Offer (pageGraph g) (tableAt g t) All end c u
+        offered : (c : ℕ) (u : State) → tableAt g t end ≡ graph.least c u → Offer (pageGraph g) (tableAt g t) end c u
         offered c u e =
             let (s, h, from) = finished-least (stop whole last) (t (g .stream 0 .size) (g .stream 1 .size) last) c u e in
             let finish : Step g (stop whole last) end = record {
@@ -180,7 +180,6 @@ module _ (g : Galley) (one : g .floats ≡ 1) where
               whole = sym (sizes-two g one);
             } in
             record {
-              among = tt;
               may = rw from finish;
               cost = c;
               start = stop (place (s .line) (s .figure)) (before (g .spec .sides) last);
@@ -193,7 +192,7 @@ module _ (g : Galley) (one : g .floats ≡ 1) where
         ahead b c l =
             rw (l .reached) (l .low, λ e. (page-laws g .tie-refl (stop whole 0) .0, λ f. l .tie e))
 
-        best : (c : ℕ) (u : State) → Offer (pageGraph g) (tableAt g t) All end c u
+        best : (c : ℕ) (u : State) → Offer (pageGraph g) (tableAt g t) end c u
             → Ahead (pageGraph g) (tableAt g t end) (graph.least c u)
         best c u o =
             let f = step-final u (o .may) in

@@ -1,14 +1,14 @@
 -- The best list is a valid list that comes before every other, it is the only one, and there is none only where no list is valid.
 use Prim.Native.Nat.{ℕ, _≤_}
 use native.Mathlib.Omega.{arith}
-use mathlib.Core.Path.{_≡_, refl, sym, _∙_, ap, subst}
+use mathlib.Core.Path.{_≡_, refl, sym, ap, subst}
 use mathlib.Core.Logic.{_⊎_, inl, inr}
 use mathlib.Core.Bool.{Bool, true, false}
 use mathlib.Core.List.{List, [], _∷_, List·Memᴰ·head, List·Memᴰ·tail, List·Memᴰ·cases-cons, List·Memᴰ·not-nil}
 use mathlib.Core.Option.{Option, none, some}
 use lib.Dec.{leb}
 use borrow.Author.Tests.{leb-true}
-use Rattle.model.specs.Gather.{pick, implies}
+use Rattle.model.specs.Gather.{pick}
 use Rattle.model.specs.Galley.{Galley, Place}
 use Rattle.model.specs.Turns.{turns}
 use Rattle.model.specs.Order.{thenBy, by, before}
