@@ -1,11 +1,11 @@
 -- Case C of document 01 by computation: the work area is filled, whatever it held, and the walk back writes the list of C1.
 use mathlib.Core.Path.{_≡_, refl}
-use mathlib.Core.Bool.{Bool, true, false}
+use mathlib.Core.Bool.{true}
 use mathlib.Core.List.{List, [], _∷_}
 use Prim.Native.Nat.{ℕ, zero, suc, pred}
 use lib.ListN.{replicate, getD, length}
 use Rattle.model.specs.Gather.{sum, between, total, each, every, row as rowOf}
-use Rattle.model.specs.Galley.{count, streams, zeros, sizes, blocks, Stream, Galley, Sides, single, double}
+use Rattle.model.specs.Galley.{count, streams, zeros, sizes, blocks, Stream, Galley, double}
 use Rattle.model.specs.Height.{has, kinds, stacked, height, tightest, loosest}
 use Rattle.model.specs.Leaf.{leaf, ends}
 use Rattle.model.specs.Rules.{forward, mayEnd, closes, fits, fills, cited}

@@ -13,7 +13,7 @@ pub mod LeafEnds
 pub mod Full
 pub mod Costs
 pub mod Bounds
--- The instance: pages as a graph, and its best way as the best list.
+-- The instance: pages as a graph from any origin, and its best way as the best list.
 pub mod PageGraph
 pub mod PageSides
 pub mod PageLaws
@@ -21,6 +21,7 @@ pub mod PageWays
 pub mod PageLists
 pub mod PageTies
 pub mod PageTheorem
+pub mod PageBest
 pub mod LeastTurns
 -- The published model: document 01's rules and numbers are the paper's.
 pub mod published

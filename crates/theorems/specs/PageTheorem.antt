@@ -1,77 +1,68 @@
--- The optimal way through the graph of pages is the best list of the model; where there is no way, no list is valid.
-use Prim.Native.Nat.{ℕ, _≤_}
-use native.Mathlib.Omega.{arith}
+-- From any origin the optimal way through the graph of pages has the least of the lists that go on from there; where there is no
+-- way, no list goes on.
+use Prim.Native.Nat.{ℕ, suc, _+_, _≤_}
 use mathlib.Core.Path.{_≡_, sym, _∙_}
 use mathlib.Core.Logic.{_↔_}
+use mathlib.Core.Bool.{true}
 use mathlib.Core.List.{List}
-use mathlib.Core.Option.{Option, none, some}
-use Rattle.model.specs.Galley.{Galley, Place, Sane}
-use Rattle.model.specs.Turns.{turns}
-use Rattle.model.specs.Best.{valid, best}
-use Rattle.model.specs.laws.Lists.{_∈_}
-use Rattle.model.specs.laws.Valid.{valid-accepted}
-use Rattle.model.specs.laws.Best.{Least, Makes, impossible, makes, best-makes, best-is, best-none}
+use Rattle.model.specs.Galley.{Galley, Place, sizes}
+use Rattle.model.specs.laws.Lists.{Inside}
 use Rattle.theorems.specs.Graph.{unreached, least, Way, total, First, Optimal}
 use Rattle.theorems.specs.Cell.{Table, Right, Trace, Answer}
 use Rattle.theorems.specs.Optimality.{optimality}
-use Rattle.theorems.specs.PageGraph.{State, end, Step, pageGraph, pagesOn, wayOf}
-use Rattle.theorems.specs.PageLaws.{page-laws, domainOf}
-use Rattle.theorems.specs.PageLists.{way-accepted, way-turns, list-way, list-pages, way-list}
-use Rattle.theorems.specs.PageTies.{before-ways}
+use Rattle.theorems.specs.Waiting.{costs}
+use Rattle.theorems.specs.PageGraph.{State, end, Origin, Within, pageGraph, pagesOn, wayOf}
+use Rattle.theorems.specs.PageLaws.{page-laws, page-domain}
+use Rattle.theorems.specs.PageLists.{Follows, way-follows, way-costs, list-way, list-pages}
+use Rattle.theorems.specs.PageTies.{beforeFrom, before-ways}
 
-module _ (g : Galley) where
-  -- Every valid list is the list of a way to the end.
-  pub valid-way : (ps : List Place) → ps ∈ valid g → Way (pageGraph g) (wayOf g ps) end × (pagesOn (wayOf g ps) ≡ ps)
-  valid-way ps m = (list-way g ps (valid-accepted g ps .0 m), list-pages g ps)
+-- ps goes on from the origin, and no list that does comes before it, where `earlier` are the starts of the pages before.
+pub record LeastFrom (g : Galley) (from : Origin) (earlier ps : List Place) : Type 0 where
+  pub follows : Follows g from ps
+  pub ahead : (qs : List Place) → Follows g from qs → beforeFrom g from earlier ps qs ≡ true
 
-  module _ (sane : Sane g) where
-    -- The list of a way to the end is valid, and the way is that of its list.
-    pub way-valid : (us : List State) → Way (pageGraph g) us end → (pagesOn us ∈ valid g) × (wayOf g (pagesOn us) ≡ us)
-    way-valid us w = (valid-accepted g (pagesOn us) .1 (way-accepted g sane us w), way-list g us w)
+module _ (g : Galley) (from : Origin) (inside : Inside (sizes g) (from .place)) where
+  -- No way leads to the end exactly where no list goes on from the origin.
+  pub no-way : ((us : List State) → ¬ Way (pageGraph g from) us end) ↔ ((ps : List Place) → ¬ Follows g from ps)
+  no-way = (
+    λ h ps f. h (wayOf g from ps) (list-way g from inside ps f),
+    λ h us w. h (pagesOn us) (way-follows g from us w),
+  )
 
-    -- A way to the end is optimal exactly where its list is the least.
-    pub optimal-least : (us : List State) → Way (pageGraph g) us end → Optimal (pageGraph g) us end ↔ Least g (pagesOn us)
-    optimal-least us w = (
-      λ o. record {
-        lawful = way-valid us w .0;
-        ahead = λ qs m.
-            let (x, e) = valid-way qs m in
-            rw (← e) (before-ways g sane us (wayOf g qs) w x .1 (o .cheapest _ x, o .first _ x));
-      },
-      λ l. record { way = w; cheapest = λ ws x. ahead l ws x .0; first = λ ws x. ahead l ws x .1 },
-    )
-      where
-        ahead : Least g (pagesOn us) → (ws : List State) → Way (pageGraph g) ws end
-            → (total (pageGraph g) us end ≤ total (pageGraph g) ws end)
-            × (total (pageGraph g) ws end ≡ total (pageGraph g) us end → First (pageGraph g) us ws)
-        ahead l ws x = before-ways g sane us ws w x .0 (l .ahead (pagesOn ws) (way-valid ws x .0))
+  -- A way to the end is optimal exactly where its list is the least, whatever the earlier starts.
+  pub optimal-least : (earlier : List Place) (us : List State) → Way (pageGraph g from) us end
+      → Optimal (pageGraph g from) us end ↔ LeastFrom g from earlier (pagesOn us)
+  optimal-least earlier us w = (
+    λ o. record {
+      follows = way-follows g from us w;
+      ahead = λ qs f.
+          let x = list-way g from inside qs f in
+          rw (← list-pages g from qs)
+          (before-ways g from earlier us (wayOf g from qs) w x .1 (o .cheapest _ x, o .first _ x));
+    },
+    λ l. record { way = w; cheapest = λ ws x. ahead l ws x .0; first = λ ws x. ahead l ws x .1 },
+  )
+    where
+      ahead : LeastFrom g from earlier (pagesOn us) → (ws : List State) → Way (pageGraph g from) ws end
+          → (total (pageGraph g from) us end ≤ total (pageGraph g from) ws end)
+          × (total (pageGraph g from) ws end ≡ total (pageGraph g from) us end → First (pageGraph g from) us ws)
+      ahead l ws x = before-ways g from earlier us ws w x .0 (l .ahead (pagesOn ws) (way-follows g from ws x))
 
-    -- The list of the optimal way is the best list.
-    pub optimal-best : (us : List State) → Optimal (pageGraph g) us end → best g ≡ some (pagesOn us)
-    optimal-best us o = best-is g (pagesOn us) (optimal-least us (o .way) .0 o)
+  module _ (D : Table (pageGraph g from)) (right : Right (pageGraph g from) D (Within g from)) where
+    -- The principle of optimality: what the entry of the end of a right table tells.
+    tells : Answer (pageGraph g from) D end (D end)
+    unfolding Within
+    tells = optimality (pageGraph g from) (page-laws g from) (page-domain g from) D right end tt
 
-    -- There is no best list exactly where no way leads to the end.
-    pub no-way-none : ((us : List State) → ¬ Way (pageGraph g) us end) ↔ (best g ≡ none)
-    no-way-none = (λ h. best-none g (λ ps m. h (wayOf g ps) (valid-way ps m .0)), go (best g) (best-makes g))
-      where
-        go : (r : Option (List Place)) → Makes g r → r ≡ none → (us : List State) → ¬ Way (pageGraph g) us end
-        go none (impossible h) e us w = h (pagesOn us) (way-valid us w .0)
-        go (some ps) (makes l) e us w = let z : _≡_ {A = ℕ} 0 1 = cc in absurd (omega arith)
+    -- Where the end is unreached no list goes on from the origin.
+    pub table-empty : D end ≡ unreached → (ps : List Place) → ¬ Follows g from ps
+    table-empty e = no-way .0 (tells .none e)
 
-  -- A table that is right on the states of K, which holds the start of each step into it: the whole table, or one half filled.
-  module _ (K : State → Type 0) (closed : (u v : State) → K v → Step g u v → K u)
-      (D : Table (pageGraph g)) (right : Right (pageGraph g) D K) where
-    -- The principle of optimality, for such a table.
-    tells : (t : State) → K t → Answer (pageGraph g) D t (D t)
-    tells = optimality (pageGraph g) (page-laws g) (domainOf g K closed) D right
-
-    -- Where the end is unreached there is no best list.
-    pub table-none : Sane g → K end → D end ≡ unreached → best g ≡ none
-    table-none sane i e = no-way-none sane .0 (tells end i .none e)
-
-    -- Where the end is reached the walk back from it meets the best list, and its entry holds the turns.
-    pub table-best : Sane g → K end → (c : ℕ) (u : State) → D end ≡ least c u
-        → (us : List State) × Trace (pageGraph g) D us end × (best g ≡ some (pagesOn us)) × (turns g (pagesOn us) ≡ c)
-    table-best sane i c u e =
-        let (us, w) = tells end i .found c u e in
-        (us, w .trace, optimal-best sane us (w .optimal), sym (way-turns g sane us (w .optimal .way)) ∙ w .cost)
+    -- Where the end is reached the walk back from it meets the least list, and its entry holds what all pages cost.
+    pub table-least : (earlier : List Place) (c : ℕ) (u : State) → D end ≡ least c u
+        → (us : List State) × Trace (pageGraph g from) D us end × LeastFrom g from earlier (pagesOn us)
+        × (from .cost + costs g (suc (from .pages)) (pagesOn us) ≡ c)
+    table-least earlier c u e =
+        let (us, w) = tells .found c u e in
+        let way = w .optimal .way in
+        (us, w .trace, optimal-least earlier us way .0 (w .optimal), sym (way-costs g from us way) ∙ w .cost)

@@ -26,6 +26,14 @@ pub record Preference {A : Type 0} (le : A → A → Bool) : Type 0 where
   pub total : (x y : A) → (le x y ≡ true) ⊎ (le y x ≡ true)
   pub trans : (x y z : A) → le x y ≡ true → le y z ≡ true → le x z ≡ true
 
+-- Whatever is compared with itself comes no later.
+pub preference-refl : {A : Type 0} {le : A → A → Bool} → Preference le → (x : A) → le x x ≡ true
+preference-refl {le = le} o x = go (o .total x x)
+  where
+    go : (le x x ≡ true) ⊎ (le x x ≡ true) → le x x ≡ true
+    go (inl h) = h
+    go (inr h) = h
+
 pub leb-preference : Preference leb
 leb-preference =
     record {

@@ -68,7 +68,7 @@ module _ (g : Galley) where
       let after = pages-fit (suc q) v vs (and-right (allowed g q (ended vs) u v) (accepts (allowed g) (sizes g) (suc q) v vs) h) in
       omega arith
 
-  length-sizes : length (sizes g) ≡ streams g
+  pub length-sizes : length (sizes g) ≡ streams g
   unfolding sizes
   length-sizes = length-row 0 (streams g) (λ s. g .stream s .size)
 
