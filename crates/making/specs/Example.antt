@@ -10,8 +10,8 @@ use Rattle.model.specs.Height.{has, kinds, stacked, height, tightest, loosest}
 use Rattle.model.specs.Leaf.{leaf, ends}
 use Rattle.model.specs.Rules.{forward, mayEnd, closes, fits, fills, cited}
 use Rattle.model.specs.Answers.{same}
-use Rattle.theorems.specs.Waiting.{dangles, waitingIn, waiting, pageCost}
-use Rattle.theorems.specs.PageGraph.{full}
+use Rattle.theorems.specs.turns.Waiting.{dangles, waitingIn, waiting, pageCost}
+use Rattle.theorems.specs.pages.Graph.{full}
 use Rattle.places.specs.Entry.{entryAt, put, stored}
 use Rattle.places.specs.Address.{address}
 use Rattle.places.specs.Table.{tableOf}

@@ -1,9 +1,9 @@
 -- The table of entries as the graph of pages has it: each start with the side of the page that ends there, and the end.
 use Prim.Native.Nat.{ℕ}
 use Rattle.model.specs.Galley.{Sides, Galley, count}
-use Rattle.theorems.specs.Graph as graph
-use Rattle.theorems.specs.Cell as cell
-use Rattle.theorems.specs.PageGraph.{State, stop, end, beginning, Within, pageGraph}
+use Rattle.theorems.specs.optimality.Graph as graph
+use Rattle.theorems.specs.optimality.Cell as cell
+use Rattle.theorems.specs.pages.Graph.{State, stop, end, beginning, Within, pageGraph}
 use Rattle.places.specs.declared.Entry.{Entry}
 use Rattle.places.specs.declared.Entry.the-variants.{Unreached, Least}
 use Rattle.starts.specs.Search.{place, Table, before}

@@ -12,11 +12,11 @@ use Rattle.model.specs.Galley.{Galley, Place, Sane, count}
 use Rattle.model.specs.Answers.{wordsOf}
 use Rattle.model.specs.Turns.{turns}
 use Rattle.model.specs.Best as model
-use Rattle.theorems.specs.Cell.{Trace}
-use Rattle.theorems.specs.Optimality.{step-back, trace-length}
-use Rattle.theorems.specs.PageGraph.{State, stop, end, beginning, Within, pageGraph, pagesTo, pagesOn}
-use Rattle.theorems.specs.PageLaws.{page-laws, page-domain, blocksAt}
-use Rattle.theorems.specs.PageBest.{table-none, table-best}
+use Rattle.theorems.specs.optimality.Cell.{Trace}
+use Rattle.theorems.specs.optimality.Theorem.{step-back, trace-length}
+use Rattle.theorems.specs.pages.Graph.{State, stop, end, beginning, Within, pageGraph, pagesTo, pagesOn}
+use Rattle.theorems.specs.pages.Laws.{page-laws, page-domain, blocksAt}
+use Rattle.theorems.specs.pages.Best.{table-none, table-best}
 use Rattle.places.specs.declared.Start.{Start}
 use Rattle.places.specs.declared.Entry.the-variants.{Unreached, Least}
 use Rattle.starts.specs.Search.{place, Table, before}

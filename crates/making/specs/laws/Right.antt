@@ -10,9 +10,9 @@ use Rattle.model.specs.Order.{oddly}
 use Rattle.model.specs.laws.Rules.{kept, forward-at}
 use Rattle.model.specs.laws.Lists.{Inside}
 use Rattle.model.specs.laws.Valid.{count-sizes}
-use Rattle.theorems.specs.Cell.{Cell, Right, Table as Table′}
-use Rattle.theorems.specs.Storing as storing
-use Rattle.theorems.specs.PageGraph.{State, stop, end, beginning, Within, Step, pageGraph}
+use Rattle.theorems.specs.optimality.Cell.{Cell, Right, Table as Table′}
+use Rattle.theorems.specs.optimality.Storing as storing
+use Rattle.theorems.specs.pages.Graph.{State, stop, end, beginning, Within, Step, pageGraph}
 use Rattle.places.specs.Address.{Earlier}
 use Rattle.starts.specs.Search.{place}
 use Rattle.filling.specs.Filled.{Side}

@@ -18,13 +18,13 @@ use Rattle.model.specs.laws.Gather.{and-left, and-right, and-both, or-cases, or
 use Rattle.model.specs.laws.Rules.{kept, kept-allowed, forward-at, forward-of}
 use Rattle.model.specs.laws.Lists.{Inside}
 use Rattle.model.specs.laws.Valid.{count-sizes}
-use Rattle.theorems.specs.Waiting.{pageCost}
-use Rattle.theorems.specs.Graph as graph
-use Rattle.theorems.specs.Cell.{Ahead, Offer, Seen, Cell}
-use Rattle.theorems.specs.Storing.{none-reached}
-use Rattle.theorems.specs.PageGraph.{State, stop, end, full, beginning, Within, Step, price, Prefers, pageGraph}
-use Rattle.theorems.specs.PageSides.{side-zero}
-use Rattle.theorems.specs.PageLists.{past-beginning}
+use Rattle.theorems.specs.turns.Waiting.{pageCost}
+use Rattle.theorems.specs.optimality.Graph as graph
+use Rattle.theorems.specs.optimality.Cell.{Ahead, Offer, Seen, Cell}
+use Rattle.theorems.specs.optimality.Storing.{none-reached}
+use Rattle.theorems.specs.pages.Graph.{State, stop, end, full, beginning, Within, Step, price, Prefers, pageGraph}
+use Rattle.theorems.specs.pages.Sides.{side-zero}
+use Rattle.theorems.specs.pages.Lists.{past-beginning}
 use Rattle.places.specs.declared.Start.{Start}
 use Rattle.places.specs.declared.Entry.{Entry}
 use Rattle.places.specs.declared.Entry.the-variants.{Unreached, Least}

@@ -10,11 +10,11 @@ use Rattle.model.specs.Galley.{Sides, single, double, Galley, Place, count, str
 use Rattle.model.specs.Order.{oddly}
 use Rattle.model.specs.laws.Rules.{placed}
 use Rattle.model.specs.laws.Lists.{Inside}
-use Rattle.theorems.specs.Graph as graph
-use Rattle.theorems.specs.Cell.{Ahead, Offer, Cell, inner}
-use Rattle.theorems.specs.PageGraph.{State, stop, end, beginning, Within, Step, Prefers, price, pageGraph}
-use Rattle.theorems.specs.PageLaws.{page-laws}
-use Rattle.theorems.specs.PageLists.{past-beginning}
+use Rattle.theorems.specs.optimality.Graph as graph
+use Rattle.theorems.specs.optimality.Cell.{Ahead, Offer, Cell, inner}
+use Rattle.theorems.specs.pages.Graph.{State, stop, end, beginning, Within, Step, Prefers, price, pageGraph}
+use Rattle.theorems.specs.pages.Laws.{page-laws}
+use Rattle.theorems.specs.pages.Lists.{past-beginning}
 use Rattle.places.specs.declared.Start.{Start}
 use Rattle.places.specs.declared.Entry.{Entry}
 use Rattle.places.specs.declared.Entry.the-variants.{Unreached, Least}

@@ -19,8 +19,8 @@ use Rattle.model.specs.laws.Lists.{_∈_}
 use Rattle.model.specs.laws.Words.{length-words}
 use Rattle.model.specs.laws.Valid.{valid-accepted}
 use Rattle.model.specs.laws.Best.{Makes, makes, impossible, best-makes}
-use Rattle.theorems.specs.LeastTurns.{valid-counts}
-use Rattle.theorems.specs.Bounds.{allFloats, dearest, Limits, rate-limit}
+use Rattle.theorems.specs.turns.LeastTurns.{valid-counts}
+use Rattle.theorems.specs.turns.Bounds.{allFloats, dearest, Limits, rate-limit}
 use Rattle.galley.specs.declared.Galley.{Galley}
 use Rattle.galley.specs.declared.Reading.the-variants as reads
 use Rattle.galley.specs.Whole.{galleyOf}

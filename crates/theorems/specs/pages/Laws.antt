@@ -10,9 +10,9 @@ use Rattle.model.specs.Order.{lex, geb}
 use Rattle.model.specs.laws.Rules.{kept, forward-at, placed, placed-grows}
 use Rattle.model.specs.laws.Valid.{placed-sizes}
 use Rattle.model.specs.laws.Order.{preference-refl, lex-preference, lex-antisymm, geb-preference, geb-antisymm}
-use Rattle.theorems.specs.Graph.{Laws}
-use Rattle.theorems.specs.Cell.{Domain}
-use Rattle.theorems.specs.PageGraph.{State, stop, end, Origin, Within, Step, Prefers, pageGraph}
+use Rattle.theorems.specs.optimality.Graph.{Laws}
+use Rattle.theorems.specs.optimality.Cell.{Domain}
+use Rattle.theorems.specs.pages.Graph.{State, stop, end, Origin, Within, Step, Prefers, pageGraph}
 
 -- Two places, each no earlier than the other, are the same.
 pub later-antisymm : (u w : Place) → lex geb u w ≡ true → lex geb w u ≡ true → u ≡ w

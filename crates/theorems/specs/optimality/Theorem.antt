@@ -5,8 +5,8 @@ use mathlib.Core.Path.{_≡_, refl, sym}
 use Prim.Native.Nat.{ℕ, suc, zero, _≤_, _<_}
 use native.Mathlib.Omega.{arith}
 use lib.ListN.{length}
-use Rattle.theorems.specs.Graph.{Graph, Laws, Entry, unreached, least, Way, total, First, Optimal}
-use Rattle.theorems.specs.Cell.{Table, Domain, Ahead, Offer, Seen, base, inner, Right, Trace, Answer}
+use Rattle.theorems.specs.optimality.Graph.{Graph, Laws, Entry, unreached, least, Way, total, First, Optimal}
+use Rattle.theorems.specs.optimality.Cell.{Table, Domain, Ahead, Offer, Seen, base, inner, Right, Trace, Answer}
 
 module _ (G : Graph) (L : Laws G) where
   open Graph G using (S)

@@ -13,9 +13,9 @@ use Rattle.model.specs.Turns.{turns}
 use Rattle.model.specs.Best.{allowed}
 use Rattle.model.specs.laws.Gather.{sum-le}
 use Rattle.model.specs.laws.Judge.{accepts}
-use Rattle.theorems.specs.Waiting.{dangles, waitingIn, waiting, pageSum, pageCost, costs}
+use Rattle.theorems.specs.turns.Waiting.{dangles, waitingIn, waiting, pageSum, pageCost, costs}
 use Rattle.model.specs.laws.Valid.{pages-fit}
-use Rattle.theorems.specs.Costs.{turns-are-costs}
+use Rattle.theorems.specs.turns.Costs.{turns-are-costs}
 
 -- The number of floats, of all streams together: n for n figures.
 unfoldable pub allFloats : Galley → ℕ

@@ -14,9 +14,9 @@ use Rattle.model.specs.Turns.{pageOf, apart, xOf, yOf}
 use Rattle.model.specs.Answers.{ended}
 use Rattle.model.specs.laws.Gather.{sum-ext, sum-zero, sum-add}
 use Rattle.model.specs.laws.Leaf.{leaf-mono}
-use Rattle.theorems.specs.Waiting.{dangles, waitingIn, waiting, pageSum, atEnd, turned}
-use Rattle.theorems.specs.Pages.{Along, along, pageSum-ext, pageSum-mix}
-use Rattle.theorems.specs.Leaves.{missing, Rises, leaf-of-page, leaf-of-last}
+use Rattle.theorems.specs.turns.Waiting.{dangles, waitingIn, waiting, pageSum, atEnd, turned}
+use Rattle.theorems.specs.turns.Pages.{Along, along, pageSum-ext, pageSum-mix}
+use Rattle.theorems.specs.turns.Leaves.{missing, Rises, leaf-of-page, leaf-of-last}
 
 -- A page on which no count falls and which, where it ends its leaf, leaves no float placed before the line that cites it.
 pub record Orderly (g : Galley) (q : ℕ) (last : Bool) (u v : Place) : Type 0 where

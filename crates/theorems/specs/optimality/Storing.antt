@@ -3,8 +3,8 @@ use mathlib.Core.Logic.{_⊎_, ⊎-elim}
 use mathlib.Core.Path.{_≡_, sym, _∙_}
 use Prim.Native.Nat.{ℕ}
 use native.Mathlib.Omega.{arith}
-use Rattle.theorems.specs.Graph.{Graph, Entry, unreached}
-use Rattle.theorems.specs.Cell.{Table, Offer, Seen, Cell, base, inner, Right}
+use Rattle.theorems.specs.optimality.Graph.{Graph, Entry, unreached}
+use Rattle.theorems.specs.optimality.Cell.{Table, Offer, Seen, Cell, base, inner, Right}
 
 -- Where every start with a step to v is unreached, so is v.
 pub none-reached : (G : Graph) (D : Table G) {v : G .S} → ((u : G .S) → G .step u v → D u ≡ unreached) → Seen G D v unreached

@@ -2,7 +2,7 @@
 use mathlib.Core.List.{List, [], _∷_}
 use mathlib.Core.Path.{_≡_}
 use Prim.Native.Nat.{ℕ, _<_}
-use Rattle.theorems.specs.Graph.{Graph, Entry, unreached, least, Way, total, Optimal}
+use Rattle.theorems.specs.optimality.Graph.{Graph, Entry, unreached, least, Way, total, Optimal}
 
 -- An entry for each state.
 abbrev pub Table : Graph → Type 0

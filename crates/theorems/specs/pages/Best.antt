@@ -14,13 +14,13 @@ use Rattle.model.specs.Best.{allowed, best}
 use Rattle.model.specs.laws.Judge.{accepts}
 use Rattle.model.specs.laws.Valid.{same-true, count-sizes, count-zeros, Accepted, valid-accepted}
 use Rattle.model.specs.laws.Best.{best-is, best-none}
-use Rattle.theorems.specs.Graph.{unreached, least}
-use Rattle.theorems.specs.Cell.{Table, Right, Trace}
-use Rattle.theorems.specs.Costs.{turns-are-costs}
-use Rattle.theorems.specs.PageGraph.{State, end, beginning, Within, pageGraph, pagesOn}
-use Rattle.theorems.specs.PageLists.{Follows, zeros-inside}
-use Rattle.theorems.specs.PageTies.{ties, beforeFrom}
-use Rattle.theorems.specs.PageTheorem.{LeastFrom, table-empty, table-least}
+use Rattle.theorems.specs.optimality.Graph.{unreached, least}
+use Rattle.theorems.specs.optimality.Cell.{Table, Right, Trace}
+use Rattle.theorems.specs.turns.Costs.{turns-are-costs}
+use Rattle.theorems.specs.pages.Graph.{State, end, beginning, Within, pageGraph, pagesOn}
+use Rattle.theorems.specs.pages.Lists.{Follows, zeros-inside}
+use Rattle.theorems.specs.pages.Ties.{ties, beforeFrom}
+use Rattle.theorems.specs.pages.Theorem.{LeastFrom, table-empty, table-least}
 
 module _ (g : Galley) where
   -- What is accepted goes on from the beginning,

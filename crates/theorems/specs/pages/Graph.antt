@@ -9,8 +9,8 @@ use Rattle.model.specs.Answers.{same}
 use Rattle.model.specs.Order.{lex, geb, oddly}
 use Rattle.model.specs.Best.{allowed}
 use Rattle.model.specs.laws.Lists.{Inside}
-use Rattle.theorems.specs.Graph.{Graph}
-use Rattle.theorems.specs.Waiting.{pageCost}
+use Rattle.theorems.specs.optimality.Graph.{Graph}
+use Rattle.theorems.specs.turns.Waiting.{pageCost}
 
 -- A page stops at a place, on a side: 1 for a right-hand page of double-sided work, which ends its spread, else 0 (`oddly` of
 -- the page's number). After the last page comes the end.

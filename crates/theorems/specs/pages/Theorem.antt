@@ -7,14 +7,14 @@ use mathlib.Core.Bool.{true}
 use mathlib.Core.List.{List}
 use Rattle.model.specs.Galley.{Galley, Place, sizes}
 use Rattle.model.specs.laws.Lists.{Inside}
-use Rattle.theorems.specs.Graph.{unreached, least, Way, total, First, Optimal}
-use Rattle.theorems.specs.Cell.{Table, Right, Trace, Answer}
-use Rattle.theorems.specs.Optimality.{optimality}
-use Rattle.theorems.specs.Waiting.{costs}
-use Rattle.theorems.specs.PageGraph.{State, end, Origin, Within, pageGraph, pagesOn, wayOf}
-use Rattle.theorems.specs.PageLaws.{page-laws, page-domain}
-use Rattle.theorems.specs.PageLists.{Follows, way-follows, way-costs, list-way, list-pages}
-use Rattle.theorems.specs.PageTies.{beforeFrom, before-ways}
+use Rattle.theorems.specs.optimality.Graph.{unreached, least, Way, total, First, Optimal}
+use Rattle.theorems.specs.optimality.Cell.{Table, Right, Trace, Answer}
+use Rattle.theorems.specs.optimality.Theorem.{optimality}
+use Rattle.theorems.specs.turns.Waiting.{costs}
+use Rattle.theorems.specs.pages.Graph.{State, end, Origin, Within, pageGraph, pagesOn, wayOf}
+use Rattle.theorems.specs.pages.Laws.{page-laws, page-domain}
+use Rattle.theorems.specs.pages.Lists.{Follows, way-follows, way-costs, list-way, list-pages}
+use Rattle.theorems.specs.pages.Ties.{beforeFrom, before-ways}
 
 -- ps goes on from the origin, and no list that does comes before it, where `earlier` are the starts of the pages before.
 pub record LeastFrom (g : Galley) (from : Origin) (earlier ps : List Place) : Type 0 where

@@ -14,8 +14,8 @@ use Rattle.model.specs.Leaf.{leaf}
 use Rattle.model.specs.Turns.{pageOf}
 use Rattle.model.specs.Answers.{ended}
 use Rattle.model.specs.laws.Leaf.{leaf-next}
-use Rattle.theorems.specs.Waiting.{pageSum, atEnd, turned}
-use Rattle.theorems.specs.Pages.{About, Along}
+use Rattle.theorems.specs.turns.Waiting.{pageSum, atEnd, turned}
+use Rattle.theorems.specs.turns.Pages.{About, Along}
 
 -- 1 where block k of stream s is not yet placed, else 0.
 unfoldable pub missing : ℕ → ℕ → Place → ℕ

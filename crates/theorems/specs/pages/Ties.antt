@@ -15,13 +15,13 @@ use Rattle.model.specs.Galley.{Galley, Place, sizes}
 use Rattle.model.specs.Order.{thenBy, by, lex, geb, oddly, startsOf}
 use Rattle.model.specs.laws.Gather.{and-left, and-right, and-both, implies-at, implies-of}
 use Rattle.model.specs.laws.Order.{preference-refl, lex-preference, geb-preference}
-use Rattle.theorems.specs.Graph.{Way, total, First}
-use Rattle.theorems.specs.Waiting.{costs}
-use Rattle.theorems.specs.PageGraph.{State, stop, end, placeOf, Origin, Within, PageStep, Step, Prefers, pageGraph, pageAt, pagesOn}
-use Rattle.theorems.specs.PageSides.{side-back}
-use Rattle.theorems.specs.PageLaws.{later-refl, later-antisymm, prefers-side, no-origin}
-use Rattle.theorems.specs.PageWays.{way-side}
-use Rattle.theorems.specs.PageLists.{Ends, way-ends, way-costs}
+use Rattle.theorems.specs.optimality.Graph.{Way, total, First}
+use Rattle.theorems.specs.turns.Waiting.{costs}
+use Rattle.theorems.specs.pages.Graph.{State, stop, end, placeOf, Origin, Within, PageStep, Step, Prefers, pageGraph, pageAt, pagesOn}
+use Rattle.theorems.specs.pages.Sides.{side-back}
+use Rattle.theorems.specs.pages.Laws.{later-refl, later-antisymm, prefers-side, no-origin}
+use Rattle.theorems.specs.pages.Ways.{way-side}
+use Rattle.theorems.specs.pages.Lists.{Ends, way-ends, way-costs}
 
 -- Document 01's ties for lists that go on from an origin: in double-sided work an even number of all pages, then the later
 -- starts, of which `earlier` are those of the pages before the origin.

@@ -19,11 +19,11 @@ use Rattle.model.specs.laws.Judge.{accepts}
 use Rattle.model.specs.laws.Words.{Shaped}
 use Rattle.model.specs.laws.Lists.{Inside, AllInside}
 use Rattle.model.specs.laws.Valid.{same-true, same-refl, length-sizes, inside-shaped, all-inside}
-use Rattle.theorems.specs.Graph.{Way, total}
-use Rattle.theorems.specs.Waiting.{pageSum, costs}
-use Rattle.theorems.specs.PageGraph.{State, stop, end, Origin, Within, Step, price, pageGraph, pagesTo, pagesOn, stopsOf, wayOf}
-use Rattle.theorems.specs.PageSides.{side-side, side-next}
-use Rattle.theorems.specs.PageWays.{same-rules, Reads, reads}
+use Rattle.theorems.specs.optimality.Graph.{Way, total}
+use Rattle.theorems.specs.turns.Waiting.{pageSum, costs}
+use Rattle.theorems.specs.pages.Graph.{State, stop, end, Origin, Within, Step, price, pageGraph, pagesTo, pagesOn, stopsOf, wayOf}
+use Rattle.theorems.specs.pages.Sides.{side-side, side-next}
+use Rattle.theorems.specs.pages.Ways.{same-rules, Reads, reads}
 
 -- A list of pages that goes on from the origin: each page keeps the rules, and the last ends at the full place.
 pub record Follows (g : Galley) (from : Origin) (ps : List Place) : Type 0 where

@@ -14,10 +14,10 @@ use Rattle.model.specs.laws.Rules.{kept, forward-at}
 use Rattle.model.specs.laws.Judge.{accepts}
 use Rattle.model.specs.laws.Lists.{Inside, AllInside}
 use Rattle.model.specs.laws.Valid.{same-true, count-sizes}
-use Rattle.theorems.specs.Graph.{Way, total}
-use Rattle.theorems.specs.Waiting.{pageSum, pageCost, costs}
-use Rattle.theorems.specs.PageGraph.{State, stop, end, placeOf, full, Origin, Within, Step, price, pageGraph, pageAt, pagesTo}
-use Rattle.theorems.specs.PageSides.{side-next, allowed-side, cost-side}
+use Rattle.theorems.specs.optimality.Graph.{Way, total}
+use Rattle.theorems.specs.turns.Waiting.{pageSum, pageCost, costs}
+use Rattle.theorems.specs.pages.Graph.{State, stop, end, placeOf, full, Origin, Within, Step, price, pageGraph, pageAt, pagesTo}
+use Rattle.theorems.specs.pages.Sides.{side-next, allowed-side, cost-side}
 
 module _ (g : Galley) where
   -- In an accepted list a page stops at the full place exactly where it is the last: from there no page goes forward.
