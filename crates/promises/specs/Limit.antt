@@ -11,8 +11,8 @@ use Rattle.model.specs.Galley as model
 use Rattle.model.specs.Answers.{numbersOf, accepted, countsOf, marked}
 use Rattle.model.specs.Best.{made, madeWords}
 use Rattle.model.specs.laws.Valid.{valid-accepted, accepted-valid}
-use Rattle.theorems.specs.Bounds.{Limits, turns-limit}
-use Rattle.theorems.specs.LeastTurns.{Making, no-list, best-list, making, valid-counts}
+use Rattle.theorems.specs.turns.Bounds.{Limits, turns-limit}
+use Rattle.theorems.specs.turns.LeastTurns.{Making, no-list, best-list, making, valid-counts}
 use Rattle.galley.specs.Model.{modelOf}
 use Rattle.rules.specs.laws.Sane.{reads-sane}
 use Rattle.marking.specs.Mark.{markOf}

@@ -15,7 +15,7 @@ use Rattle.model.specs.declared.answer.Answer.the-variants.{Counted, Refused}
 use Rattle.model.specs.Galley.{streams}
 use Rattle.model.specs.Answers.{numbersOf, accepted, marked}
 use Rattle.model.specs.Best.{made, madeWords}
-use Rattle.theorems.specs.LeastTurns.{Making, no-list, best-list, making}
+use Rattle.theorems.specs.turns.LeastTurns.{Making, no-list, best-list, making}
 use Rattle.galley.specs.declared.Galley.{Galley}
 use Rattle.galley.specs.declared.Reading.the-variants as reads
 use Rattle.galley.specs.Whole.{galleyOf}

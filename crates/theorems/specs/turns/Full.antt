@@ -7,7 +7,7 @@ use Rattle.model.specs.Gather.{one, sum}
 use Rattle.model.specs.Galley.{Galley, count, sizes}
 use Rattle.model.specs.laws.Gather.{sum-ext, sum-zero}
 use Rattle.model.specs.laws.Valid.{count-sizes}
-use Rattle.theorems.specs.Waiting.{dangles, waitingIn, waiting}
+use Rattle.theorems.specs.turns.Waiting.{dangles, waitingIn, waiting}
 
 -- At the full place nothing waits.
 pub waiting-full : (g : Galley) → waiting g (sizes g) ≡ 0

@@ -1,9 +1,7 @@
 -- What making answers, in the definitions of the model alone: a list that marking accepts with the same counts and that no accepted
 -- list beats, or 11, exactly where marking accepts no list.
 use Prim.Native.Nat.{ℕ, _*_, _≤_}
-use native.Mathlib.Omega.{arith}
-use mathlib.Core.Path.{_≡_, refl, sym, _∙_, ap, subst}
-use mathlib.Core.Logic.{_⊎_, inl, inr, _↔_}
+use mathlib.Core.Path.{_≡_, refl, _∙_, ap}
 use mathlib.Core.Bool.{Bool, true, false}
 use mathlib.Core.List.{List, []}
 use lib.ListN.{length}
@@ -12,9 +10,8 @@ use Rattle.model.specs.declared.answer.Answer.{Answer}
 use Rattle.model.specs.declared.answer.Answer.the-variants.{Counted, Refused}
 use Rattle.model.specs.Galley.{Galley, Place, streams}
 use Rattle.model.specs.Turns.{turns}
-use Rattle.model.specs.Answers.{numbersOf, accepted, pagesOf, wordsOf, countsOf, marked}
+use Rattle.model.specs.Answers.{numbersOf, accepted, wordsOf, countsOf, marked}
 use Rattle.model.specs.Best.{valid, best, made, madeWords}
-use Rattle.model.specs.laws.Gather.{decide}
 use Rattle.model.specs.laws.Lists.{_∈_}
 use Rattle.model.specs.laws.Words.{pages-words, length-words}
 use Rattle.model.specs.laws.Valid.{valid-accepted, accepted-valid, marked-counts}

@@ -1,18 +1,18 @@
--- The graph of pages obeys the laws of graphs, and every set of states that holds its starts is a domain.
+-- The graph of pages obeys the laws of graphs, and the states of the table are a domain.
 use Prim.Native.Nat.{ℕ, suc, _≤_, _<_}
 use native.Mathlib.Nat.{le-trans}
 use native.Mathlib.Omega.{arith}
 use mathlib.Core.Path.{_≡_, refl, sym, _∙_, ap}
-use mathlib.Core.Logic.{_⊎_, inl, inr}
 use mathlib.Core.Bool.{true}
-use Rattle.model.specs.Galley.{Galley, Place, count, zeros, blocks}
+use lib.ListN.{getD}
+use Rattle.model.specs.Galley.{Galley, Place, count, blocks}
 use Rattle.model.specs.Order.{lex, geb}
 use Rattle.model.specs.laws.Rules.{kept, forward-at, placed, placed-grows}
-use Rattle.model.specs.laws.Valid.{count-zeros, placed-sizes}
-use Rattle.model.specs.laws.Order.{lex-preference, lex-antisymm, geb-preference, geb-antisymm}
-use Rattle.theorems.specs.Graph.{Laws}
-use Rattle.theorems.specs.Cell.{Domain}
-use Rattle.theorems.specs.PageGraph.{State, stop, end, Within, Step, Prefers, pageGraph}
+use Rattle.model.specs.laws.Valid.{placed-sizes}
+use Rattle.model.specs.laws.Order.{preference-refl, lex-preference, lex-antisymm, geb-preference, geb-antisymm}
+use Rattle.theorems.specs.optimality.Graph.{Laws}
+use Rattle.theorems.specs.optimality.Cell.{Domain}
+use Rattle.theorems.specs.pages.Graph.{State, stop, end, Origin, Within, Step, Prefers, pageGraph}
 
 -- Two places, each no earlier than the other, are the same.
 pub later-antisymm : (u w : Place) → lex geb u w ≡ true → lex geb w u ≡ true → u ≡ w
@@ -20,11 +20,7 @@ later-antisymm = lex-antisymm geb geb-antisymm
 
 -- A place is no earlier than itself.
 pub later-refl : (u : Place) → lex geb u u ≡ true
-later-refl u = go (lex-preference geb geb-preference .total u u)
-  where
-    go : (lex geb u u ≡ true) ⊎ (lex geb u u ≡ true) → lex geb u u ≡ true
-    go (inl h) = h
-    go (inr h) = h
+later-refl = preference-refl (lex-preference geb geb-preference)
 
 -- At one place the lower side is preferred.
 pub prefers-side : (u : Place) (b d : ℕ) → b ≤ d → Prefers (stop u b) (stop u d)
@@ -63,22 +59,27 @@ prefers-antisymm (stop u b) end p q = absurd q
 prefers-antisymm end (stop w d) p q = absurd p
 prefers-antisymm end end p q = refl
 
-module _ (g : Galley) where
-  -- No page stops where nothing is placed.
-  no-origin : (s t : State) → Step g s t → ¬ (t ≡ stop (zeros g) 0)
-  unfolding Step
+-- The blocks placed where a state stops, and one more at the end.
+unfoldable pub blocksAt : Galley → State → ℕ
+blocksAt g (stop v c) = placed g v
+blocksAt g end = suc (blocks g)
+
+module _ (g : Galley) (from : Origin) where
+  -- No page stops at the origin, since each starts there or past it.
+  pub no-origin : (s t : State) → Step g from s t → ¬ (t ≡ pageGraph g from .o)
+  unfolding Step Within count
   no-origin (stop u b) (stop v c) p e =
       let f = forward-at g u v (kept (p .may) .rule13) in
-      let nil = count-zeros g (f .more .0) (f .more .1) in
-      let at-origin : v ≡ zeros g = cc in
-      let counts = ap (λ x. count x (f .more .0)) at-origin in
+      let past = p .within .2 .under (f .more .0) in
+      let at-origin : v ≡ from .place = cc in
+      let counts = ap (λ x. getD x (f .more .0) 0) at-origin in
       let more = f .more .2 in
       omega arith
   no-origin (stop u b) end p e = let z : _≡_ {A = ℕ} 0 1 = cc in absurd (omega arith)
   no-origin end t p e = p
 
   -- The graph of pages obeys the laws of graphs.
-  pub page-laws : Laws (pageGraph g)
+  pub page-laws : Laws (pageGraph g from)
   page-laws =
       record {
         le-refl = λ a. omega arith;
@@ -92,31 +93,26 @@ module _ (g : Galley) where
         origin = λ {u} {v}. no-origin u v;
       }
 
-  -- The blocks placed where a state stops, and one more at the end.
-  unfoldable pub blocksAt : State → ℕ
-  blocksAt (stop v c) = placed g v
-  blocksAt end = suc (blocks g)
-
   -- A step starts within the table,
-  pub step-within : (s t : State) → Step g s t → Within g s
+  pub step-within : (s t : State) → Step g from s t → Within g from s
   unfolding Step
   step-within (stop u b) (stop v c) p = p .within
   step-within (stop u b) end p = p .within
   step-within end t p = absurd p
 
   -- with fewer blocks placed than where it stops.
-  pub step-falls : (s t : State) → Step g s t → blocksAt s < blocksAt t
+  pub step-falls : (s t : State) → Step g from s t → blocksAt g s < blocksAt g t
   unfolding Step blocksAt
   step-falls (stop u b) (stop v c) p = placed-grows g u v (kept (p .may) .rule13)
   step-falls (stop u b) end p = let e = ap (placed g) (p .whole) in let all = placed-sizes g in omega arith
   step-falls end t p = absurd p
 
-  -- States that hold the start of each step into them are a domain: fewer blocks are placed at each start.
-  abbrev pub domainOf : (K : State → Type 0) → ((u v : State) → K v → Step g u v → K u) → Domain (pageGraph g)
-  domainOf K closed =
+  -- So the states of the table are a domain.
+  abbrev pub page-domain : Domain (pageGraph g from)
+  page-domain =
       record {
-        In = K;
-        closed = λ {u} {v} i. closed u v i;
-        rank = blocksAt;
+        In = Within g from;
+        closed = λ {u} {v} i. step-within u v;
+        rank = blocksAt g;
         falls = λ {u} {v} i. step-falls u v;
       }

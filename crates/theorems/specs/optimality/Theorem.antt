@@ -5,8 +5,8 @@ use mathlib.Core.Path.{_≡_, refl, sym}
 use Prim.Native.Nat.{ℕ, suc, zero, _≤_, _<_}
 use native.Mathlib.Omega.{arith}
 use lib.ListN.{length}
-use Rattle.theorems.specs.Graph.{Graph, Laws, Entry, unreached, least, Way, total, First, Optimal}
-use Rattle.theorems.specs.Cell.{Table, Domain, All, Ahead, Offer, Seen, base, inner, Right, Trace, Answer}
+use Rattle.theorems.specs.optimality.Graph.{Graph, Laws, Entry, unreached, least, Way, total, First, Optimal}
+use Rattle.theorems.specs.optimality.Cell.{Table, Domain, Ahead, Offer, Seen, base, inner, Right, Trace, Answer}
 
 module _ (G : Graph) (L : Laws G) where
   open Graph G using (S)
@@ -36,7 +36,7 @@ module _ (G : Graph) (L : Laws G) (R : Domain G) (D : Table G) (right : Right G 
   at-origin {v} i e = elim (right v i) [ base e′ u p ↦ (u, p) | inner n s ↦ absurd (n e) ]
 
   -- Any other state has the best that all starts offer.
-  pub past-origin : {v : S} → R .In v → ¬ (v ≡ o) → Seen G D All v (D v)
+  pub past-origin : {v : S} → R .In v → ¬ (v ≡ o) → Seen G D v (D v)
   past-origin {v} i n = elim (right v i) [ base e u p ↦ absurd (n e) | inner n′ s ↦ s ]
 
   -- One step back: the start in an entry is reached, has a step at the entry's cost, and lies in the domain, lower.
@@ -45,14 +45,14 @@ module _ (G : Graph) (L : Laws G) (R : Domain G) (D : Table G) (right : Right G 
       → R .In v
       → ¬ (v ≡ o)
       → D v ≡ least c u
-      → Offer G D All v c u × R .In u × (R .rank u < R .rank v)
+      → Offer G D v c u × R .In u × (R .rank u < R .rank v)
   step-back {v} {c} {u} i n p =
       let x = past-origin i n .offered c u p in
       (x, R .closed i (x .may), R .falls i (x .may))
 
   -- A reached start is on offer at its cost with the step added.
-  pub on-offer : {u v : S} {a : C} {s : S} → step u v → D u ≡ least a s → Offer G D All v (add u v a) u
-  on-offer m p = record { among = tt; may = m; cost = _; start = _; reached = p; price = refl }
+  pub on-offer : {u v : S} {a : C} {s : S} → step u v → D u ≡ least a s → Offer G D v (add u v a) u
+  on-offer m p = record { may = m; cost = _; start = _; reached = p; price = refl }
 
   -- A state with a way is reached, at no higher cost than the way's.
   pub reached :

@@ -2,7 +2,7 @@
 use Prim.Native.Nat.{ℕ, zero, suc, pred, _+_, _*_, _≤_}
 use native.Mathlib.Nat.{suc-mul, mul-le-mul, mul-le-mul-left, mul-le-mul-right}
 use native.Mathlib.Omega.{arith}
-use mathlib.Core.Path.{_≡_, ap}
+use mathlib.Core.Path.{_≡_}
 use mathlib.Core.Bool.{Bool, true, false}
 use mathlib.Core.List.{List, [], _∷_}
 use lib.ListN.{length}
@@ -10,14 +10,12 @@ use Rattle.model.specs.Gather.{pick, one, sum, total}
 use Rattle.model.specs.Galley.{Galley, Place, Sane, zeros, sizes, blocks}
 use Rattle.model.specs.Leaf.{ends}
 use Rattle.model.specs.Turns.{turns}
-use Rattle.model.specs.Answers.{ended}
 use Rattle.model.specs.Best.{allowed}
-use Rattle.model.specs.laws.Gather.{and-left, and-right, sum-le}
-use Rattle.model.specs.laws.Rules.{kept, placed, placed-grows}
+use Rattle.model.specs.laws.Gather.{sum-le}
 use Rattle.model.specs.laws.Judge.{accepts}
-use Rattle.theorems.specs.Waiting.{dangles, waitingIn, waiting, pageSum, pageCost, costs}
-use Rattle.model.specs.laws.Valid.{same-true, pages-fit}
-use Rattle.theorems.specs.Costs.{turns-are-costs}
+use Rattle.theorems.specs.turns.Waiting.{dangles, waitingIn, waiting, pageSum, pageCost, costs}
+use Rattle.model.specs.laws.Valid.{pages-fit}
+use Rattle.theorems.specs.turns.Costs.{turns-are-costs}
 
 -- The number of floats, of all streams together: n for n figures.
 unfoldable pub allFloats : Galley → ℕ
@@ -61,20 +59,6 @@ costs-le g q v (w ∷ ws) =
     let here = cost-le g q false v in
     let after = costs-le g (suc q) w ws in
     simp suc-mul (omega arith)
-
--- A partial list from u to l, none of whose pages is the last, costs at most α·n + β for each block that it places.
-pub partial-le : (g : Galley) (l : Place) (q : ℕ) (u : Place) (ps : List Place)
-    → accepts (λ q last u v. allowed g q false u v) l q u ps ≡ true
-    → pageSum (λ q last v. pageCost g q false v) q ps + placed g u * dearest g ≤ placed g l * dearest g
-unfolding accepts pageSum
-partial-le g l q u [] h = let e = ap (λ v. placed g v * dearest g) (same-true u l h) in omega arith
-partial-le g l q u (v ∷ vs) h =
-    let rest : Bool = accepts (λ q last u v. allowed g q false u v) l (suc q) v vs in
-    let here = cost-le g q false v in
-    let block = mul-le-mul-right (dearest g) (placed-grows g u v (kept (and-left (allowed g q false u v) rest h) .rule13)) in
-    let one-more = suc-mul (placed g u) (dearest g) in
-    let after = partial-le g l (suc q) v vs (and-right (allowed g q false u v) rest h) in
-    omega arith
 
 -- An accepted list costs at most α·n + β for each block but one.
 pub costs-most : (g : Galley) (ps : List Place) → accepts (allowed g) (sizes g) 1 (zeros g) ps ≡ true

@@ -14,9 +14,9 @@ use Rattle.model.specs.Turns.{pageOf, apart, xOf, yOf}
 use Rattle.model.specs.Answers.{ended}
 use Rattle.model.specs.laws.Gather.{sum-ext, sum-zero, sum-add}
 use Rattle.model.specs.laws.Leaf.{leaf-mono}
-use Rattle.theorems.specs.Waiting.{dangles, waitingIn, waiting, pageSum, atEnd, turned}
-use Rattle.theorems.specs.Pages.{Along, along, pageSum-ext, pageSum-mix}
-use Rattle.theorems.specs.Leaves.{missing, Rises, leaf-of-page, leaf-of-last}
+use Rattle.theorems.specs.turns.Waiting.{dangles, waitingIn, waiting, pageSum, atEnd, turned}
+use Rattle.theorems.specs.turns.Pages.{Along, along, pageSum-ext, pageSum-mix}
+use Rattle.theorems.specs.turns.Leaves.{missing, Rises, leaf-of-page, leaf-of-last}
 
 -- A page on which no count falls and which, where it ends its leaf, leaves no float placed before the line that cites it.
 pub record Orderly (g : Galley) (q : ℕ) (last : Bool) (u v : Place) : Type 0 where
@@ -74,12 +74,6 @@ leaf-of-float g s k q u ps h b a =
     at : (q : ℕ) (last : Bool) (u v : Place) → Orderly g q last u v
         → unplaced q last v ≡ 1 * uncited q last v + 1 * dangling q last v
     at q last u v o = by-end v (ends (g .spec .sides) q) (λ e. o .heeds e s k h b)
-
--- No subtraction in `apart` is cut off: a float's leaf is its citation's and the leaves that they are apart.
-pub apart-exact : (g : Galley) (s k : ℕ) (u : Place) (ps : List Place) → 1 ≤ s → Block g s k → Along (Orderly g) 1 u ps
-    → leaf (g .spec .sides) (pageOf s k 1 ps) ≡ leaf (g .spec .sides) (pageOf 0 (g .stream s .cite k) 1 ps) + apart g ps s k
-unfolding apart
-apart-exact g s k u ps h b a = let law = leaf-of-float g s k 1 u ps h b a in omega arith
 
 -- Sums at leaf ends may be taken in either order.
 ends-swap : (sides : Sides) (n : ℕ) (f : ℕ → Place → ℕ) (q : ℕ) (ps : List Place)

@@ -11,7 +11,7 @@ use Rattle.model.specs.Best.{Allowed}
 use Rattle.model.specs.laws.Gather.{and-left, and-right}
 use Rattle.model.specs.laws.Judge.{accepts}
 use Rattle.model.specs.laws.Valid.{same-true}
-use Rattle.theorems.specs.Waiting.{pageSum}
+use Rattle.theorems.specs.turns.Waiting.{pageSum}
 
 -- What may hold of page q that goes from u to v, and is the last of its list or not.
 abbrev pub About : Type 1

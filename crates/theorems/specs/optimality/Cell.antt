@@ -1,9 +1,8 @@
 -- When a table of least costs is right: one condition for each cell, which looks only at the entries of its starts.
 use mathlib.Core.List.{List, [], _∷_}
-use mathlib.Core.Logic.{_⊎_}
 use mathlib.Core.Path.{_≡_}
 use Prim.Native.Nat.{ℕ, _<_}
-use Rattle.theorems.specs.Graph.{Graph, Entry, unreached, least, Way, total, Optimal}
+use Rattle.theorems.specs.optimality.Graph.{Graph, Entry, unreached, least, Way, total, Optimal}
 
 -- An entry for each state.
 abbrev pub Table : Graph → Type 0
@@ -16,12 +15,8 @@ pub record Domain (G : Graph) : Type 1 where
   pub rank : G .S → ℕ
   pub falls : {u v : G .S} → In v → G .step u v → rank u < rank v
 
--- The set of all states.
-abbrev pub All : {S : Type 0} → S → Type 0
-All u = Unit
-
 module _ (G : Graph) where
-  open Graph G using (S, C, step, le, tie)
+  open Graph G using (S, C, le, tie)
 
   -- The entry x is ahead of y, or level: cheaper, or as cheap with a start that comes first, or y is unreached.
   unfoldable pub Ahead : Entry C S → Entry C S → Type 0
@@ -29,38 +24,26 @@ module _ (G : Graph) where
   Ahead unreached (least d w) = ⊥
   Ahead (least c u) (least d w) = le c d × (c ≡ d → tie u w)
 
-  -- The cost c is smaller than the one that e holds, if any.
-  unfoldable pub Cheaper : C → Entry C S → Type 0
-  Cheaper c unreached = Unit
-  Cheaper c (least d w) = le c d × (¬ (c ≡ d))
-
-  -- Of the starts with a step to v, Q has those of P and s.
-  pub record More (P : S → Type 0) (s : S) (Q : S → Type 0) (v : S) : Type 0 where
-    pub old : (u : S) → P u → Q u
-    pub new : Q s
-    pub only : (u : S) → Q u → step u v → P u ⊎ (u ≡ s)
-
 module _ (G : Graph) (D : Table G) where
   open Graph G using (S, o, C, step, nil, add)
 
-  -- The start u, one of P, is reached and has a step to v, and c is its cost with that step added.
-  pub record Offer (P : S → Type 0) (v : S) (c : C) (u : S) : Type 0 where
-    pub among : P u
+  -- The start u is reached and has a step to v, and c is its cost with that step added.
+  pub record Offer (v : S) (c : C) (u : S) : Type 0 where
     pub may : step u v
     pub cost : C
     pub start : S
     pub reached : D u ≡ least cost start
     pub price : c ≡ add u v cost
 
-  -- The entry e of v is right as far as P goes: it is the best of what P offers, or unreached where nothing is offered.
-  pub record Seen (P : S → Type 0) (v : S) (e : Entry C S) : Type 0 where
-    pub offered : (c : C) (u : S) → e ≡ least c u → Offer P v c u
-    pub best : (c : C) (u : S) → Offer P v c u → Ahead G e (least c u)
+  -- The entry e of v has seen every start: it is the best of what they offer, or unreached where nothing is offered.
+  pub record Seen (v : S) (e : Entry C S) : Type 0 where
+    pub offered : (c : C) (u : S) → e ≡ least c u → Offer v c u
+    pub best : (c : C) (u : S) → Offer v c u → Ahead G e (least c u)
 
   -- The entry e of v is right: the origin has the cost nil, and any other state has the best that all starts offer.
   pub data Cell (v : S) (e : Entry C S) : Type 0 where
     base : v ≡ o → (u : S) → e ≡ least nil u → Cell v e
-    inner : ¬ (v ≡ o) → Seen All v e → Cell v e
+    inner : ¬ (v ≡ o) → Seen v e → Cell v e
 
   -- Every cell of K is right.
   abbrev pub Right : (S → Type 0) → Type 0

@@ -1,5 +1,5 @@
 -- Pages as a graph: its states are the places where a page may stop, each with the page's side, and one virtual end; a step is
--- a page. A way to the end is a list of pages.
+-- a page. A way starts at an origin, and to the end it is the list of the pages after that origin.
 use Prim.Native.Nat.{ℕ, suc, _+_, _≤_}
 use mathlib.Core.Path.{_≡_}
 use mathlib.Core.Bool.{Bool, true}
@@ -9,8 +9,8 @@ use Rattle.model.specs.Answers.{same}
 use Rattle.model.specs.Order.{lex, geb, oddly}
 use Rattle.model.specs.Best.{allowed}
 use Rattle.model.specs.laws.Lists.{Inside}
-use Rattle.theorems.specs.Graph.{Graph}
-use Rattle.theorems.specs.Waiting.{pageCost}
+use Rattle.theorems.specs.optimality.Graph.{Graph}
+use Rattle.theorems.specs.turns.Waiting.{pageCost}
 
 -- A page stops at a place, on a side: 1 for a right-hand page of double-sided work, which ends its spread, else 0 (`oddly` of
 -- the page's number). After the last page comes the end.
@@ -27,27 +27,37 @@ placeOf end = []
 unfoldable pub full : Galley → Place → Bool
 full g v = same v (sizes g)
 
--- The states of the table: no count passes its stream's size, and the side is one that occurs.
-unfoldable pub Within : Galley → State → Type 0
-Within g (stop v c) = Inside (sizes g) v × (oddly (g .spec .sides) c ≡ c)
-Within g end = Unit {0}
+-- Where a search begins: the place, the number of pages before it, and what they cost.
+pub record Origin : Type 0 where
+  pub place : Place
+  pub pages : ℕ
+  pub cost : ℕ
+
+-- The ordinary origin: nothing placed, no page, nothing paid.
+abbrev pub beginning : Galley → Origin
+beginning g = record { place = zeros g; pages = 0; cost = 0 }
+
+-- The states of the table: no count passes its stream's size, the side is one that occurs, and no count is below the origin's.
+unfoldable pub Within : Galley → Origin → State → Type 0
+Within g from (stop v c) = Inside (sizes g) v × (oddly (g .spec .sides) c ≡ c) × Inside v (from .place)
+Within g from end = Unit {0}
 
 -- A page from u to v that breaks no rule: the page before it is on side b, and it is on side c, the next.
-pub record PageStep (g : Galley) (u : Place) (b : ℕ) (v : Place) (c : ℕ) : Type 0 where
-  pub within : Within g (stop u b)
+pub record PageStep (g : Galley) (from : Origin) (u : Place) (b : ℕ) (v : Place) (c : ℕ) : Type 0 where
+  pub within : Within g from (stop u b)
   pub next : c ≡ oddly (g .spec .sides) (suc b)
   pub may : allowed g c (full g v) u v ≡ true
 
 -- The step to the end: from the full place, on either side.
-pub record EndStep (g : Galley) (u : Place) (b : ℕ) : Type 0 where
-  pub within : Within g (stop u b)
+pub record EndStep (g : Galley) (from : Origin) (u : Place) (b : ℕ) : Type 0 where
+  pub within : Within g from (stop u b)
   pub whole : u ≡ sizes g
 
 -- A step is a page, or leads from the full place to the end.
-unfoldable pub Step : Galley → State → State → Type 0
-Step g (stop u b) (stop v c) = PageStep g u b v c
-Step g (stop u b) end = EndStep g u b
-Step g end t = ⊥
+unfoldable pub Step : Galley → Origin → State → State → Type 0
+Step g from (stop u b) (stop v c) = PageStep g from u b v c
+Step g from (stop u b) end = EndStep g from u b
+Step g from end t = ⊥
 
 -- What is added on the way into a state: the cost of the page that stops there; nothing at the end.
 unfoldable pub price : Galley → State → ℕ
@@ -62,19 +72,24 @@ Prefers (stop u b) end = Unit {0}
 Prefers end (stop w d) = ⊥
 Prefers end end = Unit {0}
 
--- The graph of a galley's pages.
-abbrev pub pageGraph : Galley → Graph
-pageGraph g =
+-- The graph of a galley's pages from an origin on.
+abbrev pub pageGraph : Galley → Origin → Graph
+pageGraph g from =
     record {
       S = State;
       C = ℕ;
-      o = stop (zeros g) 0;
-      step = Step g;
-      nil = 0;
+      o = stop (from .place) (oddly (g .spec .sides) (from .pages));
+      step = Step g from;
+      nil = from .cost;
       add = λ u v c. c + price g v;
       le = λ a b. a ≤ b;
       tie = Prefers;
     }
+
+-- The number of the page that stops where a way with these starts does.
+unfoldable pub pageAt : Origin → List State → ℕ
+pageAt from [] = from .pages
+pageAt from (s ∷ us) = suc (pageAt from us)
 
 -- The pages of the way to a state with these starts, put before `after`.
 unfoldable pub pagesTo : List State → State → List Place → List Place
@@ -91,6 +106,6 @@ unfoldable pub stopsOf : Sides → ℕ → Place → List Place → List State �
 stopsOf sides q u [] after = stop u (oddly sides q) ∷ after
 stopsOf sides q u (v ∷ vs) after = stopsOf sides (suc q) v vs (stop u (oddly sides q) ∷ after)
 
--- The way to the end that a list of pages is.
-abbrev pub wayOf : Galley → List Place → List State
-wayOf g ps = stopsOf (g .spec .sides) 0 (zeros g) ps []
+-- The way to the end that a list of pages from the origin on is.
+abbrev pub wayOf : Galley → Origin → List Place → List State
+wayOf g from ps = stopsOf (g .spec .sides) (from .pages) (from .place) ps []

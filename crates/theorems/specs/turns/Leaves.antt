@@ -1,36 +1,21 @@
 -- Leaves counted by the pages that end their leaf: one argument for single-sided and double-sided work.
-use Prim.Native.Nat.{ℕ, zero, suc, pred, _+_, _-_, _≤_}
-use native.Mathlib.Nat.{add-zero, add-suc}
+use Prim.Native.Nat.{ℕ, suc, _+_, _-_, _≤_}
+use native.Mathlib.Nat.{add-zero}
 use native.Mathlib.Omega.{arith}
-use mathlib.Core.Path.{_≡_, refl, sym, _∙_, ap}
+use mathlib.Core.Path.{_≡_, refl}
 use mathlib.Core.Bool.{Bool, true, false}
 use mathlib.Core.List.{List, [], _∷_}
 use lib.ListN.{length}
 use lib.Dec.{leb, ltb}
 use borrow.Author.Tests.{leb-true, leb-false, lt-ltb, le-ltb}
-use Rattle.model.specs.Gather.{pick, one, sum, between}
+use Rattle.model.specs.Gather.{pick, one}
 use Rattle.model.specs.Galley.{Sides, Place, count}
-use Rattle.model.specs.Leaf.{leaf, ends}
+use Rattle.model.specs.Leaf.{leaf}
 use Rattle.model.specs.Turns.{pageOf}
 use Rattle.model.specs.Answers.{ended}
 use Rattle.model.specs.laws.Leaf.{leaf-next}
-use Rattle.theorems.specs.Waiting.{pageSum, atEnd, turned}
-use Rattle.theorems.specs.Pages.{About, Along}
-
--- A later page's leaf is as many leaves on as pages before it end their leaf.
-pub leaf-between : (sides : Sides) (q r : ℕ) → q ≤ r
-    → leaf sides r ≡ leaf sides q + between q r (λ i. one (ends sides (pred i)))
-unfolding between sum
-leaf-between sides q r h =
-    let e : q + (r - q) ≡ r = omega arith in
-    ap (leaf sides) (sym e) ∙ go (r - q)
-  where
-    go : (d : ℕ) → leaf sides (q + d) ≡ leaf sides q + sum d (λ k. one (ends sides (pred (q + k))))
-    go zero = simp add-zero
-    go (suc d) =
-        let below = go d in
-        let next = leaf-next sides (q + d) in
-        simp add-suc (omega arith)
+use Rattle.theorems.specs.turns.Waiting.{pageSum, atEnd, turned}
+use Rattle.theorems.specs.turns.Pages.{About, Along}
 
 -- 1 where block k of stream s is not yet placed, else 0.
 unfoldable pub missing : ℕ → ℕ → Place → ℕ

@@ -17,10 +17,10 @@ use Rattle.model.specs.Best.{allowed}
 use Rattle.model.specs.laws.Gather.{implies-at, or-left, each-at}
 use Rattle.model.specs.laws.Rules.{Kept, kept, forward-at}
 use Rattle.model.specs.laws.Judge.{accepts}
-use Rattle.theorems.specs.Waiting.{waiting, atEnd, turned, pageCost, costs}
-use Rattle.theorems.specs.Pages.{along, accepts-along, pageSum-ext, pageSum-mix}
-use Rattle.theorems.specs.Full.{waiting-full}
-use Rattle.theorems.specs.LeafEnds.{Orderly, x-by-ends, y-by-ends}
+use Rattle.theorems.specs.turns.Waiting.{waiting, atEnd, turned, pageCost, costs}
+use Rattle.theorems.specs.turns.Pages.{along, accepts-along, pageSum-ext, pageSum-mix}
+use Rattle.theorems.specs.turns.Full.{waiting-full}
+use Rattle.theorems.specs.turns.LeafEnds.{Orderly, x-by-ends, y-by-ends}
 
 -- A later float of a stream is cited no earlier.
 pub cite-mono : (g : Galley) → Sane g → (s j k : ℕ) → 1 ≤ s → 1 ≤ j → j ≤ k → Block g s k

@@ -9,7 +9,7 @@ use Rattle.model.specs.Leaf.{ends}
 use Rattle.model.specs.Rules.{broken, cited}
 use Rattle.model.specs.Order.{oddly}
 use Rattle.model.specs.Best.{allowed}
-use Rattle.theorems.specs.Waiting.{pageCost}
+use Rattle.theorems.specs.turns.Waiting.{pageCost}
 
 -- Before the first page the side is 0.
 pub side-zero : (sides : Sides) → oddly sides 0 ≡ 0

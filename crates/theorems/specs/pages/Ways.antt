@@ -3,9 +3,9 @@ use Prim.Native.Nat.{ℕ, suc, _+_}
 use native.Mathlib.Omega.{arith}
 use mathlib.Core.Path.{_≡_, refl, sym, _∙_, ap}
 use mathlib.Core.Bool.{Bool, true, false}
-use mathlib.Core.List.{List, [], _∷_, map}
+use mathlib.Core.List.{List, [], _∷_, _++_, map}
 use lib.ListN.{length}
-use Rattle.model.specs.Galley.{Galley, Place, count, zeros, sizes}
+use Rattle.model.specs.Galley.{Galley, Place, count, sizes}
 use Rattle.model.specs.Answers.{same, ended}
 use Rattle.model.specs.Order.{oddly, startsOf}
 use Rattle.model.specs.Best.{allowed}
@@ -14,10 +14,10 @@ use Rattle.model.specs.laws.Rules.{kept, forward-at}
 use Rattle.model.specs.laws.Judge.{accepts}
 use Rattle.model.specs.laws.Lists.{Inside, AllInside}
 use Rattle.model.specs.laws.Valid.{same-true, count-sizes}
-use Rattle.theorems.specs.Graph.{Way, total}
-use Rattle.theorems.specs.Waiting.{pageSum, pageCost, costs}
-use Rattle.theorems.specs.PageGraph.{State, stop, end, placeOf, full, Within, Step, price, pageGraph, pagesTo, stopsOf, wayOf}
-use Rattle.theorems.specs.PageSides.{side-zero, side-next, allowed-side, cost-side}
+use Rattle.theorems.specs.optimality.Graph.{Way, total}
+use Rattle.theorems.specs.turns.Waiting.{pageSum, pageCost, costs}
+use Rattle.theorems.specs.pages.Graph.{State, stop, end, placeOf, full, Origin, Within, Step, price, pageGraph, pageAt, pagesTo}
+use Rattle.theorems.specs.pages.Sides.{side-next, allowed-side, cost-side}
 
 module _ (g : Galley) where
   -- In an accepted list a page stops at the full place exactly where it is the last: from there no page goes forward.
@@ -51,38 +51,40 @@ module _ (g : Galley) where
     same-price =
         ap (λ b. pageCost g (oddly (g .spec .sides) q) b v) (full-ended (suc q) v after h) ∙ sym (cost-side g q (ended after) v)
 
+module _ (g : Galley) (from : Origin) where
   -- On a way the side is that of the number of pages.
-  pub way-side : (us : List State) (v : Place) (c : ℕ) → Way (pageGraph g) us (stop v c) → c ≡ oddly (g .spec .sides) (length us)
-  unfolding Way Step
-  way-side [] v c e = let z = side-zero (g .spec .sides) in cc
+  pub way-side : (us : List State) (v : Place) (c : ℕ) → Way (pageGraph g from) us (stop v c)
+      → c ≡ oddly (g .spec .sides) (pageAt from us)
+  unfolding Way Step pageAt
+  way-side [] v c e = cc
   way-side (stop u b ∷ us) v c (p, w) =
-      p .next ∙ ap (λ d. oddly (g .spec .sides) (suc d)) (way-side us u b w) ∙ side-next (g .spec .sides) (length us)
+      p .next ∙ ap (λ d. oddly (g .spec .sides) (suc d)) (way-side us u b w) ∙ side-next (g .spec .sides) (pageAt from us)
   way-side (end ∷ us) v c (p, w) = absurd p
 
   -- What ps is, the list of a way to v and then of the pages `after`.
   pub record Reads (us : List State) (v : Place) (c : ℕ) (after ps : List Place) : Type 0 where
-    pub taken : accepts (allowed g) (sizes g) 1 (zeros g) ps ≡ true
+    pub taken : accepts (allowed g) (sizes g) (suc (from .pages)) (from .place) ps ≡ true
     pub inside : AllInside (sizes g) ps
-    pub cost : costs g 1 ps ≡ total (pageGraph g) us (stop v c) + costs g (suc (length us)) after
-    pub long : length ps ≡ length us + length after
-    pub starts : startsOf (zeros g) ps [] ≡ startsOf v after (map placeOf us)
-    pub back : wayOf g ps ≡ stopsOf (g .spec .sides) (length us) v after us
+    pub cost : from .cost + costs g (suc (from .pages)) ps
+        ≡ total (pageGraph g from) us (stop v c) + costs g (suc (pageAt from us)) after
+    pub long : from .pages + length ps ≡ pageAt from us + length after
+    pub starts : (t : List Place) → startsOf (from .place) ps t ≡ startsOf v after (map placeOf us ++ t)
 
   -- The list of a way, put before an accepted list, is accepted.
-  pub reads : (us : List State) (v : Place) (c : ℕ) (after : List Place) → Way (pageGraph g) us (stop v c) → Inside (sizes g) v
-      → AllInside (sizes g) after → accepts (allowed g) (sizes g) (suc (length us)) v after ≡ true
+  pub reads : (us : List State) (v : Place) (c : ℕ) (after : List Place) → Way (pageGraph g from) us (stop v c)
+      → Inside (sizes g) v → AllInside (sizes g) after → accepts (allowed g) (sizes g) (suc (pageAt from us)) v after ≡ true
       → Reads us v c after (pagesTo us (stop v c) after)
-  unfolding Way Step total costs pageSum pagesTo stopsOf startsOf accepts Within placeOf
+  unfolding Way Step total costs pageSum pagesTo startsOf accepts Within placeOf pageAt
   reads [] v c after e i is h =
-      let z : v ≡ zeros g = cc in
-      record { taken = cc; inside = is; cost = omega arith; long = omega arith; starts = cc; back = cc }
+      let z : v ≡ from .place = cc in
+      record { taken = cc; inside = is; cost = refl; long = refl; starts = λ t. ap (λ x. startsOf x after t) (sym z) }
   reads (stop u b ∷ us) v c after (p, w) i is h =
       let s = way-side (stop u b ∷ us) v c (p, w) in
-      let may : allowed g (suc (length us)) (ended after) u v ≡ true =
-      sym (same-rules (suc (length us)) v after h u) ∙ ap (λ d. allowed g d (full g v) u v) (sym s) ∙ p .may in
+      let may : allowed g (suc (pageAt from us)) (ended after) u v ≡ true =
+      sym (same-rules g (suc (pageAt from us)) v after h u) ∙ ap (λ d. allowed g d (full g v) u v) (sym s) ∙ p .may in
       let r = reads us u b (v ∷ after) w (p .within .0) (i, is) (and-both may h) in
-      let page : price g (stop v c) ≡ pageCost g (suc (length us)) (ended after) v =
-      ap (λ d. price g (stop v d)) s ∙ same-price (suc (length us)) v after h in
+      let page : price g (stop v c) ≡ pageCost g (suc (pageAt from us)) (ended after) v =
+      ap (λ d. price g (stop v d)) s ∙ same-price g (suc (pageAt from us)) v after h in
       let cost = r .cost in
       let long = r .long in
       record {
@@ -91,6 +93,5 @@ module _ (g : Galley) where
         cost = omega arith;
         long = omega arith;
         starts = r .starts;
-        back = r .back ∙ ap (λ d. stopsOf (g .spec .sides) (suc (length us)) v after (stop u d ∷ us)) (sym (way-side us u b w));
       }
   reads (end ∷ us) v c after (p, w) i is h = absurd p
