@@ -97,7 +97,7 @@ class Source:
     def cites(self, name, line):
         """Whether a line has a name, which may be an operator with places for its arguments."""
         core = name.strip('_')
-        return core in line if core != name and core else name in self.words(line)
+        return core in line if core != name or name == '[]' else name in self.words(line)
 
 
 def uncommented(line, is_code):

@@ -1,6 +1,6 @@
 -- The cases that document 01's leave open: which list is best, to the last tie; how high a page is, to the unit; and every
 -- refusal of a list on a later page, and where a page breaks several rules.
-use mathlib.Core.Bool.{true, false}
+use mathlib.Core.Bool.{false}
 use mathlib.Core.List.{List, [], _∷_}
 use Rattle.model.specs.Galley.{single, double}
 use Rattle.cases.specs.Case.{Case, making, marking, makes, marks, refuses, asks}

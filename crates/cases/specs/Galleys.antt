@@ -4,7 +4,7 @@ use mathlib.Core.Bool.{Bool, true, false}
 use mathlib.Core.List.{List, [], _∷_, _++_}
 use Prim.Native.Nat.{ℕ}
 use lib.ListN.{replicate}
-use Rattle.model.specs.Galley.{Sides, single, double, Spec, Galley}
+use Rattle.model.specs.Galley.{Sides, single, Spec, Galley}
 use Rattle.cases.specs.Case.{Block, galleyOf}
 
 unfoldable pub spec : ℕ → ℕ → ℕ → ℕ → Sides → ℕ → ℕ → Spec

@@ -1,7 +1,7 @@
 -- The first demand, from the contracts: every answer is the counts of a pagination or one numbered refusal with its place, and a
 -- refusal leaves the page list untouched. `mark` is proved to answer `markOf`, and `make` to do what `Made` says. (That every call
 -- ends, with nothing undefined, is what the proofs of both say of any bytes, words and lent memory: neither has a `requires`.)
-use Prim.Native.Nat.{ℕ, zero, suc, pred, _≤_}
+use Prim.Native.Nat.{ℕ, zero, suc, pred}
 use native.Mathlib.Omega.{arith}
 use mathlib.Core.Path.{_≡_, refl, sym, _∙_, subst}
 use mathlib.Core.Logic.{_⊎_, inl, inr}
@@ -11,7 +11,7 @@ use mathlib.Core.Option.{Option, none, some}
 use lib.ListN.{length, drop}
 use lib.Dec.{ltb}
 use Rattle.model.specs.declared.answer.Answer.{Answer}
-use Rattle.model.specs.declared.answer.Answer.the-variants.{Counted, Refused}
+use Rattle.model.specs.declared.answer.Answer.the-variants.{Refused}
 use Rattle.model.specs.declared.answer.Numbers.{Numbers}
 use Rattle.model.specs.Gather.{pick}
 use Rattle.model.specs.Galley as model
@@ -25,7 +25,7 @@ use Rattle.galley.specs.Whole.{galleyOf}
 use Rattle.galley.specs.Model.{modelOf}
 use Rattle.places.specs.Entry.{cleared}
 use Rattle.marking.specs.Mark.{markOf}
-use Rattle.making.specs.Make.{workNeeded, listNeeded, tooShort, makeRead, makeOf, workRead, workAfter, listRead, listAfter, Made}
+use Rattle.making.specs.Make.{workNeeded, listNeeded, makeRead, makeOf, workRead, workAfter, listRead, listAfter, Made}
 use Rattle.promises.specs.Answers.{ByMarking, ByMaking, picked, of-marking, of-making}
 
 -- The six numbers of an answer are those of a finished call, with number and place 0, or of a refusal with one of the numbers
