@@ -20,6 +20,12 @@ leaf-next double q = go (eqb (q % 2) 1) refl
     go true e = let o = eqb-true (q % 2) 1 e in omega arith
     go false e = let o = eqb-false (q % 2) 1 e in omega arith
 
+-- Whether a page ends its leaf follows from the parity of its number, which is its side of the sheet.
+pub ends-parity : (sides : Sides) (q : ℕ) → ends sides (q % 2) ≡ ends sides q
+unfolding ends
+ends-parity single q = refl
+ends-parity double q = let e : q % 2 % 2 ≡ q % 2 = omega arith in ap (λ r. eqb r 1) e
+
 -- A later page lies on no earlier leaf.
 pub leaf-mono : (sides : Sides) (q r : ℕ) → q ≤ r → leaf sides q ≤ leaf sides r
 unfolding leaf
