@@ -19,8 +19,8 @@ returns c =
     let law = price-two bytes (a .g) (a .i) (a .j) (a .cited) citing (a .c) in
     rw (law, ← c .before .is-full .ensures, c .if1 .taken)
 
-ends-leaf-requires : tie.Need-ends-leaf-requires
-ends-leaf-requires c κs = search needs
+side-ends-requires : tie.Need-side-ends-requires
+side-ends-requires c κs = search needs
 
 returns-2 : tie.Need-returns-2
 returns-2 c =
@@ -31,8 +31,8 @@ returns-2 c =
       law,
       ← c .before .before .before .is-full .ensures,
       c .before .before .if1 .left,
-      ← c .before .ends-leaf .ensures,
-      not-true (c .before .ends-leaf .result) (c .if2 .taken),
+      ← c .before .side-ends .ensures,
+      not-true (c .before .side-ends .result) (c .if2 .taken),
     )
 
 returns-3 : tie.Need-returns-3
@@ -46,8 +46,8 @@ returns-3 c =
       ← c .before .before .before .before .is-full .ensures,
       c .before .before .before .if1 .left,
       ← c .before .before
-          .ends-leaf .ensures,
-      not-false (c .before .before .ends-leaf .result) (c .before .if2 .left),
+          .side-ends .ensures,
+      not-false (c .before .before .side-ends .result) (c .before .if2 .left),
       none,
     ) (omega arith)
 
@@ -83,9 +83,9 @@ returns-4 c =
       ← c .before .before .before .before .before .before .is-full .ensures,
       c .before .before .before .before .before
           .if1 .left,
-      ← c .before .before .before .before .ends-leaf .ensures,
+      ← c .before .before .before .before .side-ends .ensures,
       not-false
-          (c .before .before .before .before .ends-leaf .result) (c .before .before .before .if2 .left),
+          (c .before .before .before .before .side-ends .result) (c .before .before .before .if2 .left),
     )
 
 pub price-spec : {M : Type 1} → statement M
@@ -94,7 +94,7 @@ price-spec =
     (tie.spec
     is-full-requires
     returns
-    ends-leaf-requires
+    side-ends-requires
     returns-2
     returns-3
     sub-result
