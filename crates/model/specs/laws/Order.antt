@@ -144,7 +144,7 @@ starts-reverse ok l q u (v ∷ vs) after h =
     starts-reverse ok l (suc q) v vs (u ∷ after) (and-right (ok q (ended vs) u v) (accepts ok l (suc q) v vs) h)
 
 module _ (g : Galley) where
-  -- The order of preference is total and transitive.
+  -- The order of preference is total and transitive, as are the orders that it is put together from.
   pub before-preference : Preference (before g)
   unfolding before
   before-preference = search (leb-preference, geb-preference, by-preference, lex-preference, thenBy-preference) depth 8
