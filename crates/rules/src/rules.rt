@@ -55,8 +55,10 @@ pub fn start_fault(s: &[u8], g: Galley, a: usize, b: usize, i: usize, j: usize) 
     requires { ⌜ Sound (now s) g ⌝ }
     ensures { λ r. ⌜ r ≡ startFault (modelOf (now (s .entry)) g) (a ∷ b ∷ []) (i ∷ j ∷ []) ⌝ }
 {
-    if is_forward(g, a, b, i, j) {
-        if may_end(s, g, i) {
+    let forward = is_forward(g, a, b, i, j);
+    let closes = may_end(s, g, i);
+    if forward {
+        if closes {
             return 0;
         }
         return 14;
@@ -69,8 +71,10 @@ pub fn end_fault(s: &[u8], g: Galley, loose: u32, page: Page, last: bool, i: usi
     requires { ⌜ (Sound (now s) g) × (j ≤ g .figures) ⌝ }
     ensures { λ r. ⌜ r ≡ endFault (last || leb (g .spec .htmin) loose) (cited (modelOf (now (s .entry)) g) (page .0) last (i ∷ j ∷ [])) ⌝ }
 {
-    if last | (g.spec.htmin <= loose) {
-        if is_cited(s, g, page, last, i, j) {
+    let fills = last | (g.spec.htmin <= loose);
+    let cited = is_cited(s, g, page, last, i, j);
+    if fills {
+        if cited {
             return 0;
         }
         return 17;

@@ -50,15 +50,11 @@ module _ (bytes : List ℕ) (g : Galley) (i j n : ℕ) (citing : Citing (figures
       let l = cited-last h in
       rw (e, f, l)
 
-  -- The price.
-  pub price-two : (c : ℕ)
-      → pageCost (modelOf bytes g) c (full (modelOf bytes g) (place i j)) (place i j)
-      ≡ priceOf g (allPlaced g i j) (ends (sidesOf (g .spec .sides)) c) n j
+  -- The price, by two tests: whether the page is the last, and whether it ends its leaf.
+  pub price-two : (c : ℕ) (last turns : Bool) → last ≡ allPlaced g i j → turns ≡ ends (sidesOf (g .spec .sides)) c
+      → pageCost (modelOf bytes g) c (full (modelOf bytes g) (place i j)) (place i j) ≡ priceOf g last turns n j
   unfolding pageCost full
-  price-two c =
-      let w = waiting-two bytes g i j n citing in
-      let f = full-two bytes g i j in
-      rw (f, w)
+  price-two c last turns e f = rw (full-two bytes g i j, waiting-two bytes g i j n citing, e, f)
 
 -- No price passes the limit of α·n + β.
 pub dearest-light : (bytes : List ℕ) (g : Galley) → Sound bytes g → dearest (modelOf bytes g) ≤ 201000

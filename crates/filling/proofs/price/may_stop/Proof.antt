@@ -7,8 +7,8 @@ use Rattle.filling.proofs.price.may_stop.Tie as tie
 may-end-requires : tie.Need-may-end-requires
 may-end-requires c κs = search needs
 
-ends-leaf-requires : tie.Need-ends-leaf-requires
-ends-leaf-requires c κs = search needs
+side-ends-requires : tie.Need-side-ends-requires
+side-ends-requires c κs = search needs
 
 is-full-requires : tie.Need-is-full-requires
 is-full-requires c κs = search needs
@@ -19,7 +19,7 @@ returns c =
     let a = start .args in
     let law = may-stop-two (a .s .now) (a .g) (a .i) (a .j) (a .cited) (start .pre .citing) (a .c) (start .pre .placed .figure)
     in
-    simp (law, c .is-full .ensures, c .before .ends-leaf .ensures, c .before .before .may-end .ensures)
+    simp (law, c .is-full .ensures, c .before .side-ends .ensures, c .before .before .may-end .ensures)
 
 pub may-stop-spec : {M : Type 1} → statement M
-may-stop-spec = tie.close (tie.spec may-end-requires ends-leaf-requires is-full-requires returns)
+may-stop-spec = tie.close (tie.spec may-end-requires side-ends-requires is-full-requires returns)
