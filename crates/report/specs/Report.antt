@@ -11,16 +11,12 @@ use Rattle.report.specs.declared.Figures.{Figures}
 use Rattle.report.specs.declared.Report.{Report}
 use Rattle.report.specs.declared.Report.the-variants.{Summed, Refused}
 
--- The least of f 1 to f n, and 0 where n is 0 (document 02, S-12: the least T, and what no papers give).
-unfoldable pub least : ℕ → (ℕ → ℕ) → ℕ
-least zero f = 0
-least (suc zero) f = f 1
-least (suc (suc n)) f = min (least (suc n) f) (f (suc (suc n)))
-
--- The greatest of f 1 to f n, and 0 where n is 0 (the same).
-unfoldable pub greatest : ℕ → (ℕ → ℕ) → ℕ
-greatest zero f = 0
-greatest (suc n) f = max (greatest n f) (f (suc n))
+-- f 1 to f n joined by an operation such as min or max, and 0 where n is 0 (document 02, S-12: the least and the greatest T, and
+-- what no papers give).
+unfoldable pub extreme : (ℕ → ℕ → ℕ) → ℕ → (ℕ → ℕ) → ℕ
+extreme op zero f = 0
+extreme op (suc zero) f = f 1
+extreme op (suc (suc n)) f = op (extreme op (suc n) f) (f (suc (suc n)))
 
 -- The first of 1 to n at which a test holds, and 0 where there is none (document 02, S-12: the place of 32).
 unfoldable pub first : ℕ → (ℕ → Bool) → ℕ
@@ -48,8 +44,8 @@ figuresOf marks n = record {
   x = sum n (λ k. paper marks k .x);
   y = sum n (λ k. paper marks k .y);
   turns = sum n (λ k. paper marks k .turns);
-  least = least n (λ k. paper marks k .turns);
-  greatest = greatest n (λ k. paper marks k .turns);
+  least = extreme min n (λ k. paper marks k .turns);
+  greatest = extreme max n (λ k. paper marks k .turns);
   excess = sum n (λ k. paper marks k .turns - paper marks k .engine);
   count = n;
 }

@@ -1,5 +1,6 @@
 -- The tally grows as the code makes it grow, and gives the report in the end.
 use Prim.Native.Nat.{ℕ, zero, suc, _≤_}
+use native.Mathlib.Nat.{zero-max}
 use native.Mathlib.Numerals.{add-one}
 use native.Mathlib.Omega.{arith}
 use mathlib.Core.Path.{_≡_, refl, sym}
@@ -10,12 +11,12 @@ use lib.ListN.{length}
 use borrow.Author.Tests.{leb-true, leb-false, lt-ltb, le-ltb}
 use Rattle.model.specs.Gather.{pick, sum}
 use Rattle.report.specs.declared.Mark.{Mark}
-use Rattle.report.specs.Report.{paper, least, greatest, first, firstBelow, figuresOf, reportOf}
+use Rattle.report.specs.Report.{paper, extreme, first, firstBelow, figuresOf, reportOf}
 use Rattle.report.specs.Tally.{tallyOf, noPapers, leastWith, belowWith, withPaper, Within, limitOf, answerOf}
 
 -- The tally of no papers is all zeros.
 pub tally-none : (marks : List Mark) → tallyOf marks 0 ≡ noPapers
-unfolding tallyOf figuresOf firstBelow first sum least greatest
+unfolding tallyOf figuresOf firstBelow first sum extreme
 tally-none marks = refl
 
 pub none-within : Within noPapers
@@ -23,8 +24,8 @@ none-within = record { pages = omega arith; x = omega arith; y = omega arith; tu
 
 -- The tally of one paper more is the tally with that paper.
 pub tally-next : (marks : List Mark) (n : ℕ) → tallyOf marks (suc n) ≡ withPaper (paper marks (suc n)) (tallyOf marks n)
-unfolding tallyOf figuresOf firstBelow first sum least greatest withPaper leastWith belowWith
-tally-next marks zero = refl
+unfolding tallyOf figuresOf firstBelow first sum extreme withPaper leastWith belowWith
+tally-next marks zero = simp zero-max
 tally-next marks (suc n) = simp (add-one, eqb·suc-zero)
 
 -- As many marks are gone through as there are, and not more than 10,000.
