@@ -12,10 +12,10 @@ use borrow.Author.Tests.{leb-true, leb-false, ltb-true, ltb-false, lt-ltb}
 use Rattle.model.specs.Gather.{pick, sum}
 use Rattle.model.specs.laws.Gather.{sum-add, sum-ext}
 use Rattle.report.specs.declared.Mark.{Mark}
-use Rattle.report.specs.declared.Figures.{Figures}
+use Rattle.report.specs.declared.Totals.{Totals}
 use Rattle.report.specs.declared.Report.{Report}
 use Rattle.report.specs.declared.Report.the-variants.{Summed, Refused}
-use Rattle.report.specs.Report.{paper, extreme, first, firstBelow, figuresOf, reportOf, wordsOf}
+use Rattle.report.specs.Report.{paper, extreme, first, firstBelow, totalsOf, reportOf, wordsOf}
 use Rattle.report.specs.laws.Extreme.{Reached, extreme-reached, extreme-bounds}
 use Rattle.report.specs.laws.First.{Fails, First, nowhere, somewhere, first-is}
 
@@ -30,9 +30,9 @@ engineOf marks k = paper marks k .engine
 abbrev pub NoneBelow : List Mark → ℕ → Type 0
 NoneBelow marks n = (k : ℕ) → 1 ≤ k → k ≤ n → engineOf marks k ≤ turnsOf marks k
 
--- Figures are exact: the excess is the total of T less the engines' total, which is not above it; the least T and the greatest
+-- Totals are exact: the excess is the total of T less the engines' total, which is not above it; the least T and the greatest
 -- bound every paper, and where there are papers, a paper reaches each.
-pub record Exact (marks : List Mark) (n : ℕ) (f : Figures) : Type 0 where
+pub record Exact (marks : List Mark) (n : ℕ) (f : Totals) : Type 0 where
   pub engines-within : sum n (engineOf marks) ≤ f .turns
   pub excess-difference : f .excess ≡ f .turns - sum n (engineOf marks)
   pub least-bounds : (k : ℕ) → 1 ≤ k → k ≤ n → f .least ≤ turnsOf marks k
@@ -46,8 +46,8 @@ pub data Reports (marks : List Mark) : Report → Type 0 where
   too-many : 10000 < length marks → Reports marks (Refused 31 0)
   below : {j : ℕ} → length marks ≤ 10000 → j < length marks → turnsOf marks (suc j) < engineOf marks (suc j)
       → NoneBelow marks j → Reports marks (Refused 32 (suc j))
-  summed : length marks ≤ 10000 → NoneBelow marks (length marks) → Exact marks (length marks) (figuresOf marks (length marks))
-      → Reports marks (Summed (figuresOf marks (length marks)))
+  summed : length marks ≤ 10000 → NoneBelow marks (length marks) → Exact marks (length marks) (totalsOf marks (length marks))
+      → Reports marks (Summed (totalsOf marks (length marks)))
 
 -- The excesses and the engines' turns come to the papers' turns.
 excess-sum : (marks : List Mark) (n : ℕ) → NoneBelow marks n
@@ -71,8 +71,8 @@ max-one a b = go (leb b a) refl
     go true e = let l = leb-true b a e in inl (omega arith)
     go false e = let l = leb-false b a e in inr (omega arith)
 
-exact : (marks : List Mark) (n : ℕ) → NoneBelow marks n → Exact marks n (figuresOf marks n)
-unfolding figuresOf
+exact : (marks : List Mark) (n : ℕ) → NoneBelow marks n → Exact marks n (totalsOf marks n)
+unfolding totalsOf
 exact marks n above =
     let e = excess-sum marks n above in
     record {
@@ -97,7 +97,7 @@ report-exact marks = go (ltb 10000 n) refl (first-is n (λ k. ltb (turnsOf marks
     n = length marks
 
     go : (b : Bool) → ltb 10000 n ≡ b → {j : ℕ} → First n (λ k. ltb (turnsOf marks k) (engineOf marks k)) j
-        → Reports marks (pick b (Refused 31 0) (pick (ltb 0 j) (Refused 32 j) (Summed (figuresOf marks n))))
+        → Reports marks (pick b (Refused 31 0) (pick (ltb 0 j) (Refused 32 j) (Summed (totalsOf marks n))))
     go true e h = too-many (ltb-true 10000 n e)
     go false e (nowhere none) = summed (ltb-false 10000 n e) (none-below marks n none) (exact marks n (none-below marks n none))
     go false e (somewhere {j} low holds none) =
@@ -111,7 +111,7 @@ zeros (suc n) = 0 ∷ zeros n
 
 -- No papers give eleven zeros.
 pub no-papers : wordsOf (reportOf []) ≡ zeros 11
-unfolding reportOf firstBelow first figuresOf sum extreme
+unfolding reportOf firstBelow first totalsOf sum extreme
 no-papers = refl
 
 -- After its number and its place a refusal has zeros throughout.

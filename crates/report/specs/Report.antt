@@ -1,4 +1,4 @@
--- The report on a list of marks, by papers 1 to n (document 02, S-12). The types `Mark`, `Figures` and `Report` are those of
+-- The report on a list of marks, by papers 1 to n (document 02, S-12). The types `Mark`, `Totals` and `Report` are those of
 -- src/lib.rt.
 use Prim.Native.Nat.{ℕ, zero, suc, pred, _-_, min, max}
 use mathlib.Core.Bool.{Bool, true, false}
@@ -7,7 +7,7 @@ use lib.Dec.{ltb}
 use lib.ListN.{length, getD}
 use Rattle.model.specs.Gather.{pick, sum}
 use Rattle.report.specs.declared.Mark.{Mark}
-use Rattle.report.specs.declared.Figures.{Figures}
+use Rattle.report.specs.declared.Totals.{Totals}
 use Rattle.report.specs.declared.Report.{Report}
 use Rattle.report.specs.declared.Report.the-variants.{Summed, Refused}
 
@@ -37,8 +37,8 @@ firstBelow marks n = first n (λ k. ltb (paper marks k .turns) (paper marks k .e
 
 -- What n papers come to: their number, the four sums, least and greatest T, and the excess over the engine as a sum and a count
 -- (document 02, S-12).
-unfoldable pub figuresOf : List Mark → ℕ → Figures
-figuresOf marks n = record {
+unfoldable pub totalsOf : List Mark → ℕ → Totals
+totalsOf marks n = record {
   papers = n;
   pages = sum n (λ k. paper marks k .pages);
   x = sum n (λ k. paper marks k .x);
@@ -58,7 +58,7 @@ reportOf marks =
     (Refused 31 0)
     (pick (ltb 0 (firstBelow marks (length marks)))
     (Refused 32 (firstBelow marks (length marks)))
-    (Summed (figuresOf marks (length marks))))
+    (Summed (totalsOf marks (length marks))))
 
 -- The number of a report: 0 where it is no refusal (document 02, S-12).
 abbrev pub numberOf : Report → ℕ

@@ -8,19 +8,19 @@ use Rattle.report.specs.declared.Mark.{Mark}
 use Rattle.report.specs.declared.Report.{Report}
 use Rattle.report.specs.declared.Report.the-variants.{Summed, Refused}
 use Rattle.report.specs.declared.tally.Tally.{Tally}
-use Rattle.report.specs.Report.{figuresOf, firstBelow}
+use Rattle.report.specs.Report.{totalsOf, firstBelow}
 
 -- The tally of n papers: their figures, and the first that is below its engine.
 unfoldable pub tallyOf : List Mark → ℕ → Tally
 tallyOf marks n = record {
   papers = n;
-  pages = figuresOf marks n .pages;
-  x = figuresOf marks n .x;
-  y = figuresOf marks n .y;
-  turns = figuresOf marks n .turns;
-  least = figuresOf marks n .least;
-  greatest = figuresOf marks n .greatest;
-  excess = figuresOf marks n .excess;
+  pages = totalsOf marks n .pages;
+  x = totalsOf marks n .x;
+  y = totalsOf marks n .y;
+  turns = totalsOf marks n .turns;
+  least = totalsOf marks n .least;
+  greatest = totalsOf marks n .greatest;
+  excess = totalsOf marks n .excess;
   below = firstBelow marks n;
 }
 

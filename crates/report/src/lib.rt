@@ -3,6 +3,7 @@ ghost use mathlib.Core.Path.{_≡_};
 ghost use Rattle.report.specs.Report.{reportOf};
 ghost use Rattle.report.specs.Tally.{limitOf, answerOf};
 use crate::tally::Tally;
+use crate::tally::Total;
 
 pub mod tally;
 
@@ -18,21 +19,21 @@ pub struct Mark {
 
 // What the papers come to: how many there are, their four sums, the least and the greatest T, and the mean excess over the
 // engine as a sum and a count.
-pub struct Figures {
-    pub papers: u64,
-    pub pages: u64,
-    pub x: u64,
-    pub y: u64,
-    pub turns: u64,
-    pub least: u64,
-    pub greatest: u64,
-    pub excess: u64,
-    pub count: u64,
+pub struct Totals {
+    pub papers: Total,
+    pub pages: Total,
+    pub x: Total,
+    pub y: Total,
+    pub turns: Total,
+    pub least: Total,
+    pub greatest: Total,
+    pub excess: Total,
+    pub count: Total,
 }
 
 pub enum Report {
-    Summed(Figures),
-    Refused { number: u32, place: u64 },
+    Summed(Totals),
+    Refused { number: u32, place: Total },
 }
 
 // How many of so many marks are gone through: all, or none where they are too many.
@@ -58,7 +59,7 @@ fn answer(marks: usize, s: Tally) -> Report
             place: s.below,
         };
     }
-    Report::Summed(Figures {
+    Report::Summed(Totals {
         papers: s.papers,
         pages: s.pages,
         x: s.x,

@@ -1,20 +1,23 @@
-// The tally of the papers gone through so far, one paper at a time. All of it is by value, in 64 bits.
+// The tally of the papers gone through so far, one paper at a time.
 ghost use mathlib.Core.Path.{_≡_};
 ghost use Prim.Native.Nat.{_+_, _-_, _*_, _≤_, _<_, min, max};
 ghost use Rattle.report.specs.Tally.{noPapers, withPaper, leastWith, belowWith, Within};
 use crate::Mark;
 
+// 10,000 numbers of 32 bits come to less than 2⁴⁶.
+pub type Total = u64;
+
 // `below` is the first paper, counted from 1, whose T is below the engine's, and 0 as long as there is none.
 pub struct Tally {
-    pub papers: u64,
-    pub pages: u64,
-    pub x: u64,
-    pub y: u64,
-    pub turns: u64,
-    pub least: u64,
-    pub greatest: u64,
-    pub excess: u64,
-    pub below: u64,
+    pub papers: Total,
+    pub pages: Total,
+    pub x: Total,
+    pub y: Total,
+    pub turns: Total,
+    pub least: Total,
+    pub greatest: Total,
+    pub excess: Total,
+    pub below: Total,
 }
 
 pub fn no_papers() -> Tally
@@ -33,21 +36,27 @@ pub fn no_papers() -> Tally
     }
 }
 
+fn wide(number: u32) -> Total
+    ensures { λ r. ⌜ r ≡ number ⌝ }
+{
+    number as Total
+}
+
 // A sum with one number more. There is room for 10,000 numbers.
-fn plus(sum: u64, number: u32) -> u64
+fn plus(sum: Total, number: u32) -> Total
     requires { ⌜ sum ≤ 9999 * 4294967295 ⌝ }
     ensures { λ r. ⌜ r ≡ sum + number ⌝ }
 {
-    sum + (number as u64)
+    sum + wide(number)
 }
 
-fn lesser(a: u64, b: u64) -> u64
+fn lesser(a: Total, b: Total) -> Total
     ensures { λ r. ⌜ r ≡ min a b ⌝ }
 {
     if a < b { a } else { b }
 }
 
-fn greater(a: u64, b: u64) -> u64
+fn greater(a: Total, b: Total) -> Total
     ensures { λ r. ⌜ r ≡ max a b ⌝ }
 {
     if a < b { b } else { a }
@@ -65,10 +74,10 @@ fn excess(m: Mark) -> u32
 }
 
 // The least T: the first paper's own, since there is none before it.
-fn least_with(m: Mark, s: Tally) -> u64
+fn least_with(m: Mark, s: Tally) -> Total
     ensures { λ r. ⌜ r ≡ leastWith m s ⌝ }
 {
-    let turns = m.turns as u64;
+    let turns = wide(m.turns);
     if s.papers == 0 {
         turns
     } else {
@@ -77,7 +86,7 @@ fn least_with(m: Mark, s: Tally) -> u64
 }
 
 // The first paper below its engine: once there is one, that one.
-fn below_with(m: Mark, s: Tally) -> u64
+fn below_with(m: Mark, s: Tally) -> Total
     requires { ⌜ s .papers < 10000 ⌝ }
     ensures { λ r. ⌜ r ≡ belowWith m s ⌝ }
 {
@@ -101,7 +110,7 @@ pub fn with_paper(m: Mark, s: Tally) -> Tally
     let more = excess(m);
     let over = plus(s.excess, more);
     let least = least_with(m, s);
-    let greatest = greater(s.greatest, m.turns as u64);
+    let greatest = greater(s.greatest, wide(m.turns));
     let below = below_with(m, s);
     Tally {
         papers: s.papers + 1,

@@ -11,12 +11,12 @@ use lib.ListN.{length}
 use borrow.Author.Tests.{leb-true, leb-false, lt-ltb, le-ltb}
 use Rattle.model.specs.Gather.{pick, sum}
 use Rattle.report.specs.declared.Mark.{Mark}
-use Rattle.report.specs.Report.{paper, extreme, first, firstBelow, figuresOf, reportOf}
+use Rattle.report.specs.Report.{paper, extreme, first, firstBelow, totalsOf, reportOf}
 use Rattle.report.specs.Tally.{tallyOf, noPapers, leastWith, belowWith, withPaper, Within, limitOf, answerOf}
 
 -- The tally of no papers is all zeros.
 pub tally-none : (marks : List Mark) → tallyOf marks 0 ≡ noPapers
-unfolding tallyOf figuresOf firstBelow first sum extreme
+unfolding tallyOf totalsOf firstBelow first sum extreme
 tally-none marks = refl
 
 pub none-within : Within noPapers
@@ -24,7 +24,7 @@ none-within = record { pages = omega arith; x = omega arith; y = omega arith; tu
 
 -- The tally of one paper more is the tally with that paper.
 pub tally-next : (marks : List Mark) (n : ℕ) → tallyOf marks (suc n) ≡ withPaper (paper marks (suc n)) (tallyOf marks n)
-unfolding tallyOf figuresOf firstBelow first sum extreme withPaper leastWith belowWith
+unfolding tallyOf totalsOf firstBelow first sum extreme withPaper leastWith belowWith
 tally-next marks zero = simp zero-max
 tally-next marks (suc n) = simp (add-one, eqb·suc-zero)
 
@@ -47,7 +47,7 @@ limit-within n = go (leb n 10000)
 
 -- What is answered in the end is the report.
 pub answer-report : (marks : List Mark) → answerOf (length marks) (tallyOf marks (limitOf (length marks))) ≡ reportOf marks
-unfolding answerOf limitOf reportOf tallyOf figuresOf
+unfolding answerOf limitOf reportOf tallyOf totalsOf
 answer-report marks = go (leb (length marks) 10000) refl
   where
     go : (b : Bool) → leb (length marks) 10000 ≡ b → answerOf (length marks) (tallyOf marks (pick b (length marks) 0)) ≡ reportOf marks

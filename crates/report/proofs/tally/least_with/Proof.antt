@@ -5,19 +5,19 @@ use Rattle.report.specs.Tally.{leastWith}
 use Rattle.report.proofs.tally.least_with.Statement.{statement}
 use Rattle.report.proofs.tally.least_with.Tie as tie
 
-cast-turns : tie.Need-cast-turns
-cast-turns c = search needs
+wide-requires : tie.Need-wide-requires
+wide-requires c κs = search needs
 
 lesser-requires : tie.Need-lesser-requires
 lesser-requires c κs = search needs
 
 returns : tie.Need-returns
 unfolding leastWith
-returns c = simp (eq-eqb _ _ (c .if1 .taken))
+returns c = simp (eq-eqb _ _ (c .if1 .taken), c .before .before .wide .ensures)
 
 returns-2 : tie.Need-returns-2
 unfolding leastWith
-returns-2 c = simp (ne-eqb _ _ (c .before .if1 .left), c .lesser .ensures)
+returns-2 c = simp (ne-eqb _ _ (c .before .if1 .left), c .lesser .ensures, c .before .before .before .wide .ensures)
 
 pub least-with-spec : {M : Type 1} → statement M
-least-with-spec = tie.close (tie.spec cast-turns lesser-requires returns returns-2)
+least-with-spec = tie.close (tie.spec wide-requires lesser-requires returns returns-2)

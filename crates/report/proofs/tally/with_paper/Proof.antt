@@ -26,8 +26,8 @@ plus-requires-5 c κs = search needs
 least-with-requires : tie.Need-least-with-requires
 least-with-requires c κs = search needs
 
-cast-greater : tie.Need-cast-greater
-cast-greater c = search needs
+wide-requires : tie.Need-wide-requires
+wide-requires c κs = search needs
 
 greater-requires : tie.Need-greater-requires
 greater-requires c κs = search needs
@@ -48,6 +48,7 @@ returns c =
     let more = c .before .before .before .before .before .before .excess .ensures in
     let over = c .before .before .before .before .before .plus5 .ensures in
     let least = c .before .before .before .before .least-with .ensures in
+    let wide = c .before .before .before .wide .ensures in
     let greatest = c .before .before .greater .ensures in
     let below = c .before .below-with .ensures in
     (cc, record { pages = omega arith; x = omega arith; y = omega arith; turns = omega arith; excess = omega arith })
@@ -63,7 +64,7 @@ with-paper-spec =
     excess-requires
     plus-requires-5
     least-with-requires
-    cast-greater
+    wide-requires
     greater-requires
     below-with-requires
     add-t12
