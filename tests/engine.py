@@ -66,6 +66,23 @@ def maker(library, name='barleychime_make'):
     return make
 
 
+def reporter(library):
+    """The report as a function of marks, five words each: its eleven words, with anything amiss told."""
+    call = library.barleychime_report
+    call.restype = ctypes.c_uint32
+    call.argtypes = [ctypes.c_void_p, ctypes.c_size_t, ctypes.c_void_p]
+
+    def write(marks):
+        words = [word for mark in marks for word in mark]
+        lent, eleven = lend(words), (ctypes.c_uint64 * 12)(*[7] * 12)
+        returned = call(lent, len(marks), eleven)
+        if list(lent)[:len(words)] != words or eleven[11] != 7:
+            return ('wrote past the report',)
+        return tuple(eleven)[:11] if returned == eleven[0] else ('returned', returned, *eleven)
+
+    return write
+
+
 def report(tried, wrong):
     """Prints what went wrong, first things first, and the count of tests; the exit status."""
     for line in wrong[:20]:

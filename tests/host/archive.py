@@ -14,7 +14,7 @@ BEYOND = 5  # words lent past what is needed, to see that they stay
 def load(archive, folder):
     """The archive as a shared library, with its two functions pulled in."""
     shared = folder / 'libbarleychime.so'
-    wanted = ['-Wl,-u,barleychime_make', '-Wl,-u,barleychime_mark']
+    wanted = ['-Wl,-u,barleychime_make', '-Wl,-u,barleychime_mark', '-Wl,-u,barleychime_report']
     subprocess.run(['cc', '-shared', '-o', shared, *wanted, archive], check=True)
     library = ctypes.CDLL(str(shared))
     length = ctypes.c_size_t
