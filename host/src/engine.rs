@@ -20,6 +20,7 @@ mod c {
             answer: *mut [u32; 6],
         ) -> u32;
         pub fn barleychime_report(marks: *const super::Mark, marks_len: usize, report: *mut [u64; 11]) -> u32;
+        pub fn barleychime_section(size: u32, numbers: *mut [u32; 64], answer: *mut [u32; 2]) -> u32;
     }
 }
 
@@ -111,6 +112,21 @@ pub fn read(galley: &[u8]) -> Result<(), Refusal> {
     match mark(galley, &[]) {
         Err(refusal) if refusal.number <= 8 => Err(refusal),
         _ => Ok(()),
+    }
+}
+
+/// The pages of a stitched section as they stand on its nested sheets, in lent memory: four a sheet, front left and right,
+/// back left and right, the outermost sheet first. A size is a multiple of 4 from 4 to 64; any other is refused with 33.
+#[allow(unsafe_code)]
+pub fn section(size: u32, numbers: &mut [u32; 64]) -> Result<&[u32], Refusal> {
+    let mut answer = [0; 2];
+    // The areas are those of arrays that the borrow checker keeps apart, and the engine writes nothing else.
+    unsafe {
+        c::barleychime_section(size, numbers, &mut answer);
+    }
+    match answer {
+        [0, _] => Ok(&numbers[..size as usize]),
+        [number, place] => Err(Refusal { number, place }),
     }
 }
 

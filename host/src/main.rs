@@ -2,6 +2,7 @@
 #![forbid(unsafe_code)]
 
 mod commands;
+mod fold;
 mod help;
 mod output;
 
@@ -48,6 +49,7 @@ fn run(arguments: &[String], output: &mut Output) -> Result<Outcome, String> {
         "pack" => help::PACK,
         "unpack" => help::UNPACK,
         "report" => help::REPORT,
+        "fold" => help::FOLD,
         _ => return Err(format!("{command}: no such command; `barleychime --help` names them")),
     };
     // The one option besides help: what is handed in is marks, and no galley with lists.
@@ -67,6 +69,8 @@ fn run(arguments: &[String], output: &mut Output) -> Result<Outcome, String> {
         ("unpack", [galley]) => commands::unpack(galley, output),
         ("report", [file]) if marks => commands::report_on_marks(file, output),
         ("report", [galley, lists @ ..]) if !marks && !lists.is_empty() => commands::report(galley, lists, output),
+        ("fold", []) => fold::all(output),
+        ("fold", [size]) => fold::one(size, output),
         _ => Err(format!("usage: {}", help.lines().next().unwrap_or(""))),
     }
 }
@@ -75,7 +79,7 @@ fn told(output: &mut Output, text: &str) -> Result<Outcome, String> {
     output.print(text).map(|()| Outcome::Success)
 }
 
-/// The file names among a command's arguments; none if help is wanted instead.
+/// The file names, or the size, among a command's arguments; none if help is wanted instead.
 fn names(arguments: &[String]) -> Result<Option<Vec<&str>>, String> {
     let mut names = Vec::new();
     let mut options = true;

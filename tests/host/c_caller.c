@@ -1,5 +1,5 @@
-/* Case A through the C interface: makes it, prints what the program prints, marks two lists, tries too little memory, and
- * reports on two papers, the second time with one below its engine. */
+/* Case A through the C interface: makes it, prints what the program prints, marks two lists, and tries too little memory.
+ * Then two sections, one of a size that there is none of, and two reports, one with a paper below its engine. */
 #include <barleychime.h>
 #include <stdio.h>
 #include <string.h>
@@ -41,6 +41,18 @@ static void print_answer(const uint32_t answer[6])
     } else {
         printf("%u %u %u %u\n", (unsigned)answer[BARLEYCHIME_PAGES], (unsigned)answer[BARLEYCHIME_X],
                (unsigned)answer[BARLEYCHIME_Y], (unsigned)answer[BARLEYCHIME_TURNS]);
+    }
+}
+
+static void print_section(uint32_t size)
+{
+    uint32_t numbers[64], answer[2];
+    if (barleychime_section(size, numbers, answer) != 0) {
+        printf("R %u %u\n", (unsigned)answer[BARLEYCHIME_NUMBER], (unsigned)answer[BARLEYCHIME_PLACE]);
+        return;
+    }
+    for (uint32_t k = 0; k < size; k++) {
+        printf("%u%c", (unsigned)numbers[k], k + 1 < size ? ' ' : '\n');
     }
 }
 
@@ -89,6 +101,8 @@ int main(void)
     print_answer(answer);
     barleychime_make(galley, galley_len, work, WORK, pages, 0, answer);
     print_answer(answer);
+    print_section(8);
+    print_section(6);
     print_report(papers);
     papers[1].turns = 0;
     print_report(papers);

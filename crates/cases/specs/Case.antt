@@ -67,6 +67,10 @@ marks p x y t = makes p x y t []
 unfoldable pub refuses : ℕ → ℕ → Reply
 refuses n at = record { numbers = record { number = n; place = at; pages = 0; x = 0; y = 0; turns = 0 }; list = [] }
 
+-- A galley, what is asked of it, and what is to be answered.
+unfoldable pub asks : Galley → Question → Reply → Case
+asks g question reply = record { galley = g; question = question; reply = reply }
+
 -- What the page model answers.
 unfoldable pub answered : Galley → Question → Reply
 answered g making = record { numbers = numbersOf (made g); list = madeWords g }

@@ -1,4 +1,4 @@
--- What the walks over a `Reader` share besides what all walks by hand do, which is passed on here.
+-- What the walks over a `Reader` share, besides what all walks by hand do.
 --     of-slice, of-number, of-reader      the types of the arguments
 --     held, found                 the machine value of a reader has its type, and that of a record
 --     apart, together             what a reader owns gives what its bytes own; what bytes own, with an offset that fits, gives
@@ -33,7 +33,7 @@ use Rattle.galley.proofs.Record as S
 use Rattle.galley.proofs.Record.Laws as S′
 use Rattle.galley.proofs.reader.Reader as T
 use Rattle.galley.proofs.reader.Reader.Laws as T′
-pub use Rattle.byhand.specs.Walk.{Passed, Call, Walks, proved, calls, ends, first, alone, beside}
+use Rattle.byhand.specs.Walk.{Passed, beside}
 
 abbrev pub Bytes : Lft → RattleType
 Bytes κ = ShrSlice (named 0) κ u8

@@ -1,17 +1,17 @@
 -- Case C of document 01 by computation: the work area is filled, whatever it held, and the walk back writes the list of C1.
 use mathlib.Core.Path.{_≡_, refl}
-use mathlib.Core.Bool.{Bool, true, false}
+use mathlib.Core.Bool.{true}
 use mathlib.Core.List.{List, [], _∷_}
 use Prim.Native.Nat.{ℕ, zero, suc, pred}
 use lib.ListN.{replicate, getD, length}
 use Rattle.model.specs.Gather.{sum, between, total, each, every, row as rowOf}
-use Rattle.model.specs.Galley.{count, streams, zeros, sizes, blocks, Stream, Galley, Sides, single, double}
+use Rattle.model.specs.Galley.{count, streams, zeros, sizes, blocks, Stream, Galley, double}
 use Rattle.model.specs.Height.{has, kinds, stacked, height, tightest, loosest}
 use Rattle.model.specs.Leaf.{leaf, ends}
 use Rattle.model.specs.Rules.{forward, mayEnd, closes, fits, fills, cited}
 use Rattle.model.specs.Answers.{same}
-use Rattle.theorems.specs.Waiting.{dangles, waitingIn, waiting, pageCost}
-use Rattle.theorems.specs.PageGraph.{full}
+use Rattle.theorems.specs.turns.Waiting.{dangles, waitingIn, waiting, pageCost}
+use Rattle.theorems.specs.pages.Graph.{full}
 use Rattle.places.specs.Entry.{entryAt, put, stored}
 use Rattle.places.specs.Address.{address}
 use Rattle.places.specs.Table.{tableOf}

@@ -1,7 +1,7 @@
 -- The report on a list of marks, by papers 1 to n (document 02, S-12). The types `Mark`, `Totals` and `Report` are those of
 -- src/lib.rt.
 use Prim.Native.Nat.{ℕ, zero, suc, pred, _-_, min, max}
-use mathlib.Core.Bool.{Bool, true, false}
+use mathlib.Core.Bool.{Bool}
 use mathlib.Core.List.{List, [], _∷_}
 use lib.Dec.{ltb}
 use lib.ListN.{length, getD}

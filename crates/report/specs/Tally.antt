@@ -1,6 +1,5 @@
 -- The tally that the code keeps, paper after paper, and the report by it.
 use Prim.Native.Nat.{ℕ, _+_, _-_, _*_, _≤_, min, max}
-use mathlib.Core.Bool.{Bool, true, false}
 use mathlib.Core.List.{List}
 use lib.Dec.{leb, ltb, eqb}
 use Rattle.model.specs.Gather.{pick}
