@@ -1,7 +1,10 @@
 """The command's reports: galleys with lists, and marks as text, against sums in Python; what cannot be reported on."""
 
 import collections
+import os
 import random
+import re
+import subprocess
 from decimal import ROUND_HALF_UP, Decimal
 from fractions import Fraction
 
@@ -130,6 +133,26 @@ def turned_away(tally, command, folder):
     tally.group('command: reports that are turned away')
 
 
-def run(tally, command, folder):
+def many_galleys(tally, command, root, folder):
+    """README.md's command line for a term: the marks of two galleys' lists in one report, a refused list among them."""
+    [lines] = re.findall(r'^    for galley in term/.*?^    done .*?\n', (root / 'README.md').read_text(), re.M | re.S)
+    term, marks = folder / 'term', []
+    for name, galley, lists in [('case a', cases.A, [(1, 1, 3, 1), (3, 0, 3, 1), (2, 1, 3, 1)]),
+                                ('case c', cases.C, [(2, 0, 3, 0, 4, 0, 4, 1)])]:
+        (term / name).mkdir(parents=True)
+        file(term, f'{name}.galley', write(galley))
+        engines = marking.mark(galley, search.best(galley))[4]
+        for number, words in enumerate(lists):
+            file(term / name, f'{number}.list', text_of(words))
+            answer = marking.mark(galley, words)
+            marks += [(*answer[1:], engines)] if answer[0] == 'accepted' else []
+    path = f'{command.program.parent}{os.pathsep}{os.environ["PATH"]}'
+    ran = subprocess.run(lines, shell=True, cwd=folder, capture_output=True, text=True, env={**os.environ, 'PATH': path})
+    tally.same('a term of many galleys', (ran.returncode, ran.stdout, len(marks)), (0, in_words(marks), 3))
+    tally.group('command: a report on a term')
+
+
+def run(tally, command, root, folder):
     for group in (lists_of_galleys, marks_as_text, turned_away):
         group(tally, command, folder)
+    many_galleys(tally, command, root, folder)

@@ -48,7 +48,7 @@ def main():
         command_line.run(tally, command, ROOT, folder)
         round_trips.run(tally, command, ROOT, folder)
         explained.run(tally, command, folder)
-        reported.run(tally, command, folder)
+        reported.run(tally, command, ROOT, folder)
         examples.run(tally, command, ROOT, library, folder)
         samples.run(tally, command, ROOT, folder)
         table.run(tally, command, ROOT)

@@ -3,12 +3,11 @@ use Prim.Native.Nat.{ℕ, zero, suc, _+_, _-_, _*_, _^_, _≤_, _<_, min, max}
 use native.Mathlib.Nat.{le-refl}
 use native.Mathlib.Omega.{arith}
 use mathlib.Core.Path.{_≡_, refl, sym, _∙_}
-use mathlib.Core.Logic.{_⊎_, inl, inr}
 use mathlib.Core.Bool.{Bool, true, false}
 use mathlib.Core.List.{List, [], _∷_}
-use lib.Dec.{leb, ltb}
+use lib.Dec.{ltb}
 use lib.ListN.{length}
-use borrow.Author.Tests.{leb-true, leb-false, ltb-true, ltb-false, lt-ltb}
+use borrow.Author.Tests.{ltb-true, ltb-false, lt-ltb}
 use Rattle.model.specs.Gather.{pick, sum}
 use Rattle.model.specs.laws.Gather.{sum-add, sum-ext}
 use Rattle.report.specs.declared.Mark.{Mark}
@@ -16,7 +15,7 @@ use Rattle.report.specs.declared.Totals.{Totals}
 use Rattle.report.specs.declared.Report.{Report}
 use Rattle.report.specs.declared.Report.the-variants.{Summed, Refused}
 use Rattle.report.specs.Report.{paper, extreme, first, firstBelow, totalsOf, reportOf, wordsOf}
-use Rattle.report.specs.laws.Extreme.{Reached, extreme-reached, extreme-bounds}
+use Rattle.report.specs.laws.Extreme.{either, Reached, extreme-reached, extreme-bounds}
 use Rattle.report.specs.laws.First.{Fails, First, nowhere, somewhere, first-is}
 
 -- The turns of paper k, and the engine's for the same galley.
@@ -41,7 +40,7 @@ pub record Exact (marks : List Mark) (n : ℕ) (f : Totals) : Type 0 where
   pub greatest-reached : 1 ≤ n → Reached n (turnsOf marks) (f .greatest)
 
 -- What a report says of the marks, case by case: they are more than 10,000; or a paper is below its engine, and none before it;
--- or none is, and the figures are those of all papers and exact.
+-- or none is, and the totals are those of all papers and exact.
 pub data Reports (marks : List Mark) : Report → Type 0 where
   too-many : 10000 < length marks → Reports marks (Refused 31 0)
   below : {j : ℕ} → length marks ≤ 10000 → j < length marks → turnsOf marks (suc j) < engineOf marks (suc j)
@@ -56,21 +55,7 @@ excess-sum marks n above =
     sym (sum-add n (λ k. turnsOf marks k - engineOf marks k) (engineOf marks))
     ∙ sum-ext n (λ k. turnsOf marks k - engineOf marks k + engineOf marks k) (turnsOf marks) (λ k p q. let l = above k p q in omega arith)
 
--- The lesser and the greater of two numbers is one of them.
-min-one : (a b : ℕ) → (min a b ≡ a) ⊎ (min a b ≡ b)
-min-one a b = go (leb a b) refl
-  where
-    go : (t : Bool) → leb a b ≡ t → (min a b ≡ a) ⊎ (min a b ≡ b)
-    go true e = let l = leb-true a b e in inl (omega arith)
-    go false e = let l = leb-false a b e in inr (omega arith)
-
-max-one : (a b : ℕ) → (max a b ≡ a) ⊎ (max a b ≡ b)
-max-one a b = go (leb b a) refl
-  where
-    go : (t : Bool) → leb b a ≡ t → (max a b ≡ a) ⊎ (max a b ≡ b)
-    go true e = let l = leb-true b a e in inl (omega arith)
-    go false e = let l = leb-false b a e in inr (omega arith)
-
+-- Where no paper is below its engine, the totals are exact.
 exact : (marks : List Mark) (n : ℕ) → NoneBelow marks n → Exact marks n (totalsOf marks n)
 unfolding totalsOf
 exact marks n above =
@@ -80,8 +65,8 @@ exact marks n above =
       excess-difference = omega arith;
       least-bounds = extreme-bounds min _≤_ le-refl (λ a b c p q. omega arith) (λ a b. omega arith) (λ a b. omega arith) n (turnsOf marks);
       greatest-bounds = extreme-bounds max (λ a b. b ≤ a) le-refl (λ a b c p q. omega arith) (λ a b. omega arith) (λ a b. omega arith) n (turnsOf marks);
-      least-reached = extreme-reached min min-one n (turnsOf marks);
-      greatest-reached = extreme-reached max max-one n (turnsOf marks);
+      least-reached = extreme-reached min (λ a b. either a b (λ l. omega arith) (λ l. omega arith)) n (turnsOf marks);
+      greatest-reached = extreme-reached max (λ a b. either b a (λ l. omega arith) (λ l. omega arith)) n (turnsOf marks);
     }
 
 -- No test for a paper below its engine holds where none is below.

@@ -50,7 +50,7 @@ totalsOf marks n = record {
   count = n;
 }
 
--- The report: 31 for more than 10,000 marks, then 32 for the first paper below its engine, else the figures of all papers
+-- The report: 31 for more than 10,000 marks, then 32 for the first paper below its engine, else the totals of all papers
 -- (document 02, S-12).
 unfoldable pub reportOf : List Mark → Report
 reportOf marks =

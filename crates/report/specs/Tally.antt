@@ -9,7 +9,7 @@ use Rattle.report.specs.declared.Report.the-variants.{Summed, Refused}
 use Rattle.report.specs.declared.tally.Tally.{Tally}
 use Rattle.report.specs.Report.{totalsOf, firstBelow}
 
--- The tally of n papers: their figures, and the first that is below its engine.
+-- The tally of n papers: their totals, and the first that is below its engine.
 unfoldable pub tallyOf : List Mark → ℕ → Tally
 tallyOf marks n = record {
   papers = n;
@@ -23,6 +23,7 @@ tallyOf marks n = record {
   below = firstBelow marks n;
 }
 
+-- The tally of no papers.
 abbrev pub noPapers : Tally
 noPapers = record { papers = 0; pages = 0; x = 0; y = 0; turns = 0; least = 0; greatest = 0; excess = 0; below = 0 }
 

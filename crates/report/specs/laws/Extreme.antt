@@ -4,7 +4,18 @@ use native.Mathlib.Nat.{le-suc-iff}
 use native.Mathlib.Omega.{arith}
 use mathlib.Core.Path.{_≡_, refl, sym, _∙_}
 use mathlib.Core.Logic.{_⊎_, inl, inr}
+use mathlib.Core.Bool.{Bool, true, false}
+use lib.Dec.{leb}
+use borrow.Author.Tests.{leb-true, leb-false}
 use Rattle.report.specs.Report.{extreme}
+
+-- Of two numbers either is not above the other.
+pub either : {P Q : Type 0} (a b : ℕ) → (a ≤ b → P) → (b ≤ a → Q) → P ⊎ Q
+either {P} {Q} a b p q = go (leb a b) refl
+  where
+    go : (t : Bool) → leb a b ≡ t → P ⊎ Q
+    go true e = inl (p (leb-true a b e))
+    go false e = let l = leb-false a b e in inr (q (omega arith))
 
 -- A number from 1 to n at which f is v.
 abbrev pub Reached : ℕ → (ℕ → ℕ) → ℕ → Type 0
