@@ -16,8 +16,8 @@ use Rattle.galley.specs.declared.Record.{Record}
 use Rattle.galley.specs.declared.Record.the-variants as found
 use Rattle.galley.specs.declared.Reading.{Reading}
 use Rattle.galley.specs.declared.Reading.the-variants as reads
-use Rattle.galley.specs.Pick.{pick}
-use Rattle.galley.specs.Laws.Pick.{pick-has}
+use Rattle.model.specs.Gather.{pick}
+use Rattle.galley.specs.laws.Pick.{pick-has}
 use Rattle.galley.specs.Word.{markAt}
 use Rattle.galley.specs.Mark.{kindOf}
 use Rattle.galley.specs.Range.{specInRange, lineInRange, figureInRange}

@@ -14,7 +14,7 @@ use Rattle.galley.specs.declared.Galley.{Galley}
 use Rattle.galley.specs.declared.Reading.the-variants as reads
 use Rattle.galley.specs.Whole.{galleyOf}
 use Rattle.galley.specs.Model.{modelOf}
-use Rattle.galley.specs.Laws.Sound.{sound}
+use Rattle.galley.specs.laws.Sound.{sound}
 use Rattle.places.specs.Address.{address, wordsNeeded, Small}
 use Rattle.places.specs.Entry.{cleared}
 use Rattle.places.specs.laws.Address.{address-in, words-small}

@@ -27,7 +27,7 @@ use Rattle.galley.specs.declared.Galley.{Galley}
 use Rattle.galley.specs.declared.Reading.the-variants as reads
 use Rattle.galley.specs.Whole.{galleyOf}
 use Rattle.galley.specs.Model.{modelOf}
-use Rattle.galley.specs.Laws.Sound.{sound}
+use Rattle.galley.specs.laws.Sound.{sound}
 use Rattle.marking.specs.Mark.{markRead, markOf}
 use Rattle.rules.specs.laws.Sane.{reads-sane}
 use Rattle.places.specs.declared.Entry.{Entry}

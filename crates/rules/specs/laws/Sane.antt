@@ -9,7 +9,7 @@ use Rattle.galley.specs.declared.Reading.the-variants as reads
 use Rattle.galley.specs.Whole.{galleyOf}
 use Rattle.galley.specs.Model.{modelOf}
 use Rattle.galley.specs.Sound.{Sound}
-use Rattle.galley.specs.Laws.Sound.{sound}
+use Rattle.galley.specs.laws.Sound.{sound}
 
 -- There is a line, and the figures are cited in order by lines that exist.
 pub sound-sane : (bytes : List ℕ) (g : Galley) → Sound bytes g → Sane (modelOf bytes g)

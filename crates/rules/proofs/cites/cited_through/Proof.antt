@@ -4,7 +4,7 @@ use Prim.Native.Nat.{ℕ, _-_, _≤_}
 use borrow.Author.Needs.{needs}
 use denote.Ref.{now}
 use native.Mathlib.Omega.{arith}
-use Rattle.galley.specs.Laws.Sound.{sound-within}
+use Rattle.galley.specs.laws.Sound.{sound-within}
 use Rattle.galley.specs.Model.{figuresOf}
 use Rattle.rules.specs.laws.Citing.{citing-stop, citing-all, upto-next}
 use Rattle.rules.specs.laws.Sane.{sound-sane}

@@ -4,7 +4,7 @@ use borrow.Author.Tests.{ltb-true}
 use denote.Ref.{now}
 use lib.Dec.{ltb}
 use mathlib.Core.Bool.{Bool, _||_}
-use Rattle.galley.specs.Laws.Sound.{sound-within}
+use Rattle.galley.specs.laws.Sound.{sound-within}
 use Rattle.rules.specs.laws.Two.{cited-two}
 use Rattle.model.specs.laws.Gather.{and-right}
 use Rattle.rules.proofs.rules.is_cited.Statement.{statement}

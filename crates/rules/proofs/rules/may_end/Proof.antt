@@ -2,7 +2,7 @@
 use borrow.Author.Tests.{ltb-true}
 use lib.Dec.{ltb}
 use native.Mathlib.Omega.{arith}
-use Rattle.galley.specs.Laws.Sound.{sound-within}
+use Rattle.galley.specs.laws.Sound.{sound-within}
 use Rattle.model.specs.Rules.{mayEnd}
 use Rattle.model.specs.laws.Gather.{and-left, and-right}
 use Rattle.rules.proofs.rules.may_end.Statement.{statement}
