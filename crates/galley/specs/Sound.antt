@@ -20,11 +20,16 @@ pub record SoundStream (bytes : List ℕ) (stream : Stream) : Type 0 where
 abbrev pub Reads : List ℕ → Stream → (ℕ → Record) → Type 0
 Reads bytes stream due = (k : ℕ) → 1 ≤ k → k ≤ stream .count → recordAt bytes (offset stream k) ≡ due (offset stream k)
 
--- Each float of the stream is cited by one of so many lines, and none by a line before the one that cites the float before.
+-- Citations never decrease along the stream.
+abbrev pub Growing : List ℕ → Stream → Type 0
+Growing bytes floats =
+    (j k : ℕ) → 1 ≤ j → j ≤ k → k ≤ floats .count → fieldOf bytes floats citeAt j ≤ fieldOf bytes floats citeAt k
+
+-- Each float of the stream is cited by one of so many lines, none by a line before the one that cites the float before it.
 pub record SoundCitations (bytes : List ℕ) (floats : Stream) (lines : ℕ) : Type 0 where
   pub some : (k : ℕ) → 1 ≤ k → k ≤ floats .count → 1 ≤ fieldOf bytes floats citeAt k
   pub line : (k : ℕ) → 1 ≤ k → k ≤ floats .count → fieldOf bytes floats citeAt k ≤ lines
-  pub grow : (j k : ℕ) → 1 ≤ j → j ≤ k → k ≤ floats .count → fieldOf bytes floats citeAt j ≤ fieldOf bytes floats citeAt k
+  pub grow : Growing bytes floats
 
 -- From 1 to 4,000 lines and up to 200 figures, each read where its number says, every field in range, citations that name
 -- lines and never decrease, and nothing between or after the records.
