@@ -1,17 +1,27 @@
 -- The heights of a page, block by block (paper, section 2, on white space; document 01, "One page").
 use Prim.Native.Nat.{ℕ, _+_, _≤_}
-use mathlib.Core.Bool.{Bool, true}
+use mathlib.Core.Bool.{Bool, true, _&&_}
 use mathlib.Core.List.{List}
 use mathlib.Core.Path.{_≡_}
 use lib.Dec.{ltb, leb}
 use Rattle.model.specs.Gather.{pick}
 use Rattle.model.specs.Height.{stacked}
 use Rattle.model.specs.Galley as model
+use Rattle.galley.specs.declared.Spec.{Spec}
 use Rattle.galley.specs.declared.Stream.{Stream}
 use Rattle.galley.specs.Record.{heightAt, leastAt, mostAt}
 use Rattle.galley.specs.Block.{fieldOf}
 use Rattle.galley.specs.Sound.{SoundStream}
 use Rattle.blocks.specs.declared.heights.Heights.{Heights}
+
+-- The separation of a page that has both kinds, else 0.
+unfoldable pub separation : Bool → Bool → ℕ → ℕ
+separation lines figures s = pick (lines && figures) s 0
+
+-- The heights of a page before its first block: its separation.
+unfoldable pub apartBy : Spec → Bool → Bool → Heights
+apartBy spec lines figures =
+    record { tight = separation lines figures (spec .smin); loose = separation lines figures (spec .smax) }
 
 -- What block k adds: its own height, and the space after block `gap`, of the field at `at`, where that is on the page.
 unfoldable pub added : List ℕ → Stream → ℕ → ℕ → ℕ → Bool → ℕ

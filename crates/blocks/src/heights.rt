@@ -1,13 +1,27 @@
 // The heights of a page, block by block: a marking goes forward from the page's start, a search back from its end.
 ghost use mathlib.Core.Path.{_≡_};
 ghost use Prim.Native.Nat.{_+_};
-ghost use Rattle.blocks.specs.Heights.{Joint, Room, putOn, withBlock, blockBefore};
+ghost use Rattle.blocks.specs.Heights.{Joint, Room, apartBy, putOn, withBlock, blockBefore};
+use galley::Galley;
 use galley::Stream;
 
 // Heights with every space at its least, and with every space at its greatest.
 pub struct Heights {
     pub tight: u32,
     pub loose: u32,
+}
+
+// The heights of a page before its first block: a separation where it has both kinds.
+pub fn apart_by(g: Galley, lines: bool, figures: bool) -> Heights
+    ensures { λ r. ⌜ r ≡ apartBy (g .spec) lines figures ⌝ }
+{
+    if lines & figures {
+        return Heights {
+            tight: g.spec.smin,
+            loose: g.spec.smax,
+        };
+    }
+    Heights { tight: 0, loose: 0 }
 }
 
 // The heights with block k more, and with the space after block `gap` where that is on the page.

@@ -23,10 +23,6 @@ startFault g u v = pick (forward g u v) (pick (closes g v) 0 14) 13
 unfoldable pub endFault : Bool → Bool → ℕ
 endFault fills cited = pick fills (pick cited 0 17) 16
 
--- The separation of a page that has both kinds, else 0.
-unfoldable pub separation : Bool → Bool → ℕ → ℕ
-separation lines figures s = pick (lines && figures) s 0
-
 -- The first c floats of a stream are cited by line a or earlier, and no other.
 pub record Citing (st : model.Stream) (a c : ℕ) : Type 0 where
   pub few : c ≤ st .size

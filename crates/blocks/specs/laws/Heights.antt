@@ -1,21 +1,22 @@
 -- What putting a block on does to heights: they are those of the page model with one block more.
-use Prim.Native.Nat.{ℕ, _+_, _-_, _*_, _≤_}
+use Prim.Native.Nat.{ℕ, _+_, _*_, _≤_, _<_}
 use native.Mathlib.Omega.{arith}
 use mathlib.Core.Path.{_≡_, refl, sym, _∙_}
 use mathlib.Core.Bool.{Bool, true, false}
 use mathlib.Core.List.{List}
 use lib.Dec.{leb, ltb}
-use borrow.Author.Tests.{leb-true, leb-false}
+use borrow.Author.Tests.{leb-true, leb-false, ltb-true}
 use Rattle.model.specs.Gather.{pick}
 use Rattle.model.specs.Galley as model
+use Rattle.model.specs.Height.{stacked}
 use Rattle.galley.specs.declared.Stream.{Stream}
 use Rattle.galley.specs.Model.{streamOf}
 use Rattle.galley.specs.Record.{leastAt, mostAt}
 use Rattle.galley.specs.Block.{fieldOf}
 use Rattle.galley.specs.Sound.{SoundStream}
 use Rattle.blocks.specs.declared.heights.Heights.{Heights}
-use Rattle.blocks.specs.Heights.{added, putOn, blockBefore, Room, Stacked}
-use Rattle.blocks.specs.laws.Stacked.{stacked-none, stacked-front, stacked-low}
+use Rattle.blocks.specs.Heights.{added, putOn, withBlock, blockBefore, Room, Stacked}
+use Rattle.blocks.specs.laws.Stacked.{stacked-none, stacked-next, stacked-front, stacked-low}
 
 -- No block, whatever heights are 0.
 pub stacked-nothing : (st : model.Stream) (a b : ℕ) → b ≤ a → Stacked st a b (record { tight = 0; loose = 0 })
@@ -44,6 +45,27 @@ module _ (bytes : List ℕ) (stream : Stream) (sound : SoundStream bytes stream)
       added-low leastAt (λ k p q. let r = sound .ranged k p q in omega (arith, r .leasts, r .mosts)) k gap spaced some within space in
       let loose = added-low mostAt (λ k p q. sound .ranged k p q .mosts) k gap spaced some within space in
       (omega arith, omega arith)
+
+-- From heights with blocks a + 1 to k of a stream to heights with block k + 1 too, and how much higher these can be.
+pub record Grown (st : model.Stream) (a k : ℕ) (h more : Heights) : Type 0 where
+  pub tight : more .tight + stacked st (st .least) a k ≡ h .tight + stacked st (st .least) a (k + 1)
+  pub loose : more .loose + stacked st (st .most) a k ≡ h .loose + stacked st (st .most) a (k + 1)
+  pub tightMost : more .tight ≤ h .tight + 200000
+  pub looseMost : more .loose ≤ h .loose + 200000
+
+-- Going forward by one block.
+pub with-grown : (bytes : List ℕ) (stream : Stream) {legal : ℕ → Bool} {cite : ℕ → ℕ} → SoundStream bytes stream
+    → (a k : ℕ) (h : Heights) → a ≤ k → k < stream .count
+    → Grown (streamOf bytes stream legal cite) a k h (withBlock bytes stream h a k)
+unfolding putOn added
+with-grown bytes stream {legal} {cite} sound a k h up within =
+    let st = streamOf bytes stream legal cite in
+    let tight = stacked-next st (st .least) a k up in
+    let loose = stacked-next st (st .most) a k up in
+    let low =
+    put-low bytes stream sound h (k + 1) k (ltb a k) (omega arith) (omega arith)
+    (λ t. let l = ltb-true a k t in (omega arith, omega arith)) in
+    record { tight = omega arith; loose = omega arith; tightMost = low .0; looseMost = low .1 }
 
 -- Heights at least and at greatest spaces are no more than a number.
 pub record Low (most : ℕ) (h : Heights) : Type 0 where

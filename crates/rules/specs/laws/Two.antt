@@ -13,7 +13,7 @@ use Rattle.model.specs.Rules.{forward, mayEnd, closes, cited}
 use Rattle.model.specs.Answers.{same}
 use Rattle.galley.specs.declared.Galley.{Galley}
 use Rattle.galley.specs.Model.{textOf, floatsOf, modelOf}
-use Rattle.rules.specs.Parts.{separation}
+use Rattle.blocks.specs.Heights.{separation}
 
 some-kind : (a b : Bool) → ltb 0 (one a + (0 + one b)) ≡ (a || b)
 some-kind true true = refl
