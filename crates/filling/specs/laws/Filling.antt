@@ -95,34 +95,6 @@ pub place-double : (g : model.Galley) (n i j : ℕ) (w : List ℕ) → n ≡ 2
 unfolding sidesOf fillPlace
 place-double g n i j w e = rw (eq-eqb n 2 e)
 
--- Side 0 comes first, and then side 1 in double-sided work.
-pub side-first : (bytes : List ℕ) (g : Galley) (w : List ℕ) (i j cited : ℕ) → PlaceAsked bytes g w i j cited
-    → SideAsked bytes g w i j 0 cited
-side-first bytes g w i j cited asked =
-    record {
-      placed = asked .placed;
-      room = asked .room;
-      citing = asked .citing;
-      side = side-zero (sidesOf (g .spec .sides));
-      filled = asked .filled;
-    }
-
-pub side-second : (bytes : List ℕ) (g : Galley) (w : List ℕ) (i j cited : ℕ) → PlaceAsked bytes g w i j cited
-    → g .spec .sides ≡ 2
-    → SideAsked bytes g (fillSide (modelOf bytes g) i j 0 w) i j 1 cited
-unfolding Room tall
-side-second bytes g w i j cited asked e =
-    let long = length-side (modelOf bytes g) i j 0 w in
-    record {
-      placed = asked .placed;
-      room = omega (arith, asked .room);
-      citing = asked .citing;
-      side = side-one (g .spec .sides) e;
-      filled =
-          filled-keeps (modelOf bytes g) (dearest-light bytes g (asked .placed .sound)) i j (asked .placed .line)
-          (asked .placed .figure) 0 w (asked .room) (omega arith) (asked .filled);
-    }
-
 module _ (bytes : List ℕ) (g : Galley) (w₀ : List ℕ) where
   module _ (j : ℕ) where
     -- Before its first place nothing of the column is filled.

@@ -17,24 +17,22 @@ use Rattle.window.specs.Queue.{columnOf, FeedAsked, FrontAsked}
 use Rattle.window.specs.laws.Sums.{sums-small}
 use Rattle.starts.specs.declared.heights.Heights.{Heights}
 use Rattle.starts.specs.Heights.{Stacked}
-use Rattle.starts.specs.Sweep.{loadOf, Lent, Summed, Addable, AloneAsked}
+use Rattle.starts.specs.Sweep.{sideOf, loadOf, Lent, Summed, Addable, AloneAsked}
 use Rattle.starts.specs.laws.Heights.{figures-low}
+use Rattle.starts.specs.laws.Queues.{side-either}
 
 -- What is lent for a column is the same while the lengths are.
-pub lent-sized : {bytes : List ℕ} {g : Galley} {w words best : List ℕ} {j side : ℕ} (words′ best′ : List ℕ)
-    → length words′ ≡ length words → length best′ ≡ length best → Lent bytes g w words best j side → Lent bytes g w words′
-    best′ j side
-lent-sized words′ best′ p q l =
+pub lent-sized : {bytes : List ℕ} {g : Galley} {w words : List ℕ} {j : ℕ} (w′ words′ : List ℕ) → length w′ ≡ length w
+    → length words′ ≡ length words → Lent bytes g w words j → Lent bytes g w′ words′ j
+lent-sized w′ words′ p q l =
     record {
       sound = l .sound;
       column = l .column;
-      room = l .room;
+      room = omega (arith, l .room);
       wordsRoom = omega (arith, l .wordsRoom);
-      bestRoom = omega (arith, l .bestRoom);
-      either = l .either;
     }
 
-module _ {bytes : List ℕ} {g : Galley} {w words best : List ℕ} {j side : ℕ} (lent : Lent bytes g w words best j side) where
+module _ {bytes : List ℕ} {g : Galley} {w words : List ℕ} {j : ℕ} (lent : Lent bytes g w words j) where
   -- The figures of a page can be added to its lines.
   pub figures-add : (b : ℕ) (figures : Heights) → Stacked (figuresOf bytes g) b j figures → Addable g figures
   figures-add b figures floats =
@@ -78,19 +76,19 @@ module _ {bytes : List ℕ} {g : Galley} {w words best : List ℕ} {j side : ℕ
           }
 
   -- A queue of starts with b figures can be moved on to a window that ends by line i.
-  pub can-feed : (b : ℕ) → b ≤ g .figures → (queue : Queue) (old new : Window) (i : ℕ) → i ≤ g .lines → old .high ≤ new .high
-      → new .high ≤ i
-      → queue .head ≤ queue .tail → queue .tail ≤ old .high → FeedAsked w (g .lines + 1) b side words queue (old .high)
-      (new .high)
-  can-feed b k queue old new i h rises inside order short =
+  pub can-feed : (b : ℕ) → b ≤ g .figures → (queue : Queue) (c from to i : ℕ) → i ≤ g .lines → from ≤ to → to ≤ i
+      → queue .base ≤ g .lines → queue .base ≤ queue .head → queue .head ≤ queue .tail → queue .tail ≤ queue .base + from
+      → FeedAsked w (g .lines + 1) b (sideOf g c) words queue from to
+  can-feed b k queue c from to i h rises inside low based order short =
       record {
         high = omega (arith, lent .sound .fewLines);
         row = omega arith;
         column = omega (arith, lent .sound .fewFigures);
-        either = lent .either;
+        either = side-either g c;
         stands = λ a l.
-            let within = address-in (g .lines) (g .figures) a b side (omega arith) k (lent .either) in
+            let within = address-in (g .lines) (g .figures) a b (sideOf g c) (omega arith) k (side-either g c) in
             omega (arith, lent .room);
+        based = based;
         order = order;
         short = short;
         start = rises;
@@ -98,21 +96,20 @@ module _ {bytes : List ℕ} {g : Galley} {w words best : List ℕ} {j side : ℕ
       }
 
   -- The first entry of the queue of such a window can be read.
-  pub can-front : (b : ℕ) → b ≤ g .figures → (queue : Queue) (high i : ℕ) → i ≤ g .lines → high ≤ i → queue .head ≤
-      queue .tail → queue .tail ≤ high
-      → FrontAsked words queue b
-  can-front b k queue high i h l order short =
+  pub can-front : (b : ℕ) → b ≤ g .figures → (queue : Queue) (high : ℕ) → high ≤ g .lines → queue .base ≤ g .lines
+      → queue .head ≤ queue .tail → queue .tail ≤ queue .base + high → FrontAsked words queue b
+  can-front b k queue high l low order short =
       record { order = order; room = omega (arith, lent .wordsRoom); column = omega (arith, lent .sound .fewFigures) }
 
   -- (i, b) is a place.
-  pub can-alone : (i b : ℕ) → i ≤ g .lines → b ≤ g .figures → AloneAsked g w i b side
-  can-alone i b h k =
+  pub can-alone : (i b c : ℕ) → i ≤ g .lines → b ≤ g .figures → AloneAsked g w i b (sideOf g c)
+  can-alone i b c h k =
       record {
         few = lent .sound .fewLines;
         line = h;
         figure = omega (arith, lent .sound .fewFigures);
         within = k;
-        either = lent .either;
+        either = side-either g c;
         room = lent .room;
       }
 
