@@ -1,7 +1,7 @@
 // The heights of a page, block by block: a marking goes forward from the page's start, a search back from its end.
 ghost use mathlib.Core.Path.{_≡_};
 ghost use Prim.Native.Nat.{_+_};
-ghost use Rattle.blocks.specs.Heights.{Joint, Room, apartBy, putOn, withBlock, blockBefore};
+ghost use Rattle.blocks.specs.Heights.{Joint, Room, Addable, apartBy, putOn, withBlock, blockBefore, together};
 use galley::Galley;
 use galley::Stream;
 
@@ -11,11 +11,11 @@ pub struct Heights {
     pub loose: u32,
 }
 
-// The heights of a page before its first block: a separation where it has both kinds.
-pub fn apart_by(g: Galley, lines: bool, figures: bool) -> Heights
-    ensures { λ r. ⌜ r ≡ apartBy (g .spec) lines figures ⌝ }
+// The heights of a page before its first block: a separation where it is to have both kinds.
+pub fn apart_by(g: Galley, mixed: bool) -> Heights
+    ensures { λ r. ⌜ r ≡ apartBy (g .spec) mixed ⌝ }
 {
-    if lines & figures {
+    if mixed {
         return Heights {
             tight: g.spec.smin,
             loose: g.spec.smax,
@@ -61,4 +61,16 @@ pub fn block_before(s: &[u8], stream: Stream, heights: Heights, a: usize, b: usi
         return heights;
     }
     put_on(s, stream, heights, a + 1, a + 1, a + 1 < b)
+}
+
+// The heights of a page of these lines and figures, apart where it has both kinds.
+pub fn page_heights(g: Galley, mixed: bool, lines: Heights, figures: Heights) -> Heights
+    requires { ⌜ Addable (g .spec) lines figures ⌝ }
+    ensures { λ r. ⌜ r ≡ together (g .spec) mixed lines figures ⌝ }
+{
+    let apart = apart_by(g, mixed);
+    Heights {
+        tight: lines.tight + figures.tight + apart.tight,
+        loose: lines.loose + figures.loose + apart.loose,
+    }
 }

@@ -25,7 +25,7 @@ use Rattle.filling.specs.Run.{ColumnRun, TableRun}
 
 -- A page of lines alone has nothing beside them.
 abbrev pub plain : Galley → Load
-plain g = loadOf g false (record { tight = 0; loose = 0 })
+plain g = loadOf g false noHeights
 
 -- The entries before the place are filled, and the starts of its page on a side are known.
 pub record EntryAsked (bytes : List ℕ) (g : Galley) (w words : List ℕ) (queue : Queue) (end : End) : Type 0 where
@@ -36,7 +36,7 @@ pub record EntryAsked (bytes : List ℕ) (g : Galley) (w words : List ℕ) (queu
 pub record Turned (bytes : List ℕ) (g : Galley) (windows : Windows) (i : ℕ) : Type 0 where
   pub low : windows .from .low ≤ windows .to .low
   pub high : windows .from .high ≤ windows .to .high
-  pub opened : Open (textOf bytes g) (plain g) (windows .to) i
+  pub opened : Open (textOf bytes (g .text)) (plain g) (windows .to) i
 
 -- One side of a place comes next: its words hold the best start with fewer figures, and its queue the starts above.
 pub record SideMoved (bytes : List ℕ) (g : Galley) (w words : List ℕ) (queue : Queue) (windows : Windows) (end : End) : Type 0 where
@@ -44,8 +44,8 @@ pub record SideMoved (bytes : List ℕ) (g : Galley) (w words : List ℕ) (queue
   pub occurs : end .side < g .spec .sides
   pub lent : Lent bytes g w words (end .column)
   pub turned : Turned bytes g windows (end .line)
-  pub based : queue .base ≤ g .lines
-  pub held : Held (columnOf w (g .lines + 1) (end .column) (sideOf g (end .side))) words queue (windows .from .low)
+  pub based : queue .base ≤ g .text .count
+  pub held : Held (columnOf w (g .text .count + 1) (end .column) (sideOf g (end .side))) words queue (windows .from .low)
       (windows .from .high)
   pub known : Knows bytes g w (end .line) (end .column) (end .side) (Between 0 (end .column))
 
@@ -53,12 +53,12 @@ pub record SideMoved (bytes : List ℕ) (g : Galley) (w words : List ℕ) (queue
 pub record SideFilled (bytes : List ℕ) (g : Galley) (w v words words′ : List ℕ) (queue : Queue) (windows : Windows) (end : End)
     (r : Queue) : Type 0 where
   pub filled : v ≡ fillSide (modelOf bytes g) (end .line) (end .column) (end .side) w
-  pub advanced : Advanced w (g .lines + 1) (end .column) (sideOf g (end .side)) words queue (windows .from .high) (windows .to)
+  pub advanced : Advanced w (g .text .count + 1) (end .column) (sideOf g (end .side)) words queue (windows .from .high) (windows .to)
       r words′
 
 -- The places of column j from number n on hold their best starts with fewer figures.
 abbrev pub Waits : List ℕ → Galley → List ℕ → ℕ → ℕ → Type 0
-Waits bytes g w j n = (k c : ℕ) → k ≤ g .lines → c < g .spec .sides → n ≤ 2 * k + c → Knows bytes g w k j c (Between 0 j)
+Waits bytes g w j n = (k c : ℕ) → k ≤ g .text .count → c < g .spec .sides → n ≤ 2 * k + c → Knows bytes g w k j c (Between 0 j)
 
 -- The first c sides of place (i, j) filled.
 unfoldable pub fillSides : model.Galley → ℕ → ℕ → ℕ → List ℕ → List ℕ
@@ -81,7 +81,7 @@ pub record SidesRun (bytes : List ℕ) (g : Galley) (w₀ w words₀ words : Lis
   pub sized : length w ≡ length w₀
   pub wordsSized : length words ≡ length words₀
   pub filled : w ≡ fillSides (modelOf bytes g) (end .line) (end .column) c w₀
-  pub entries : Filled (modelOf bytes g) (tableOf (suc (g .lines)) w) (end .line) (end .column)
+  pub entries : Filled (modelOf bytes g) (tableOf (suc (g .text .count)) w) (end .line) (end .column)
   pub queued : Queues g w words queues (end .column) (windows .from) (windows .to) c
   pub waits : Waits bytes g w (end .column) (2 * end .line + c)
 
@@ -96,7 +96,7 @@ pub record PlaceFilled (bytes : List ℕ) (g : Galley) (w v words : List ℕ) (q
 pub record ColumnLent (bytes : List ℕ) (g : Galley) (w sums words : List ℕ) (j : ℕ) : Type 0 where
   pub column : ColumnAsked bytes g w j
   pub summed : Summed bytes g sums
-  pub wordsRoom : 4 * g .lines ≤ length words
+  pub wordsRoom : 4 * g .text .count ≤ length words
 
 -- The starts with fewer than j figures are known too.
 pub record LastAsked (bytes : List ℕ) (g : Galley) (w sums words : List ℕ) (j : ℕ) : Type 0 where
@@ -108,7 +108,7 @@ pub record LastRun (bytes : List ℕ) (g : Galley) (w₀ w words₀ words : List
     (queues : List Queue) (i : ℕ) : Type 0 where
   pub column : ColumnRun bytes g w₀ w j cited i
   pub wordsSized : length words ≡ length words₀
-  pub ends : Ends (textOf bytes g) (plain g) window i
+  pub ends : Ends (textOf bytes (g .text)) (plain g) window i
   pub queued : Queues g w words queues j window window 0
   pub waits : Waits bytes g w j (2 * i)
 
@@ -116,7 +116,7 @@ pub record LastRun (bytes : List ℕ) (g : Galley) (w₀ w words₀ words : List
 pub record TableLent (bytes : List ℕ) (g : Galley) (w sums words : List ℕ) : Type 0 where
   pub fill : FillAsked bytes g w
   pub summed : Summed bytes g sums
-  pub wordsRoom : 4 * g .lines ≤ length words
+  pub wordsRoom : 4 * g .text .count ≤ length words
 
 -- The columns before j are filled, and the scratch is as long as it was.
 pub record ColumnsRun (bytes : List ℕ) (g : Galley) (w₀ w words₀ words : List ℕ) (j : ℕ) : Type 0 where

@@ -16,7 +16,7 @@ use window::slide::Window;
 // figures stands in the column itself, and its entry is there by the time that a queue takes it up.
 fn last_sweep(s: &[u8], g: Galley, work: &mut [u32], sums: &[u32], words: &mut [u32], j: usize)
     requires { ⌜ LastAsked (now s) g (now work) (now sums) (now words) j ⌝ }
-    ensures { λ _. ⌜ now (work .exit) ≡ fillColumn (modelOf (now (s .entry)) g) j (suc (g .lines)) 0 (now (work .entry)) ⌝ }
+    ensures { λ _. ⌜ now (work .exit) ≡ fillColumn (modelOf (now (s .entry)) g) j (suc (g .text .count)) 0 (now (work .entry)) ⌝ }
 {
     let load = starts::sweep::load_of(g, false, Heights { tight: 0, loose: 0 });
     let mut cited = 0;
@@ -28,13 +28,13 @@ fn last_sweep(s: &[u8], g: Galley, work: &mut [u32], sums: &[u32], words: &mut [
             tail: 0,
         },
         Queue {
-            base: g.lines,
-            head: g.lines,
-            tail: g.lines,
+            base: g.text.count,
+            head: g.text.count,
+            tail: g.text.count,
         },
     ];
     let mut i = 0;
-    while i <= g.lines {
+    while i <= g.text.count {
         cited = rules::cites::cited_through(s, g, i, cited);
         let from = span;
         span = window::slide::slide(sums, load, from, i);
@@ -61,7 +61,7 @@ fn last_sweep(s: &[u8], g: Galley, work: &mut [u32], sums: &[u32], words: &mut [
 // Column j: first the starts with fewer figures, in the columns before it, then those in the column itself.
 fn fill_column(s: &[u8], g: Galley, work: &mut [u32], sums: &[u32], words: &mut [u32], j: usize)
     requires { ⌜ ColumnLent (now s) g (now work) (now sums) (now words) j ⌝ }
-    ensures { λ _. ⌜ now (work .exit) ≡ fillColumn (modelOf (now (s .entry)) g) j (suc (g .lines)) 0 (now (work .entry)) ⌝ }
+    ensures { λ _. ⌜ now (work .exit) ≡ fillColumn (modelOf (now (s .entry)) g) j (suc (g .text .count)) 0 (now (work .entry)) ⌝ }
 {
     starts::sweep::fewer_figures(s, g, work, sums, words, j);
     last_sweep(s, g, work, sums, words, j);
@@ -73,7 +73,7 @@ fn fill_columns(s: &[u8], g: Galley, work: &mut [u32], sums: &[u32], words: &mut
     ensures { λ _. ⌜ now (work .exit) ≡ filled (modelOf (now (s .entry)) g) (now (work .entry)) ⌝ }
 {
     let mut j = 0;
-    while j <= g.figures {
+    while j <= g.figures.count {
         fill_column(s, g, work, sums, words, j);
         j += 1;
     }

@@ -5,7 +5,7 @@ ghost use Prim.Native.Nat.{ℕ, _≤_};
 ghost use Rattle.model.specs.Leaf.{ends, sidesOf};
 ghost use Rattle.theorems.specs.Waiting.{pageCost};
 ghost use Rattle.theorems.specs.PageGraph.{full};
-ghost use Rattle.galley.specs.Model.{figuresOf, modelOf};
+ghost use Rattle.galley.specs.Model.{floatsOf, modelOf};
 ghost use Rattle.rules.specs.Parts.{Citing};
 ghost use Rattle.starts.specs.Search.{place, mayStop};
 ghost use Rattle.filling.specs.Asked.{Stopping, Priceable};
@@ -33,7 +33,7 @@ pub fn may_stop(s: &[u8], g: Galley, i: usize, j: usize, c: usize, cited: usize)
 // and is not the last, the figures that wait, by α, and the turn, by β.
 pub fn price(g: Galley, i: usize, j: usize, c: usize, cited: usize) -> u32
     requires { ⌜ Priceable g c cited ⌝ }
-    ensures { λ r. ⌜ ((bytes : List ℕ) → Citing (figuresOf bytes g) i cited → r ≡ pageCost (modelOf bytes g) c (full (modelOf bytes g) (place i j)) (place i j)) ⌝ }
+    ensures { λ r. ⌜ ((bytes : List ℕ) → Citing (floatsOf bytes (g .figures)) i cited → r ≡ pageCost (modelOf bytes g) c (full (modelOf bytes g) (place i j)) (place i j)) ⌝ }
 {
     if starts::search::is_full(g, i, j) {
         return 0;

@@ -22,7 +22,7 @@ pub struct End {
 // The entry of a place on a side, from the entries of the places before it.
 fn entry_of(s: &[u8], g: Galley, work: &[u32], words: &[u32], queue: Queue, end: End) -> Entry
     requires { ⌜ EntryAsked (now s) g (now work) (now words) queue end ⌝ }
-    ensures { λ r. ⌜ r ≡ entryOf (modelOf (now (s .entry)) g) (tableOf (suc (g .lines)) (now (work .entry))) (end .line) (end .column) (end .side) ⌝ }
+    ensures { λ r. ⌜ r ≡ entryOf (modelOf (now (s .entry)) g) (tableOf (suc (g .text .count)) (now (work .entry))) (end .line) (end .column) (end .side) ⌝ }
 {
     if end.line + end.column + end.side == 0 {
         return Entry::Least(0, Start { line: 0, figure: 0 });
@@ -56,7 +56,7 @@ fn fill_side(
     let side = starts::search::side_before(g, end.side);
     let moved = window::queue::advance(
         work,
-        g.lines + 1,
+        g.text.count + 1,
         end.column,
         side,
         words,
@@ -65,7 +65,7 @@ fn fill_side(
         windows.to,
     );
     let entry = entry_of(s, g, work, words, moved, end);
-    let at = places::address_of(g.lines + 1, end.line, end.column, end.side);
+    let at = places::address_of(g.text.count + 1, end.line, end.column, end.side);
     places::store(work, at, entry);
     moved
 }

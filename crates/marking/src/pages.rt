@@ -34,7 +34,7 @@ fn judge_pages(s: &[u8], g: Galley, list: &[u32]) -> Answer
                 place: number,
             };
         }
-        let mut heights = blocks::heights::apart_by(g, a < i, b < j);
+        let mut heights = blocks::heights::apart_by(g, (a < i) & (b < j));
         let mut k = a;
         let mut f = b;
         loop {

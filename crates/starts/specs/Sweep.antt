@@ -8,7 +8,7 @@ use lib.Dec.{ltb}
 use Rattle.model.specs.Gather.{pick}
 use Rattle.model.specs.Leaf.{sidesOf}
 use Rattle.galley.specs.declared.Galley.{Galley}
-use Rattle.galley.specs.Model.{textOf, figuresOf}
+use Rattle.galley.specs.Model.{textOf, floatsOf}
 use Rattle.galley.specs.Sound.{Sound}
 use Rattle.places.specs.declared.Entry.{Entry}
 use Rattle.places.specs.declared.Entry.the-variants.{Unreached}
@@ -21,12 +21,12 @@ use Rattle.window.specs.declared.queue.Queue.{Queue}
 use Rattle.window.specs.Sums.{Sums}
 use Rattle.window.specs.Slide.{Ends, Open}
 use Rattle.window.specs.Queue.{columnOf, Held, frontOf, FrontAsked}
-use Rattle.starts.specs.declared.heights.Heights.{Heights}
+use Rattle.blocks.specs.declared.heights.Heights.{Heights}
 use Rattle.starts.specs.declared.sweep.Pass.{Pass}
 use Rattle.starts.specs.declared.sweep.Windows.{Windows}
 use Rattle.starts.specs.Search.{before, better}
 use Rattle.starts.specs.Choice.{chosen, Best, Between}
-use Rattle.starts.specs.Heights.{Stacked}
+use Rattle.blocks.specs.Heights.{separation, Stacked}
 use Rattle.starts.specs.Asked.{searchOf, allPlaced, Searched}
 
 -- The side of the page before one on side c.
@@ -37,8 +37,8 @@ sideOf g c = before (sidesOf (g .spec .sides)) c
 abbrev pub loadOf : Galley → Bool → Heights → Load
 loadOf g mixed figures =
     record {
-      tight = figures .tight + pick mixed (g .spec .smin) 0;
-      loose = figures .loose + pick mixed (g .spec .smax) 0;
+      tight = figures .tight + separation mixed (g .spec .smin);
+      loose = figures .loose + separation mixed (g .spec .smax);
       htmin = g .spec .htmin;
       htmax = g .spec .htmax;
     }
@@ -46,35 +46,35 @@ loadOf g mixed figures =
 -- The page of figures b + 1 to j alone, of this loosest height, which starts after line i: it has no separation.
 abbrev pub aloneOf : Galley → List ℕ → ℕ → ℕ → ℕ → ℕ → Entry
 aloneOf g w i b side loose =
-    pick (ltb loose (g .spec .htmin)) Unreached (better (tableOf (suc (g .lines)) w i b side) i b Unreached)
+    pick (ltb loose (g .spec .htmin)) Unreached (better (tableOf (suc (g .text .count)) w i b side) i b Unreached)
 
 -- The work area with the starts of a pass weighed at line i on side c: the first of the queue, and figures alone.
 abbrev pub weighed : Galley → List ℕ → List ℕ → Queue → ℕ → ℕ → Pass → List ℕ
 weighed g w words queue i c pass =
-    stored w (address (suc (g .lines)) i (pass .to) c)
-    (chosen (chosen (tableOf (suc (g .lines)) w i (pass .to) c) (frontOf words queue (pass .from)))
+    stored w (address (suc (g .text .count)) i (pass .to) c)
+    (chosen (chosen (tableOf (suc (g .text .count)) w i (pass .to) c) (frontOf words queue (pass .from)))
     (aloneOf g w i (pass .from) (sideOf g c) (pass .heights .loose)))
 
 -- The words of place (k, j) on side c hold the best of the starts of P for a page that ends there; the last page is left aside.
 abbrev pub Knows : List ℕ → Galley → List ℕ → ℕ → ℕ → ℕ → (ℕ → ℕ → Type 0) → Type 0
 Knows bytes g w k j c P =
-    allPlaced g k j ≡ false → Best (searchOf bytes g w k j (sideOf g c)) P (tableOf (suc (g .lines)) w k j c)
+    allPlaced g k j ≡ false → Best (searchOf bytes g w k j (sideOf g c)) P (tableOf (suc (g .text .count)) w k j c)
 
 -- So do those of every place of column j, for the starts with b figures or more and fewer than j.
 abbrev pub Known : List ℕ → Galley → List ℕ → ℕ → ℕ → Type 0
-Known bytes g w j b = (k c : ℕ) → k ≤ g .lines → c < g .spec .sides → Knows bytes g w k j c (Between b j)
+Known bytes g w j b = (k c : ℕ) → k ≤ g .text .count → c < g .spec .sides → Knows bytes g w k j c (Between b j)
 
 -- The places of a column come line by line and side by side, place (k, c) being number 2k + c. Those before n know the starts
 -- with b figures or more, the others those with more than b.
 pub record Swept (bytes : List ℕ) (g : Galley) (w : List ℕ) (j b n : ℕ) : Type 0 where
-  pub done : (k c : ℕ) → k ≤ g .lines → c < g .spec .sides → 2 * k + c < n → Knows bytes g w k j c (Between b j)
-  pub left : (k c : ℕ) → k ≤ g .lines → c < g .spec .sides → n ≤ 2 * k + c → Knows bytes g w k j c (Between (suc b) j)
+  pub done : (k c : ℕ) → k ≤ g .text .count → c < g .spec .sides → 2 * k + c < n → Knows bytes g w k j c (Between b j)
+  pub left : (k c : ℕ) → k ≤ g .text .count → c < g .spec .sides → n ≤ 2 * k + c → Knows bytes g w k j c (Between (suc b) j)
 
 -- v is w after stores in column j, on sides that occur.
 pub data Scratched (g : Galley) (j : ℕ) (w : List ℕ) : List ℕ → Type 0 where
   fresh : Scratched g j w w
-  more : (v u : List ℕ) (i c : ℕ) (e : Entry) → Scratched g j w v → i ≤ g .lines → c < g .spec .sides
-      → u ≡ stored v (address (suc (g .lines)) i j c) e → Scratched g j w u
+  more : (v u : List ℕ) (i c : ℕ) (e : Entry) → Scratched g j w v → i ≤ g .text .count → c < g .spec .sides
+      → u ≡ stored v (address (suc (g .text .count)) i j c) e → Scratched g j w u
 
 -- The queue of side c.
 abbrev pub queueAt : List Queue → ℕ → Queue
@@ -83,27 +83,27 @@ queueAt queues c = getD queues c (record { base = 0; head = 0; tail = 0 })
 -- The queue of side c holds the starts with b figures in a window.
 abbrev pub Holds : Galley → List ℕ → List ℕ → List Queue → ℕ → Window → ℕ → Type 0
 Holds g w words queues b window c =
-    Held (columnOf w (g .lines + 1) b (sideOf g c)) words (queueAt queues c) (window .low) (window .high)
+    Held (columnOf w (g .text .count + 1) b (sideOf g c)) words (queueAt queues c) (window .low) (window .high)
 
 -- The queues of the sides before n are those of the window `new`, the others those of `old`; each has room for all lines.
 pub record Queues (g : Galley) (w words : List ℕ) (queues : List Queue) (b : ℕ) (old new : Window) (n : ℕ) : Type 0 where
   pub pair : length queues ≡ 2
   pub first : queueAt queues 0 .base ≡ 0
-  pub second : queueAt queues 1 .base ≡ g .lines
+  pub second : queueAt queues 1 .base ≡ g .text .count
   pub moved : (c : ℕ) → c < n → c < g .spec .sides → Holds g w words queues b new c
   pub still : (c : ℕ) → n ≤ c → c < g .spec .sides → Holds g w words queues b old c
 
 -- A galley that was read, a column of a work area that is long enough, and room for two queues.
 pub record Lent (bytes : List ℕ) (g : Galley) (w words : List ℕ) (j : ℕ) : Type 0 where
   pub sound : Sound bytes g
-  pub column : j ≤ g .figures
-  pub room : wordsNeeded (g .lines) (g .figures) ≤ length w
-  pub wordsRoom : 4 * g .lines ≤ length words
+  pub column : j ≤ g .figures .count
+  pub room : wordsNeeded (g .text .count) (g .figures .count) ≤ length w
+  pub wordsRoom : 4 * g .text .count ≤ length words
 
 -- The sums of all lines.
 pub record Summed (bytes : List ℕ) (g : Galley) (sums : List ℕ) : Type 0 where
-  pub rows : Sums (textOf bytes g) (g .lines) sums
-  pub room : 4 * g .lines + 4 ≤ length sums
+  pub rows : Sums (textOf bytes (g .text)) (g .text .count) sums
+  pub room : 4 * g .text .count + 4 ≤ length sums
 
 -- Both, for a column that no start is known of.
 pub record FewerAsked (bytes : List ℕ) (g : Galley) (w sums words : List ℕ) (j : ℕ) : Type 0 where
@@ -118,7 +118,7 @@ pub record FewerDone (bytes : List ℕ) (g : Galley) (w v : List ℕ) (j : ℕ) 
 -- A pass leads to a later column, and the figures between are not too tall alone.
 pub record Passing (bytes : List ℕ) (g : Galley) (pass : Pass) : Type 0 where
   pub before : pass .from < pass .to
-  pub floats : Stacked (figuresOf bytes g) (pass .from) (pass .to) (pass .heights)
+  pub floats : Stacked (floatsOf bytes (g .figures)) (pass .from) (pass .to) (pass .heights)
   pub short : pass .heights .tight ≤ g .spec .htmax
 
 -- The starts with more figures than those of the pass are known.
@@ -136,10 +136,10 @@ pub record SweepDone (bytes : List ℕ) (g : Galley) (w v : List ℕ) (pass : Pa
 -- A sweep has come to line i: the places above it know the starts of the pass too.
 pub record SweepRun (bytes : List ℕ) (g : Galley) (w₀ w words₀ words : List ℕ) (pass : Pass) (window : Window)
     (queues : List Queue) (i : ℕ) : Type 0 where
-  pub within : i ≤ suc (g .lines)
+  pub within : i ≤ suc (g .text .count)
   pub sized : length w ≡ length w₀
   pub wordsSized : length words ≡ length words₀
-  pub ends : Ends (textOf bytes g) (loadOf g true (pass .heights)) window i
+  pub ends : Ends (textOf bytes (g .text)) (loadOf g true (pass .heights)) window i
   pub queued : Queues g w words queues (pass .from) window window 0
   pub swept : Swept bytes g w (pass .to) (pass .from) (2 * i)
   pub kept : Scratched g (pass .to) w₀ w
@@ -149,10 +149,10 @@ pub record TurnAsked (bytes : List ℕ) (g : Galley) (w words : List ℕ) (queue
     (pass : Pass) : Type 0 where
   pub lent : Lent bytes g w words (pass .to)
   pub passing : Passing bytes g pass
-  pub line : i ≤ g .lines
+  pub line : i ≤ g .text .count
   pub low : windows .from .low ≤ windows .to .low
   pub high : windows .from .high ≤ windows .to .high
-  pub opened : Open (textOf bytes g) (loadOf g true (pass .heights)) (windows .to) i
+  pub opened : Open (textOf bytes (g .text)) (loadOf g true (pass .heights)) (windows .to) i
   pub queued : Queues g w words queues (pass .from) (windows .from) (windows .to) 0
   pub swept : Swept bytes g w (pass .to) (pass .from) (2 * i)
 
@@ -179,23 +179,23 @@ pub record FewerRun (bytes : List ℕ) (g : Galley) (w₀ w words₀ words : Lis
   pub within : b ≤ j
   pub sized : length w ≡ length w₀
   pub wordsSized : length words ≡ length words₀
-  pub floats : Stacked (figuresOf bytes g) b j figures
+  pub floats : Stacked (floatsOf bytes (g .figures)) b j figures
   pub known : Known bytes g w j b
   pub kept : Scratched g j w₀ w
 
 -- (i, j) is a place of the work area.
 pub record ClearAsked (g : Galley) (w : List ℕ) (i j : ℕ) : Type 0 where
-  pub few : g .lines ≤ 4000
-  pub line : i ≤ g .lines
+  pub few : g .text .count ≤ 4000
+  pub line : i ≤ g .text .count
   pub figure : j ≤ 200
-  pub within : j ≤ g .figures
+  pub within : j ≤ g .figures .count
   pub two : g .spec .sides ≤ 2
-  pub room : wordsNeeded (g .lines) (g .figures) ≤ length w
+  pub room : wordsNeeded (g .text .count) (g .figures .count) ≤ length w
 
 -- The places of column j before number n are unreached.
 abbrev pub Blank : Galley → List ℕ → ℕ → ℕ → Type 0
 Blank g w j n =
-    (k c : ℕ) → k ≤ g .lines → c < g .spec .sides → 2 * k + c < n → tableOf (suc (g .lines)) w k j c ≡ Unreached
+    (k c : ℕ) → k ≤ g .text .count → c < g .spec .sides → 2 * k + c < n → tableOf (suc (g .text .count)) w k j c ≡ Unreached
 
 -- They are, and nothing else has changed.
 pub record ColumnCleared (g : Galley) (w v : List ℕ) (j n : ℕ) : Type 0 where
@@ -205,7 +205,7 @@ pub record ColumnCleared (g : Galley) (w v : List ℕ) (j n : ℕ) : Type 0 wher
 
 -- The lines before i are cleared.
 pub record ClearRun (g : Galley) (w v : List ℕ) (j i : ℕ) : Type 0 where
-  pub within : i ≤ suc (g .lines)
+  pub within : i ≤ suc (g .text .count)
   pub cleared : ColumnCleared g w v j (2 * i)
 
 -- One place more is unreached, if those before it were.
@@ -229,21 +229,14 @@ pub record StartAsked (bytes : List ℕ) (g : Galley) (w words : List ℕ) (queu
   pub same : allPlaced g i j ≡ false → Best (searchOf bytes g w i j (sideOf g c)) (λ a b. (b ≡ j) × (a < i)) (frontOf words
       queue j)
 
--- Figures and separations whose sum is a word.
-pub record Addable (g : Galley) (figures : Heights) : Type 0 where
-  pub smin : g .spec .smin ≤ 100000
-  pub smax : g .spec .smax ≤ 100000
-  pub tight : figures .tight ≤ 1000000000
-  pub loose : figures .loose ≤ 1000000000
-
 -- (i, b) is a place of the work area.
 pub record AloneAsked (g : Galley) (w : List ℕ) (i b side : ℕ) : Type 0 where
-  pub few : g .lines ≤ 4000
-  pub line : i ≤ g .lines
+  pub few : g .text .count ≤ 4000
+  pub line : i ≤ g .text .count
   pub figure : b ≤ 200
-  pub within : b ≤ g .figures
+  pub within : b ≤ g .figures .count
   pub either : side ≤ 1
-  pub room : wordsNeeded (g .lines) (g .figures) ≤ length w
+  pub room : wordsNeeded (g .text .count) (g .figures .count) ≤ length w
 
 -- The place has its words, and the queue's first entry too.
 pub record ImproveAsked (g : Galley) (w words : List ℕ) (queue : Queue) (i c : ℕ) (pass : Pass) : Type 0 where
@@ -251,4 +244,4 @@ pub record ImproveAsked (g : Galley) (w words : List ℕ) (queue : Queue) (i c :
   pub front : FrontAsked words queue (pass .from)
   pub side : c ≤ 1
   pub figure : pass .to ≤ 200
-  pub within : pass .to ≤ g .figures
+  pub within : pass .to ≤ g .figures .count

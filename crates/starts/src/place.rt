@@ -27,7 +27,7 @@ pub fn start_of(
     if crate::search::is_full(g, i, j) {
         return crate::search::best_start(s, g, work, i, j, side);
     }
-    let held = places::entry_at(work, places::address_of(g.lines + 1, i, j, c));
+    let held = places::entry_at(work, places::address_of(g.text.count + 1, i, j, c));
     let front = window::queue::front(words, queue, j);
     crate::choice::choose(held, front)
 }

@@ -3,8 +3,9 @@
 // stands in the place's own words.
 ghost use mathlib.Core.Path.{_≡_};
 ghost use Prim.Native.Nat.{_+_, _*_};
-ghost use Rattle.starts.specs.Sweep.{loadOf, aloneOf, weighed, Addable, AloneAsked, ImproveAsked, ClearAsked, PlaceCleared, ColumnCleared, TurnAsked, TurnDone, SweepAsked, SweepDone, FewerAsked, FewerDone};
-use crate::heights::Heights;
+ghost use Rattle.blocks.specs.Heights.{noHeights, Addable};
+ghost use Rattle.starts.specs.Sweep.{loadOf, aloneOf, weighed, AloneAsked, ImproveAsked, ClearAsked, PlaceCleared, ColumnCleared, TurnAsked, TurnDone, SweepAsked, SweepDone, FewerAsked, FewerDone};
+use blocks::heights::Heights;
 use galley::Galley;
 use places::Entry;
 use places::Start;
@@ -28,10 +29,10 @@ pub struct Windows {
 // What a page of lines and these figures has beside its lines, and the heights that it must keep to: with figures comes the
 // separation.
 pub fn load_of(g: Galley, mixed: bool, figures: Heights) -> Load
-    requires { ⌜ Addable g figures ⌝ }
+    requires { ⌜ Addable (g .spec) noHeights figures ⌝ }
     ensures { λ r. ⌜ r ≡ loadOf g mixed figures ⌝ }
 {
-    let page = crate::heights::page_heights(g, mixed, Heights { tight: 0, loose: 0 }, figures);
+    let page = blocks::heights::page_heights(g, mixed, Heights { tight: 0, loose: 0 }, figures);
     Load {
         tight: page.tight,
         loose: page.loose,
@@ -48,7 +49,7 @@ fn alone(g: Galley, work: &[u32], i: usize, b: usize, side: usize, loose: u32) -
     if loose < g.spec.htmin {
         return Entry::Unreached;
     }
-    let at = places::address_of(g.lines + 1, i, b, side);
+    let at = places::address_of(g.text.count + 1, i, b, side);
     let entry = places::entry_at(work, at);
     let Entry::Least(x, _start) = entry else {
         return Entry::Unreached;
@@ -66,7 +67,7 @@ fn improve(g: Galley, work: &mut [u32], words: &[u32], queue: Queue, i: usize, c
     requires { ⌜ ImproveAsked g (now work) (now words) queue i c pass ⌝ }
     ensures { λ _. ⌜ now (work .exit) ≡ weighed g (now (work .entry)) (now (words .entry)) queue i c pass ⌝ }
 {
-    let at = places::address_of(g.lines + 1, i, pass.to, c);
+    let at = places::address_of(g.text.count + 1, i, pass.to, c);
     let held = places::entry_at(work, at);
     let front = window::queue::front(words, queue, pass.from);
     let side = crate::search::side_before(g, c);
@@ -95,7 +96,7 @@ fn sweep_place(
         let side = crate::search::side_before(g, c);
         let queue = window::queue::advance(
             work,
-            g.lines + 1,
+            g.text.count + 1,
             pass.from,
             side,
             words,
@@ -124,13 +125,13 @@ fn sweep(s: &[u8], g: Galley, work: &mut [u32], sums: &[u32], words: &mut [u32],
             tail: 0,
         },
         Queue {
-            base: g.lines,
-            head: g.lines,
-            tail: g.lines,
+            base: g.text.count,
+            head: g.text.count,
+            tail: g.text.count,
         },
     ];
     let mut i = 0;
-    while i <= g.lines {
+    while i <= g.text.count {
         let from = span;
         span = window::slide::slide(sums, load, from, i);
         let moved = sweep_place(
@@ -155,7 +156,7 @@ fn clear_place(g: Galley, work: &mut [u32], i: usize, j: usize)
 {
     let mut c = 0;
     while c < g.spec.sides as usize {
-        let at = places::address_of(g.lines + 1, i, j, c);
+        let at = places::address_of(g.text.count + 1, i, j, c);
         places::store(work, at, Entry::Unreached);
         c += 1;
     }
@@ -164,10 +165,10 @@ fn clear_place(g: Galley, work: &mut [u32], i: usize, j: usize)
 // Every place of column j.
 fn clear_column(g: Galley, work: &mut [u32], j: usize)
     requires { ⌜ ClearAsked g (now work) 0 j ⌝ }
-    ensures { λ _. ⌜ ColumnCleared g (now (work .entry)) (now (work .exit)) j (2 * g .lines + 2) ⌝ }
+    ensures { λ _. ⌜ ColumnCleared g (now (work .entry)) (now (work .exit)) j (2 * g .text .count + 2) ⌝ }
 {
     let mut i = 0;
-    while i <= g.lines {
+    while i <= g.text.count {
         clear_place(g, work, i, j);
         i += 1;
     }
@@ -191,7 +192,7 @@ pub fn fewer_figures(
     let mut b = j;
     while 0 < b {
         b -= 1;
-        figures = crate::heights::figure_before(s, g, figures, b, j);
+        figures = blocks::heights::block_before(s, g.figures, figures, b, j);
         if g.spec.htmax < figures.tight {
             return;
         }

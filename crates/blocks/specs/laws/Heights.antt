@@ -1,5 +1,5 @@
 -- What putting a block on does to heights: they are those of the page model with one block more.
-use Prim.Native.Nat.{ℕ, _+_, _*_, _≤_, _<_}
+use Prim.Native.Nat.{ℕ, _+_, _-_, _*_, _≤_, _<_}
 use native.Mathlib.Omega.{arith}
 use mathlib.Core.Path.{_≡_, refl, sym, _∙_}
 use mathlib.Core.Bool.{Bool, true, false}
@@ -15,11 +15,16 @@ use Rattle.galley.specs.Record.{leastAt, mostAt}
 use Rattle.galley.specs.Block.{fieldOf}
 use Rattle.galley.specs.Sound.{SoundStream}
 use Rattle.blocks.specs.declared.heights.Heights.{Heights}
-use Rattle.blocks.specs.Heights.{added, putOn, withBlock, blockBefore, Room, Stacked}
+use Rattle.blocks.specs.Heights.{separation, noHeights, added, putOn, withBlock, blockBefore, Room, Stacked}
 use Rattle.blocks.specs.laws.Stacked.{stacked-none, stacked-next, stacked-front, stacked-low}
 
--- No block, whatever heights are 0.
-pub stacked-nothing : (st : model.Stream) (a b : ℕ) → b ≤ a → Stacked st a b (record { tight = 0; loose = 0 })
+-- A separation is within document 01's limit.
+pub separation-most : (mixed : Bool) (s : ℕ) → s ≤ 100000 → separation mixed s ≤ 100000
+separation-most true s h = h
+separation-most false s h = omega arith
+
+-- No block, no height.
+pub stacked-nothing : (st : model.Stream) (a b : ℕ) → b ≤ a → Stacked st a b noHeights
 stacked-nothing st a b h =
     record { tight = sym (stacked-none st (st .least) a b h); loose = sym (stacked-none st (st .most) a b h) }
 
@@ -74,7 +79,7 @@ pub record Low (most : ℕ) (h : Heights) : Type 0 where
 
 module _ (bytes : List ℕ) (stream : Stream) {legal : ℕ → Bool} {cite : ℕ → ℕ} (a b : ℕ) (h : Heights) where
   -- Going back from heights of blocks a + 2 to b, those of blocks a + 1 to b are reached.
-  pub before-stacked : Stacked (streamOf bytes stream legal cite) (a + 1) b h
+  before-stacked : Stacked (streamOf bytes stream legal cite) (a + 1) b h
       → Stacked (streamOf bytes stream legal cite) a b (blockBefore bytes stream h a b)
   unfolding putOn added
   before-stacked s = go (leb b a) refl
@@ -117,3 +122,11 @@ module _ (bytes : List ℕ) (stream : Stream) {legal : ℕ → Bool} {cite : ℕ
   stacked-room sound few m s =
       let low = stacked-small sound m s in
       record { sound = sound; within = m; tight = omega arith; loose = omega arith }
+
+-- One step back in a search: from the heights of the blocks after `top` to those of one block more.
+pub back-stacked : (bytes : List ℕ) (stream : Stream) {legal : ℕ → Bool} {cite : ℕ → ℕ} (top b : ℕ) (h back : Heights) → 0 < top
+    → back ≡ blockBefore bytes stream h (top - 1) b → Stacked (streamOf bytes stream legal cite) top b h
+    → Stacked (streamOf bytes stream legal cite) (top - 1) b back
+back-stacked bytes stream top b h back some put s =
+    let next : top ≡ top - 1 + 1 = omega arith in
+    rw put (before-stacked bytes stream (top - 1) b h (rw next at s))

@@ -14,7 +14,7 @@ use Rattle.model.specs.Galley.{Stream}
 use Rattle.model.specs.Leaf.{sidesOf}
 use Rattle.theorems.specs.PageSides.{side-zero}
 use Rattle.galley.specs.declared.Galley.{Galley}
-use Rattle.galley.specs.Model.{textOf, figuresOf, modelOf}
+use Rattle.galley.specs.Model.{textOf, floatsOf, modelOf}
 use Rattle.rules.specs.Parts.{Citing}
 use Rattle.places.specs.Address.{address, wordsNeeded, Earlier}
 use Rattle.places.specs.Table.{tableOf}
@@ -27,7 +27,7 @@ use Rattle.window.specs.laws.Front.{front-cheapest}
 use Rattle.starts.specs.declared.sweep.Windows.{Windows}
 use Rattle.starts.specs.Search.{entryOf}
 use Rattle.starts.specs.Choice.{Between}
-use Rattle.starts.specs.Heights.{Stacked}
+use Rattle.blocks.specs.Heights.{Stacked}
 use Rattle.starts.specs.Sweep.{sideOf, Known, Scratched, queueAt, Queues, Lent, Addable, FewerAsked, FewerDone}
 use Rattle.starts.specs.laws.Heights.{stacked-nothing}
 use Rattle.starts.specs.laws.Sweep.{window-best}
@@ -46,8 +46,8 @@ use Rattle.filling.specs.laws.Over.{column-scratched, scratched-other}
 use Rattle.filling.specs.laws.Filling.{side-one, place-single, place-double, column-start, column-place, column-next, table-column}
 
 -- No figures, no height.
-no-figures : (bytes : List ℕ) (g : Galley) (j : ℕ) → Stacked (figuresOf bytes g) j j (record { tight = 0; loose = 0 })
-no-figures bytes g j = stacked-nothing (figuresOf bytes g) j j (le-refl j)
+no-figures : (bytes : List ℕ) (g : Galley) (j : ℕ) → Stacked (floatsOf bytes (g .figures)) j j noHeights
+no-figures bytes g j = stacked-nothing (floatsOf bytes (g .figures)) j j (le-refl j)
 
 -- A side below the number of sides occurs.
 side-occurs : (n c : ℕ) → n ≤ 2 → c < n → Side (sidesOf n) c
@@ -58,14 +58,14 @@ side-occurs n (suc (suc c)) two l = absurd (omega arith)
 -- One side.
 module _ {bytes : List ℕ} {g : Galley} {w words : List ℕ} {queue : Queue} {windows : Windows} {end : End}
     (moved : SideMoved bytes g w words queue windows end) where
-  line : end .line ≤ g .lines
+  line : end .line ≤ g .text .count
   line = moved .asked .placed .line
 
   pub side-low-here : end .side ≤ 1
   side-low-here = side-low (sidesOf (g .spec .sides)) (end .side) (moved .asked .side)
 
   -- The queue of the column can be moved on.
-  pub side-feeds : FeedAsked w (g .lines + 1) (end .column) (sideOf g (end .side)) words queue (windows .from .high)
+  pub side-feeds : FeedAsked w (g .text .count + 1) (end .column) (sideOf g (end .side)) words queue (windows .from .high)
       (windows .to .high)
   side-feeds =
       can-feed (moved .lent) (end .column) (moved .lent .column) queue (end .side) (windows .from .high) (windows .to .high)
@@ -74,7 +74,7 @@ module _ {bytes : List ℕ} {g : Galley} {w words : List ℕ} {queue : Queue} {w
 
   -- All starts of the page that ends there are known.
   pub side-starts : (words′ : List ℕ) → length words′ ≡ length words → (next : Queue)
-      → Advanced w (g .lines + 1) (end .column) (sideOf g (end .side)) words queue (windows .from .high) (windows .to) next words′
+      → Advanced w (g .text .count + 1) (end .column) (sideOf g (end .side)) words queue (windows .from .high) (windows .to) next words′
       → EntryAsked bytes g w words′ next end
   side-starts words′ sized next advanced =
       record {
@@ -95,10 +95,10 @@ module _ {bytes : List ℕ} {g : Galley} {w words : List ℕ} {queue : Queue} {w
               same = λ inner.
                   let none = le-ltb (end .column) (end .column) (le-refl (end .column)) in
                   let held = advanced .held (windows .from .low) (moved .turned .low) (moved .held) in
-                  let cheapest = front-cheapest (columnOf w (g .lines + 1) (end .column) (sideOf g (end .side))) words′ next
+                  let cheapest = front-cheapest (columnOf w (g .text .count + 1) (end .column) (sideOf g (end .side))) words′ next
                   (windows .to .low) (windows .to .high) (end .column) held (advanced .fresh) in
                   window-best bytes g w (end .line) (end .column) (sideOf g (end .side)) (end .column)
-                  (record { tight = 0; loose = 0 }) (no-figures bytes g (end .column)) inner (le-refl (end .column))
+                  noHeights (no-figures bytes g (end .column)) inner (le-refl (end .column))
                   (windows .to) (rw none (moved .turned .opened)) (frontOf words′ next (end .column)) (rw (← column-named w g
                   (end .column) (sideOf g (end .side))) cheapest);
             };
@@ -113,7 +113,7 @@ module _ {bytes : List ℕ} {g : Galley} {w₀ words₀ : List ℕ} {queues₀ :
   inside : windows .to .high ≤ end .line
   inside = asked .turned .opened .ends .high
 
-  here : end .line ≤ g .lines
+  here : end .line ≤ g .text .count
   here = asked .asked .placed .line
 
   pub sides-first : SidesRun bytes g w₀ w₀ words₀ words₀ queues₀ windows end 0
@@ -155,7 +155,7 @@ module _ {bytes : List ℕ} {g : Galley} {w₀ words₀ : List ℕ} {queues₀ :
         low : c ≤ 1
         low = omega (arith, two)
 
-        room : wordsNeeded (g .lines) (g .figures) ≤ length w
+        room : wordsNeeded (g .text .count) (g .figures .count) ≤ length w
         room = omega (arith, asked .lent .room, run .sized)
 
         -- The next side can be filled.
@@ -217,11 +217,11 @@ module _ {bytes : List ℕ} {g : Galley} {w₀ words₀ : List ℕ} {queues₀ :
                   (omega (arith, inside, asked .turned .high)) inside
                   (λ a d l.
                   rw add-one
-                  (cell-other g w (end .line) (end .column) c (entryOf (modelOf bytes g) (tableOf (suc (g .lines)) w)
+                  (cell-other g w (end .line) (end .column) c (entryOf (modelOf bytes g) (tableOf (suc (g .text .count)) w)
                   (end .line) (end .column) c) v (done .filled) here low a (end .column) (sideOf g d) (omega (arith, here))
                   (side-either g d) (λ q. omega (arith, q .0))));
               waits = λ k d l m p.
-                  knows-other g w (end .line) (end .column) c (entryOf (modelOf bytes g) (tableOf (suc (g .lines)) w)
+                  knows-other g w (end .line) (end .column) c (entryOf (modelOf bytes g) (tableOf (suc (g .text .count)) w)
                   (end .line) (end .column) c) v (done .filled) here low (asked .lent .column) room bytes k d 0 l
                   (omega (arith, two)) (λ q. omega (arith, q .0, q .1)) (run .waits k d l m (omega arith));
             }
@@ -229,7 +229,7 @@ module _ {bytes : List ℕ} {g : Galley} {w₀ words₀ : List ℕ} {queues₀ :
 -- One line after another.
 module _ {bytes : List ℕ} {g : Galley} {w₀ sums words₀ : List ℕ} {j : ℕ} (asked : LastAsked bytes g w₀ sums words₀ j) where
   -- Nothing beside the lines is small.
-  pub plain-add : Addable g (record { tight = 0; loose = 0 })
+  pub plain-add : Addable g noHeights
   plain-add =
       let spec = asked .lent .column .sound .specRanged in
       record { smin = omega (arith, spec .smins, spec .smaxs); smax = spec .smaxs; tight = omega arith; loose = omega arith }
@@ -245,31 +245,31 @@ module _ {bytes : List ℕ} {g : Galley} {w₀ sums words₀ : List ℕ} {j : �
 
   -- Before the first line the queues are empty.
   pub last-first : LastRun bytes g w₀ w₀ words₀ words₀ j 0 (record { low = 0; high = 0 })
-      (record { base = 0; head = 0; tail = 0 } ∷ record { base = g .lines; head = g .lines; tail = g .lines } ∷ []) 0
+      (record { base = 0; head = 0; tail = 0 } ∷ record { base = g .text .count; head = g .text .count; tail = g .text .count } ∷ []) 0
   last-first =
       record {
         column = column-start bytes g w₀ j (asked .lent .column);
         wordsSized = refl;
-        ends = ends-first (textOf bytes g) (plain g);
+        ends = ends-first (textOf bytes (g .text)) (plain g);
         queued = queues-none g w₀ words₀ j (lent-first .sound .specRanged .sidesTwo);
         waits = λ k c l m n. asked .known k c l m;
       }
 
   module _ {w words : List ℕ} {cited : ℕ} {window : Window} {queues : List Queue} {i : ℕ}
-      (run : LastRun bytes g w₀ w words₀ words j cited window queues i) (at : i ≤ g .lines) where
+      (run : LastRun bytes g w₀ w words₀ words j cited window queues i) (at : i ≤ g .text .count) where
     lent-now : Lent bytes g w words j
     lent-now = lent-sized w words (run .column .sized) (run .wordsSized) lent-first
 
     -- The window can be moved on to line i,
     pub last-slides : Slidable sums (plain g) window i
     last-slides =
-        can-slide lent-now (asked .lent .summed) false j (record { tight = 0; loose = 0 }) (no-figures bytes g j) window i at
+        can-slide lent-now (asked .lent .summed) false j noHeights (no-figures bytes g j) window i at
         (run .ends)
 
-    module _ (cited′ : ℕ) (citing : Citing (figuresOf bytes g) i cited′) (new : Window)
+    module _ (cited′ : ℕ) (citing : Citing (floatsOf bytes (g .figures)) i cited′) (new : Window)
         (slid : (st : Stream) (m : ℕ) → Slid sums st m (plain g) window i new) where
-      opened : Open (textOf bytes g) (plain g) new i
-      opened = slid (textOf bytes g) (g .lines) .opens (asked .lent .summed .rows) at (run .ends)
+      opened : Open (textOf bytes (g .text)) (plain g) new i
+      opened = slid (textOf bytes (g .text)) (g .text .count) .opens (asked .lent .summed .rows) at (run .ends)
 
       -- the place can be filled,
       pub last-place : PlaceMoved bytes g w words queues (record { from = window; to = new }) (record {
@@ -284,8 +284,8 @@ module _ {bytes : List ℕ} {g : Galley} {w₀ sums words₀ : List ℕ} {j : �
             lent = lent-now;
             turned =
                 record {
-                  low = slid (textOf bytes g) (g .lines) .low;
-                  high = slid (textOf bytes g) (g .lines) .high;
+                  low = slid (textOf bytes (g .text)) (g .text .count) .low;
+                  high = slid (textOf bytes (g .text)) (g .text .count) .high;
                   opened = opened;
                 };
             queued =
@@ -313,7 +313,7 @@ module _ {bytes : List ℕ} {g : Galley} {w₀ sums words₀ : List ℕ} {j : �
           record {
             column = column-next bytes g w₀ j (asked .lent .column) w cited i cited′ (run .column) at citing v (done .filled);
             wordsSized = sized ∙ run .wordsSized;
-            ends = rw add-one (ends-next (textOf bytes g) (plain g) new i opened);
+            ends = rw add-one (ends-next (textOf bytes (g .text)) (plain g) new i opened);
             queued = done .queued;
             waits = rw n at (done .waits);
           }
@@ -366,15 +366,15 @@ module _ {bytes : List ℕ} {g : Galley} {w sums words : List ℕ} {j : ℕ} (as
         before a b (inr (e, l)) = absurd (omega arith)
 
   -- and is what it would be without.
-  pub column-same : (v : List ℕ) → FewerDone bytes g w v j → fillColumn (modelOf bytes g) j (suc (g .lines)) 0 v
-      ≡ fillColumn (modelOf bytes g) j (suc (g .lines)) 0 w
+  pub column-same : (v : List ℕ) → FewerDone bytes g w v j → fillColumn (modelOf bytes g) j (suc (g .text .count)) 0 v
+      ≡ fillColumn (modelOf bytes g) j (suc (g .text .count)) 0 w
   column-same v done =
       column-scratched bytes g j (asked .column .column) (asked .column .sound .specRanged .sidesTwo) w v (done .kept)
       (asked .column .room)
 
 module _ {bytes : List ℕ} {g : Galley} {w₀ sums words₀ : List ℕ} (asked : TableLent bytes g w₀ sums words₀) where
   -- The next column can be filled.
-  pub columns-lent : {w words : List ℕ} {j : ℕ} → ColumnsRun bytes g w₀ w words₀ words j → j ≤ g .figures
+  pub columns-lent : {w words : List ℕ} {j : ℕ} → ColumnsRun bytes g w₀ w words₀ words j → j ≤ g .figures .count
       → ColumnLent bytes g w sums words j
   columns-lent {w} {words} {j} run l =
       record {

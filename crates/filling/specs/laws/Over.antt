@@ -201,21 +201,21 @@ single-low {n} {c} two p l = go (ℕ-discrete n 2)
 abbrev Short : ℕ → ℕ → ℕ → ℕ → Type 0
 Short i j a b = (a < i) ⊎ (b < j)
 
-module _ (bytes : List ℕ) (g : Galley) (j : ℕ) (column : j ≤ g .figures) (two : g .spec .sides ≤ 2) where
-  module _ (w : List ℕ) (i c : ℕ) (e : Entry) (line : i ≤ g .lines) (side : c ≤ 1) where
+module _ (bytes : List ℕ) (g : Galley) (j : ℕ) (column : j ≤ g .figures .count) (two : g .spec .sides ≤ 2) where
+  module _ (w : List ℕ) (i c : ℕ) (e : Entry) (line : i ≤ g .text .count) (side : c ≤ 1) where
     abbrev over : List ℕ
-    over = stored w (address (suc (g .lines)) i j c) e
+    over = stored w (address (suc (g .text .count)) i j c) e
 
     -- A store in the column leaves the entry of every place from its line up.
-    entry-same : (i′ d : ℕ) → i′ ≤ i → entryOf (modelOf bytes g) (tableOf (suc (g .lines)) over) i′ j d
-        ≡ entryOf (modelOf bytes g) (tableOf (suc (g .lines)) w) i′ j d
+    entry-same : (i′ d : ℕ) → i′ ≤ i → entryOf (modelOf bytes g) (tableOf (suc (g .text .count)) over) i′ j d
+        ≡ entryOf (modelOf bytes g) (tableOf (suc (g .text .count)) w) i′ j d
     unfolding entryOf
     entry-same i′ d l = let s = start-same in rw s
       where
-        other : (a b : ℕ) → Short i′ j a b → a ≤ i′ → tableOf (suc (g .lines)) over a b (sideOf g d)
-            ≡ tableOf (suc (g .lines)) w a b (sideOf g d)
+        other : (a b : ℕ) → Short i′ j a b → a ≤ i′ → tableOf (suc (g .text .count)) over a b (sideOf g d)
+            ≡ tableOf (suc (g .text .count)) w a b (sideOf g d)
         other a b p h =
-            table-other (suc (g .lines)) i j c a b (sideOf g d) w e (omega arith) (omega arith) side (side-either g d)
+            table-other (suc (g .text .count)) i j c a b (sideOf g d) w e (omega arith) (omega arith) side (side-either g d)
             (λ q. differ p (q .0) (q .1))
           where
             differ : Short i′ j a b → i ≡ a → j ≡ b → ⊥
@@ -238,11 +238,11 @@ module _ (bytes : List ℕ) (g : Galley) (j : ℕ) (column : j ≤ g .figures) (
             (best-same bytes g w over i′ j (sideOf g d) (Short i′ j) (bestStart s) (λ a b p h h′. other a b p h)
             (best-as s Any (Short i′ j) (bestStart s) (λ a b x k p. short w a b x k) (λ a b x k p. tt) (best-start s refl))))
 
-    module _ (room : wordsNeeded (g .lines) (g .figures) ≤ length w) where
-      inside : (a d : ℕ) → a ≤ g .lines → d ≤ 1 → address (suc (g .lines)) a j d + 4 ≤ length w
+    module _ (room : wordsNeeded (g .text .count) (g .figures .count) ≤ length w) where
+      inside : (a d : ℕ) → a ≤ g .text .count → d ≤ 1 → address (suc (g .text .count)) a j d + 4 ≤ length w
       inside a d l m =
-          let p = address-in (g .lines) (g .figures) a j d l column m in
-          let q = ap (λ h. address h a j d) (add-one (g .lines)) in
+          let p = address-in (g .text .count) (g .figures .count) a j d l column m in
+          let q = ap (λ h. address h a j d) (add-one (g .text .count)) in
           omega arith
 
       -- The same place and side filled: the store is forgotten.
@@ -250,32 +250,32 @@ module _ (bytes : List ℕ) (g : Galley) (j : ℕ) (column : j ≤ g .figures) (
       unfolding fillSide tall
       side-over =
           let s = entry-same i c (omega arith) in
-          let at = address (suc (g .lines)) i j c in
+          let at = address (suc (g .text .count)) i j c in
           ap (stored over at) s
-          ∙ stored-twice w at e (entryOf (modelOf bytes g) (tableOf (suc (g .lines)) w) i j c) (inside i c line side)
+          ∙ stored-twice w at e (entryOf (modelOf bytes g) (tableOf (suc (g .text .count)) w) i j c) (inside i c line side)
 
       -- Another filled before: the store comes after it.
       side-later : (i′ d : ℕ) → i′ ≤ i → d ≤ 1 → ((i ≡ i′) × (c ≡ d) → ⊥)
-          → fillSide (modelOf bytes g) i′ j d over ≡ stored (fillSide (modelOf bytes g) i′ j d w) (address (suc (g .lines)) i j c)
+          → fillSide (modelOf bytes g) i′ j d over ≡ stored (fillSide (modelOf bytes g) i′ j d w) (address (suc (g .text .count)) i j c)
           e
       unfolding fillSide tall
       side-later i′ d l m n =
           let s = entry-same i′ d l in
-          let to = address (suc (g .lines)) i′ j d in
+          let to = address (suc (g .text .count)) i′ j d in
           ap (stored over to) s
-          ∙ stored-swap w (address (suc (g .lines)) i j c) to e (entryOf (modelOf bytes g) (tableOf (suc (g .lines)) w) i′ j d)
-          (address-apart (suc (g .lines)) i j c i′ j d (omega arith) (omega arith) side m (λ q. n (q .0, q .2)))
+          ∙ stored-swap w (address (suc (g .text .count)) i j c) to e (entryOf (modelOf bytes g) (tableOf (suc (g .text .count)) w) i′ j d)
+          (address-apart (suc (g .text .count)) i j c i′ j d (omega arith) (omega arith) side m (λ q. n (q .0, q .2)))
           (inside i c line side) (inside i′ d (omega arith) m)
 
-  module _ (w : List ℕ) (i c : ℕ) (e : Entry) (line : i ≤ g .lines) (occurs : c < g .spec .sides)
-      (room : wordsNeeded (g .lines) (g .figures) ≤ length w) where
+  module _ (w : List ℕ) (i c : ℕ) (e : Entry) (line : i ≤ g .text .count) (occurs : c < g .spec .sides)
+      (room : wordsNeeded (g .text .count) (g .figures .count) ≤ length w) where
     abbrev at : ℕ
-    at = address (suc (g .lines)) i j c
+    at = address (suc (g .text .count)) i j c
 
     low : c ≤ 1
     low = omega (arith, two)
 
-    left-room : (i′ : ℕ) → wordsNeeded (g .lines) (g .figures) ≤ length (fillSide (modelOf bytes g) i′ j 0 w)
+    left-room : (i′ : ℕ) → wordsNeeded (g .text .count) (g .figures .count) ≤ length (fillSide (modelOf bytes g) i′ j 0 w)
     left-room i′ = let n = length-side (modelOf bytes g) i′ j 0 w in omega arith
 
     -- A place above the store.
@@ -312,9 +312,9 @@ module _ (bytes : List ℕ) (g : Galley) (j : ℕ) (column : j ≤ g .figures) (
         go (suc (suc d)) q l = absurd (omega arith)
 
   -- A store in the column before it is filled changes nothing.
-  column-over : (k i₀ : ℕ) (w : List ℕ) (i c : ℕ) (e : Entry) → k + i₀ ≡ suc (g .lines) → i₀ ≤ i → i ≤ g .lines
-      → c < g .spec .sides → wordsNeeded (g .lines) (g .figures) ≤ length w
-      → fillColumn (modelOf bytes g) j k i₀ (stored w (address (suc (g .lines)) i j c) e) ≡ fillColumn (modelOf bytes g) j k i₀ w
+  column-over : (k i₀ : ℕ) (w : List ℕ) (i c : ℕ) (e : Entry) → k + i₀ ≡ suc (g .text .count) → i₀ ≤ i → i ≤ g .text .count
+      → c < g .spec .sides → wordsNeeded (g .text .count) (g .figures .count) ≤ length w
+      → fillColumn (modelOf bytes g) j k i₀ (stored w (address (suc (g .text .count)) i j c) e) ≡ fillColumn (modelOf bytes g) j k i₀ w
   unfolding fillColumn
   column-over zero i₀ w i c e n l line occurs room = absurd (omega arith)
   column-over (suc k) i₀ w i c e n l line occurs room =
@@ -325,10 +325,10 @@ module _ (bytes : List ℕ) (g : Galley) (j : ℕ) (column : j ≤ g .figures) (
       go : Dec (i₀ ≡ i)
           → (i₀ < i
           → fillColumn (modelOf bytes g) j k (suc i₀) (stored (fillPlace (sidesOf (g .spec .sides)) (modelOf bytes g) i₀ j w)
-          (address (suc (g .lines)) i j c) e)
+          (address (suc (g .text .count)) i j c) e)
           ≡ fillColumn (modelOf bytes g) j k (suc i₀) (fillPlace (sidesOf (g .spec .sides)) (modelOf bytes g) i₀ j w))
           → fillColumn (modelOf bytes g) j k (suc i₀) (fillPlace (sidesOf (g .spec .sides)) (modelOf bytes g) i₀ j (stored w
-          (address (suc (g .lines)) i j c) e))
+          (address (suc (g .text .count)) i j c) e))
           ≡ fillColumn (modelOf bytes g) j k (suc i₀) (fillPlace (sidesOf (g .spec .sides)) (modelOf bytes g) i₀ j w)
       go (yes q) below =
           ap (fillColumn (modelOf bytes g) j k (suc i₀))
@@ -339,21 +339,21 @@ module _ (bytes : List ℕ) (g : Galley) (j : ℕ) (column : j ≤ g .figures) (
           ∙ below (omega arith)
 
   -- So any stores change nothing,
-  pub column-scratched : (w v : List ℕ) → Scratched g j w v → wordsNeeded (g .lines) (g .figures) ≤ length w
-      → fillColumn (modelOf bytes g) j (suc (g .lines)) 0 v ≡ fillColumn (modelOf bytes g) j (suc (g .lines)) 0 w
+  pub column-scratched : (w v : List ℕ) → Scratched g j w v → wordsNeeded (g .text .count) (g .figures .count) ≤ length w
+      → fillColumn (modelOf bytes g) j (suc (g .text .count)) 0 v ≡ fillColumn (modelOf bytes g) j (suc (g .text .count)) 0 w
   column-scratched w v fresh room = refl
   column-scratched w v (more x y i c e s l m p) room =
       let n = scratched-length g j w x s in
-      ap (fillColumn (modelOf bytes g) j (suc (g .lines)) 0) p
-      ∙ column-over (suc (g .lines)) 0 x i c e (omega arith) (omega arith) l m (omega arith)
+      ap (fillColumn (modelOf bytes g) j (suc (g .text .count)) 0) p
+      ∙ column-over (suc (g .text .count)) 0 x i c e (omega arith) (omega arith) l m (omega arith)
       ∙ column-scratched w x s room
 
   -- and leave the columns before.
-  pub scratched-other : (w v : List ℕ) → Scratched g j w v → (a b d : ℕ) → a ≤ g .lines → b < j → d ≤ 1
-      → tableOf (suc (g .lines)) v a b d ≡ tableOf (suc (g .lines)) w a b d
+  pub scratched-other : (w v : List ℕ) → Scratched g j w v → (a b d : ℕ) → a ≤ g .text .count → b < j → d ≤ 1
+      → tableOf (suc (g .text .count)) v a b d ≡ tableOf (suc (g .text .count)) w a b d
   scratched-other w v fresh a b d l h k = refl
   scratched-other w v (more x y i c e s p m q) a b d l h k =
-      ap (λ u. tableOf (suc (g .lines)) u a b d) q
-      ∙ table-other (suc (g .lines)) i j c a b d x e (omega arith) (omega arith) (omega (arith, two)) k
+      ap (λ u. tableOf (suc (g .text .count)) u a b d) q
+      ∙ table-other (suc (g .text .count)) i j c a b d x e (omega arith) (omega arith) (omega (arith, two)) k
       (λ r. omega (arith, r .1))
       ∙ scratched-other w x s a b d l h k

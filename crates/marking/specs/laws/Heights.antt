@@ -6,7 +6,6 @@ use mathlib.Core.Bool.{Bool, true, false, _&&_, _||_}
 use mathlib.Core.List.{List, [], _∷_}
 use lib.Dec.{leb, ltb}
 use borrow.Author.Tests.{le-leb, lt-leb}
-use Rattle.model.specs.Gather.{pick}
 use Rattle.model.specs.Height.{stacked, height, tightest, loosest}
 use Rattle.model.specs.Rules.{fits, fills}
 use Rattle.model.specs.laws.Height.{stacked-grows}
@@ -16,7 +15,7 @@ use Rattle.galley.specs.Sound.{Sound}
 use Rattle.blocks.specs.declared.heights.Heights.{Heights}
 use Rattle.blocks.specs.Heights.{separation, apartBy, withBlock, Room}
 use Rattle.blocks.specs.laws.Stacked.{stacked-none}
-use Rattle.blocks.specs.laws.Heights.{Grown, with-grown}
+use Rattle.blocks.specs.laws.Heights.{separation-most, Grown, with-grown}
 use Rattle.rules.specs.laws.Two.{height-two}
 
 -- Of a stream's blocks from a + 1 to i those up to k are on the page.
@@ -29,34 +28,26 @@ pub record PageSoFar (bytes : List ℕ) (g : Galley) (a b i j k f : ℕ) (h : He
   pub lines : Upto a k i
   pub figures : Upto b f j
   pub tight : h .tight
-      ≡ separation (ltb a i) (ltb b j) (g .spec .smin)
+      ≡ separation (ltb a i && ltb b j) (g .spec .smin)
       + stacked (textOf bytes (g .text)) (textOf bytes (g .text) .least) a k
       + stacked (floatsOf bytes (g .figures)) (floatsOf bytes (g .figures) .least) b f
   pub loose : h .loose
-      ≡ separation (ltb a i) (ltb b j) (g .spec .smax)
+      ≡ separation (ltb a i && ltb b j) (g .spec .smax)
       + stacked (textOf bytes (g .text)) (textOf bytes (g .text) .most) a k
       + stacked (floatsOf bytes (g .figures)) (floatsOf bytes (g .figures) .most) b f
   pub tightMost : h .tight ≤ 100000 + 200000 * k + 200000 * f
   pub looseMost : h .loose ≤ 100000 + 200000 * k + 200000 * f
 
-separation-most : (x y : Bool) (s : ℕ) → s ≤ 100000 → separation x y s ≤ 100000
-unfolding separation
-separation-most x y s h = go (x && y)
-  where
-    go : (z : Bool) → pick z s 0 ≤ 100000
-    go true = h
-    go false = omega arith
-
 module _ (bytes : List ℕ) (g : Galley) (so : Sound bytes g) (a b i j : ℕ) where
   -- The page's separation alone.
-  pub page-start : a ≤ i → b ≤ j → PageSoFar bytes g a b i j a b (apartBy (g .spec) (ltb a i) (ltb b j))
+  pub page-start : a ≤ i → b ≤ j → PageSoFar bytes g a b i j a b (apartBy (g .spec) (ltb a i && ltb b j))
   unfolding apartBy
   page-start up on =
       let ranged = so .specRanged in
       let text = textOf bytes (g .text) in
       let floats = floatsOf bytes (g .figures) in
-      let tightly = separation-most (ltb a i) (ltb b j) (g .spec .smin) (omega arith) in
-      let loosely = separation-most (ltb a i) (ltb b j) (g .spec .smax) (omega arith) in
+      let tightly = separation-most (ltb a i && ltb b j) (g .spec .smin) (omega arith) in
+      let loosely = separation-most (ltb a i && ltb b j) (g .spec .smax) (omega arith) in
       let text-tight = stacked-none text (text .least) a a (omega arith) in
       let text-loose = stacked-none text (text .most) a a (omega arith) in
       let floats-tight = stacked-none floats (floats .least) b b (omega arith) in

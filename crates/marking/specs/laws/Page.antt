@@ -2,7 +2,7 @@
 use Prim.Native.Nat.{ℕ, _+_, _*_, _/_, _≤_, _<_}
 use native.Mathlib.Omega.{arith}
 use mathlib.Core.Path.{_≡_, sym, _∙_}
-use mathlib.Core.Bool.{_||_}
+use mathlib.Core.Bool.{_&&_, _||_}
 use mathlib.Core.List.{List, [], _∷_}
 use lib.ListN.{length, getD}
 use lib.Dec.{eqb, leb, ltb}
@@ -64,7 +64,7 @@ pub record Underway (bytes : List ℕ) (g : Galley) (ws : List ℕ) (done a b c 
 -- At first it has its separation alone.
 pub underway-start : {bytes : List ℕ} {g : Galley} {ws : List ℕ} {done a b c x i j start : ℕ}
     → Begun bytes g ws done a b c x i j start → start ≤ 0
-    → Underway bytes g ws done a b c x i j start a b (apartBy (g .spec) (ltb a i) (ltb b j))
+    → Underway bytes g ws done a b c x i j start a b (apartBy (g .spec) (ltb a i && ltb b j))
 underway-start {bytes} {g} {a = a} {b = b} {i = i} {j = j} p fine =
     let on = begun-onward p fine in
     record {

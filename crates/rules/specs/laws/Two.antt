@@ -33,8 +33,7 @@ implies-and : (a b c : Bool) → implies a (implies b c) ≡ implies (a && b) c
 implies-and true b c = refl
 implies-and false b c = refl
 
-separated : (a b : Bool) (s : ℕ) → pred (one a + (0 + one b)) * s ≡ separation a b s
-unfolding separation
+separated : (a b : Bool) (s : ℕ) → pred (one a + (0 + one b)) * s ≡ separation (a && b) s
 separated true true s = omega arith
 separated true false s = omega arith
 separated false true s = omega arith
@@ -56,7 +55,7 @@ module _ (bytes : List ℕ) (g : Galley) where
   -- The height of a page.
   pub height-two : (gap : Stream → ℕ → ℕ) (s a b i j : ℕ)
       → height (modelOf bytes g) gap s (a ∷ b ∷ []) (i ∷ j ∷ [])
-      ≡ separation (ltb a i) (ltb b j) s
+      ≡ separation (ltb a i && ltb b j) s
       + stacked (textOf bytes (g .text)) (gap (textOf bytes (g .text))) a i
       + stacked (floatsOf bytes (g .figures)) (gap (floatsOf bytes (g .figures))) b j
   unfolding height kinds has total sum count

@@ -32,33 +32,33 @@ scratched-then g j w v u a (more x y i c e b l m p) = more x y i c e (scratched-
 pub scratched-length : (g : Galley) (j : ℕ) (w v : List ℕ) → Scratched g j w v → length v ≡ length w
 scratched-length g j w v fresh = refl
 scratched-length g j w v (more x y i c e b l m p) =
-    ap length p ∙ stored-length x (address (suc (g .lines)) i j c) e ∙ scratched-length g j w x b
+    ap length p ∙ stored-length x (address (suc (g .text .count)) i j c) e ∙ scratched-length g j w x b
 
 -- One store.
-module _ (g : Galley) (w : List ℕ) (i j c : ℕ) (e : Entry) (v : List ℕ) (p : v ≡ stored w (address (suc (g .lines)) i j c) e)
-    (line : i ≤ g .lines) (side : c ≤ 1) where
+module _ (g : Galley) (w : List ℕ) (i j c : ℕ) (e : Entry) (v : List ℕ) (p : v ≡ stored w (address (suc (g .text .count)) i j c) e)
+    (line : i ≤ g .text .count) (side : c ≤ 1) where
   pub cell-length : length v ≡ length w
-  cell-length = ap length p ∙ stored-length w (address (suc (g .lines)) i j c) e
+  cell-length = ap length p ∙ stored-length w (address (suc (g .text .count)) i j c) e
 
-  pub cell-other : (a b d : ℕ) → a ≤ g .lines → d ≤ 1 → ((i ≡ a) × (j ≡ b) × (c ≡ d) → ⊥)
-      → tableOf (suc (g .lines)) v a b d ≡ tableOf (suc (g .lines)) w a b d
+  pub cell-other : (a b d : ℕ) → a ≤ g .text .count → d ≤ 1 → ((i ≡ a) × (j ≡ b) × (c ≡ d) → ⊥)
+      → tableOf (suc (g .text .count)) v a b d ≡ tableOf (suc (g .text .count)) w a b d
   cell-other a b d l m n =
-      ap (λ u. tableOf (suc (g .lines)) u a b d) p
-      ∙ table-other (suc (g .lines)) i j c a b d w e (omega arith) (omega arith) side m n
+      ap (λ u. tableOf (suc (g .text .count)) u a b d) p
+      ∙ table-other (suc (g .text .count)) i j c a b d w e (omega arith) (omega arith) side m n
 
-  module _ (column : j ≤ g .figures) (room : wordsNeeded (g .lines) (g .figures) ≤ length w) where
-    pub cell-own : tableOf (suc (g .lines)) v i j c ≡ e
+  module _ (column : j ≤ g .figures .count) (room : wordsNeeded (g .text .count) (g .figures .count) ≤ length w) where
+    pub cell-own : tableOf (suc (g .text .count)) v i j c ≡ e
     cell-own =
-        let a = address-in (g .lines) (g .figures) i j c line column side in
-        let s = ap (λ h. address h i j c) (add-one (g .lines)) in
-        ap (λ u. tableOf (suc (g .lines)) u i j c) p ∙ table-same (suc (g .lines)) i j c w e (omega arith)
+        let a = address-in (g .text .count) (g .figures .count) i j c line column side in
+        let s = ap (λ h. address h i j c) (add-one (g .text .count)) in
+        ap (λ u. tableOf (suc (g .text .count)) u i j c) p ∙ table-same (suc (g .text .count)) i j c w e (omega arith)
 
     -- Every other place of the column knows of earlier columns what it knew.
-    pub knows-other : (bytes : List ℕ) (k d b : ℕ) → k ≤ g .lines → d ≤ 1 → ((i ≡ k) × (c ≡ d) → ⊥)
+    pub knows-other : (bytes : List ℕ) (k d b : ℕ) → k ≤ g .text .count → d ≤ 1 → ((i ≡ k) × (c ≡ d) → ⊥)
         → Knows bytes g w k j d (Between b j) → Knows bytes g v k j d (Between b j)
     knows-other bytes k d b l m n known inner =
         rw (cell-other k j d l m (λ q. n (q .0, q .2)))
-        (best-same bytes g w v k j (sideOf g d) (Between b j) (tableOf (suc (g .lines)) w k j d)
+        (best-same bytes g w v k j (sideOf g d) (Between b j) (tableOf (suc (g .text .count)) w k j d)
         (λ a b′ r h h′. cell-other a b′ (sideOf g d) (omega arith) (side-either g d) (λ q. omega (arith, q .1, r .1)))
         (known inner))
 
@@ -83,7 +83,7 @@ module _ (g : Galley) (w : List ℕ) (i j c : ℕ) (e : Entry) (v : List ℕ) (p
               knows-other bytes k d (suc b) l (omega arith) (λ q. omega (arith, q .0, q .1)) (s .left k d l m (omega arith));
         }
       where
-        go : (k d : ℕ) → k ≤ g .lines → d < g .spec .sides → 2 * k + d < 2 * i + (c + 1) → Dec (2 * k + d ≡ 2 * i + c)
+        go : (k d : ℕ) → k ≤ g .text .count → d < g .spec .sides → 2 * k + d < 2 * i + (c + 1) → Dec (2 * k + d ≡ 2 * i + c)
             → Knows bytes g v k j d (Between b j)
         go k d l m n (yes q) =
             let x : k ≡ i = omega arith in
@@ -96,7 +96,7 @@ module _ (g : Galley) (w : List ℕ) (i j c : ℕ) (e : Entry) (v : List ℕ) (p
     pub blank-next : g .spec .sides ≤ 2 → e ≡ Unreached → Blank g w j (2 * i + c) → Blank g v j (2 * i + (c + 1))
     blank-next two none s k d l m n = go (ℕ-discrete (2 * k + d) (2 * i + c))
       where
-        go : Dec (2 * k + d ≡ 2 * i + c) → tableOf (suc (g .lines)) v k j d ≡ Unreached
+        go : Dec (2 * k + d ≡ 2 * i + c) → tableOf (suc (g .text .count)) v k j d ≡ Unreached
         go (yes q) =
             let x : k ≡ i = omega arith in
             let y : d ≡ c = omega arith in
@@ -114,7 +114,7 @@ swept-line i c two l m s =
     }
 
 -- In an unreached column no start is known, and there is none with j figures or more and fewer than j.
-pub blank-known : (bytes : List ℕ) (g : Galley) (w : List ℕ) (j : ℕ) → g .spec .sides ≤ 2 → Blank g w j (2 * g .lines + 2)
+pub blank-known : (bytes : List ℕ) (g : Galley) (w : List ℕ) (j : ℕ) → g .spec .sides ≤ 2 → Blank g w j (2 * g .text .count + 2)
     → Known bytes g w j j
 blank-known bytes g w j two blank k c l m inner =
     rw (blank k c l m (omega arith))
@@ -122,10 +122,10 @@ blank-known bytes g w j two blank k c l m inner =
 
 -- One side more of a place is cleared,
 pub clear-next : {g : Galley} {w₀ w : List ℕ} {i j c : ℕ} → ClearAsked g w₀ i j → PlaceRun g w₀ w i j c → c < g .spec .sides
-    → (v : List ℕ) → v ≡ stored w (address (suc (g .lines)) i j c) Unreached → PlaceRun g w₀ v i j (c + 1)
+    → (v : List ℕ) → v ≡ stored w (address (suc (g .text .count)) i j c) Unreached → PlaceRun g w₀ v i j (c + 1)
 clear-next {g} {w₀} {w} {i} {j} {c} asked run l v e =
     let side : c ≤ 1 = omega (arith, asked .two) in
-    let room : wordsNeeded (g .lines) (g .figures) ≤ length w = omega (arith, asked .room, run .sized) in
+    let room : wordsNeeded (g .text .count) (g .figures .count) ≤ length w = omega (arith, asked .room, run .sized) in
     record {
       within = omega arith;
       sized = cell-length g w i j c Unreached v e (asked .line) side ∙ run .sized;
@@ -151,7 +151,7 @@ clear-first g w j =
       cleared = record { sized = refl; blank = λ k d l m n. absurd (omega arith); kept = fresh };
     }
 
-pub clear-line : {g : Galley} {w₀ w : List ℕ} {i j : ℕ} → ClearRun g w₀ w j i → i ≤ g .lines → (v : List ℕ)
+pub clear-line : {g : Galley} {w₀ w : List ℕ} {i j : ℕ} → ClearRun g w₀ w j i → i ≤ g .text .count → (v : List ℕ)
     → PlaceCleared g w v i j → ClearRun g w₀ v j (i + 1)
 clear-line {g} {w₀} {w} {i} {j} run l v done =
     let n : 2 * i + 2 ≡ 2 * (i + 1) = omega arith in
@@ -165,8 +165,8 @@ clear-line {g} {w₀} {w} {i} {j} run l v done =
           };
     }
 
-pub clear-last : {g : Galley} {w₀ w : List ℕ} {i j : ℕ} → ClearRun g w₀ w j i → g .lines < i
-    → ColumnCleared g w₀ w j (2 * g .lines + 2)
+pub clear-last : {g : Galley} {w₀ w : List ℕ} {i j : ℕ} → ClearRun g w₀ w j i → g .text .count < i
+    → ColumnCleared g w₀ w j (2 * g .text .count + 2)
 clear-last run l =
     record {
       sized = run .cleared .sized;

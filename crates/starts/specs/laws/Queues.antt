@@ -32,7 +32,7 @@ nothing = record { low = 0; high = 0 }
 -- Before the first line all queues are empty.
 pub queues-none : (g : Galley) (w words : List ℕ) (b : ℕ) → g .spec .sides ≤ 2
     → Queues g w words (record { base = 0; head = 0; tail = 0 }
-    ∷ record { base = g .lines; head = g .lines; tail = g .lines }
+    ∷ record { base = g .text .count; head = g .text .count; tail = g .text .count }
     ∷ []) b nothing nothing 0
 queues-none g w words b two =
     record {
@@ -45,23 +45,23 @@ queues-none g w words b two =
   where
     still : (c : ℕ) → c < g .spec .sides
         → Holds g w words (record { base = 0; head = 0; tail = 0 } ∷ record {
-          base = g .lines;
-          head = g .lines;
-          tail = g .lines;
+          base = g .text .count;
+          head = g .text .count;
+          tail = g .text .count;
         } ∷ []) b nothing c
-    still zero m = held-none (columnOf w (g .lines + 1) b (sideOf g 0)) words 0
-    still (suc zero) m = held-none (columnOf w (g .lines + 1) b (sideOf g 1)) words (g .lines)
+    still zero m = held-none (columnOf w (g .text .count + 1) b (sideOf g 0)) words 0
+    still (suc zero) m = held-none (columnOf w (g .text .count + 1) b (sideOf g 1)) words (g .text .count)
     still (suc (suc c)) m = absurd (omega arith)
 
 module _ {g : Galley} {w words : List ℕ} {queues : List Queue} {b : ℕ} {old new : Window} {n : ℕ}
     (q : Queues g w words queues b old new n) where
   -- A queue starts at the first word or in the middle.
-  pub base-low : (c : ℕ) → c < 2 → queueAt queues c .base ≤ g .lines
+  pub base-low : (c : ℕ) → c < 2 → queueAt queues c .base ≤ g .text .count
   base-low zero l = let f = q .first in omega arith
   base-low (suc zero) l = let f = q .second in omega arith
   base-low (suc (suc c)) l = absurd (omega arith)
 
-  base-apart : (c d k m : ℕ) → c < 2 → d < 2 → ¬ (d ≡ c) → k ≤ g .lines → m ≤ g .lines
+  base-apart : (c d k m : ℕ) → c < 2 → d < 2 → ¬ (d ≡ c) → k ≤ g .text .count → m ≤ g .text .count
       → (queueAt queues d .base + k ≤ queueAt queues c .base) ⊎ (queueAt queues c .base + m ≤ queueAt queues d .base)
   base-apart zero zero k m l h n p r = absurd (n refl)
   base-apart zero (suc zero) k m l h n p r = let e = q .first in let f = q .second in inr (omega arith)
@@ -84,7 +84,7 @@ module _ {g : Galley} {w words : List ℕ} {queues : List Queue} {b : ℕ} {old 
 
   -- They hold the same of columns that are the same above the line where both windows end.
   pub queues-same : (v : List ℕ) (i : ℕ) → old .high ≤ i → new .high ≤ i
-      → ((a c : ℕ) → a < i → columnOf v (g .lines + 1) b (sideOf g c) a ≡ columnOf w (g .lines + 1) b (sideOf g c) a)
+      → ((a c : ℕ) → a < i → columnOf v (g .text .count + 1) b (sideOf g c) a ≡ columnOf w (g .text .count + 1) b (sideOf g c) a)
       → Queues g v words queues b old new n
   queues-same v i k m same =
       record {
@@ -92,17 +92,17 @@ module _ {g : Galley} {w words : List ℕ} {queues : List Queue} {b : ℕ} {old 
         first = q .first;
         second = q .second;
         moved = λ c l h.
-            held-same (columnOf w (g .lines + 1) b (sideOf g c)) (columnOf v (g .lines + 1) b (sideOf g c)) words (queueAt
+            held-same (columnOf w (g .text .count + 1) b (sideOf g c)) (columnOf v (g .text .count + 1) b (sideOf g c)) words (queueAt
             queues c) (new .low) (new .high) (λ a p. same a c (omega arith)) (q .moved c l h);
         still = λ c l h.
-            held-same (columnOf w (g .lines + 1) b (sideOf g c)) (columnOf v (g .lines + 1) b (sideOf g c)) words (queueAt
+            held-same (columnOf w (g .text .count + 1) b (sideOf g c)) (columnOf v (g .text .count + 1) b (sideOf g c)) words (queueAt
             queues c) (old .low) (old .high) (λ a p. same a c (omega arith)) (q .still c l h);
       }
 
   -- The queue of the next side moved on.
-  pub queues-next : g .spec .sides ≤ 2 → n < g .spec .sides → old .low ≤ new .low → old .high ≤ g .lines → new .high ≤ g .lines
+  pub queues-next : g .spec .sides ≤ 2 → n < g .spec .sides → old .low ≤ new .low → old .high ≤ g .text .count → new .high ≤ g .text .count
       → (words′ : List ℕ) (r : Queue)
-      → Advanced w (g .lines + 1) b (sideOf g n) words (queueAt queues n) (old .high) new r words′
+      → Advanced w (g .text .count + 1) b (sideOf g n) words (queueAt queues n) (old .high) new r words′
       → Queues g w words′ (set queues n r) b old new (n + 1)
   queues-next two more low h h′ words′ r advanced =
       record {
@@ -126,10 +126,10 @@ module _ {g : Galley} {w words : List ℕ} {queues : List Queue} {b : ℕ} {old 
           go (yes e) = rw e (ap (λ (x : Queue). x .base) own ∙ advanced .base)
           go (no e) = ap (λ (x : Queue). x .base) (other d e)
 
-      kept : (d : ℕ) (window : Window) → ¬ (d ≡ n) → d < g .spec .sides → window .high ≤ g .lines
+      kept : (d : ℕ) (window : Window) → ¬ (d ≡ n) → d < g .spec .sides → window .high ≤ g .text .count
           → Holds g w words queues b window d → Holds g w words′ queues b window d
       kept d window e m k h =
-          held-beside (columnOf w (g .lines + 1) b (sideOf g d)) words words′ (queueAt queues d) (window .low) (window .high)
+          held-beside (columnOf w (g .text .count + 1) b (sideOf g d)) words words′ (queueAt queues d) (window .low) (window .high)
           (queueAt queues n .base) (queueAt queues n .base + new .high) (advanced .beside)
           (base-apart n d (window .high) (new .high) (omega arith) (omega arith) e k h′) h
 

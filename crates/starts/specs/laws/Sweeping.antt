@@ -38,7 +38,7 @@ module _ {bytes : List ℕ} {g : Galley} {w₀ words₀ : List ℕ} {queues₀ :
   two : g .spec .sides ≤ 2
   two = asked .lent .sound .specRanged .sidesTwo
 
-  figure : pass .from ≤ g .figures
+  figure : pass .from ≤ g .figures .count
   figure = omega (arith, asked .passing .before, asked .lent .column)
 
   -- Before the first side nothing has changed.
@@ -72,7 +72,7 @@ module _ {bytes : List ℕ} {g : Galley} {w₀ words₀ : List ℕ} {queues₀ :
         held : Holds g w words queues (pass .from) (windows .from) c
         held = run .queued .still c (omega arith) more-sides
 
-        pub turn-feeds : FeedAsked w (g .lines + 1) (pass .from) (sideOf g c) words (queueAt queues c) (windows .from .high)
+        pub turn-feeds : FeedAsked w (g .text .count + 1) (pass .from) (sideOf g c) words (queueAt queues c) (windows .from .high)
             (windows .to .high)
         turn-feeds =
             can-feed lent-now (pass .from) figure (queueAt queues c) c (windows .from .high) (windows .to .high) i (asked .line)
@@ -80,9 +80,9 @@ module _ {bytes : List ℕ} {g : Galley} {w₀ words₀ : List ℕ} {queues₀ :
             (held .order) (held .short)
 
         module _ (words′ : List ℕ) (sized : length words′ ≡ length words) (next : Queue)
-            (advanced : Advanced w (g .lines + 1) (pass .from) (sideOf g c) words (queueAt queues c) (windows .from .high)
+            (advanced : Advanced w (g .text .count + 1) (pass .from) (sideOf g c) words (queueAt queues c) (windows .from .high)
             (windows .to) next words′) where
-          inside : windows .to .high ≤ g .lines
+          inside : windows .to .high ≤ g .text .count
           inside = omega (arith, asked .opened .ends .high, asked .line)
 
           pub turn-improves : ImproveAsked g w words′ next i c pass
@@ -98,24 +98,24 @@ module _ {bytes : List ℕ} {g : Galley} {w₀ words₀ : List ℕ} {queues₀ :
                 within = asked .lent .column;
               }
 
-          held-next : Held (columnOf w (g .lines + 1) (pass .from) (sideOf g c)) words′ next (windows .to .low)
+          held-next : Held (columnOf w (g .text .count + 1) (pass .from) (sideOf g c)) words′ next (windows .to .low)
               (windows .to .high)
           held-next = advanced .held (windows .from .low) (asked .low) held
 
           abbrev found : Entry
           found =
               chosen
-              (chosen (tableOf (suc (g .lines)) w i (pass .to) c) (frontOf words′ next (pass .from)))
+              (chosen (tableOf (suc (g .text .count)) w i (pass .to) c) (frontOf words′ next (pass .from)))
               (aloneOf g w i (pass .from) (sideOf g c) (pass .heights .loose))
 
           best : allPlaced g i (pass .to) ≡ false → Best (searchOf bytes g w i (pass .to) (sideOf g c)) (Between (pass .from)
               (pass .to)) found
           best inner =
               let mixed = lt-ltb (pass .from) (pass .to) (asked .passing .before) in
-              let cheapest = front-cheapest (columnOf w (g .lines + 1) (pass .from) (sideOf g c)) words′ next
+              let cheapest = front-cheapest (columnOf w (g .text .count + 1) (pass .from) (sideOf g c)) words′ next
               (windows .to .low) (windows .to .high) (pass .from) held-next (advanced .fresh) in
               improved bytes g w i (pass .to) (sideOf g c) (pass .from) (pass .heights) (asked .passing .floats) inner
-              (asked .passing .before) (tableOf (suc (g .lines)) w i (pass .to) c) (frontOf words′ next (pass .from))
+              (asked .passing .before) (tableOf (suc (g .text .count)) w i (pass .to) c) (frontOf words′ next (pass .from))
               (aloneOf g w i (pass .from) (sideOf g c) (pass .heights .loose))
               (run .swept .left i c (asked .line) more-sides (le-refl (2 * i + c)) inner)
               (window-best bytes g w i (pass .to) (sideOf g c) (pass .from) (pass .heights) (asked .passing .floats) inner
@@ -156,13 +156,13 @@ module _ {bytes : List ℕ} {g : Galley} {w₀ sums words₀ : List ℕ} {pass :
   where
     -- A sweep starts with nothing in its queues.
     pub sweep-first : SweepRun bytes g w₀ w₀ words₀ words₀ pass (record { low = 0; high = 0 })
-        (record { base = 0; head = 0; tail = 0 } ∷ record { base = g .lines; head = g .lines; tail = g .lines } ∷ []) 0
+        (record { base = 0; head = 0; tail = 0 } ∷ record { base = g .text .count; head = g .text .count; tail = g .text .count } ∷ []) 0
     sweep-first =
         record {
           within = omega arith;
           sized = refl;
           wordsSized = refl;
-          ends = ends-first (textOf bytes g) (loadOf g true (pass .heights));
+          ends = ends-first (textOf bytes (g .text)) (loadOf g true (pass .heights));
           queued = queues-none g w₀ words₀ (pass .from) (asked .lent .sound .specRanged .sidesTwo);
           swept =
               record { done = λ k c l m n. absurd (omega arith); left = λ k c l m n. asked .known k c l m };
@@ -172,17 +172,17 @@ module _ {bytes : List ℕ} {g : Galley} {w₀ sums words₀ : List ℕ} {pass :
     module _ {w words : List ℕ} {window : Window} {queues : List Queue} {i : ℕ}
         (run : SweepRun bytes g w₀ w words₀ words pass window queues i) where
       -- A sweep ends below the last line.
-      pub sweep-last : g .lines < i → SweepDone bytes g w₀ w pass
+      pub sweep-last : g .text .count < i → SweepDone bytes g w₀ w pass
       sweep-last l =
           record {
             known = λ k c h m. run .swept .done k c h m (omega (arith, asked .lent .sound .specRanged .sidesTwo));
             kept = run .kept;
           }
 
-      module _ (line : i ≤ g .lines) (new : Window)
+      module _ (line : i ≤ g .text .count) (new : Window)
           (slid : (st : Stream) (m : ℕ) → Slid sums st m (loadOf g true (pass .heights)) window i new) where
-        opened : Open (textOf bytes g) (loadOf g true (pass .heights)) new i
-        opened = slid (textOf bytes g) (g .lines) .opens (asked .summed .rows) line (run .ends)
+        opened : Open (textOf bytes (g .text)) (loadOf g true (pass .heights)) new i
+        opened = slid (textOf bytes (g .text)) (g .text .count) .opens (asked .summed .rows) line (run .ends)
 
         pub sweep-turns : TurnAsked bytes g w words queues (record { from = window; to = new }) i pass
         sweep-turns =
@@ -190,8 +190,8 @@ module _ {bytes : List ℕ} {g : Galley} {w₀ sums words₀ : List ℕ} {pass :
               lent = lent-sized w words (run .sized) (run .wordsSized) (asked .lent);
               passing = asked .passing;
               line = line;
-              low = slid (textOf bytes g) (g .lines) .low;
-              high = slid (textOf bytes g) (g .lines) .high;
+              low = slid (textOf bytes (g .text)) (g .text .count) .low;
+              high = slid (textOf bytes (g .text)) (g .text .count) .high;
               opened = opened;
               queued =
                   record {
@@ -214,7 +214,7 @@ module _ {bytes : List ℕ} {g : Galley} {w₀ sums words₀ : List ℕ} {pass :
               within = omega arith;
               sized = p ∙ run .sized;
               wordsSized = q ∙ run .wordsSized;
-              ends = rw add-one (ends-next (textOf bytes g) (loadOf g true (pass .heights)) new i opened);
+              ends = rw add-one (ends-next (textOf bytes (g .text)) (loadOf g true (pass .heights)) new i opened);
               queued = done .queued;
               swept = rw n at (done .swept);
               kept = scratched-then g (pass .to) w₀ w v (run .kept) (done .kept);

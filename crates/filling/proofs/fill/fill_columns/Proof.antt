@@ -14,7 +14,7 @@ abbrev Inv-loop : tie.InvT-loop
 Inv-loop s g work₀ sums words₀ j₀ work words j = ColumnsRun s g work₀ work words₀ words j
 
 abbrev μ-loop : tie.MeasureT-loop
-μ-loop s g work₀ sums words₀ j₀ work words j = g .figures + 1 - j
+μ-loop s g work₀ sums words₀ j₀ work words j = g .figures .count + 1 - j
 
 loop-holds : tie.Need-loop-holds Inv-loop μ-loop
 loop-holds c =

@@ -15,7 +15,7 @@ Inv-loop s g work₀ sums words₀ j load cited₀ span₀ queues₀ i₀ work w
 
 abbrev μ-loop : tie.MeasureT-loop
 μ-loop s g work₀ sums words₀ j load cited₀ span₀ queues₀ i₀ work words cited span queues i =
-    g .lines + 1 - i
+    g .text .count + 1 - i
 
 load-of-requires : tie.Need-load-of-requires Inv-loop μ-loop
 load-of-requires c κs = search needs

@@ -22,7 +22,7 @@ returns c =
     let start = c .before .before .before .before .before .before in
     let a = start .args in
     let e = a .end in
-    sym (entry-nothing (modelOf (a .s .now) (a .g)) (tableOf (suc (a .g .lines)) (a .work .now)) (e .line) (e .column) (e .side)
+    sym (entry-nothing (modelOf (a .s .now) (a .g)) (tableOf (suc (a .g .text .count)) (a .work .now)) (e .line) (e .column) (e .side)
     (c .if1 .taken))
 
 may-stop-requires : tie.Need-may-stop-requires
@@ -34,7 +34,7 @@ returns-2 c =
     let a = start .args in
     let e = a .end in
     let forbidden = sym (c .before .may-stop .ensures) ∙ not-true (c .before .may-stop .result) (c .if2 .taken) in
-    sym (entry-forbidden (modelOf (a .s .now) (a .g)) (tableOf (suc (a .g .lines)) (a .work .now)) (e .line) (e .column) (e .side)
+    sym (entry-forbidden (modelOf (a .s .now) (a .g)) (tableOf (suc (a .g .text .count)) (a .work .now)) (e .line) (e .column) (e .side)
     (c .before .before .if1 .left) forbidden)
 
 start-of-requires : tie.Need-start-of-requires
@@ -55,7 +55,7 @@ returns-3 c =
     let e = a .end in
     let allowed = sym (may .may-stop .ensures) ∙ not-false (may .may-stop .result) (found .before .if2 .left) in
     let best = sym (found .start-of .ensures) ∙ c .enum-told .given .1 in
-    sym (entry-unreached (modelOf (a .s .now) (a .g)) (tableOf (suc (a .g .lines)) (a .work .now)) (e .line) (e .column) (e .side)
+    sym (entry-unreached (modelOf (a .s .now) (a .g)) (tableOf (suc (a .g .text .count)) (a .work .now)) (e .line) (e .column) (e .side)
     (may .before .if1 .left) allowed best)
 
 price-requires : tie.Need-price-requires
@@ -83,7 +83,7 @@ returns-4 c =
     let allowed = sym (may .may-stop .ensures) ∙ not-false (may .may-stop .result) (found .before .if2 .left) in
     let best = sym (found .start-of .ensures) ∙ c .before .before .start .given .1 in
     rw (c .price .ensures (a .s .now) (start .pre .asked .citing))
-    (sym (entry-least (modelOf (a .s .now) (a .g)) (tableOf (suc (a .g .lines)) (a .work .now)) (e .line) (e .column) (e .side)
+    (sym (entry-least (modelOf (a .s .now) (a .g)) (tableOf (suc (a .g .text .count)) (a .work .now)) (e .line) (e .column) (e .side)
     (may .before .if1 .left) allowed _ _ best))
 
 pub entry-of-spec : {M : Type 1} → statement M

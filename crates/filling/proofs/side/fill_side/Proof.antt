@@ -48,7 +48,7 @@ store-requires : tie.Need-store-requires
 store-requires c κs =
     let start = c .before .before .before .before .before .before .before .before .before .before .before .before .before .before .before .before in
     let a = start .args in
-    let within = address-in (a .g .lines) (a .g .figures) (a .end .line) (a .end .column) (a .end .side)
+    let within = address-in (a .g .text .count) (a .g .figures .count) (a .end .line) (a .end .column) (a .end .side)
     (start .pre .asked .placed .line) (start .pre .lent .column) (side-low-here (start .pre)) in
     omega (arith, within, c .before .address-of .ensures, start .pre .asked .room)
 
@@ -66,11 +66,11 @@ returns c =
     let e = a .end in
     let entry = c .before .before .before .before .before .before .entry-of in
     let at = c .before .before .before .before .address-of .ensures
-    ∙ ap (λ (n : ℕ). address n (e .line) (e .column) (e .side)) (add-one (a .g .lines)) in
+    ∙ ap (λ (n : ℕ). address n (e .line) (e .column) (e .side)) (add-one (a .g .text .count)) in
     record {
       filled =
           c .before .before .store .ensures ∙ ap (λ (n : ℕ). stored (a .work .now) n (entry .result)) at
-          ∙ ap (stored (a .work .now) (address (suc (a .g .lines)) (e .line) (e .column) (e .side))) (entry .ensures);
+          ∙ ap (stored (a .work .now) (address (suc (a .g .text .count)) (e .line) (e .column) (e .side))) (entry .ensures);
       advanced = rw (← c .before .before .before .before .before .before .before .before .before .before .before .before .before .before .before .side-before .ensures) (c .before .before .before .before .before .before .before .before .before .before .before .advance .ensures);
     }
 

@@ -95,7 +95,7 @@ add-k : tie.Need-add-k Inv-loop μ-loop Inv-pages μ-pages
 add-k c = search needs
 
 loop-less : tie.Need-loop-less Inv-loop μ-loop Inv-pages μ-pages
-loop-less c = search needs
+loop-less c = let more = c .before .if4 .taken in omega arith
 
 loop-again : tie.Need-loop-again Inv-loop μ-loop Inv-pages μ-pages
 loop-again c = rw (c .with-block .ensures) (underway-line (c .before .before .before .before .before .loop .inv) (c .before .if4 .taken))
@@ -107,13 +107,13 @@ add-f : tie.Need-add-f Inv-loop μ-loop Inv-pages μ-pages
 add-f c = search needs
 
 loop-less-2 : tie.Need-loop-less-2 Inv-loop μ-loop Inv-pages μ-pages
-loop-less-2 c = search needs
+loop-less-2 c = let more = c .before .if5 .taken in omega arith
 
 loop-again-2 : tie.Need-loop-again-2 Inv-loop μ-loop Inv-pages μ-pages
 loop-again-2 c = rw (c .with-block2 .ensures) (underway-figure (c .before .before .before .before .before .before .loop .inv) (c .before .if5 .taken))
 
 add-end-fault : tie.Need-add-end-fault Inv-loop μ-loop Inv-pages μ-pages
-add-end-fault c = search needs
+add-end-fault c = omega (arith, c .before .before .before .before .before .before .before .before .before .before .before .before .before .before .pages .inv .within, c .before .before .before .before .before .before .before .before .before .before .before .before .before .before .before .before .before .pre .few)
 
 end-fault-requires : tie.Need-end-fault-requires Inv-loop μ-loop Inv-pages μ-pages
 end-fault-requires c κs = search needs

@@ -42,7 +42,7 @@ entry-at-requires c κs =
     let start = c .before .before .before .before .before .before .before .before in
     let a = start .args in
     let placed = start .pre .searched .placed in
-    let within = address-in (a .g .lines) (a .g .figures) (a .i) (a .j) (a .c) (placed .line) (placed .figure)
+    let within = address-in (a .g .text .count) (a .g .figures .count) (a .i) (a .j) (a .c) (placed .line) (placed .figure)
     (start .pre .side) in
     omega (arith, within, c .address-of .ensures, start .pre .searched .room)
 
@@ -63,7 +63,7 @@ returns-2 c =
     c .choose .ensures
     ∙ rw (held, front)
     (start-chosen (a .s .now) (a .g) (a .work .now) (a .i) (a .j) (sideOf (a .g) (a .c))
-    (tableOf (suc (a .g .lines)) (a .work .now) (a .i) (a .j) (a .c)) (frontOf (a .words .now) (a .queue) (a .j))
+    (tableOf (suc (a .g .text .count)) (a .work .now) (a .i) (a .j) (a .c)) (frontOf (a .words .now) (a .queue) (a .j))
     (start .pre .fewer inner) (start .pre .same inner))
 
 pub start-of-spec : {M : Type 1} → statement M

@@ -11,7 +11,7 @@ abbrev Inv-loop : tie.InvT-loop
 Inv-loop g work₀ j i₀ work i = ClearRun g work₀ work j i
 
 abbrev μ-loop : tie.MeasureT-loop
-μ-loop g work₀ j i₀ work i = g .lines + 1 - i
+μ-loop g work₀ j i₀ work i = g .text .count + 1 - i
 
 loop-holds : tie.Need-loop-holds Inv-loop μ-loop
 loop-holds c =

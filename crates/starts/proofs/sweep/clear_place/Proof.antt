@@ -39,7 +39,7 @@ store-requires c κs =
     let start = c .before .before .before .before .before .before .before in
     let a = start .args in
     let st = c .before .before .before .before .before .loop in
-    let within = address-in (a .g .lines) (a .g .figures) (a .i) (a .j) (st .c) (start .pre .line) (start .pre .within)
+    let within = address-in (a .g .text .count) (a .g .figures .count) (a .i) (a .j) (st .c) (start .pre .line) (start .pre .within)
     (omega (arith, c .before .before .before .if1 .taken, start .pre .two)) in
     omega (arith, within, c .before .address-of .ensures, st .inv .sized, start .pre .room)
 
@@ -55,7 +55,7 @@ loop-again c =
     let a = start .args in
     let st = c .before .before .before .before .before .before .before .before .loop in
     let at = c .before .before .before .before .address-of .ensures
-    ∙ ap (λ (n : ℕ). address n (a .i) (a .j) (st .c)) (add-one (a .g .lines)) in
+    ∙ ap (λ (n : ℕ). address n (a .i) (a .j) (st .c)) (add-one (a .g .text .count)) in
     clear-next (start .pre) (st .inv) (c .before .before .before .before .before .before .if1 .taken) _
     (c .before .before .store .ensures ∙ ap (λ (n : ℕ). stored (st .work) n Unreached) at)
 

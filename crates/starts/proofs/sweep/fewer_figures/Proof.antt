@@ -2,7 +2,7 @@
 use native.Mathlib.Omega.{arith}
 use mathlib.Core.Path.{_≡_}
 use Rattle.starts.specs.Sweep.{FewerRun}
-use Rattle.starts.specs.laws.Fewer.{fewer-first, fewer-before, fewer-sweeps, fewer-next, fewer-over, fewer-since}
+use Rattle.starts.specs.laws.Fewer.{fewer-first, fewer-room, fewer-sweeps, fewer-next, fewer-over, fewer-since}
 use borrow.Author.Needs.{needs}
 use Rattle.starts.proofs.sweep.fewer_figures.Statement.{statement}
 use Rattle.starts.proofs.sweep.fewer_figures.Tie as tie
@@ -23,8 +23,8 @@ loop-holds c = fewer-first (c .before .before .before .before .before .before .b
 sub-b : tie.Need-sub-b Inv-loop μ-loop
 sub-b c = search needs
 
-figure-before-requires : tie.Need-figure-before-requires Inv-loop μ-loop
-figure-before-requires c κs = fewer-before (c .before .loop .inv) (c .loop-test .taken)
+block-before-requires : tie.Need-block-before-requires Inv-loop μ-loop
+block-before-requires c κs = fewer-room (c .before .loop .inv) (c .loop-test .taken)
 
 same-length : tie.Need-same-length Inv-loop μ-loop
 same-length c = search needs
@@ -34,13 +34,13 @@ same-length-2 c = search needs
 
 returns : tie.Need-returns Inv-loop μ-loop
 returns c =
-    let found = c .before .before .before .figure-before in
+    let found = c .before .before .before .block-before in
     fewer-since (c .before .before .before .before .before .before .before .before .before .before .before .before .before .before .pre .lent) _ _ (c .before .before .before .before .before .before .before .before .clear-column .ensures)
     (fewer-over (c .before .before .before .before .before .loop .inv) (c .before .before .before .before .loop-test .taken) (found .result) (found .ensures) (c .if1 .taken))
 
 sweep-requires : tie.Need-sweep-requires Inv-loop μ-loop
 sweep-requires c κs =
-    let found = c .before .before .before .before .before .figure-before in
+    let found = c .before .before .before .before .before .block-before in
     fewer-sweeps (c .before .before .before .before .before .before .before .loop .inv) (c .before .before .before .before .before .before .loop-test .taken) (found .result) (found .ensures)
     (c .before .before .before .before .before .before .before .before .before .before .before .before .before .before .before .before .pre .summed) (omega (arith, c .before .before .if1 .left))
 
@@ -49,7 +49,7 @@ loop-less c = search needs
 
 loop-again : tie.Need-loop-again Inv-loop μ-loop
 loop-again c =
-    let found = c .before .before .before .before .before .before .before .before .before .before .figure-before in
+    let found = c .before .before .before .before .before .before .before .before .before .before .block-before in
     fewer-next (c .before .before .before .before .before .before .before .before .before .before .before .before .loop .inv) (c .before .before .before .before .before .before .before .before .before .before .before .loop-test .taken) (found .result) (found .ensures) _ _
     (search (needs, c .before .before .slice-known4 .given, c .before .before .before .work2 .given))
     (search (needs, c .slice-known5 .given, c .before .words .given)) (c .before .before .before .before .sweep .ensures)
@@ -76,7 +76,7 @@ fewer-figures-spec =
     clear-column-requires
     loop-holds
     sub-b
-    figure-before-requires
+    block-before-requires
     same-length
     same-length-2
     returns

@@ -22,7 +22,7 @@ entry-at-requires : tie.Need-entry-at-requires
 entry-at-requires c κs =
     let start = c .before .before .before .before .before in
     let a = start .args in
-    let within = address-in (a .g .lines) (a .g .figures) (a .i) (a .pass .to) (a .c) (start .pre .place .line)
+    let within = address-in (a .g .text .count) (a .g .figures .count) (a .i) (a .pass .to) (a .c) (start .pre .place .line)
     (start .pre .within) (start .pre .side) in
     omega (arith, within, c .before .address-of .ensures, start .pre .place .room)
 
@@ -45,7 +45,7 @@ store-requires : tie.Need-store-requires
 store-requires c κs =
     let start = c .before .before .before .before .before .before .before .before .before .before .before .before .before in
     let a = start .args in
-    let within = address-in (a .g .lines) (a .g .figures) (a .i) (a .pass .to) (a .c) (start .pre .place .line)
+    let within = address-in (a .g .text .count) (a .g .figures .count) (a .i) (a .pass .to) (a .c) (start .pre .place .line)
     (start .pre .within) (start .pre .side) in
     omega (arith, within, c .before .before .before .before .before .before .before .before .before .address-of .ensures, start .pre .place .room)
 
@@ -59,7 +59,7 @@ returns c =
     let w = a .work .now in
     let reading = c .before .before .before .before .before .before .before .before .before .before in
     let address-of = reading .before .before .address-of in
-    let at = address-of .ensures ∙ ap (λ (n : ℕ). address n (a .i) (a .pass .to) (a .c)) (add-one (a .g .lines)) in
+    let at = address-of .ensures ∙ ap (λ (n : ℕ). address n (a .i) (a .pass .to) (a .c)) (add-one (a .g .text .count)) in
     let held = reading .entry-at .ensures ∙ sym (table-read (a .g) w (a .i) (a .pass .to) (a .c) _ (address-of .ensures)) in
     let front = c .before .before .before .before .before .before .before .before .before .front .ensures in
     let alone = c .before .before .before .before .before .before .alone .ensures
@@ -69,7 +69,7 @@ returns c =
     let second = c .before .before .before .before .choose2 .ensures in
     c .before .before .store .ensures
     ∙ ap (λ (n : ℕ). stored w n (c .before .before .before .before .choose2 .result)) at
-    ∙ ap (stored w (address (suc (a .g .lines)) (a .i) (a .pass .to) (a .c))) (second ∙ rw (first, held, front, alone))
+    ∙ ap (stored w (address (suc (a .g .text .count)) (a .i) (a .pass .to) (a .c))) (second ∙ rw (first, held, front, alone))
 
 pub improve-spec : {M : Type 1} → statement M
 improve-spec =

@@ -14,7 +14,7 @@ Inv-loop s g work₀ sums words₀ pass load span₀ queues₀ i₀ work words s
     SweepRun s g work₀ work words₀ words pass span queues i
 
 abbrev μ-loop : tie.MeasureT-loop
-μ-loop s g work₀ sums words₀ pass load span₀ queues₀ i₀ work words span queues i = g .lines + 1 - i
+μ-loop s g work₀ sums words₀ pass load span₀ queues₀ i₀ work words span queues i = g .text .count + 1 - i
 
 load-of-requires : tie.Need-load-of-requires Inv-loop μ-loop
 load-of-requires c κs =
