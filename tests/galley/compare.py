@@ -34,9 +34,9 @@ def proved(data):
     if number:
         return ('refused', number, place)
     *spec, lines, figures = rest
-    return ('galley', tuple(spec),
-            [words(READER.galley_probe_line, data, 4, k) for k in range(1, lines + 1)],
-            [words(READER.galley_probe_figure, data, 4, k) for k in range(1, figures + 1)])
+    return ('galley', tuple(spec), *(
+        [words(READER.galley_probe_block, data, 4, stream, k) for k in range(1, count + 1)]
+        for stream, count in enumerate((lines, figures))))
 
 
 def due(data):

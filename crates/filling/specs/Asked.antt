@@ -5,7 +5,7 @@ use mathlib.Core.List.{List}
 use lib.ListN.{length}
 use Rattle.model.specs.Gather.{pick}
 use Rattle.galley.specs.declared.Galley.{Galley}
-use Rattle.galley.specs.Model.{figuresOf, modelOf}
+use Rattle.galley.specs.Model.{floatsOf, modelOf}
 use Rattle.galley.specs.Sound.{Sound}
 use Rattle.rules.specs.Parts.{Citing}
 use Rattle.places.specs.Address.{wordsNeeded}
@@ -17,7 +17,7 @@ use Rattle.starts.specs.Asked.{Placed}
 pub record Stopping (bytes : List ℕ) (g : Galley) (i j c cited : ℕ) : Type 0 where
   pub placed : Placed bytes g i j
   pub either : c ≤ 1
-  pub citing : Citing (figuresOf bytes g) i cited
+  pub citing : Citing (floatsOf bytes (g .figures)) i cited
 
 -- Weights and figures that keep a price within a word.
 pub record Priceable (g : Galley) (c cited : ℕ) : Type 0 where
@@ -33,26 +33,26 @@ priceOf g last ends cited j = pick last 0 (pick ends (g .spec .alpha * (cited - 
 -- The entries before (i, j) are filled, and the one on side c comes next.
 pub record SideAsked (bytes : List ℕ) (g : Galley) (w : List ℕ) (i j c cited : ℕ) : Type 0 where
   pub placed : Placed bytes g i j
-  pub room : wordsNeeded (g .lines) (g .figures) ≤ length w
-  pub citing : Citing (figuresOf bytes g) i cited
+  pub room : wordsNeeded (g .text .count) (g .figures .count) ≤ length w
+  pub citing : Citing (floatsOf bytes (g .figures)) i cited
   pub side : Side (modelOf bytes g .spec .sides) c
-  pub filled : Filled (modelOf bytes g) (tableOf (suc (g .lines)) w) i j
+  pub filled : Filled (modelOf bytes g) (tableOf (suc (g .text .count)) w) i j
 
 -- The entries before (i, j) are filled, and its sides come next.
 pub record PlaceAsked (bytes : List ℕ) (g : Galley) (w : List ℕ) (i j cited : ℕ) : Type 0 where
   pub placed : Placed bytes g i j
-  pub room : wordsNeeded (g .lines) (g .figures) ≤ length w
-  pub citing : Citing (figuresOf bytes g) i cited
-  pub filled : Filled (modelOf bytes g) (tableOf (suc (g .lines)) w) i j
+  pub room : wordsNeeded (g .text .count) (g .figures .count) ≤ length w
+  pub citing : Citing (floatsOf bytes (g .figures)) i cited
+  pub filled : Filled (modelOf bytes g) (tableOf (suc (g .text .count)) w) i j
 
 -- The columns before j are filled.
 pub record ColumnAsked (bytes : List ℕ) (g : Galley) (w : List ℕ) (j : ℕ) : Type 0 where
   pub sound : Sound bytes g
-  pub column : j ≤ g .figures
-  pub room : wordsNeeded (g .lines) (g .figures) ≤ length w
-  pub filled : Filled (modelOf bytes g) (tableOf (suc (g .lines)) w) 0 j
+  pub column : j ≤ g .figures .count
+  pub room : wordsNeeded (g .text .count) (g .figures .count) ≤ length w
+  pub filled : Filled (modelOf bytes g) (tableOf (suc (g .text .count)) w) 0 j
 
 -- A galley that was read, and a work area as long as document 01 asks.
 pub record FillAsked (bytes : List ℕ) (g : Galley) (w : List ℕ) : Type 0 where
   pub sound : Sound bytes g
-  pub room : wordsNeeded (g .lines) (g .figures) ≤ length w
+  pub room : wordsNeeded (g .text .count) (g .figures .count) ≤ length w

@@ -5,22 +5,22 @@ use mathlib.Core.List.{List}
 use lib.ListN.{length}
 use Rattle.galley.specs.declared.Galley.{Galley}
 use Rattle.galley.specs.Model.{modelOf}
-use Rattle.rules.specs.Parts.{CitedBefore}
+use Rattle.rules.specs.Parts.{Citations}
 use Rattle.places.specs.Table.{tableOf}
 use Rattle.filling.specs.Fill.{fillColumn, fillColumns, filled}
 use Rattle.filling.specs.Filled.{Filled}
 
 -- Column j is filled above line i: the words are now w, and what is left of the column makes them what the whole makes of w₀.
 pub record ColumnRun (bytes : List ℕ) (g : Galley) (w₀ w : List ℕ) (j cited i : ℕ) : Type 0 where
-  pub within : i ≤ suc (g .lines)
+  pub within : i ≤ suc (g .text .count)
   pub sized : length w ≡ length w₀
-  pub citing : CitedBefore bytes g i cited
-  pub entries : Filled (modelOf bytes g) (tableOf (suc (g .lines)) w) i j
-  pub run : fillColumn (modelOf bytes g) j (suc (g .lines) - i) i w ≡ fillColumn (modelOf bytes g) j (suc (g .lines)) 0 w₀
+  pub citing : Citations bytes (g .figures) i cited
+  pub entries : Filled (modelOf bytes g) (tableOf (suc (g .text .count)) w) i j
+  pub run : fillColumn (modelOf bytes g) j (suc (g .text .count) - i) i w ≡ fillColumn (modelOf bytes g) j (suc (g .text .count)) 0 w₀
 
 -- The columns before j are filled.
 pub record TableRun (bytes : List ℕ) (g : Galley) (w₀ w : List ℕ) (j : ℕ) : Type 0 where
-  pub within : j ≤ suc (g .figures)
+  pub within : j ≤ suc (g .figures .count)
   pub sized : length w ≡ length w₀
-  pub entries : Filled (modelOf bytes g) (tableOf (suc (g .lines)) w) 0 j
-  pub run : fillColumns (modelOf bytes g) (suc (g .figures) - j) j w ≡ filled (modelOf bytes g) w₀
+  pub entries : Filled (modelOf bytes g) (tableOf (suc (g .text .count)) w) 0 j
+  pub run : fillColumns (modelOf bytes g) (suc (g .figures .count) - j) j w ≡ filled (modelOf bytes g) w₀

@@ -2,5 +2,6 @@
 pub mod Entered
 pub mod Fill
 pub mod Price
+pub mod Over
 pub mod Filling
 pub mod Column

@@ -4,102 +4,77 @@ ghost use Prim.Native.Nat.{suc};
 ghost use Rattle.galley.specs.Model.{modelOf};
 ghost use Rattle.filling.specs.Fill.{fillColumn, filled};
 ghost use Rattle.filling.specs.Asked.{FillAsked};
-ghost use Rattle.filling.specs.Column.{OddAsked, OddKnown, LastAsked, ColumnLent, TableLent};
+ghost use Rattle.filling.specs.Column.{LastAsked, ColumnLent, TableLent};
+use crate::side::End;
+use blocks::heights::Heights;
 use galley::Galley;
-use starts::heights::Heights;
+use starts::sweep::Windows;
 use window::queue::Queue;
 use window::slide::Window;
 
-// The best starts with fewer than j figures of a page on side 1 that ends in column j, in double-sided work.
-fn fewer_odd(
-    s: &[u8],
-    g: Galley,
-    work: &[u32],
-    sums: &[u32],
-    words: &mut [u32],
-    best: &mut [u32],
-    j: usize,
-)
-    requires { ⌜ OddAsked (now s) g (now work) (now sums) (now words) (now best) j ⌝ }
-    ensures { λ _. ⌜ OddKnown (now (s .entry)) g (now (work .entry)) j (now (best .exit)) ⌝ }
-{
-    if g.spec.sides != 2 {
-        return;
-    }
-    let side = starts::search::side_before(g, 1);
-    starts::sweep::fewer_figures(s, g, work, sums, words, best, j, side);
-}
-
-// The places of column j, from no line to all lines, given for each side the room of a queue and the best starts with fewer than j
-// figures. A start with j figures stands in the column itself, and its entry is there by the time that the queue takes it up.
-fn last_sweep(
-    s: &[u8],
-    g: Galley,
-    work: &mut [u32],
-    sums: &[u32],
-    evens: &mut [u32],
-    even: &[u32],
-    odds: &mut [u32],
-    odd: &[u32],
-    j: usize,
-)
-    requires { ⌜ LastAsked (now s) g (now work) (now sums) (now evens) (now even) (now odds) (now odd) j ⌝ }
-    ensures { λ _. ⌜ now (work .exit) ≡ fillColumn (modelOf (now (s .entry)) g) j (suc (g .lines)) 0 (now (work .entry)) ⌝ }
+// The places of column j, from no line to all lines, each of which holds its best start with fewer than j figures. A start with j
+// figures stands in the column itself, and its entry is there by the time that a queue takes it up.
+fn last_sweep(s: &[u8], g: Galley, work: &mut [u32], sums: &[u32], words: &mut [u32], j: usize)
+    requires { ⌜ LastAsked (now s) g (now work) (now sums) (now words) j ⌝ }
+    ensures { λ _. ⌜ now (work .exit) ≡ fillColumn (modelOf (now (s .entry)) g) j (suc (g .text .count)) 0 (now (work .entry)) ⌝ }
 {
     let load = starts::sweep::load_of(g, false, Heights { tight: 0, loose: 0 });
     let mut cited = 0;
     let mut span = Window { low: 0, high: 0 };
-    let mut left = Queue { head: 0, tail: 0 };
-    let mut right = Queue { head: 0, tail: 0 };
+    let mut queues = [
+        Queue {
+            base: 0,
+            head: 0,
+            tail: 0,
+        },
+        Queue {
+            base: g.text.count,
+            head: g.text.count,
+            tail: g.text.count,
+        },
+    ];
     let mut i = 0;
-    while i <= g.lines {
-        cited = rules::cites::cited_through(s, g, i, cited);
+    while i <= g.text.count {
+        cited = rules::cites::cited_through(s, g.figures, i, cited);
         let from = span;
         span = window::slide::slide(sums, load, from, i);
-        left = crate::side::fill_side(s, g, work, evens, even, left, from, span, i, j, 0, cited);
-        right = crate::side::fill_odd(s, g, work, odds, odd, right, from, span, i, j, cited);
+        let end = End {
+            line: i,
+            column: j,
+            side: 0,
+            cited,
+        };
+        let moved = crate::side::fill_place(
+            s,
+            g,
+            work,
+            words,
+            queues,
+            Windows { from, to: span },
+            end,
+        );
+        queues = moved;
         i += 1;
     }
 }
 
 // Column j: first the starts with fewer figures, in the columns before it, then those in the column itself.
-fn fill_column(
-    s: &[u8],
-    g: Galley,
-    work: &mut [u32],
-    sums: &[u32],
-    evens: &mut [u32],
-    even: &mut [u32],
-    odds: &mut [u32],
-    odd: &mut [u32],
-    j: usize,
-)
-    requires { ⌜ ColumnLent (now s) g (now work) (now sums) (now evens) (now even) (now odds) (now odd) j ⌝ }
-    ensures { λ _. ⌜ now (work .exit) ≡ fillColumn (modelOf (now (s .entry)) g) j (suc (g .lines)) 0 (now (work .entry)) ⌝ }
+fn fill_column(s: &[u8], g: Galley, work: &mut [u32], sums: &[u32], words: &mut [u32], j: usize)
+    requires { ⌜ ColumnLent (now s) g (now work) (now sums) (now words) j ⌝ }
+    ensures { λ _. ⌜ now (work .exit) ≡ fillColumn (modelOf (now (s .entry)) g) j (suc (g .text .count)) 0 (now (work .entry)) ⌝ }
 {
-    let side = starts::search::side_before(g, 0);
-    starts::sweep::fewer_figures(s, g, work, sums, evens, even, j, side);
-    fewer_odd(s, g, work, sums, odds, odd, j);
-    last_sweep(s, g, work, sums, evens, even, odds, odd, j);
+    starts::sweep::fewer_figures(s, g, work, sums, words, j);
+    last_sweep(s, g, work, sums, words, j);
 }
 
 // All columns.
-fn fill_columns(
-    s: &[u8],
-    g: Galley,
-    work: &mut [u32],
-    sums: &[u32],
-    evens: &mut [u32],
-    even: &mut [u32],
-    odds: &mut [u32],
-    odd: &mut [u32],
-)
-    requires { ⌜ TableLent (now s) g (now work) (now sums) (now evens) (now even) (now odds) (now odd) ⌝ }
+fn fill_columns(s: &[u8], g: Galley, work: &mut [u32], sums: &[u32], words: &mut [u32])
+    requires { ⌜ TableLent (now s) g (now work) (now sums) (now words) ⌝ }
     ensures { λ _. ⌜ now (work .exit) ≡ filled (modelOf (now (s .entry)) g) (now (work .entry)) ⌝ }
 {
     let mut j = 0;
-    while j <= g.figures {
-        fill_column(s, g, work, sums, evens, even, odds, odd, j);
+    while j <= g.figures.count {
+        fill_column(s, g, work, sums, words, j);
         j += 1;
     }
 }
@@ -109,22 +84,9 @@ pub fn fill(s: &[u8], g: Galley, work: &mut [u32])
     requires { ⌜ FillAsked (now s) g (now work) ⌝ }
     ensures { λ _. ⌜ now (work .exit) ≡ filled (modelOf (now (s .entry)) g) (now (work .entry)) ⌝ }
 {
-    // For 4,000 lines: four sums to a line; then, for each side, a queue of two words to a line and the best start so far of each
-    // place of a column.
+    // For 4,000 lines: four sums to a line, and for each side a queue of two words to a line.
     let mut sums = [0u32; 16004];
-    let mut evens = [0u32; 8000];
-    let mut even = [0u32; 16004];
-    let mut odds = [0u32; 8000];
-    let mut odd = [0u32; 16004];
-    window::sums::gather(s, g, &mut sums);
-    fill_columns(
-        s,
-        g,
-        work,
-        &sums,
-        &mut evens,
-        &mut even,
-        &mut odds,
-        &mut odd,
-    );
+    let mut words = [0u32; 16000];
+    window::sums::gather(s, g.text, &mut sums);
+    fill_columns(s, g, work, &sums, &mut words);
 }

@@ -4,7 +4,7 @@ ghost use mathlib.Core.List.{List};
 ghost use Prim.Native.Nat.{ℕ};
 ghost use Rattle.theorems.specs.turns.Waiting.{pageCost};
 ghost use Rattle.theorems.specs.pages.Graph.{full};
-ghost use Rattle.galley.specs.Model.{figuresOf, modelOf};
+ghost use Rattle.galley.specs.Model.{floatsOf, modelOf};
 ghost use Rattle.rules.specs.Parts.{Citing};
 ghost use Rattle.starts.specs.Search.{place, mayStop};
 ghost use Rattle.filling.specs.Asked.{Stopping, Priceable};
@@ -15,7 +15,7 @@ pub fn may_stop(s: &[u8], g: Galley, i: usize, j: usize, c: usize, cited: usize)
     requires { ⌜ Stopping (now s) g i j c cited ⌝ }
     ensures { λ r. ⌜ r ≡ mayStop (modelOf (now (s .entry)) g) i j c ⌝ }
 {
-    rules::rules::may_end(s, g, i)
+    rules::rules::may_end(s, g.text, i)
         & (!(model::page::side_ends(g.spec.sides, c) | starts::search::is_full(g, i, j))
             | (j <= cited))
 }
@@ -24,7 +24,7 @@ pub fn may_stop(s: &[u8], g: Galley, i: usize, j: usize, c: usize, cited: usize)
 // and is not the last, the figures that wait, by α, and the turn, by β.
 pub fn price(g: Galley, i: usize, j: usize, c: usize, cited: usize) -> u32
     requires { ⌜ Priceable g c cited ⌝ }
-    ensures { λ r. ⌜ ((bytes : List ℕ) → Citing (figuresOf bytes g) i cited → r ≡ pageCost (modelOf bytes g) c (full (modelOf bytes g) (place i j)) (place i j)) ⌝ }
+    ensures { λ r. ⌜ ((bytes : List ℕ) → Citing (floatsOf bytes (g .figures)) i cited → r ≡ pageCost (modelOf bytes g) c (full (modelOf bytes g) (place i j)) (place i j)) ⌝ }
 {
     if starts::search::is_full(g, i, j) {
         return 0;

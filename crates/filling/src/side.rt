@@ -1,91 +1,100 @@
-// One side of a place filled: its queue of starts moved on, and its entry put where it belongs.
+// The sides of a place filled: their queues of starts moved on, and their entries put where they belong.
 ghost use mathlib.Core.Path.{_≡_};
 ghost use Prim.Native.Nat.{suc};
 ghost use Rattle.galley.specs.Model.{modelOf};
 ghost use Rattle.places.specs.Table.{tableOf};
 ghost use Rattle.starts.specs.Search.{entryOf};
-ghost use Rattle.filling.specs.Column.{EntryAsked, SideMoved, SideFilled, OddMoved, OddFilled};
+ghost use Rattle.filling.specs.Column.{EntryAsked, SideMoved, SideFilled, PlaceMoved, PlaceFilled};
 use galley::Galley;
 use places::Entry;
 use places::Start;
+use starts::sweep::Windows;
 use window::queue::Queue;
-use window::slide::Window;
 
-// The entry of place (i, j) on side c, from the entries of the places before it.
-fn entry_of(
-    s: &[u8],
-    g: Galley,
-    work: &[u32],
-    words: &[u32],
-    best: &[u32],
-    queue: Queue,
-    i: usize,
-    j: usize,
-    c: usize,
-    cited: usize,
-) -> Entry
-    requires { ⌜ EntryAsked (now s) g (now work) (now words) (now best) queue i j c cited ⌝ }
-    ensures { λ r. ⌜ r ≡ entryOf (modelOf (now (s .entry)) g) (tableOf (suc (g .lines)) (now (work .entry))) i j c ⌝ }
+// Where a page ends: the line and the column, its side, and how many figures are cited by that line or earlier.
+pub struct End {
+    pub line: usize,
+    pub column: usize,
+    pub side: usize,
+    pub cited: usize,
+}
+
+// The entry of a place on a side, from the entries of the places before it.
+fn entry_of(s: &[u8], g: Galley, work: &[u32], words: &[u32], queue: Queue, end: End) -> Entry
+    requires { ⌜ EntryAsked (now s) g (now work) (now words) queue end ⌝ }
+    ensures { λ r. ⌜ r ≡ entryOf (modelOf (now (s .entry)) g) (tableOf (suc (g .text .count)) (now (work .entry))) (end .line) (end .column) (end .side) ⌝ }
 {
-    if i + j + c == 0 {
+    if end.line + end.column + end.side == 0 {
         return Entry::Least(0, Start { line: 0, figure: 0 });
     }
-    if !crate::price::may_stop(s, g, i, j, c, cited) {
+    if !crate::price::may_stop(s, g, end.line, end.column, end.side, end.cited) {
         return Entry::Unreached;
     }
-    let side = starts::search::side_before(g, c);
-    let start = starts::place::start_of(s, g, work, words, best, queue, i, j, side);
+    let start = starts::place::start_of(s, g, work, words, queue, end.line, end.column, end.side);
     let Entry::Least(x, from) = start else {
         return Entry::Unreached;
     };
-    Entry::Least(x + crate::price::price(g, i, j, c, cited), from)
+    Entry::Least(
+        x + crate::price::price(g, end.line, end.column, end.side, end.cited),
+        from,
+    )
 }
 
-// Side c of place (i, j): the queue moved on to the window `to` of line i, and the entry stored.
-pub fn fill_side(
+// One side of a place: the queue moved on to the window of its line, and the entry stored.
+fn fill_side(
     s: &[u8],
     g: Galley,
     work: &mut [u32],
     words: &mut [u32],
-    best: &[u32],
     queue: Queue,
-    from: Window,
-    to: Window,
-    i: usize,
-    j: usize,
-    c: usize,
-    cited: usize,
+    windows: Windows,
+    end: End,
 ) -> Queue
-    requires { ⌜ SideMoved (now s) g (now work) (now words) (now best) queue from to i j c cited ⌝ }
-    ensures { λ r. ⌜ SideFilled (now (s .entry)) g (now (work .entry)) (now (work .exit)) (now (words .exit)) (now (best .entry)) r to i j c ⌝ }
+    requires { ⌜ SideMoved (now s) g (now work) (now words) queue windows end ⌝ }
+    ensures { λ r. ⌜ SideFilled (now (s .entry)) g (now (work .entry)) (now (work .exit)) (now (words .entry)) (now (words .exit)) queue windows end r ⌝ }
 {
-    let side = starts::search::side_before(g, c);
-    let moved = window::queue::advance(work, g.lines + 1, j, side, words, queue, from.high, to);
-    let entry = entry_of(s, g, work, words, best, moved, i, j, c, cited);
-    let at = places::address_of(g.lines + 1, i, j, c);
+    let side = starts::search::side_before(g, end.side);
+    let moved = window::queue::advance(
+        work,
+        g.text.count + 1,
+        end.column,
+        side,
+        words,
+        queue,
+        windows.from.high,
+        windows.to,
+    );
+    let entry = entry_of(s, g, work, words, moved, end);
+    let at = places::address_of(g.text.count + 1, end.line, end.column, end.side);
     places::store(work, at, entry);
     moved
 }
 
-// The same for side 1, which occurs in double-sided work.
-pub fn fill_odd(
+// Every side that occurs, from side 0 on.
+pub fn fill_place(
     s: &[u8],
     g: Galley,
     work: &mut [u32],
     words: &mut [u32],
-    best: &[u32],
-    queue: Queue,
-    from: Window,
-    to: Window,
-    i: usize,
-    j: usize,
-    cited: usize,
-) -> Queue
-    requires { ⌜ OddMoved (now s) g (now work) (now words) (now best) queue from to i j cited ⌝ }
-    ensures { λ r. ⌜ OddFilled (now (s .entry)) g (now (work .entry)) (now (work .exit)) (now (words .exit)) (now (best .entry)) r to i j ⌝ }
+    queues: [Queue; 2],
+    windows: Windows,
+    end: End,
+) -> [Queue; 2]
+    requires { ⌜ PlaceMoved (now s) g (now work) (now words) queues windows end ⌝ }
+    ensures { λ r. ⌜ PlaceFilled (now (s .entry)) g (now (work .entry)) (now (work .exit)) (now (words .exit)) r windows end ⌝ }
 {
-    if g.spec.sides != 2 {
-        return queue;
+    let mut all = queues;
+    let mut c = 0;
+    while c < g.spec.sides as usize {
+        let here = End {
+            line: end.line,
+            column: end.column,
+            side: c,
+            cited: end.cited,
+        };
+        let moved = fill_side(s, g, work, words, all[c], windows, here);
+        all[c] = moved;
+        c += 1;
     }
-    fill_side(s, g, work, words, best, queue, from, to, i, j, 1, cited)
+    all
 }

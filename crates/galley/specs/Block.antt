@@ -1,40 +1,21 @@
--- Line k and figure k of a galley that was read, k from 1: document 01, "The galley file".
+-- The blocks of a stream, k from 1: document 01, "The galley file".
 use Prim.Native.Nat.{ℕ, _+_, _-_, _*_, _≤_}
 use mathlib.Core.List.{List}
 use lib.ListN.{length}
-use Rattle.galley.specs.Record.{lineOf, figureOf}
-use Rattle.galley.specs.declared.Line.{Line}
-use Rattle.galley.specs.declared.Figure.{Figure}
-use Rattle.galley.specs.declared.Galley.{Galley}
+use Rattle.galley.specs.Word.{wordAt}
+use Rattle.galley.specs.declared.Stream.{Stream}
 
--- The offset of line k's mark.
-abbrev pub lineOffset : Galley → ℕ → ℕ
-lineOffset g k = g .first + (k - 1) * 18
+-- The offset of block k's mark: records of 18 bytes follow one another.
+abbrev pub offset : Stream → ℕ → ℕ
+offset stream k = stream .first + (k - 1) * 18
 
--- The offset of figure k's mark: figures follow all lines.
-abbrev pub figureOffset : Galley → ℕ → ℕ
-figureOffset g k = g .first + g .lines * 18 + (k - 1) * 18
+-- The field of block k that stands so many bytes after its mark.
+abbrev pub fieldOf : List ℕ → Stream → ℕ → ℕ → ℕ
+fieldOf bytes stream at k = wordAt bytes (offset stream k + at)
 
--- Line k.
-unfoldable pub lineAt : List ℕ → Galley → ℕ → Line
-lineAt bytes g k = lineOf bytes (lineOffset g k)
-
--- Figure k.
-unfoldable pub figureAt : List ℕ → Galley → ℕ → Figure
-figureAt bytes g k = figureOf bytes (figureOffset g k)
-
--- All records of a galley lie within the bytes.
-pub record Within (bytes : List ℕ) (g : Galley) : Type 0 where
-  pub upto : g .first + g .lines * 18 + g .figures * 18 + 2 ≤ length bytes
-
--- There is a line k.
-pub record HasLine (bytes : List ℕ) (g : Galley) (k : ℕ) : Type 0 where
-  pub within : Within bytes g
+-- There is a block k, with a field so many bytes after its mark.
+pub record Has (bytes : List ℕ) (stream : Stream) (k at : ℕ) : Type 0 where
+  pub within : stream .first + stream .count * 18 ≤ length bytes
   pub low : 1 ≤ k
-  pub high : k ≤ g .lines
-
--- There is a figure k.
-pub record HasFigure (bytes : List ℕ) (g : Galley) (k : ℕ) : Type 0 where
-  pub within : Within bytes g
-  pub low : 1 ≤ k
-  pub high : k ≤ g .figures
+  pub high : k ≤ stream .count
+  pub field : at ≤ 14

@@ -1,5 +1,4 @@
 -- A galley's bytes, in the order of reading: definitions first, then the laws about them.
-pub mod Pick
 pub mod Word
 pub mod Range
 pub mod Mark
@@ -10,5 +9,5 @@ pub mod Block
 pub mod Sound
 pub mod Write
 pub mod Model
-pub mod Laws
+pub mod laws
 mod CaseA

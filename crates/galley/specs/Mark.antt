@@ -1,7 +1,7 @@
 -- The marks that open records: document 01, "The galley file".
 use Prim.Native.Nat.{ℕ}
 use lib.Dec.{eqb}
-use Rattle.galley.specs.Pick.{pick}
+use Rattle.model.specs.Gather.{pick}
 use Rattle.galley.specs.declared.Mark.{Mark}
 use Rattle.galley.specs.declared.Mark.the-variants.{Spec, Line, Figure, End, Unknown}
 

@@ -5,37 +5,35 @@ use mathlib.Core.List.{List}
 use lib.Dec.{eqb}
 use Rattle.model.specs.Leaf.{sidesOf}
 use Rattle.model.specs.Galley as model
-use Rattle.galley.specs.Block.{lineAt, figureAt}
+use Rattle.galley.specs.Record.{heightAt, leastAt, mostAt, legalAt, citeAt}
+use Rattle.galley.specs.Block.{fieldOf}
+use Rattle.galley.specs.declared.Stream.{Stream}
 use Rattle.galley.specs.declared.Galley.{Galley}
 
--- The lines: a page may end in the space after one whose fourth field is 1.
-abbrev pub textOf : List ℕ → Galley → model.Stream
-textOf bytes g =
+-- A stream as the page model has it, by where a page may end and what cites each block.
+abbrev pub streamOf : List ℕ → Stream → (ℕ → Bool) → (ℕ → ℕ) → model.Stream
+streamOf bytes stream legal cite =
     record {
-      size = g .lines;
-      ht = λ k. (lineAt bytes g k) .height;
-      least = λ k. (lineAt bytes g k) .least;
-      most = λ k. (lineAt bytes g k) .most;
-      legal = λ k. eqb ((lineAt bytes g k) .legal) 1;
-      cite = λ k. 0;
+      size = stream .count;
+      ht = fieldOf bytes stream heightAt;
+      least = fieldOf bytes stream leastAt;
+      most = fieldOf bytes stream mostAt;
+      legal = legal;
+      cite = cite;
     }
 
--- The figures: a page may end in the space after any of them.
-abbrev pub figuresOf : List ℕ → Galley → model.Stream
-figuresOf bytes g =
-    record {
-      size = g .figures;
-      ht = λ k. (figureAt bytes g k) .height;
-      least = λ k. (figureAt bytes g k) .least;
-      most = λ k. (figureAt bytes g k) .most;
-      legal = λ k. true;
-      cite = λ k. (figureAt bytes g k) .cite;
-    }
+-- Lines: a page may end in the space after one whose last field is 1, and nothing cites a line.
+abbrev pub textOf : List ℕ → Stream → model.Stream
+textOf bytes text = streamOf bytes text (λ k. eqb (fieldOf bytes text legalAt k) 1) (λ k. 0)
+
+-- Floats, figures today: a page may end in the space after any of them, and the last field is the citation.
+abbrev pub floatsOf : List ℕ → Stream → model.Stream
+floatsOf bytes floats = streamOf bytes floats (λ k. true) (fieldOf bytes floats citeAt)
 
 -- The stream of a number: the text is 0.
-abbrev pub streamOf : List ℕ → Galley → ℕ → model.Stream
-streamOf bytes g zero = textOf bytes g
-streamOf bytes g (suc s) = figuresOf bytes g
+abbrev pub streamsOf : List ℕ → Galley → ℕ → model.Stream
+streamsOf bytes g zero = textOf bytes (g .text)
+streamsOf bytes g (suc s) = floatsOf bytes (g .figures)
 
 -- The galley as the page model has it.
 abbrev pub modelOf : List ℕ → Galley → model.Galley
@@ -52,5 +50,5 @@ modelOf bytes g =
             beta = g .spec .beta;
           };
       floats = 1;
-      stream = streamOf bytes g;
+      stream = streamsOf bytes g;
     }

@@ -3,7 +3,7 @@
 use Prim.Native.Nat.{ℕ}
 use mathlib.Core.Bool.{Bool, true, false, not, _||_}
 use lib.Dec.{ltb, leb, eqb}
-use Rattle.galley.specs.Pick.{pick}
+use Rattle.model.specs.Gather.{pick}
 use Rattle.galley.specs.declared.Mark.{Mark}
 use Rattle.galley.specs.declared.Mark.the-variants.{Spec, Line, Figure, End, Unknown}
 

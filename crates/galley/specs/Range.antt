@@ -1,10 +1,12 @@
 -- The ranges that number 3 guards: document 01, "The galley file".
 use Prim.Native.Nat.{_≤_}
-use mathlib.Core.Bool.{Bool, _&&_}
+use mathlib.Core.Bool.{Bool, true, _&&_}
 use lib.Dec.{leb}
 use Rattle.galley.specs.declared.Spec.{Spec}
+use Rattle.galley.specs.declared.Block.{Block}
 use Rattle.galley.specs.declared.Line.{Line}
-use Rattle.galley.specs.declared.Figure.{Figure}
+use Rattle.galley.specs.declared.Record.{Record}
+use Rattle.galley.specs.declared.Record.the-variants as found
 
 -- Least heights do not pass greatest ones, sides is 1 or 2, and every field keeps to its limit.
 unfoldable pub specInRange : Spec → Bool
@@ -19,14 +21,21 @@ specInRange g =
     && leb (g .alpha) 1000
     && leb (g .beta) 1000
 
--- A line's heights keep to their limit, and its last field is 0 or 1.
-unfoldable pub lineInRange : Line → Bool
-lineInRange l =
-    leb (l .height) 100000 && leb (l .least) (l .most) && leb (l .most) 100000 && leb (l .legal) 1
+-- A block's heights keep to their limit, and its least space does not pass its greatest.
+unfoldable pub blockInRange : Block → Bool
+blockInRange b = leb (b .height) 100000 && leb (b .least) (b .most) && leb (b .most) 100000
 
--- A figure's heights keep to their limit.
-unfoldable pub figureInRange : Figure → Bool
-figureInRange f = leb (f .height) 100000 && leb (f .least) (f .most) && leb (f .most) 100000
+-- So do a line's, and its last field is 0 or 1.
+unfoldable pub lineInRange : Line → Bool
+lineInRange l = blockInRange (l .block) && leb (l .legal) 1
+
+-- Whether what a record's fields say is in range; a figure's citation is tested where its place is known.
+unfoldable pub inRange : Record → Bool
+inRange (found.Spec g) = specInRange g
+inRange (found.Line l) = lineInRange l
+inRange (found.Figure f) = blockInRange (f .block)
+inRange found.End = true
+inRange (found.Refused number place) = true
 
 -- The same as inequalities: a specification in range.
 pub record SpecRanged (g : Spec) : Type 0 where
@@ -40,15 +49,13 @@ pub record SpecRanged (g : Spec) : Type 0 where
   pub alphas : g .alpha ≤ 1000
   pub betas : g .beta ≤ 1000
 
+-- A block in range.
+pub record BlockRanged (b : Block) : Type 0 where
+  pub heights : b .height ≤ 100000
+  pub leasts : b .least ≤ b .most
+  pub mosts : b .most ≤ 100000
+
 -- A line in range.
 pub record LineRanged (l : Line) : Type 0 where
-  pub heights : l .height ≤ 100000
-  pub leasts : l .least ≤ l .most
-  pub mosts : l .most ≤ 100000
+  pub block : BlockRanged (l .block)
   pub legals : l .legal ≤ 1
-
--- A figure in range.
-pub record FigureRanged (f : Figure) : Type 0 where
-  pub heights : f .height ≤ 100000
-  pub leasts : f .least ≤ f .most
-  pub mosts : f .most ≤ 100000

@@ -3,29 +3,51 @@ use Prim.Native.Nat.{ℕ, _+_, _*_, _≤_}
 use mathlib.Core.List.{List}
 use mathlib.Core.Path.{_≡_}
 use lib.ListN.{length}
-use Rattle.galley.specs.Record.{recordAt}
-use Rattle.galley.specs.Block.{lineOffset, figureOffset, lineAt, figureAt}
-use Rattle.galley.specs.Range.{SpecRanged, LineRanged, FigureRanged}
+use Rattle.galley.specs.Record.{legalAt, citeAt, blockOf, lineOf, figureOf, recordAt}
+use Rattle.galley.specs.Block.{offset, fieldOf}
+use Rattle.galley.specs.Range.{SpecRanged, BlockRanged}
+use Rattle.galley.specs.declared.Stream.{Stream}
 use Rattle.galley.specs.declared.Galley.{Galley}
+use Rattle.galley.specs.declared.Record.{Record}
 use Rattle.galley.specs.declared.Record.the-variants as found
+
+-- The stream lies within the bytes, and every height and space in it is in range.
+pub record SoundStream (bytes : List ℕ) (stream : Stream) : Type 0 where
+  pub within : stream .first + stream .count * 18 ≤ length bytes
+  pub ranged : (k : ℕ) → 1 ≤ k → k ≤ stream .count → BlockRanged (blockOf bytes (offset stream k))
+
+-- Each block of the stream is read where its number says, as the record that is due at that offset.
+abbrev pub Reads : List ℕ → Stream → (ℕ → Record) → Type 0
+Reads bytes stream due = (k : ℕ) → 1 ≤ k → k ≤ stream .count → recordAt bytes (offset stream k) ≡ due (offset stream k)
+
+-- Citations never decrease along the stream.
+abbrev pub Growing : List ℕ → Stream → Type 0
+Growing bytes floats =
+    (j k : ℕ) → 1 ≤ j → j ≤ k → k ≤ floats .count → fieldOf bytes floats citeAt j ≤ fieldOf bytes floats citeAt k
+
+-- Each float of the stream is cited by one of so many lines, none by a line before the one that cites the float before it.
+pub record SoundCitations (bytes : List ℕ) (floats : Stream) (lines : ℕ) : Type 0 where
+  pub some : (k : ℕ) → 1 ≤ k → k ≤ floats .count → 1 ≤ fieldOf bytes floats citeAt k
+  pub line : (k : ℕ) → 1 ≤ k → k ≤ floats .count → fieldOf bytes floats citeAt k ≤ lines
+  pub grow : Growing bytes floats
 
 -- The number of the line that figure k cites.
 abbrev pub citation : List ℕ → Galley → ℕ → ℕ
-citation bytes g k = figureAt bytes g k .cite
+citation bytes g k = fieldOf bytes (g .figures) citeAt k
 
 -- From 1 to 4,000 lines and up to 200 figures, each read where its number says, every field in range, citations that name
 -- lines and never decrease, and nothing between or after the records.
 pub record Sound (bytes : List ℕ) (g : Galley) : Type 0 where
-  pub someLines : 1 ≤ g .lines
-  pub fewLines : g .lines ≤ 4000
-  pub fewFigures : g .figures ≤ 200
+  pub someLines : 1 ≤ g .text .count
+  pub fewLines : g .text .count ≤ 4000
+  pub fewFigures : g .figures .count ≤ 200
   pub specRanged : SpecRanged (g .spec)
   pub specRead : recordAt bytes 0 ≡ found.Spec (g .spec)
-  pub lineRead : (k : ℕ) → 1 ≤ k → k ≤ g .lines → recordAt bytes (lineOffset g k) ≡ found.Line (lineAt bytes g k)
-  pub lineRanged : (k : ℕ) → 1 ≤ k → k ≤ g .lines → LineRanged (lineAt bytes g k)
-  pub figureRead : (k : ℕ) → 1 ≤ k → k ≤ g .figures → recordAt bytes (figureOffset g k) ≡ found.Figure (figureAt bytes g k)
-  pub figureRanged : (k : ℕ) → 1 ≤ k → k ≤ g .figures → FigureRanged (figureAt bytes g k)
-  pub citesSome : (k : ℕ) → 1 ≤ k → k ≤ g .figures → 1 ≤ citation bytes g k
-  pub citesLine : (k : ℕ) → 1 ≤ k → k ≤ g .figures → citation bytes g k ≤ g .lines
-  pub citesGrow : (j k : ℕ) → 1 ≤ j → j ≤ k → k ≤ g .figures → citation bytes g j ≤ citation bytes g k
-  pub ends : g .first + g .lines * 18 + g .figures * 18 + 2 ≡ length bytes
+  pub text : SoundStream bytes (g .text)
+  pub textRead : Reads bytes (g .text) (λ at. found.Line (lineOf bytes at))
+  pub legals : (k : ℕ) → 1 ≤ k → k ≤ g .text .count → fieldOf bytes (g .text) legalAt k ≤ 1
+  pub figures : SoundStream bytes (g .figures)
+  pub figuresRead : Reads bytes (g .figures) (λ at. found.Figure (figureOf bytes at))
+  pub citations : SoundCitations bytes (g .figures) (g .text .count)
+  pub follow : g .figures .first ≡ g .text .first + g .text .count * 18
+  pub ends : g .figures .first + g .figures .count * 18 + 2 ≡ length bytes

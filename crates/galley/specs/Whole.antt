@@ -4,7 +4,7 @@ use mathlib.Core.Bool.{Bool, true, false, _||_}
 use mathlib.Core.List.{List}
 use lib.ListN.{length}
 use lib.Dec.{ltb, eqb}
-use Rattle.galley.specs.Pick.{pick}
+use Rattle.model.specs.Gather.{pick}
 use Rattle.galley.specs.Word.{markAt}
 use Rattle.galley.specs.Mark.{kindOf}
 use Rattle.galley.specs.Place.{unfit}
@@ -58,6 +58,15 @@ next at (found.Figure f) line figure end = figure f
 next at found.End line figure end = end
 next at (found.Refused number place) line figure end = reads.Refused number place
 
+-- The galley of so many lines, from an offset on, and so many figures after them.
+abbrev pub galleyWith : Spec → ℕ → ℕ → ℕ → Galley
+galleyWith spec first lines figures =
+    record {
+      spec = spec;
+      text = record { first = first; count = lines };
+      figures = record { first = first + lines * 18; count = figures };
+    }
+
 -- The records from line 1 on, of which `most` may still come; there are never more than 4,201 of them, `ED` among them.
 unfoldable pub blocks : List ℕ → Spec → ℕ → ℕ → ℕ → ℕ → ℕ → Reading
 blocks bytes spec first zero lines figures last = reads.Refused 4 (dueAt first lines figures)
@@ -66,7 +75,7 @@ blocks bytes spec first (suc most) lines figures last =
     (recordIn bytes (dueAt first lines figures) true lines figures last)
     (λ (l : Line). blocks bytes spec first most (lines + 1) figures last)
     (λ (f : Figure). blocks bytes spec first most lines (figures + 1) (f .cite))
-    (reads.Galley (record { spec = spec; lines = lines; figures = figures; first = first }))
+    (reads.Galley (galleyWith spec first lines figures))
 
 -- How reading goes on after the first record, which is a specification.
 unfoldable pub opened : List ℕ → Record → Reading

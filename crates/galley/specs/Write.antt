@@ -2,8 +2,9 @@
 use Prim.Native.Nat.{ℕ, _/_, _%_, _≤_}
 use mathlib.Core.List.{List, [], _∷_}
 use lib.ListN.{length}
-use Rattle.galley.specs.Range.{SpecRanged, LineRanged, FigureRanged}
+use Rattle.galley.specs.Range.{SpecRanged, LineRanged, BlockRanged}
 use Rattle.galley.specs.declared.Spec.{Spec}
+use Rattle.galley.specs.declared.Block.{Block}
 use Rattle.galley.specs.declared.Line.{Line}
 use Rattle.galley.specs.declared.Figure.{Figure}
 
@@ -17,27 +18,26 @@ specBytes g rest =
     71 ∷ 83
     ∷ word (g .htmin) (word (g .htmax) (word (g .smin) (word (g .smax) (word (g .sides) (word (g .alpha) (word (g .beta) rest))))))
 
+-- The heights of a block.
+abbrev pub blockBytes : Block → List ℕ → List ℕ
+blockBytes b rest = word (b .height) (word (b .least) (word (b .most) rest))
+
 -- A `TL` with its fields.
 abbrev pub lineBytes : Line → List ℕ → List ℕ
-lineBytes l rest = 84 ∷ 76 ∷ word (l .height) (word (l .least) (word (l .most) (word (l .legal) rest)))
+lineBytes l rest = 84 ∷ 76 ∷ blockBytes (l .block) (word (l .legal) rest)
 
 -- An `FG` with its fields.
 abbrev pub figureBytes : Figure → List ℕ → List ℕ
-figureBytes f rest = 70 ∷ 71 ∷ word (f .height) (word (f .least) (word (f .most) (word (f .cite) rest)))
+figureBytes f rest = 70 ∷ 71 ∷ blockBytes (f .block) (word (f .cite) rest)
 
--- Lines one after the other.
-unfoldable pub linesBytes : List Line → List ℕ → List ℕ
-linesBytes [] rest = rest
-linesBytes (l ∷ ls) rest = lineBytes l (linesBytes ls rest)
-
--- Figures one after the other.
-unfoldable pub figuresBytes : List Figure → List ℕ → List ℕ
-figuresBytes [] rest = rest
-figuresBytes (f ∷ fs) rest = figureBytes f (figuresBytes fs rest)
+-- Records one after the other.
+unfoldable pub each : {A : Type 0} → (A → List ℕ → List ℕ) → List A → List ℕ → List ℕ
+each write [] rest = rest
+each write (r ∷ rs) rest = write r (each write rs rest)
 
 -- The specification, the lines, the figures and the end.
 unfoldable pub bytesOf : Spec → List Line → List Figure → List ℕ
-bytesOf g ls fs = specBytes g (linesBytes ls (figuresBytes fs (69 ∷ 68 ∷ [])))
+bytesOf g ls fs = specBytes g (each lineBytes ls (each figureBytes fs (69 ∷ 68 ∷ [])))
 
 -- Every line is in range.
 unfoldable pub LinesRanged : List Line → Type 0
@@ -48,7 +48,7 @@ LinesRanged (l ∷ ls) = LineRanged l × LinesRanged ls
 unfoldable pub FiguresRanged : ℕ → ℕ → List Figure → Type 0
 FiguresRanged m last [] = Unit {0}
 FiguresRanged m last (f ∷ fs) =
-    FigureRanged f × (1 ≤ f .cite) × (f .cite ≤ m) × (last ≤ f .cite) × FiguresRanged m (f .cite) fs
+    BlockRanged (f .block) × (1 ≤ f .cite) × (f .cite ≤ m) × (last ≤ f .cite) × FiguresRanged m (f .cite) fs
 
 -- Values that a galley may have.
 pub record InRange (g : Spec) (ls : List Line) (fs : List Figure) : Type 0 where

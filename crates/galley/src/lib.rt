@@ -18,21 +18,35 @@ pub struct Spec {
     pub beta: u32,
 }
 
-// A text line with the space after it; `legal` is 1 where a page may end in that space.
-pub struct Line {
+// The height of a block, a line or a figure, and the least and the greatest height of the space after it.
+pub struct Block {
     pub height: u32,
     pub least: u32,
     pub most: u32,
+}
+
+// A text line; `legal` is 1 where a page may end in the space after it.
+pub struct Line {
+    pub block: Block,
     pub legal: u32,
 }
 
-// A figure with the space after it, and the number of the line that cites it.
+// A figure, and the number of the line that cites it.
 pub struct Figure {
-    pub height: u32,
-    pub least: u32,
-    pub most: u32,
+    pub block: Block,
     pub cite: u32,
 }
+
+// Where the fields of a line or a figure stand, counted from its mark.
+pub const HEIGHT: usize = 2;
+
+pub const LEAST: usize = 6;
+
+pub const MOST: usize = 10;
+// The last field: of a line whether a page may end after it, of a figure its citation.
+pub const LEGAL: usize = 14;
+
+pub const CITE: usize = 14;
 
 // What stands at an offset.
 pub enum Record {
@@ -43,12 +57,18 @@ pub enum Record {
     Refused { number: u32, place: usize },
 }
 
-// A galley that was read: its specification, its counts, and the offset of line 1, from which every block is found.
+// One stream of blocks, the lines or the figures: how many there are, and the offset of the first, from which every other is
+// found.
+pub struct Stream {
+    pub first: usize,
+    pub count: usize,
+}
+
+// A galley that was read: its specification and its streams.
 pub struct Galley {
     pub spec: Spec,
-    pub lines: usize,
-    pub figures: usize,
-    pub first: usize,
+    pub text: Stream,
+    pub figures: Stream,
 }
 
 // What reading a whole galley gives.

@@ -2,8 +2,8 @@
 ghost use mathlib.Core.Path.{_≡_};
 ghost use Prim.Native.Nat.{_+_, _≤_};
 ghost use lib.ListN.{length};
-ghost use Rattle.galley.specs.Record.{specOf, lineOf, figureOf, openedBy, recordAt};
-ghost use Rattle.galley.specs.declared.Mark.the-variants as mark;
+ghost use Rattle.galley.specs.Record.{specOf, blockOf, lineOf, figureOf, sizeOf, fieldsOf, recordAt};
+use crate::Block;
 use crate::Figure;
 use crate::Line;
 use crate::Mark;
@@ -26,16 +26,26 @@ fn spec_fields(s: &[u8], at: usize) -> Spec
     }
 }
 
+// The heights of a block.
+fn block_fields(s: &[u8], at: usize) -> Block
+    requires { ⌜ at + 18 ≤ length (now s) ⌝ }
+    ensures { λ r. ⌜ r ≡ blockOf (now (s .entry)) at ⌝ }
+{
+    Block {
+        height: crate::word::word_at(s, at + crate::HEIGHT),
+        least: crate::word::word_at(s, at + crate::LEAST),
+        most: crate::word::word_at(s, at + crate::MOST),
+    }
+}
+
 // The fields of a line.
 fn line_fields(s: &[u8], at: usize) -> Line
     requires { ⌜ at + 18 ≤ length (now s) ⌝ }
     ensures { λ r. ⌜ r ≡ lineOf (now (s .entry)) at ⌝ }
 {
     Line {
-        height: crate::word::word_at(s, at + 2),
-        least: crate::word::word_at(s, at + 6),
-        most: crate::word::word_at(s, at + 10),
-        legal: crate::word::word_at(s, at + 14),
+        block: block_fields(s, at),
+        legal: crate::word::word_at(s, at + crate::LEGAL),
     }
 }
 
@@ -45,92 +55,65 @@ fn figure_fields(s: &[u8], at: usize) -> Figure
     ensures { λ r. ⌜ r ≡ figureOf (now (s .entry)) at ⌝ }
 {
     Figure {
-        height: crate::word::word_at(s, at + 2),
-        least: crate::word::word_at(s, at + 6),
-        most: crate::word::word_at(s, at + 10),
-        cite: crate::word::word_at(s, at + 14),
+        block: block_fields(s, at),
+        cite: crate::word::word_at(s, at + crate::CITE),
     }
 }
 
-// The specification that a `GS` opens.
-fn spec_record(s: &[u8], at: usize) -> Record
-    ensures { λ r. ⌜ r ≡ openedBy mark.Spec (now (s .entry)) at ⌝ }
+// How many bytes the record that a mark opens has; of an unknown mark only the mark is known.
+fn size_of(mark: Mark) -> usize
+    ensures { λ r. ⌜ r ≡ sizeOf mark ⌝ }
 {
-    if crate::word::left_from(s, at) < 30 {
-        return Record::Refused {
-            number: 1,
-            place: at,
-        };
-    }
-    let spec = spec_fields(s, at);
-    if crate::range::spec_in_range(spec) {
-        return Record::Spec(spec);
-    }
-    Record::Refused {
-        number: 3,
-        place: at,
+    match mark {
+        Mark::Spec => 30,
+        Mark::Line => 18,
+        Mark::Figure => 18,
+        Mark::End => 2,
+        Mark::Unknown => 2,
     }
 }
 
-// The line that a `TL` opens.
-fn line_record(s: &[u8], at: usize) -> Record
-    ensures { λ r. ⌜ r ≡ openedBy mark.Line (now (s .entry)) at ⌝ }
+// What its fields say, in range or not; an unknown mark is 2.
+fn fields_of(mark: Mark, s: &[u8], at: usize) -> Record
+    requires { ⌜ at + sizeOf mark ≤ length (now s) ⌝ }
+    ensures { λ r. ⌜ r ≡ fieldsOf mark (now (s .entry)) at ⌝ }
 {
-    if crate::word::left_from(s, at) < 18 {
-        return Record::Refused {
-            number: 1,
+    match mark {
+        Mark::Spec => Record::Spec(spec_fields(s, at)),
+        Mark::Line => Record::Line(line_fields(s, at)),
+        Mark::Figure => Record::Figure(figure_fields(s, at)),
+        Mark::End => Record::End,
+        Mark::Unknown => Record::Refused {
+            number: 2,
             place: at,
-        };
-    }
-    let line = line_fields(s, at);
-    if crate::range::line_in_range(line) {
-        return Record::Line(line);
-    }
-    Record::Refused {
-        number: 3,
-        place: at,
+        },
     }
 }
 
-// The figure that an `FG` opens.
-fn figure_record(s: &[u8], at: usize) -> Record
-    ensures { λ r. ⌜ r ≡ openedBy mark.Figure (now (s .entry)) at ⌝ }
-{
-    if crate::word::left_from(s, at) < 18 {
-        return Record::Refused {
-            number: 1,
-            place: at,
-        };
-    }
-    let figure = figure_fields(s, at);
-    if crate::range::figure_in_range(figure) {
-        return Record::Figure(figure);
-    }
-    Record::Refused {
-        number: 3,
-        place: at,
-    }
-}
-
-// The record at any offset, also past the end.
+// The record at any offset, also past the end: its mark is there, its fields are there and in range.
 pub fn record_at(s: &[u8], at: usize) -> Record
     ensures { λ r. ⌜ r ≡ recordAt (now (s .entry)) at ⌝ }
 {
-    if crate::word::left_from(s, at) < 2 {
+    let left = crate::word::left_from(s, at);
+    if left < 2 {
         return Record::Refused {
             number: 1,
             place: at,
         };
     }
     let mark = crate::place::kind_of(crate::word::mark_at(s, at));
-    match mark {
-        Mark::Spec => spec_record(s, at),
-        Mark::Line => line_record(s, at),
-        Mark::Figure => figure_record(s, at),
-        Mark::End => Record::End,
-        Mark::Unknown => Record::Refused {
-            number: 2,
+    if left < size_of(mark) {
+        return Record::Refused {
+            number: 1,
             place: at,
-        },
+        };
+    }
+    let found = fields_of(mark, s, at);
+    if crate::range::is_in_range(found) {
+        return found;
+    }
+    Record::Refused {
+        number: 3,
+        place: at,
     }
 }

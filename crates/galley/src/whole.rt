@@ -1,13 +1,13 @@
 // A galley, record by record: each in its place, with the first refusal.
 ghost use mathlib.Core.Path.{_≡_};
-ghost use Prim.Native.Nat.{_+_, _≤_};
-ghost use lib.ListN.{length};
+ghost use Prim.Native.Nat.{_≤_};
 ghost use Rattle.galley.specs.Whole.{cited, ended, recordIn, blocks, galleyOf};
 use crate::Figure;
 use crate::Galley;
 use crate::Reading;
 use crate::Record;
 use crate::Spec;
+use crate::Stream;
 
 // A figure whose citation is right: 6, then 7.
 fn cited_figure(f: Figure, lines: usize, last: u32, at: usize) -> Record
@@ -99,9 +99,14 @@ fn read_blocks(s: &[u8], spec: Spec, first: usize) -> Reading
             Record::End => {
                 return Reading::Galley(Galley {
                     spec,
-                    lines,
-                    figures,
-                    first,
+                    text: Stream {
+                        first,
+                        count: lines,
+                    },
+                    figures: Stream {
+                        first: first + lines * 18,
+                        count: figures,
+                    },
                 });
             }
             Record::Spec(_g) => {

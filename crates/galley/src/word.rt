@@ -2,7 +2,7 @@
 ghost use mathlib.Core.Path.{_≡_};
 ghost use Prim.Native.Nat.{_+_, _-_, _<_, _≤_};
 ghost use lib.ListN.{length};
-ghost use Rattle.galley.specs.Word.{byteAt, wordAt, markAt};
+ghost use Rattle.galley.specs.Word.{wordAt, markAt};
 
 // A byte as a number that sums can hold.
 pub fn wide(byte: u8) -> u32

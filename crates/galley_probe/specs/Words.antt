@@ -1,9 +1,12 @@
 -- What reading gives, as words.
 use Prim.Native.Nat.{ℕ}
 use mathlib.Core.List.{List, [], _∷_}
-use lib.Dec.{ltb}
-use Rattle.galley.specs.Pick.{pick}
-use Rattle.galley.specs.Block.{lineAt, figureAt}
+use lib.Dec.{ltb, eqb}
+use Rattle.model.specs.Gather.{pick}
+use Rattle.galley.specs.Record.{heightAt, leastAt, mostAt, citeAt}
+use Rattle.galley.specs.Block.{fieldOf}
+use Rattle.galley.specs.declared.Stream.{Stream}
+use Rattle.galley.specs.declared.Galley as galley
 use Rattle.galley.specs.declared.Reading.{Reading}
 use Rattle.galley.specs.declared.Reading.the-variants.{Galley, Refused}
 
@@ -11,22 +14,21 @@ use Rattle.galley.specs.declared.Reading.the-variants.{Galley, Refused}
 unfoldable pub wordsOf : Reading → List ℕ
 wordsOf (Galley g) =
     0 ∷ 0 ∷ g .spec .htmin ∷ g .spec .htmax ∷ g .spec .smin ∷ g .spec .smax ∷ g .spec .sides ∷ g .spec .alpha
-    ∷ g .spec .beta ∷ g .lines ∷ g .figures ∷ []
+    ∷ g .spec .beta ∷ g .text .count ∷ g .figures .count ∷ []
 wordsOf (Refused number place) = number ∷ place ∷ 0 ∷ 0 ∷ 0 ∷ 0 ∷ 0 ∷ 0 ∷ 0 ∷ 0 ∷ 0 ∷ []
+
+-- The stream of a number: 0 is the text, any other the figures.
+abbrev pub streamAt : galley.Galley → ℕ → Stream
+streamAt g number = pick (eqb number 0) (g .text) (g .figures)
 
 abbrev zeros : List ℕ
 zeros = 0 ∷ 0 ∷ 0 ∷ 0 ∷ []
 
--- The fields of line k, or zeros where there is none.
-unfoldable pub lineWords : List ℕ → ℕ → Reading → List ℕ
-lineWords bytes k (Galley g) =
-    let l = lineAt bytes g k in
-    pick (ltb k 1) zeros (pick (ltb (g .lines) k) zeros (l .height ∷ l .least ∷ l .most ∷ l .legal ∷ []))
-lineWords bytes k (Refused number place) = zeros
-
--- The fields of figure k, or zeros where there is none.
-unfoldable pub figureWords : List ℕ → ℕ → Reading → List ℕ
-figureWords bytes k (Galley g) =
-    let f = figureAt bytes g k in
-    pick (ltb k 1) zeros (pick (ltb (g .figures) k) zeros (f .height ∷ f .least ∷ f .most ∷ f .cite ∷ []))
-figureWords bytes k (Refused number place) = zeros
+-- The four fields of block k of a stream, or zeros where there is none.
+unfoldable pub blockWords : List ℕ → ℕ → ℕ → Reading → List ℕ
+blockWords bytes number k (Galley g) =
+    let stream = streamAt g number in
+    pick (ltb k 1) zeros
+    (pick (ltb (stream .count) k) zeros
+    (fieldOf bytes stream heightAt k ∷ fieldOf bytes stream leastAt k ∷ fieldOf bytes stream mostAt k ∷ fieldOf bytes stream citeAt k ∷ []))
+blockWords bytes number k (Refused refusal place) = zeros

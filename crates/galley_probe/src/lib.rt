@@ -1,8 +1,10 @@
 // The reader of galleys for tests in another language: what it reads, as words.
 ghost use mathlib.Core.Path.{_≡_};
 ghost use Rattle.galley.specs.Whole.{galleyOf};
-ghost use Rattle.galley_probe.specs.Words.{wordsOf, lineWords, figureWords};
+ghost use Rattle.galley_probe.specs.Words.{wordsOf, streamAt, blockWords};
+use galley::Galley;
 use galley::Reading;
+use galley::Stream;
 
 // A refusal's number and place, or 0 and 0; then the specification and the counts of lines and figures.
 #[no_mangle]
@@ -23,8 +25,8 @@ pub extern "C" fn galley_probe_read(bytes: &[u8], out: &mut [u32; 11])
                 spec.sides,
                 spec.alpha,
                 spec.beta,
-                g.lines as u32,
-                g.figures as u32,
+                g.text.count as u32,
+                g.figures.count as u32,
             ];
         }
         Reading::Refused { number, place } => {
@@ -33,54 +35,39 @@ pub extern "C" fn galley_probe_read(bytes: &[u8], out: &mut [u32; 11])
     }
 }
 
-// The fields of line k, or zeros where there is none.
-#[no_mangle]
-pub extern "C" fn galley_probe_line(bytes: &[u8], k: usize, out: &mut [u32; 4])
-    ensures { λ r. ⌜ now (out .exit) ≡ lineWords (now (bytes .entry)) k (galleyOf (now (bytes .entry))) ⌝ }
+// The stream of a number: 0 is the text, any other the figures.
+fn stream_at(g: Galley, number: usize) -> Stream
+    ensures { λ r. ⌜ r ≡ streamAt g number ⌝ }
 {
-    let reading = galley::whole::read_galley(bytes);
-    let Reading::Galley(g) = reading else {
-        *out = [0, 0, 0, 0];
-        return;
-    };
-    if k < 1 {
-        *out = [0, 0, 0, 0];
-        return;
+    if number == 0 {
+        return g.text;
     }
-    if g.lines < k {
-        *out = [0, 0, 0, 0];
-        return;
-    }
-    *out = [
-        blocks::line_height(bytes, g, k),
-        blocks::line_least(bytes, g, k),
-        blocks::line_most(bytes, g, k),
-        blocks::line_legal(bytes, g, k),
-    ];
+    g.figures
 }
 
-// The fields of figure k, or zeros where there is none.
+// The four fields of block k of a stream, or zeros where there is none.
 #[no_mangle]
-pub extern "C" fn galley_probe_figure(bytes: &[u8], k: usize, out: &mut [u32; 4])
-    ensures { λ r. ⌜ now (out .exit) ≡ figureWords (now (bytes .entry)) k (galleyOf (now (bytes .entry))) ⌝ }
+pub extern "C" fn galley_probe_block(bytes: &[u8], number: usize, k: usize, out: &mut [u32; 4])
+    ensures { λ r. ⌜ now (out .exit) ≡ blockWords (now (bytes .entry)) number k (galleyOf (now (bytes .entry))) ⌝ }
 {
     let reading = galley::whole::read_galley(bytes);
     let Reading::Galley(g) = reading else {
         *out = [0, 0, 0, 0];
         return;
     };
+    let stream = stream_at(g, number);
     if k < 1 {
         *out = [0, 0, 0, 0];
         return;
     }
-    if g.figures < k {
+    if stream.count < k {
         *out = [0, 0, 0, 0];
         return;
     }
     *out = [
-        blocks::figure_height(bytes, g, k),
-        blocks::figure_least(bytes, g, k),
-        blocks::figure_most(bytes, g, k),
-        blocks::figure_cite(bytes, g, k),
+        blocks::field(bytes, stream, k, galley::HEIGHT),
+        blocks::field(bytes, stream, k, galley::LEAST),
+        blocks::field(bytes, stream, k, galley::MOST),
+        blocks::field(bytes, stream, k, galley::CITE),
     ];
 }

@@ -20,10 +20,10 @@ use Rattle.places.specs.Entry.{cleared}
 
 -- The words that a galley needs of the work area, and of the page list.
 abbrev pub workNeeded : Galley → ℕ
-workNeeded g = wordsNeeded (g .lines) (g .figures)
+workNeeded g = wordsNeeded (g .text .count) (g .figures .count)
 
 abbrev pub listNeeded : Galley → ℕ
-listNeeded g = 2 * (g .lines + g .figures)
+listNeeded g = 2 * (g .text .count + g .figures .count)
 
 -- A work area or a page list of the given lengths is too short.
 abbrev pub tooShort : Galley → ℕ → ℕ → Bool

@@ -28,8 +28,8 @@ fn make_read(s: &[u8], g: Galley, work: &mut [u32], pages: &mut [u32]) -> Answer
     requires { ⌜ Readable (now s) g ⌝ }
     ensures { λ r. ⌜ Made (now (s .entry)) (now (work .entry)) (now (pages .entry)) r (now (work .exit)) (now (pages .exit)) ⌝ }
 {
-    let needed = places::words_needed(g.lines, g.figures);
-    let room = 2 * (g.lines + g.figures);
+    let needed = places::words_needed(g.text.count, g.figures.count);
+    let room = 2 * (g.text.count + g.figures.count);
     if work.len() < needed {
         return Answer::Refused {
             number: 9,

@@ -1,7 +1,7 @@
 -- The laws behind marking: a galley that was read, one page's tests, its height, its waiting figures, and the run over the
 -- pages.
 pub mod Faults
-pub mod Pile
+pub mod Heights
 pub mod Rest
 pub mod Run
 pub mod Page

@@ -6,7 +6,6 @@ use galley::Reading;
 use model::answer::Answer;
 
 mod pages; // pages.rt: the loop over pages
-mod pile; // pile.rt: the height of a page, block by block
 
 // The marking of any words for any bytes. A refused galley is refused alike; the time is proportional to the pages of the
 // list and the lines and figures on them.

@@ -3,7 +3,7 @@ ghost use mathlib.Core.Path.{_≡_};
 ghost use Rattle.galley.specs.Model.{modelOf};
 ghost use Rattle.galley.specs.Sound.{Sound};
 ghost use Rattle.model.specs.Answers.{marked};
-ghost use Rattle.marking.specs.Parts.{Listed};
+ghost use Rattle.marking.specs.Parts.{WholePages};
 ghost use Rattle.marking.specs.laws.Run.{wholly};
 use galley::Galley;
 use model::answer::Answer;
@@ -11,7 +11,7 @@ use model::page::Page;
 
 // The answer for a list of whole pages: the first page that breaks a rule, and there the first of 13 to 17; then 18.
 fn judge_pages(s: &[u8], g: Galley, list: &[u32]) -> Answer
-    requires { ⌜ Listed (now s) g (now list) ⌝ }
+    requires { ⌜ WholePages (now s) g (now list) ⌝ }
     ensures { λ r. ⌜ r ≡ wholly (now (s .entry)) g (now (list .entry)) ⌝ }
 {
     let pages = list.len() / 2;
@@ -34,36 +34,44 @@ fn judge_pages(s: &[u8], g: Galley, list: &[u32]) -> Answer
                 place: number,
             };
         }
-        let mut pile = crate::pile::apart_by(g, a < i, b < j);
+        let mut heights = blocks::heights::apart_by(g, (a < i) & (b < j));
         let mut k = a;
         let mut f = b;
         loop {
-            if g.spec.htmax < pile.tight {
+            if g.spec.htmax < heights.tight {
                 break 'pages Answer::Refused {
                     number: 15,
                     place: number,
                 };
             }
             if k < i {
-                pile = crate::pile::with_line(s, g, pile, a, k);
+                heights = blocks::heights::with_block(s, g.text, heights, a, k);
                 k += 1;
             } else {
                 if f < j {
-                    pile = crate::pile::with_figure(s, g, pile, b, f);
+                    heights = blocks::heights::with_block(s, g.figures, heights, b, f);
                     f += 1;
                 } else {
                     break;
                 }
             }
         }
-        let end = rules::rules::end_fault(s, g, pile.loose, Page(number), done + 1 == pages, i, j);
+        let end = rules::rules::end_fault(
+            s,
+            g,
+            heights.loose,
+            Page(number),
+            done + 1 == pages,
+            i,
+            j,
+        );
         if 0 < end {
             break 'pages Answer::Refused {
                 number: end,
                 place: number,
             };
         }
-        cited = rules::cites::cited_through(s, g, i, cited);
+        cited = rules::cites::cited_through(s, g.figures, i, cited);
         x += rules::cites::waiting_at(g, Page(number), cited, j);
         done += 1;
         a = i;

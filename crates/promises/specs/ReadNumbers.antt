@@ -16,14 +16,14 @@ use Rattle.galley.specs.declared.Record.{Record}
 use Rattle.galley.specs.declared.Record.the-variants as found
 use Rattle.galley.specs.declared.Reading.{Reading}
 use Rattle.galley.specs.declared.Reading.the-variants as reads
-use Rattle.galley.specs.Pick.{pick}
-use Rattle.galley.specs.Laws.Pick.{pick-has}
+use Rattle.model.specs.Gather.{pick}
+use Rattle.galley.specs.laws.Pick.{pick-has}
 use Rattle.galley.specs.Word.{markAt}
 use Rattle.galley.specs.Mark.{kindOf}
-use Rattle.galley.specs.Range.{specInRange, lineInRange, figureInRange}
+use Rattle.galley.specs.Range.{inRange}
 use Rattle.galley.specs.Place.{misplaced, tooEarly, tooMany, unfit}
-use Rattle.galley.specs.Record.{specOf, lineOf, figureOf, whole, openedBy, recordAt}
-use Rattle.galley.specs.Whole.{cited, ended, settled, recordIn, dueAt, next, blocks, opened, galleyOf}
+use Rattle.galley.specs.Record.{specOf, lineOf, figureOf, sizeOf, fieldsOf, openedBy, recordAt}
+use Rattle.galley.specs.Whole.{cited, ended, settled, recordIn, dueAt, next, galleyWith, blocks, opened, galleyOf}
 
 -- The record, if it is a refusal, has such a number.
 abbrev Low : Record → Type 0
@@ -44,21 +44,21 @@ low-figure f n at e = let z : _≡_ {A = ℕ} 0 1 = cc in absurd (omega arith)
 low-end : Low found.End
 low-end n at e = let z : _≡_ {A = ℕ} 0 1 = cc in absurd (omega arith)
 
-low-whole : (bytes : List ℕ) (at size : ℕ) (inRange : Bool) (r : Record) → Low r → Low (whole bytes at size inRange r)
-unfolding whole
-low-whole bytes at size inRange r h =
-    pick-has Low (ltb (length bytes - at) size) (found.Refused 1 at) (pick inRange r (found.Refused 3 at))
-    (λ _. low-refused 1 at (omega arith) (omega arith))
-    (λ _. pick-has Low inRange r (found.Refused 3 at) (λ _. h) (λ _. low-refused 3 at (omega arith) (omega arith)))
+low-fields : (m : Mark) (bytes : List ℕ) (at : ℕ) → Low (fieldsOf m bytes at)
+unfolding fieldsOf
+low-fields mark.Spec bytes at = low-spec (specOf bytes at)
+low-fields mark.Line bytes at = low-line (lineOf bytes at)
+low-fields mark.Figure bytes at = low-figure (figureOf bytes at)
+low-fields mark.End bytes at = low-end
+low-fields mark.Unknown bytes at = low-refused 2 at (omega arith) (omega arith)
 
 low-opened : (m : Mark) (bytes : List ℕ) (at : ℕ) → Low (openedBy m bytes at)
 unfolding openedBy
-low-opened mark.Spec bytes at = low-whole bytes at 30 (specInRange (specOf bytes at)) (found.Spec (specOf bytes at)) (low-spec (specOf bytes at))
-low-opened mark.Line bytes at = low-whole bytes at 18 (lineInRange (lineOf bytes at)) (found.Line (lineOf bytes at)) (low-line (lineOf bytes at))
-low-opened mark.Figure bytes at =
-    low-whole bytes at 18 (figureInRange (figureOf bytes at)) (found.Figure (figureOf bytes at)) (low-figure (figureOf bytes at))
-low-opened mark.End bytes at = low-end
-low-opened mark.Unknown bytes at = low-refused 2 at (omega arith) (omega arith)
+low-opened m bytes at =
+    let r = fieldsOf m bytes at in
+    pick-has Low (ltb (length bytes - at) (sizeOf m)) (found.Refused 1 at) (pick (inRange r) r (found.Refused 3 at))
+    (λ _. low-refused 1 at (omega arith) (omega arith))
+    (λ _. pick-has Low (inRange r) r (found.Refused 3 at) (λ _. low-fields m bytes at) (λ _. low-refused 3 at (omega arith) (omega arith)))
 
 low-record : (bytes : List ℕ) (at : ℕ) → Low (recordAt bytes at)
 unfolding recordAt
@@ -136,7 +136,7 @@ blocks-refusal bytes spec first (suc most) lines figures last =
     next-refusal (dueAt first lines figures) (recordIn bytes (dueAt first lines figures) true lines figures last)
     (λ l. blocks bytes spec first most (lines + 1) figures last)
     (λ f. blocks bytes spec first most lines (figures + 1) (f .cite))
-    (reads.Galley (record { spec = spec; lines = lines; figures = figures; first = first }))
+    (reads.Galley (galleyWith spec first lines figures))
     (low-in bytes (dueAt first lines figures) true lines figures last)
     (λ l. blocks-refusal bytes spec first most (lines + 1) figures last)
     (λ f. blocks-refusal bytes spec first most lines (figures + 1) (f .cite))

@@ -61,7 +61,7 @@ accepts-paginations bytes words = (
 -- The paper's X, with the figures the only floats.
 x-figures : (bytes : List ℕ) (g : Galley) (P : Map)
     → xOn (modelOf bytes g) P
-    ≡ sum (g .figures) (λ f. leaf (sidesOf (g .spec .sides)) (P 1 f) - leaf (sidesOf (g .spec .sides)) (P 0 (citation bytes g f)))
+    ≡ sum (g .figures .count) (λ f. leaf (sidesOf (g .spec .sides)) (P 1 f) - leaf (sidesOf (g .spec .sides)) (P 0 (citation bytes g f)))
 unfolding xOn sum
 x-figures bytes g P = omega arith
 
@@ -78,16 +78,16 @@ module _ {bytes words : List ℕ} {g : Galley} {p : ℕ} {P : Map} (m : Paginate
   -- Single-sided: X is Σ (P(f) − P(R(f))), Y is p − 1, and the turns are the paper's Turn.S.
   pub reports-single : g .spec .sides ≡ 1
       → markOf bytes words
-      ≡ Counted p (sum (g .figures) (λ f. P 1 f - P 0 (citation bytes g f))) (p - 1)
-      (sum (g .figures) (λ f. g .spec .alpha * (P 1 f - P 0 (citation bytes g f))) + g .spec .beta * (p - 1))
+      ≡ Counted p (sum (g .figures .count) (λ f. P 1 f - P 0 (citation bytes g f))) (p - 1)
+      (sum (g .figures .count) (λ f. g .spec .alpha * (P 1 f - P 0 (citation bytes g f))) + g .spec .beta * (p - 1))
   unfolding leaf sidesOf sum
   reports-single e =
       let M = modelOf bytes g in
-      let X = sum (g .figures) (λ f. P 1 f - P 0 (citation bytes g f)) in
-      let T = sum (g .figures) (λ f. g .spec .alpha * (P 1 f - P 0 (citation bytes g f))) + g .spec .beta * (p - 1) in
+      let X = sum (g .figures .count) (λ f. P 1 f - P 0 (citation bytes g f)) in
+      let T = sum (g .figures .count) (λ f. g .spec .alpha * (P 1 f - P 0 (citation bytes g f))) + g .spec .beta * (p - 1) in
       let ex : xOn M P ≡ X =
       x-figures bytes g P
-      ∙ ap (λ n. sum (g .figures) (λ f. leaf (sidesOf n) (P 1 f) - leaf (sidesOf n) (P 0 (citation bytes g f)))) e in
+      ∙ ap (λ n. sum (g .figures .count) (λ f. leaf (sidesOf n) (P 1 f) - leaf (sidesOf n) (P 0 (citation bytes g f)))) e in
       let ey : leaf (sidesOf (g .spec .sides)) p - leaf (sidesOf (g .spec .sides)) 1 ≡ p - 1 =
       ap (λ n. leaf (sidesOf n) p - leaf (sidesOf n) 1) e in
       let paper = turn-single M p P (ap sidesOf e) in
@@ -98,17 +98,17 @@ module _ {bytes words : List ℕ} {g : Galley} {p : ℕ} {P : Map} (m : Paginate
   pub reports-double : g .spec .sides ≡ 2
       → (let S : ℕ → ℕ = λ q. q / 2 + 1 in
       markOf bytes words
-      ≡ Counted p (sum (g .figures) (λ f. S (P 1 f) - S (P 0 (citation bytes g f)))) (S p - 1)
-      (sum (g .figures) (λ f. g .spec .alpha * (S (P 1 f) - S (P 0 (citation bytes g f)))) + g .spec .beta * (S p - 1)))
+      ≡ Counted p (sum (g .figures .count) (λ f. S (P 1 f) - S (P 0 (citation bytes g f)))) (S p - 1)
+      (sum (g .figures .count) (λ f. g .spec .alpha * (S (P 1 f) - S (P 0 (citation bytes g f)))) + g .spec .beta * (S p - 1)))
   unfolding leaf sidesOf sum
   reports-double e =
       let M = modelOf bytes g in
       let S : ℕ → ℕ = λ q. q / 2 + 1 in
-      let X = sum (g .figures) (λ f. S (P 1 f) - S (P 0 (citation bytes g f))) in
-      let T = sum (g .figures) (λ f. g .spec .alpha * (S (P 1 f) - S (P 0 (citation bytes g f)))) + g .spec .beta * (S p - 1) in
+      let X = sum (g .figures .count) (λ f. S (P 1 f) - S (P 0 (citation bytes g f))) in
+      let T = sum (g .figures .count) (λ f. g .spec .alpha * (S (P 1 f) - S (P 0 (citation bytes g f)))) + g .spec .beta * (S p - 1) in
       let ex : xOn M P ≡ X =
       x-figures bytes g P
-      ∙ ap (λ n. sum (g .figures) (λ f. leaf (sidesOf n) (P 1 f) - leaf (sidesOf n) (P 0 (citation bytes g f)))) e in
+      ∙ ap (λ n. sum (g .figures .count) (λ f. leaf (sidesOf n) (P 1 f) - leaf (sidesOf n) (P 0 (citation bytes g f)))) e in
       let ey : leaf (sidesOf (g .spec .sides)) p - leaf (sidesOf (g .spec .sides)) 1 ≡ S p - 1 =
       ap (λ n. leaf (sidesOf n) p - leaf (sidesOf n) 1) e in
       let paper = turn-double M p P (ap sidesOf e) in

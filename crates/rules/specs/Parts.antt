@@ -9,10 +9,11 @@ use Rattle.model.specs.Rules.{forward, closes}
 use Rattle.model.specs.Leaf.{leaf, ends, sidesOf}
 use Rattle.model.specs.declared.answer.Answer.{Answer}
 use Rattle.model.specs.declared.answer.Answer.the-variants.{Counted, Refused}
+use Rattle.galley.specs.declared.Stream.{Stream}
 use Rattle.galley.specs.declared.Galley.{Galley}
-use Rattle.galley.specs.Sound.{Sound}
+use Rattle.galley.specs.Sound.{SoundStream, Growing}
 use Rattle.galley.specs.Range.{SpecRanged}
-use Rattle.galley.specs.Model.{figuresOf}
+use Rattle.galley.specs.Model.{floatsOf}
 
 -- Rules 13 and 14, which ask for no height: the number of the first that fails, or 0.
 unfoldable pub startFault : model.Galley → model.Place → model.Place → ℕ
@@ -22,11 +23,7 @@ startFault g u v = pick (forward g u v) (pick (closes g v) 0 14) 13
 unfoldable pub endFault : Bool → Bool → ℕ
 endFault fills cited = pick fills (pick cited 0 17) 16
 
--- The separation of a page that has both kinds, else 0.
-unfoldable pub separation : Bool → Bool → ℕ → ℕ
-separation lines figures s = pick (lines && figures) s 0
-
--- c figures, those of a stream's first, are cited by line a or earlier, and no other.
+-- The first c floats of a stream are cited by line a or earlier, and no other.
 pub record Citing (st : model.Stream) (a c : ℕ) : Type 0 where
   pub few : c ≤ st .size
   pub upto : (k : ℕ) → 1 ≤ k → k ≤ c → st .cite k ≤ a
@@ -44,13 +41,14 @@ counts g p x =
 
 -- The answer once p pages are judged: 18 where the last does not end at the full place, else the counts.
 unfoldable pub finished : Galley → ℕ → ℕ → ℕ → ℕ → Answer
-finished g p a b x = pick (eqb a (g .lines) && eqb b (g .figures)) (counts g p x) (Refused 18 p)
+finished g p a b x = pick (eqb a (g .text .count) && eqb b (g .figures .count)) (counts g p x) (Refused 18 p)
 
--- The first figures, `before` of them, are cited by line i or earlier.
-pub record CitedBefore (bytes : List ℕ) (g : Galley) (i before : ℕ) : Type 0 where
-  pub sound : Sound bytes g
-  pub few : before ≤ g .figures
-  pub upto : (k : ℕ) → 1 ≤ k → k ≤ before → figuresOf bytes g .cite k ≤ i
+-- The citations of a stream of floats never decrease, and the first `before` of them are by line i or earlier.
+pub record Citations (bytes : List ℕ) (floats : Stream) (i before : ℕ) : Type 0 where
+  pub sound : SoundStream bytes floats
+  pub grow : Growing bytes floats
+  pub few : before ≤ floats .count
+  pub upto : (k : ℕ) → 1 ≤ k → k ≤ before → floatsOf bytes floats .cite k ≤ i
 
 -- Numbers of pages and of X, and weights, that keep T within 32 bits.
 pub record Few (g : Galley) (pages x : ℕ) : Type 0 where

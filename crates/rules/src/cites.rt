@@ -1,19 +1,20 @@
 // The figures cited so far, and those of them that wait where a leaf ends.
 ghost use mathlib.Core.Path.{_≡_};
 ghost use Prim.Native.Nat.{_≤_};
-ghost use Rattle.galley.specs.Model.{figuresOf};
-ghost use Rattle.rules.specs.Parts.{CitedBefore, Citing, waitingAt};
+ghost use Rattle.galley.specs.Model.{floatsOf};
+ghost use Rattle.rules.specs.Parts.{Citations, Citing, waitingAt};
 use galley::Galley;
+use galley::Stream;
 use model::page::Page;
 
-// How many figures are cited by line i or earlier, counted on from those cited by an earlier line.
-pub fn cited_through(s: &[u8], g: Galley, i: usize, before: usize) -> usize
-    requires { ⌜ CitedBefore (now s) g i before ⌝ }
-    ensures { λ r. ⌜ Citing (figuresOf (now (s .entry)) g) i r ⌝ }
+// How many floats of a stream are cited by line i or earlier, counted on from those cited by an earlier line.
+pub fn cited_through(s: &[u8], floats: Stream, i: usize, before: usize) -> usize
+    requires { ⌜ Citations (now s) floats i before ⌝ }
+    ensures { λ r. ⌜ Citing (floatsOf (now (s .entry)) floats) i r ⌝ }
 {
     let mut c = before;
-    while c < g.figures {
-        if i < galley::word::size(blocks::figure_cite(s, g, c + 1)) {
+    while c < floats.count {
+        if i < galley::word::size(blocks::field(s, floats, c + 1, galley::CITE)) {
             return c;
         }
         c += 1;

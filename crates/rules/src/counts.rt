@@ -11,7 +11,7 @@ pub fn finish(g: Galley, pages: u32, a: usize, b: usize, x: u32) -> Answer
     requires { ⌜ Few g pages x ⌝ }
     ensures { λ r. ⌜ r ≡ finished g pages a b x ⌝ }
 {
-    if (a == g.lines) & (b == g.figures) {
+    if (a == g.text.count) & (b == g.figures.count) {
         let first = model::page::spread_of(g.spec.sides, Page(1));
         let last = model::page::spread_of(g.spec.sides, Page(pages));
         let y = last.0 - first.0;

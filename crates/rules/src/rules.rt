@@ -8,44 +8,45 @@ ghost use lib.Dec.{leb};
 ghost use Rattle.model.specs.Rules.{forward, mayEnd, cited};
 ghost use Rattle.model.specs.Answers.{counted};
 ghost use Rattle.galley.specs.Model.{textOf, modelOf};
-ghost use Rattle.galley.specs.Sound.{Sound};
+ghost use Rattle.galley.specs.Sound.{SoundStream, Sound};
 ghost use Rattle.rules.specs.Parts.{startFault, endFault};
 use galley::Galley;
+use galley::Stream;
 use model::page::Page;
 
 // 12: there are words, whole pages of them, and no more pages than blocks.
 pub fn is_counted(g: Galley, words: usize) -> bool
-    requires { ⌜ (g .lines ≤ 4000) × (g .figures ≤ 200) ⌝ }
+    requires { ⌜ (g .text .count ≤ 4000) × (g .figures .count ≤ 200) ⌝ }
     ensures { λ r. ⌜ ((bytes ws : List ℕ) → length ws ≡ words → r ≡ counted (modelOf bytes g) ws) ⌝ }
 {
-    (0 < words) & (words % 2 == 0) & (words <= 2 * (g.lines + g.figures))
+    (0 < words) & (words % 2 == 0) & (words <= 2 * (g.text.count + g.figures.count))
 }
 
 // 13: no count falls or passes its stream's, and the page is not empty.
 fn is_forward(g: Galley, a: usize, b: usize, i: usize, j: usize) -> bool
     ensures { λ r. ⌜ ((bytes : List ℕ) → r ≡ forward (modelOf bytes g) (a ∷ b ∷ []) (i ∷ j ∷ [])) ⌝ }
 {
-    (((a <= i) & (i <= g.lines)) & ((b <= j) & (j <= g.figures))) & ((a < i) | (b < j))
+    (((a <= i) & (i <= g.text.count)) & ((b <= j) & (j <= g.figures.count))) & ((a < i) | (b < j))
 }
 
 // 14: a page may end before the first line, after the last, or in a space that allows it.
-pub fn may_end(s: &[u8], g: Galley, i: usize) -> bool
-    requires { ⌜ Sound (now s) g ⌝ }
-    ensures { λ r. ⌜ r ≡ mayEnd (textOf (now (s .entry)) g) i ⌝ }
+pub fn may_end(s: &[u8], text: Stream, i: usize) -> bool
+    requires { ⌜ SoundStream (now s) text ⌝ }
+    ensures { λ r. ⌜ r ≡ mayEnd (textOf (now (s .entry)) text) i ⌝ }
 {
-    if (0 < i) & (i < g.lines) {
-        return blocks::line_legal(s, g, i) == 1;
+    if (0 < i) & (i < text.count) {
+        return blocks::field(s, text, i, galley::LEGAL) == 1;
     }
     true
 }
 
 // 17: where a leaf or the list ends, the last figure placed is cited by a line already placed.
 fn is_cited(s: &[u8], g: Galley, page: Page, last: bool, i: usize, j: usize) -> bool
-    requires { ⌜ (Sound (now s) g) × (j ≤ g .figures) ⌝ }
+    requires { ⌜ (Sound (now s) g) × (j ≤ g .figures .count) ⌝ }
     ensures { λ r. ⌜ r ≡ cited (modelOf (now (s .entry)) g) (page .0) last (i ∷ j ∷ []) ⌝ }
 {
     if (model::page::ends_spread(g.spec.sides, page) | last) & (0 < j) {
-        return galley::word::size(blocks::figure_cite(s, g, j)) <= i;
+        return galley::word::size(blocks::field(s, g.figures, j, galley::CITE)) <= i;
     }
     true
 }
@@ -56,7 +57,7 @@ pub fn start_fault(s: &[u8], g: Galley, a: usize, b: usize, i: usize, j: usize) 
     ensures { λ r. ⌜ r ≡ startFault (modelOf (now (s .entry)) g) (a ∷ b ∷ []) (i ∷ j ∷ []) ⌝ }
 {
     let forward = is_forward(g, a, b, i, j);
-    let closes = may_end(s, g, i);
+    let closes = may_end(s, g.text, i);
     if forward {
         if closes {
             return 0;
@@ -68,7 +69,7 @@ pub fn start_fault(s: &[u8], g: Galley, a: usize, b: usize, i: usize, j: usize) 
 
 // The first of 16 and 17 that a page of this loosest height breaks, or 0.
 pub fn end_fault(s: &[u8], g: Galley, loose: u32, page: Page, last: bool, i: usize, j: usize) -> u32
-    requires { ⌜ (Sound (now s) g) × (j ≤ g .figures) ⌝ }
+    requires { ⌜ (Sound (now s) g) × (j ≤ g .figures .count) ⌝ }
     ensures { λ r. ⌜ r ≡ endFault (last || leb (g .spec .htmin) loose) (cited (modelOf (now (s .entry)) g) (page .0) last (i ∷ j ∷ [])) ⌝ }
 {
     let fills = last | (g.spec.htmin <= loose);

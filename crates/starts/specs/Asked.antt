@@ -9,18 +9,18 @@ use Rattle.galley.specs.Model.{textOf, modelOf}
 use Rattle.galley.specs.Sound.{Sound}
 use Rattle.places.specs.Address.{wordsNeeded}
 use Rattle.places.specs.Table.{tableOf}
-use Rattle.starts.specs.declared.heights.Heights.{Heights}
+use Rattle.starts.specs.declared.search.Lines.{Lines}
 use Rattle.starts.specs.Search.{Search}
-use Rattle.starts.specs.Heights.{Stacked}
+use Rattle.blocks.specs.Heights.{Stacked}
 
 -- The search for a page of the galley that ends at (i, j), in the table that the work area holds.
 abbrev pub searchOf : List ℕ → Galley → List ℕ → ℕ → ℕ → ℕ → Search
 searchOf bytes g w i j side =
-    record { galley = modelOf bytes g; table = tableOf (suc (g .lines)) w; i = i; j = j; side = side }
+    record { galley = modelOf bytes g; table = tableOf (suc (g .text .count)) w; i = i; j = j; side = side }
 
 -- Every block is placed at (i, j).
 abbrev pub allPlaced : Galley → ℕ → ℕ → Bool
-allPlaced g i j = eqb i (g .lines) && eqb j (g .figures)
+allPlaced g i j = eqb i (g .text .count) && eqb j (g .figures .count)
 
 -- A page from (a, b) to (i, j) of this loosest height is not empty, and full enough unless it is the last.
 abbrev pub worth : Galley → ℕ → ℕ → ℕ → ℕ → ℕ → Bool
@@ -34,17 +34,17 @@ pub record Startable (a b : ℕ) : Type 0 where
 -- (i, j) is a place of a galley that was read.
 pub record Placed (bytes : List ℕ) (g : Galley) (i j : ℕ) : Type 0 where
   pub sound : Sound bytes g
-  pub line : i ≤ g .lines
-  pub figure : j ≤ g .figures
+  pub line : i ≤ g .text .count
+  pub figure : j ≤ g .figures .count
 
 -- A search for starts of a page that ends at (i, j), their own pages on the given side, in a work area that is long enough.
 pub record Searched (bytes : List ℕ) (g : Galley) (w : List ℕ) (i j side : ℕ) : Type 0 where
   pub placed : Placed bytes g i j
-  pub room : wordsNeeded (g .lines) (g .figures) ≤ length w
+  pub room : wordsNeeded (g .text .count) (g .figures .count) ≤ length w
   pub either : side ≤ 1
 
--- The starts on line a of such a search, from where the lines of the page have these heights.
-pub record RowAsked (bytes : List ℕ) (g : Galley) (w : List ℕ) (i j side a : ℕ) (lines : Heights) : Type 0 where
+-- The starts on a line of such a search, from where the lines of the page have these heights.
+pub record RowAsked (bytes : List ℕ) (g : Galley) (w : List ℕ) (i j side : ℕ) (lines : Lines) : Type 0 where
   pub searched : Searched bytes g w i j side
-  pub start : a ≤ i
-  pub text : Stacked (textOf bytes g) a i lines
+  pub start : lines .from ≤ i
+  pub text : Stacked (textOf bytes (g .text)) (lines .from) i (lines .heights)

@@ -4,7 +4,6 @@
 pub mod Search
 pub mod Choice
 -- What the functions ask for, and what holds on the way.
-pub mod Heights
 pub mod Asked
 pub mod Sweep
 pub mod laws

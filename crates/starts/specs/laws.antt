@@ -4,6 +4,8 @@ pub mod Search
 pub mod Choice
 pub mod Found
 pub mod Sweep
+pub mod Queues
+pub mod Cells
 pub mod Lending
 pub mod Sweeping
 pub mod Fewer

@@ -7,7 +7,7 @@ ghost use Rattle.places.specs.declared.Start.{Start as StartOf};
 ghost use Rattle.places.specs.declared.Entry.the-variants.{Least as least};
 ghost use Rattle.starts.specs.Search.{before, better, row, bestStart};
 ghost use Rattle.starts.specs.Asked.{searchOf, allPlaced, worth, Searched, RowAsked, Startable};
-use crate::heights::Heights;
+use blocks::heights::Heights;
 use galley::Galley;
 use places::Entry;
 use places::Start;
@@ -27,7 +27,7 @@ pub fn side_before(g: Galley, c: usize) -> usize
 pub fn is_full(g: Galley, i: usize, j: usize) -> bool
     ensures { λ r. ⌜ r ≡ allPlaced g i j ⌝ }
 {
-    (i == g.lines) & (j == g.figures)
+    (i == g.text.count) & (j == g.figures.count)
 }
 
 // Whether a page from (a, b) to (i, j) of this loosest height counts: it is not empty, and full enough unless it is the last.
@@ -57,7 +57,13 @@ fn cheaper(x: u32, a: usize, b: usize, best: Entry) -> Entry
     }
 }
 
-// The best so far after the starts on line a, from figure j back to the first whose page is too high. A place that was
+// The lines of a page: the line that it starts after, and their heights.
+pub struct Lines {
+    pub from: usize,
+    pub heights: Heights,
+}
+
+// The best so far after the starts on one line, from figure j back to the first whose page is too high. A place that was
 // never reached offers no start for a page.
 fn best_on_line(
     s: &[u8],
@@ -66,27 +72,27 @@ fn best_on_line(
     i: usize,
     j: usize,
     side: usize,
-    a: usize,
-    lines: Heights,
+    lines: Lines,
     known: Entry,
 ) -> Entry
-    requires { ⌜ RowAsked (now s) g (now work) i j side a lines ⌝ }
-    ensures { λ r. ⌜ r ≡ row (searchOf (now (s .entry)) g (now (work .entry)) i j side) a (suc j) known ⌝ }
+    requires { ⌜ RowAsked (now s) g (now work) i j side lines ⌝ }
+    ensures { λ r. ⌜ r ≡ row (searchOf (now (s .entry)) g (now (work .entry)) i j side) (lines .from) (suc j) known ⌝ }
 {
+    let a = lines.from;
     let mut best = known;
     let mut figures = Heights { tight: 0, loose: 0 };
     let mut b = j + 1;
     while 0 < b {
         b -= 1;
-        figures = crate::heights::figure_before(s, g, figures, b, j);
-        let page = crate::heights::page_heights(g, (a < i) & (b < j), lines, figures);
+        figures = blocks::heights::block_before(s, g.figures, figures, b, j);
+        let page = blocks::heights::page_heights(g, (a < i) & (b < j), lines.heights, figures);
         if g.spec.htmax < page.tight {
             return best;
         }
         if !counts(g, a, b, i, j, page.loose) {
             continue;
         }
-        let at = places::address_of(g.lines + 1, a, b, side);
+        let at = places::address_of(g.text.count + 1, a, b, side);
         let entry = places::entry_at(work, at);
         let Entry::Least(x, _start) = entry else {
             continue;
@@ -106,11 +112,15 @@ pub fn best_start(s: &[u8], g: Galley, work: &[u32], i: usize, j: usize, side: u
     let mut a = i + 1;
     while 0 < a {
         a -= 1;
-        lines = crate::heights::line_before(s, g, lines, a, i);
+        lines = blocks::heights::block_before(s, g.text, lines, a, i);
         if g.spec.htmax < lines.tight {
             return best;
         }
-        best = best_on_line(s, g, work, i, j, side, a, lines, best);
+        let from = Lines {
+            from: a,
+            heights: lines,
+        };
+        best = best_on_line(s, g, work, i, j, side, from, best);
     }
     best
 }

@@ -22,7 +22,7 @@ sidesIn g = sidesOf (g .spec .sides)
 
 -- The table that the work area of a galley holds: one row more than there are lines.
 abbrev pub tableIn : Galley → List ℕ → Table
-tableIn g w = tableOf (suc (g .lines)) w
+tableIn g w = tableOf (suc (g .text .count)) w
 
 -- An entry says that its place is reached.
 abbrev pub isReached : Entry → Bool
@@ -31,21 +31,21 @@ isReached (Least x s) = true
 
 -- The work area has all words of a galley within document 01's limits.
 pub record Lent (g : Galley) (w : List ℕ) : Type 0 where
-  pub lines : g .lines ≤ 4000
-  pub figures : g .figures ≤ 200
-  pub words : wordsNeeded (g .lines) (g .figures) ≤ length w
+  pub lines : g .text .count ≤ 4000
+  pub figures : g .figures .count ≤ 200
+  pub words : wordsNeeded (g .text .count) (g .figures .count) ≤ length w
 
 -- A place of the galley, on one of its two sides.
 pub record Placed (g : Galley) (i j c : ℕ) : Type 0 where
-  pub line : i ≤ g .lines
-  pub figure : j ≤ g .figures
+  pub line : i ≤ g .text .count
+  pub figure : j ≤ g .figures .count
   pub side : c ≤ 1
 
 -- Every entry is one that filling enters.
 pub record Traceable (g : Galley) (w : List ℕ) : Type 0 where
   pub lent : Lent g w
   pub entered :
-      (a b c x : ℕ) (s : Start) → a ≤ g .lines → b ≤ g .figures → Side (sidesIn g) c → tableIn g w a b c ≡ Least x s → Entered
+      (a b c x : ℕ) (s : Start) → a ≤ g .text .count → b ≤ g .figures .count → Side (sidesIn g) c → tableIn g w a b c ≡ Least x s → Entered
       a b x s
 
 -- A walk over such a table may start on side c.
@@ -60,17 +60,17 @@ pub record Writable (g : Galley) (w : List ℕ) (c p : ℕ) (ws : List ℕ) : Ty
 
 -- The walk is at place (i, j) on side c, within the galley.
 pub record Visits (g : Galley) (i j c : ℕ) : Type 0 where
-  pub line : i ≤ g .lines
-  pub figure : j ≤ g .figures
+  pub line : i ≤ g .text .count
+  pub figure : j ≤ g .figures .count
   pub side : Side (sidesIn g) c
 
 -- The count back from the full place on side `from` has come to (i, j) on side c with p pages.
 pub record Counting (g : Galley) (w : List ℕ) (from i j c p : ℕ) : Type 0 where
   pub visits : Visits g i j c
-  pub left : p + (i + j) ≤ g .lines + g .figures
+  pub left : p + (i + j) ≤ g .text .count + g .figures .count
   pub same :
-      countBack (sidesIn g) (tableIn g w) (g .lines + g .figures - p) i j c p
-      ≡ countBack (sidesIn g) (tableIn g w) (g .lines + g .figures) (g .lines) (g .figures) from 0
+      countBack (sidesIn g) (tableIn g w) (g .text .count + g .figures .count - p) i j c p
+      ≡ countBack (sidesIn g) (tableIn g w) (g .text .count + g .figures .count) (g .text .count) (g .figures .count) from 0
 
 -- The writing back of p pages from the full place on side `from` to the list `first` has come to (i, j) on side c, with r pages
 -- left and the list ws.
@@ -81,4 +81,4 @@ pub record Writing (g : Galley) (w : List ℕ) (from p : ℕ) (first ws : List �
   pub long : length ws ≡ length first
   pub same :
       writeBack (sidesIn g) (tableIn g w) r i j c ws
-      ≡ writeBack (sidesIn g) (tableIn g w) p (g .lines) (g .figures) from first
+      ≡ writeBack (sidesIn g) (tableIn g w) p (g .text .count) (g .figures .count) from first

@@ -12,7 +12,7 @@ fn entry_of(g: Galley, work: &[u32], i: usize, j: usize, side: usize) -> Entry
     requires { ⌜ Lent g (now work) × Placed g i j side ⌝ }
     ensures { λ r. ⌜ r ≡ tableIn g (now (work .entry)) i j side ⌝ }
 {
-    places::entry_at(work, places::address_of(g.lines + 1, i, j, side))
+    places::entry_at(work, places::address_of(g.text.count + 1, i, j, side))
 }
 
 // Where the page starts that ends at an entry's place.
@@ -44,11 +44,11 @@ fn better_side(even: Entry, odd: Entry) -> usize
 // The side of the last page of the best list.
 pub fn last_side(g: Galley, work: &[u32]) -> usize
     requires { ⌜ Lent g (now work) ⌝ }
-    ensures { λ r. ⌜ r ≡ lastSide (sidesIn g) (tableIn g (now (work .entry))) (g .lines) (g .figures) ⌝ }
+    ensures { λ r. ⌜ r ≡ lastSide (sidesIn g) (tableIn g (now (work .entry))) (g .text .count) (g .figures .count) ⌝ }
 {
     if g.spec.sides == 2 {
-        let even = entry_of(g, work, g.lines, g.figures, 0);
-        let odd = entry_of(g, work, g.lines, g.figures, 1);
+        let even = entry_of(g, work, g.text.count, g.figures.count, 0);
+        let odd = entry_of(g, work, g.text.count, g.figures.count, 1);
         better_side(even, odd)
     } else {
         0
@@ -58,9 +58,9 @@ pub fn last_side(g: Galley, work: &[u32]) -> usize
 // Whether the full place is reached on a side: if not on the last side, no valid list exists.
 pub fn reached(g: Galley, work: &[u32], side: usize) -> bool
     requires { ⌜ Lent g (now work) × (side ≤ 1) ⌝ }
-    ensures { λ r. ⌜ r ≡ isReached (tableIn g (now (work .entry)) (g .lines) (g .figures) side) ⌝ }
+    ensures { λ r. ⌜ r ≡ isReached (tableIn g (now (work .entry)) (g .text .count) (g .figures .count) side) ⌝ }
 {
-    let entry = entry_of(g, work, g.lines, g.figures, side);
+    let entry = entry_of(g, work, g.text.count, g.figures.count, side);
     match entry {
         Entry::Unreached => false,
         Entry::Least(_cost, _start) => true,
@@ -70,10 +70,10 @@ pub fn reached(g: Galley, work: &[u32], side: usize) -> bool
 // The number of pages on the way back from the full place on a side.
 pub fn count_pages(g: Galley, work: &[u32], side: usize) -> usize
     requires { ⌜ Walkable g (now work) side ⌝ }
-    ensures { λ r. ⌜ r ≡ countBack (sidesIn g) (tableIn g (now (work .entry))) (g .lines + g .figures) (g .lines) (g .figures) side 0 ⌝ }
+    ensures { λ r. ⌜ r ≡ countBack (sidesIn g) (tableIn g (now (work .entry))) (g .text .count + g .figures .count) (g .text .count) (g .figures .count) side 0 ⌝ }
 {
-    let mut i = g.lines;
-    let mut j = g.figures;
+    let mut i = g.text.count;
+    let mut j = g.figures.count;
     let mut c = side;
     let mut p = 0;
     while 0 < i + j {
@@ -89,10 +89,10 @@ pub fn count_pages(g: Galley, work: &[u32], side: usize) -> usize
 // The last `p` pages on the way back from the full place on a side, each written where its number says.
 pub fn write_pages(g: Galley, work: &[u32], side: usize, p: usize, pages: &mut [u32])
     requires { ⌜ Writable g (now work) side p (now pages) ⌝ }
-    ensures { λ _. ⌜ now (pages .exit) ≡ writeBack (sidesIn g) (tableIn g (now (work .entry))) p (g .lines) (g .figures) side (now (pages .entry)) ⌝ }
+    ensures { λ _. ⌜ now (pages .exit) ≡ writeBack (sidesIn g) (tableIn g (now (work .entry))) p (g .text .count) (g .figures .count) side (now (pages .entry)) ⌝ }
 {
-    let mut i = g.lines;
-    let mut j = g.figures;
+    let mut i = g.text.count;
+    let mut j = g.figures.count;
     let mut c = side;
     let mut r = p;
     while 0 < r {

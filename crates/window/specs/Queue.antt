@@ -1,6 +1,7 @@
 -- The queue of a window: the lines that may still be the best start, and what is known of them.
 use Prim.Native.Nat.{ℕ, suc, _+_, _*_, _≤_, _<_}
 use mathlib.Core.Path.{_≡_}
+use mathlib.Core.Logic.{_⊎_}
 use mathlib.Core.List.{List}
 use lib.ListN.{length, getD, set}
 use lib.Dec.{ltb}
@@ -47,8 +48,9 @@ pub record Cover (words : List ℕ) (queue : Queue) (a x : ℕ) : Type 0 where
 -- The entries of a queue rise in line and in cost, each is a reached line before `high` with its cost, and every reached line
 -- from `low` on and before `high` is covered by one.
 pub record Held (col : ℕ → Entry) (words : List ℕ) (queue : Queue) (low high : ℕ) : Type 0 where
+  pub based : queue .base ≤ queue .head
   pub order : queue .head ≤ queue .tail
-  pub short : queue .tail ≤ high
+  pub short : queue .tail ≤ queue .base + high
   pub lines : (k : ℕ) → queue .head ≤ k → suc k < queue .tail → lineAt words k < lineAt words (suc k)
   pub costs : (k : ℕ) → queue .head ≤ k → suc k < queue .tail → costAt words k < costAt words (suc k)
   pub before : (k : ℕ) → queue .head ≤ k → k < queue .tail → lineAt words k < high
@@ -92,19 +94,26 @@ pub record FeedAsked (work : List ℕ) (tall b side : ℕ) (words : List ℕ) (q
   pub column : b ≤ 200
   pub either : side ≤ 1
   pub stands : (a : ℕ) → a < to → address tall a b side + 4 ≤ length work
+  pub based : queue .base ≤ queue .head
   pub order : queue .head ≤ queue .tail
-  pub short : queue .tail ≤ from
+  pub short : queue .tail ≤ queue .base + from
   pub start : from ≤ to
-  pub room : 2 * to ≤ length words
+  pub room : 2 * (queue .base + to) ≤ length words
 
 -- The queue with another tail.
 abbrev pub tailed : Queue → ℕ → Queue
-tailed queue tail = record { head = queue .head; tail = tail }
+tailed queue tail = record { base = queue .base; head = queue .head; tail = tail }
 
--- What was held of the lines before `from` is held of those before `to`.
+-- Entries before `from` and from `to` on are as they were.
+pub record Beside (old new : List ℕ) (from to : ℕ) : Type 0 where
+  pub lines : (k : ℕ) → (k < from) ⊎ (to ≤ k) → lineAt new k ≡ lineAt old k
+  pub costs : (k : ℕ) → (k < from) ⊎ (to ≤ k) → costAt new k ≡ costAt old k
+
+-- What was held of the lines before `from` is held of those before `to`, and other queues are as they were.
 pub record Fed (work : List ℕ) (tall b side : ℕ) (old : List ℕ) (queue : Queue) (from to r : ℕ) (new : List ℕ) : Type 0 where
   pub order : queue .head ≤ r
-  pub short : r ≤ to
+  pub short : r ≤ queue .base + to
+  pub beside : Beside old new (queue .base) (queue .base + to)
   pub held : (low : ℕ) → Held (columnOf work tall b side) old queue low from
       → Held (columnOf work tall b side) new (tailed queue r) low to
 
@@ -115,8 +124,11 @@ AdvanceAsked work tall b side words queue from window = FeedAsked work tall b si
 -- What was held of the window before is held of this one, whose first entry is within it.
 pub record Advanced (work : List ℕ) (tall b side : ℕ) (old : List ℕ) (queue : Queue) (from : ℕ) (window : Window) (r : Queue)
     (new : List ℕ) : Type 0 where
+  pub base : r .base ≡ queue .base
+  pub based : r .base ≤ r .head
   pub order : r .head ≤ r .tail
-  pub short : r .tail ≤ window .high
+  pub short : r .tail ≤ r .base + window .high
+  pub beside : Beside old new (queue .base) (queue .base + window .high)
   pub held : (low : ℕ) → low ≤ window .low → Held (columnOf work tall b side) old queue low from
       → Held (columnOf work tall b side) new r (window .low) (window .high)
   pub fresh : r .head < r .tail → window .low ≤ lineAt new (r .head)

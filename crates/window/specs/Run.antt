@@ -3,12 +3,12 @@ use Prim.Native.Nat.{ℕ, _+_, _*_, _≤_, _<_}
 use mathlib.Core.Path.{_≡_}
 use mathlib.Core.List.{List}
 use lib.ListN.{length, getD}
-use Rattle.galley.specs.declared.Galley.{Galley}
+use Rattle.galley.specs.declared.Stream.{Stream}
 use Rattle.galley.specs.Model.{textOf}
 use Rattle.window.specs.declared.slide.Load.{Load}
 use Rattle.window.specs.declared.queue.Queue.{Queue}
 use Rattle.window.specs.Sums.{reach, Row}
-use Rattle.window.specs.Queue.{lineAt, costAt, columnOf, tailed, Held}
+use Rattle.window.specs.Queue.{lineAt, costAt, columnOf, tailed, Held, Beside}
 
 -- From `from` on and before a no page to line i fits.
 pub record FittingRun (sums : List ℕ) (load : Load) (from i a : ℕ) : Type 0 where
@@ -35,12 +35,12 @@ pub record PassedRun (words : List ℕ) (head tail low h : ℕ) : Type 0 where
   pub passed : (k : ℕ) → head ≤ k → k < h → lineAt words k < low
 
 -- The sums up to line k are those of the text, and those of line k are in hand.
-pub record SumsRun (bytes : List ℕ) (g : Galley) (sums₀ sums : List ℕ) (tight loose k : ℕ) : Type 0 where
-  pub within : k ≤ g .lines
+pub record SumsRun (bytes : List ℕ) (text : Stream) (sums₀ sums : List ℕ) (tight loose k : ℕ) : Type 0 where
+  pub within : k ≤ text .count
   pub sized : length sums ≡ length sums₀
-  pub tights : tight ≡ reach (textOf bytes g) (textOf bytes g .least) k
-  pub looses : loose ≡ reach (textOf bytes g) (textOf bytes g .most) k
-  pub rows : (q : ℕ) → q ≤ k → Row (textOf bytes g) sums q
+  pub tights : tight ≡ reach (textOf bytes text) (textOf bytes text .least) k
+  pub looses : loose ≡ reach (textOf bytes text) (textOf bytes text .most) k
+  pub rows : (q : ℕ) → q ≤ k → Row (textOf bytes text) sums q
 
 -- The sums in hand and what the next line adds are small enough to be added in a word.
 pub record SumsFit (tight loose height least most : ℕ) : Type 0 where
@@ -55,7 +55,8 @@ pub record FeedRun (work : List ℕ) (tall b side : ℕ) (words₀ words : List 
   pub start : from ≤ a
   pub within : a ≤ to
   pub order : queue .head ≤ tail
-  pub short : tail ≤ a
+  pub short : tail ≤ queue .base + a
+  pub beside : Beside words₀ words (queue .base) (queue .base + to)
   pub sized : length words ≡ length words₀
   pub held : (low : ℕ) → Held (columnOf work tall b side) words₀ queue low from
       → Held (columnOf work tall b side) words (tailed queue tail) low a

@@ -6,8 +6,8 @@ use lib.ListN.{length, getD, set}
 use Rattle.model.specs.Gather.{sum}
 use Rattle.model.specs.Galley.{Stream}
 use Rattle.model.specs.Height.{stacked}
-use Rattle.galley.specs.declared.Galley.{Galley}
-use Rattle.galley.specs.Sound.{Sound}
+use Rattle.galley.specs.declared.Stream as galley
+use Rattle.galley.specs.Sound.{SoundStream}
 
 -- The height of blocks 1 to k with the space after each of them, the last among them.
 unfoldable pub reach : Stream → (ℕ → ℕ) → ℕ → ℕ
@@ -29,7 +29,8 @@ pub record Row (st : Stream) (sums : List ℕ) (k : ℕ) : Type 0 where
 abbrev pub Sums : Stream → ℕ → List ℕ → Type 0
 Sums st m sums = (k : ℕ) → k ≤ m → Row st sums k
 
--- A galley that was read, and room for the sums of all its lines.
-pub record Gathered (bytes : List ℕ) (g : Galley) (sums : List ℕ) : Type 0 where
-  pub sound : Sound bytes g
-  pub room : 4 * g .lines + 4 ≤ length sums
+-- A text that was read, and room for the sums of all its lines.
+pub record SumsRoom (bytes : List ℕ) (text : galley.Stream) (sums : List ℕ) : Type 0 where
+  pub sound : SoundStream bytes text
+  pub few : text .count ≤ 4000
+  pub room : 4 * text .count + 4 ≤ length sums

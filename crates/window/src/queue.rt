@@ -8,8 +8,9 @@ use crate::slide::Window;
 use places::Entry;
 use places::Start;
 
-// The entries of a queue: those from `head` on and before `tail`.
+// The entries of a queue: those from `head` on and before `tail`. Several queues share a slice, each from its base on.
 pub struct Queue {
+    pub base: usize,
     pub head: usize,
     pub tail: usize,
 }
@@ -99,7 +100,11 @@ pub fn advance(
 {
     let tail = feed(work, tall, b, side, words, queue, from, window.high);
     let head = drop_passed(words, queue.head, tail, window.low);
-    Queue { head, tail }
+    Queue {
+        base: queue.base,
+        head,
+        tail,
+    }
 }
 
 // The best start that a queue holds, with b figures placed before it.

@@ -3,8 +3,8 @@ ghost use mathlib.Core.Path.{_≡_};
 ghost use Prim.Native.Nat.{_+_, _*_, _≤_};
 ghost use lib.ListN.{length};
 ghost use Rattle.galley.specs.Model.{textOf};
-ghost use Rattle.window.specs.Sums.{rowPut, Gathered, Sums};
-use galley::Galley;
+ghost use Rattle.window.specs.Sums.{rowPut, SumsRoom, Sums};
+use galley::Stream;
 
 // Four sums to a line: up to and with the space after it at its least, up to the line itself, and both at the greatest.
 fn put_row(sums: &mut [u32], k: usize, tight: u32, high: u32, loose: u32, wide: u32)
@@ -18,20 +18,20 @@ fn put_row(sums: &mut [u32], k: usize, tight: u32, high: u32, loose: u32, wide: 
     sums[at + 3] = wide;
 }
 
-// The sums of every line of the galley, and zeros for the place before the first.
-pub fn gather(s: &[u8], g: Galley, sums: &mut [u32])
-    requires { ⌜ Gathered (now s) g (now sums) ⌝ }
-    ensures { λ _. ⌜ Sums (textOf (now (s .entry)) g) (g .lines) (now (sums .exit)) ⌝ }
+// The sums of every line of the text, and zeros for the place before the first.
+pub fn gather(s: &[u8], text: Stream, sums: &mut [u32])
+    requires { ⌜ SumsRoom (now s) text (now sums) ⌝ }
+    ensures { λ _. ⌜ Sums (textOf (now (s .entry)) text) (text .count) (now (sums .exit)) ⌝ }
 {
     put_row(sums, 0, 0, 0, 0, 0);
     let mut tight = 0;
     let mut loose = 0;
     let mut k = 0;
-    while k < g.lines {
+    while k < text.count {
         k += 1;
-        let height = blocks::line_height(s, g, k);
-        let least = blocks::line_least(s, g, k);
-        let most = blocks::line_most(s, g, k);
+        let height = blocks::field(s, text, k, galley::HEIGHT);
+        let least = blocks::field(s, text, k, galley::LEAST);
+        let most = blocks::field(s, text, k, galley::MOST);
         let high = tight + height;
         let wide = loose + height;
         tight = high + least;

@@ -14,7 +14,7 @@ use Rattle.theorems.specs.pages.Graph.{full}
 use Rattle.theorems.specs.pages.Sides.{side-zero}
 use Rattle.theorems.specs.turns.Bounds.{cost-le}
 use Rattle.galley.specs.declared.Galley.{Galley}
-use Rattle.galley.specs.Model.{figuresOf, modelOf}
+use Rattle.galley.specs.Model.{floatsOf, modelOf}
 use Rattle.rules.specs.Parts.{Citing}
 use Rattle.places.specs.declared.Start.{Start}
 use Rattle.places.specs.declared.Entry.the-variants.{Unreached, Least}
@@ -95,34 +95,6 @@ pub place-double : (g : model.Galley) (n i j : ℕ) (w : List ℕ) → n ≡ 2
 unfolding sidesOf fillPlace
 place-double g n i j w e = rw (eq-eqb n 2 e)
 
--- Side 0 comes first, and then side 1 in double-sided work.
-pub side-first : (bytes : List ℕ) (g : Galley) (w : List ℕ) (i j cited : ℕ) → PlaceAsked bytes g w i j cited
-    → SideAsked bytes g w i j 0 cited
-side-first bytes g w i j cited asked =
-    record {
-      placed = asked .placed;
-      room = asked .room;
-      citing = asked .citing;
-      side = side-zero (sidesOf (g .spec .sides));
-      filled = asked .filled;
-    }
-
-pub side-second : (bytes : List ℕ) (g : Galley) (w : List ℕ) (i j cited : ℕ) → PlaceAsked bytes g w i j cited
-    → g .spec .sides ≡ 2
-    → SideAsked bytes g (fillSide (modelOf bytes g) i j 0 w) i j 1 cited
-unfolding Room tall
-side-second bytes g w i j cited asked e =
-    let long = length-side (modelOf bytes g) i j 0 w in
-    record {
-      placed = asked .placed;
-      room = omega (arith, asked .room);
-      citing = asked .citing;
-      side = side-one (g .spec .sides) e;
-      filled =
-          filled-keeps (modelOf bytes g) (dearest-light bytes g (asked .placed .sound)) i j (asked .placed .line)
-          (asked .placed .figure) 0 w (asked .room) (omega arith) (asked .filled);
-    }
-
 module _ (bytes : List ℕ) (g : Galley) (w₀ : List ℕ) where
   module _ (j : ℕ) where
     -- Before its first place nothing of the column is filled.
@@ -131,15 +103,21 @@ module _ (bytes : List ℕ) (g : Galley) (w₀ : List ℕ) where
         record {
           within = omega arith;
           sized = refl;
-          citing = record { sound = asked .sound; few = omega arith; upto = λ k p q. absurd (omega arith) };
+          citing =
+              record {
+                sound = asked .sound .figures;
+                grow = asked .sound .citations .grow;
+                few = omega arith;
+                upto = λ k p q. absurd (omega arith);
+              };
           entries = asked .filled;
-          run = let e : suc (g .lines) - 0 ≡ suc (g .lines) = omega arith in rw e;
+          run = let e : suc (g .text .count) - 0 ≡ suc (g .text .count) = omega arith in rw e;
         }
 
     -- The next place of the column may be filled.
     pub column-place : ColumnAsked bytes g w₀ j → (w : List ℕ) (cited i cited′ : ℕ) → ColumnRun bytes g w₀ w j cited i
-        → i ≤ g .lines
-        → Citing (figuresOf bytes g) i cited′ → PlaceAsked bytes g w i j cited′
+        → i ≤ g .text .count
+        → Citing (floatsOf bytes (g .figures)) i cited′ → PlaceAsked bytes g w i j cited′
     column-place asked w cited i cited′ r l citing =
         let long = r .sized in
         record {
@@ -151,15 +129,15 @@ module _ (bytes : List ℕ) (g : Galley) (w₀ : List ℕ) where
 
     -- One place more is filled.
     pub column-next : ColumnAsked bytes g w₀ j → (w : List ℕ) (cited i cited′ : ℕ) → ColumnRun bytes g w₀ w j cited i
-        → i ≤ g .lines
-        → Citing (figuresOf bytes g) i cited′ → (v : List ℕ) → v ≡ fillPlace (sidesOf (g .spec .sides)) (modelOf bytes g) i j w
+        → i ≤ g .text .count
+        → Citing (floatsOf bytes (g .figures)) i cited′ → (v : List ℕ) → v ≡ fillPlace (sidesOf (g .spec .sides)) (modelOf bytes g) i j w
         → ColumnRun bytes g w₀ v j cited′ (i + 1)
     unfolding Room tall fillColumn
     column-next asked w cited i cited′ r l citing v e =
         let long = r .sized in
         let kept = ap length e ∙ length-place (modelOf bytes g) (sidesOf (g .spec .sides)) i j w in
         let s : i + 1 ≡ suc i = omega arith in
-        let n : suc (g .lines) - i ≡ suc (suc (g .lines) - suc i) = omega arith in
+        let n : suc (g .text .count) - i ≡ suc (suc (g .text .count) - suc i) = omega arith in
         let next =
         filled-place (modelOf bytes g) (dearest-light bytes g (asked .sound)) i j l (asked .column) w
         (omega (arith, asked .room))
@@ -169,7 +147,8 @@ module _ (bytes : List ℕ) (g : Galley) (w₀ : List ℕ) where
           sized = omega arith;
           citing =
               record {
-                sound = asked .sound;
+                sound = asked .sound .figures;
+                grow = asked .sound .citations .grow;
                 few = citing .few;
                 upto = λ k p q. let by = citing .upto k p q in omega arith;
               };
@@ -178,12 +157,12 @@ module _ (bytes : List ℕ) (g : Galley) (w₀ : List ℕ) where
         }
 
     -- After the last place the column is filled.
-    pub column-end : (w : List ℕ) (cited i : ℕ) → ColumnRun bytes g w₀ w j cited i → g .lines < i
-        → w ≡ fillColumn (modelOf bytes g) j (suc (g .lines)) 0 w₀
+    pub column-end : (w : List ℕ) (cited i : ℕ) → ColumnRun bytes g w₀ w j cited i → g .text .count < i
+        → w ≡ fillColumn (modelOf bytes g) j (suc (g .text .count)) 0 w₀
     unfolding fillColumn
     column-end w cited i r l =
         let within = r .within in
-        let n : suc (g .lines) - i ≡ 0 = omega arith in
+        let n : suc (g .text .count) - i ≡ 0 = omega arith in
         rw n at (r .run)
 
   -- At first no column is filled.
@@ -193,37 +172,37 @@ module _ (bytes : List ℕ) (g : Galley) (w₀ : List ℕ) where
       record {
         within = omega arith;
         sized = refl;
-        entries = filled-start (modelOf bytes g) (dearest-light bytes g (asked .sound)) (tableOf (suc (g .lines)) w₀);
-        run = let e : suc (g .figures) - 0 ≡ suc (g .figures) = omega arith in rw e;
+        entries = filled-start (modelOf bytes g) (dearest-light bytes g (asked .sound)) (tableOf (suc (g .text .count)) w₀);
+        run = let e : suc (g .figures .count) - 0 ≡ suc (g .figures .count) = omega arith in rw e;
       }
 
   -- The next column may be filled.
-  pub table-column : FillAsked bytes g w₀ → (w : List ℕ) (j : ℕ) → TableRun bytes g w₀ w j → j ≤ g .figures
+  pub table-column : FillAsked bytes g w₀ → (w : List ℕ) (j : ℕ) → TableRun bytes g w₀ w j → j ≤ g .figures .count
       → ColumnAsked bytes g w j
   table-column asked w j r l =
       let long = r .sized in
       record { sound = asked .sound; column = l; room = omega (arith, asked .room); filled = r .entries }
 
   -- One column more is filled.
-  pub table-next : FillAsked bytes g w₀ → (w : List ℕ) (j : ℕ) → TableRun bytes g w₀ w j → j ≤ g .figures
-      → (v : List ℕ) → v ≡ fillColumn (modelOf bytes g) j (suc (g .lines)) 0 w → TableRun bytes g w₀ v (j + 1)
+  pub table-next : FillAsked bytes g w₀ → (w : List ℕ) (j : ℕ) → TableRun bytes g w₀ w j → j ≤ g .figures .count
+      → (v : List ℕ) → v ≡ fillColumn (modelOf bytes g) j (suc (g .text .count)) 0 w → TableRun bytes g w₀ v (j + 1)
   unfolding Room tall fillColumns
   table-next asked w j r l v e =
       let long = r .sized in
       let light = dearest-light bytes g (asked .sound) in
-      let kept = ap length e ∙ length-column (modelOf bytes g) j (suc (g .lines)) 0 w in
+      let kept = ap length e ∙ length-column (modelOf bytes g) j (suc (g .text .count)) 0 w in
       let s : j + 1 ≡ suc j = omega arith in
-      let n : suc (g .figures) - j ≡ suc (suc (g .figures) - suc j) = omega arith in
+      let n : suc (g .figures .count) - j ≡ suc (suc (g .figures .count) - suc j) = omega arith in
       let whole =
-      filled-to (modelOf bytes g) light j l (suc (g .lines)) 0 w (omega arith) (omega (arith, asked .room)) (r .entries) in
+      filled-to (modelOf bytes g) light j l (suc (g .text .count)) 0 w (omega arith) (omega (arith, asked .room)) (r .entries) in
       let next = filled-column (modelOf bytes g) light
-      (tableOf (suc (g .lines)) (fillColumn (modelOf bytes g) j (suc (g .lines)) 0 w)) j whole in
+      (tableOf (suc (g .text .count)) (fillColumn (modelOf bytes g) j (suc (g .text .count)) 0 w)) j whole in
       record { within = omega arith; sized = omega arith; entries = rw (s, e) next; run = rw (s, e) (rw n at (r .run)) }
 
   -- After the last column the table is filled.
-  pub table-end : (w : List ℕ) (j : ℕ) → TableRun bytes g w₀ w j → g .figures < j → w ≡ filled (modelOf bytes g) w₀
+  pub table-end : (w : List ℕ) (j : ℕ) → TableRun bytes g w₀ w j → g .figures .count < j → w ≡ filled (modelOf bytes g) w₀
   unfolding fillColumns
   table-end w j r l =
       let within = r .within in
-      let n : suc (g .figures) - j ≡ 0 = omega arith in
+      let n : suc (g .figures .count) - j ≡ 0 = omega arith in
       rw n at (r .run)

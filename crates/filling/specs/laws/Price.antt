@@ -15,7 +15,7 @@ use Rattle.theorems.specs.turns.Waiting.{pageCost}
 use Rattle.theorems.specs.pages.Graph.{full}
 use Rattle.theorems.specs.turns.Bounds.{allFloats, dearest}
 use Rattle.galley.specs.declared.Galley.{Galley}
-use Rattle.galley.specs.Model.{textOf, figuresOf, modelOf}
+use Rattle.galley.specs.Model.{textOf, floatsOf, modelOf}
 use Rattle.galley.specs.Sound.{Sound}
 use Rattle.rules.specs.Parts.{Citing}
 use Rattle.rules.specs.laws.Two.{closes-two, full-two}
@@ -24,25 +24,25 @@ use Rattle.starts.specs.Search.{place, mayStop}
 use Rattle.starts.specs.Asked.{allPlaced}
 use Rattle.filling.specs.Asked.{priceOf}
 
-module _ (bytes : List ℕ) (g : Galley) (i j n : ℕ) (citing : Citing (figuresOf bytes g) i n) where
+module _ (bytes : List ℕ) (g : Galley) (i j n : ℕ) (citing : Citing (floatsOf bytes (g .figures)) i n) where
   -- The last figure placed is cited by line i or earlier exactly where no more figures are placed than cited.
-  cited-last : j ≤ g .figures → implies (ltb 0 j) (leb (figuresOf bytes g .cite j) i) ≡ leb j n
+  cited-last : j ≤ g .figures .count → implies (ltb 0 j) (leb (floatsOf bytes (g .figures) .cite j) i) ≡ leb j n
   cited-last h = go j h (leb j n) refl
     where
-      go : (j : ℕ) → j ≤ g .figures → (b : Bool) → leb j n ≡ b → implies (ltb 0 j) (leb (figuresOf bytes g .cite j) i) ≡ b
+      go : (j : ℕ) → j ≤ g .figures .count → (b : Bool) → leb j n ≡ b → implies (ltb 0 j) (leb (floatsOf bytes (g .figures) .cite j) i) ≡ b
       go zero h true e = refl
       go zero h false e = let l = leb-false 0 n e in absurd (omega arith)
       go (suc j) h true e =
           let some = lt-ltb 0 (suc j) (omega arith) in
-          rw some (le-leb (figuresOf bytes g .cite (suc j)) i (citing .upto (suc j) (omega arith) (leb-true (suc j) n e)))
+          rw some (le-leb (floatsOf bytes (g .figures) .cite (suc j)) i (citing .upto (suc j) (omega arith) (leb-true (suc j) n e)))
       go (suc j) h false e =
           let some = lt-ltb 0 (suc j) (omega arith) in
-          rw some (lt-leb (figuresOf bytes g .cite (suc j)) i (citing .beyond (suc j) (leb-false (suc j) n e) h))
+          rw some (lt-leb (floatsOf bytes (g .figures) .cite (suc j)) i (citing .beyond (suc j) (leb-false (suc j) n e) h))
 
   -- Rules 14 and 17.
-  pub may-stop-two : (c : ℕ) → j ≤ g .figures
+  pub may-stop-two : (c : ℕ) → j ≤ g .figures .count
       → mayStop (modelOf bytes g) i j c
-      ≡ (mayEnd (textOf bytes g) i && implies (ends (sidesOf (g .spec .sides)) c || allPlaced g i j) (leb j n))
+      ≡ (mayEnd (textOf bytes (g .text)) i && implies (ends (sidesOf (g .spec .sides)) c || allPlaced g i j) (leb j n))
   unfolding mayStop cited each count full
   may-stop-two c h =
       let e = closes-two bytes g i j in
@@ -61,7 +61,7 @@ pub dearest-light : (bytes : List ℕ) (g : Galley) → Sound bytes g → deares
 unfolding dearest allFloats sum
 dearest-light bytes g sound =
     let few = sound .fewFigures in
-    let most = mul-le-mul {n₁ = g .spec .alpha} {m₁ = 0 + g .figures} {n₂ = 1000} {m₂ = 200} (sound .specRanged .alphas)
+    let most = mul-le-mul {n₁ = g .spec .alpha} {m₁ = 0 + g .figures .count} {n₂ = 1000} {m₂ = 200} (sound .specRanged .alphas)
     (omega arith) in
     omega (arith, sound .specRanged .betas)
 

@@ -4,7 +4,7 @@ use mathlib.Core.Path.{sym, _∙_}
 use native.Mathlib.Omega.{arith}
 use borrow.Author.Needs.{needs}
 use Rattle.galley_probe.specs.Words.{wordsOf}
-use Rattle.galley.specs.Laws.Sound.{sound}
+use Rattle.galley.specs.laws.Sound.{sound}
 use Rattle.galley_probe.proofs.galley_probe_read.Statement.{statement}
 use Rattle.galley_probe.proofs.galley_probe_read.Tie as tie
 

@@ -14,7 +14,7 @@ use Rattle.galley.specs.declared.Galley.{Galley}
 use Rattle.galley.specs.declared.Reading.the-variants as reads
 use Rattle.galley.specs.Whole.{galleyOf}
 use Rattle.galley.specs.Model.{modelOf}
-use Rattle.galley.specs.Laws.Sound.{sound}
+use Rattle.galley.specs.laws.Sound.{sound}
 use Rattle.places.specs.Address.{address, wordsNeeded, Small}
 use Rattle.places.specs.Entry.{cleared}
 use Rattle.places.specs.laws.Address.{address-in, words-small}
@@ -73,15 +73,15 @@ unfolding makeOf makeRead workAfter workRead listAfter listRead
 made-refused bytes work list n at e = record { answers = rw e refl; clean = rw e refl; listed = rw e refl }
 
 module _ (bytes : List ℕ) (g : Galley) (read : galleyOf bytes ≡ reads.Galley g) where
-  pub read-small : Small (g .lines) (g .figures)
+  pub read-small : Small (g .text .count) (g .figures .count)
   read-small = let so = sound bytes g read in record { lines = so .fewLines; figures = so .fewFigures }
 
   -- The words needed fit 32 bits.
   pub needed-small : workNeeded g ≤ 6433608
   unfolding wordsNeeded
-  needed-small = let h = words-small (g .lines) (g .figures) read-small in omega arith
+  needed-small = let h = words-small (g .text .count) (g .figures .count) read-small in omega arith
 
-  pub list-small : g .lines + g .figures ≤ 4200
+  pub list-small : g .text .count + g .figures .count ≤ 4200
   list-small = let so = sound bytes g read in let h = so .fewLines in let k = so .fewFigures in omega arith
 
   module _ (work list : List ℕ) (n : ℕ) (is : n ≡ workNeeded g) where

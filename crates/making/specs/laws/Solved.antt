@@ -25,7 +25,7 @@ use Rattle.galley.specs.declared.Galley.{Galley}
 use Rattle.galley.specs.declared.Reading.the-variants as reads
 use Rattle.galley.specs.Whole.{galleyOf}
 use Rattle.galley.specs.Model.{modelOf}
-use Rattle.galley.specs.Laws.Sound.{sound}
+use Rattle.galley.specs.laws.Sound.{sound}
 use Rattle.marking.specs.Mark.{markRead, markOf}
 use Rattle.rules.specs.laws.Sane.{reads-sane}
 use Rattle.places.specs.declared.Entry.{Entry}
@@ -114,7 +114,7 @@ module _ (bytes : List ℕ) (g : Galley) (work list : List ℕ) (solved : Solved
 
   -- the last side occurs,
   pub solved-side : Side (sidesIn g) (lastOf (modelOf bytes g) (tableIn g work))
-  solved-side = last-side (sidesIn g) (tableIn g work) (g .lines) (g .figures)
+  solved-side = last-side (sidesIn g) (tableIn g work) (g .text .count) (g .figures .count)
 
   pub solved-walkable : Walkable g work (lastOf (modelOf bytes g) (tableIn g work))
   solved-walkable = record { table = solved-traceable; side = solved-side }
@@ -127,10 +127,10 @@ module _ (bytes : List ℕ) (g : Galley) (work list : List ℕ) (solved : Solved
       (table-right (modelOf bytes g) refl (solved .before) room)
 
   last : Entry
-  last = tableIn g work (g .lines) (g .figures) (lastOf (modelOf bytes g) (tableIn g work))
+  last = tableIn g work (g .text .count) (g .figures .count) (lastOf (modelOf bytes g) (tableIn g work))
 
   -- Where the full place is not reached, making answers 11 and writes nothing.
-  pub solved-none : isReached (tableIn g work (g .lines) (g .figures) (lastOf (modelOf bytes g) (tableIn g work))) ≡ false
+  pub solved-none : isReached (tableIn g work (g .text .count) (g .figures .count) (lastOf (modelOf bytes g) (tableIn g work))) ≡ false
       → Written bytes g list (Refused 11 0) list
   unfolding last
   solved-none e =
@@ -143,7 +143,7 @@ module _ (bytes : List ℕ) (g : Galley) (work list : List ℕ) (solved : Solved
       unreached (Least x s) h = let z : _≡_ {A = ℕ} 0 1 = cc in absurd (omega arith)
 
   -- Where it is reached, the walk back finds the best list.
-  pub solved-some : isReached (tableIn g work (g .lines) (g .figures) (lastOf (modelOf bytes g) (tableIn g work))) ≡ true
+  pub solved-some : isReached (tableIn g work (g .text .count) (g .figures .count) (lastOf (modelOf bytes g) (tableIn g work))) ≡ true
       → (x : ℕ) × (ps : List Place) × Found (modelOf bytes g) (tableIn g work) x ps
   unfolding last
   solved-some e = go last refl e
@@ -155,12 +155,12 @@ module _ (bytes : List ℕ) (g : Galley) (work list : List ℕ) (solved : Solved
           (x, ps, f)
 
   -- Its pages fit the page list,
-  pub solved-room : isReached (tableIn g work (g .lines) (g .figures) (lastOf (modelOf bytes g) (tableIn g work))) ≡ true
+  pub solved-room : isReached (tableIn g work (g .text .count) (g .figures .count) (lastOf (modelOf bytes g) (tableIn g work))) ≡ true
       → 2 * pagesBack (modelOf bytes g) (tableIn g work) ≤ length list
   solved-room e = let (x, ps, f) = solved-some e in let h = solved .room in let k = f .few in omega arith
 
   -- and marking what is written answers as making does.
-  pub solved-written : isReached (tableIn g work (g .lines) (g .figures) (lastOf (modelOf bytes g) (tableIn g work))) ≡ true
+  pub solved-written : isReached (tableIn g work (g .text .count) (g .figures .count) (lastOf (modelOf bytes g) (tableIn g work))) ≡ true
       → (list′ : List ℕ) → list′ ≡ wordsBack (modelOf bytes g) (tableIn g work) list
       → Written bytes g list (marked (modelOf bytes g) (take (2 * pagesBack (modelOf bytes g) (tableIn g work)) list′)) list′
   solved-written e list′ is =
@@ -195,17 +195,17 @@ module _ (bytes : List ℕ) (g : Galley) (work list : List ℕ) (solved : Solved
     pub walk-able : Walkable g work side
     walk-able = rw at-side solved-walkable
 
-    module _ (r : Bool) (told : r ≡ isReached (tableIn g work (g .lines) (g .figures) side)) where
-      told-last : r ≡ isReached (tableIn g work (g .lines) (g .figures) (lastOf (modelOf bytes g) (tableIn g work)))
-      told-last = told ∙ ap (λ c. isReached (tableIn g work (g .lines) (g .figures) c)) at-side
+    module _ (r : Bool) (told : r ≡ isReached (tableIn g work (g .text .count) (g .figures .count) side)) where
+      told-last : r ≡ isReached (tableIn g work (g .text .count) (g .figures .count) (lastOf (modelOf bytes g) (tableIn g work)))
+      told-last = told ∙ ap (λ c. isReached (tableIn g work (g .text .count) (g .figures .count) c)) at-side
 
       pub walk-none : r ≡ false → Written bytes g list (Refused 11 0) list
       walk-none e = solved-none (sym told-last ∙ e)
 
-      module _ (p : ℕ) (pages : p ≡ countBack (sidesIn g) (tableIn g work) (g .lines + g .figures) (g .lines) (g .figures) side 0)
+      module _ (p : ℕ) (pages : p ≡ countBack (sidesIn g) (tableIn g work) (g .text .count + g .figures .count) (g .text .count) (g .figures .count) side 0)
           (e : r ≡ true) where
         all-pages : p ≡ pagesBack (modelOf bytes g) (tableIn g work)
-        all-pages = pages ∙ ap (λ c. countBack (sidesIn g) (tableIn g work) (g .lines + g .figures) (g .lines) (g .figures) c 0) at-side
+        all-pages = pages ∙ ap (λ c. countBack (sidesIn g) (tableIn g work) (g .text .count + g .figures .count) (g .text .count) (g .figures .count) c 0) at-side
 
         pub walk-room : 2 * p ≤ length list
         walk-room = let h = solved-room (sym told-last ∙ e) in rw all-pages h
@@ -223,17 +223,17 @@ module _ (bytes : List ℕ) (g : Galley) (work list : List ℕ) (solved : Solved
         pub walk-writable : Writable g work side p list
         walk-writable = record { walk = walk-able; room = walk-room }
 
-        module _ (list′ : List ℕ) (is : list′ ≡ writeBack (sidesIn g) (tableIn g work) p (g .lines) (g .figures) side list) where
+        module _ (list′ : List ℕ) (is : list′ ≡ writeBack (sidesIn g) (tableIn g work) p (g .text .count) (g .figures .count) side list) where
           pub walk-long : length list′ ≡ length list
-          walk-long = ap length is ∙ length-write (sidesIn g) (tableIn g work) p (g .lines) (g .figures) side list
+          walk-long = ap length is ∙ length-write (sidesIn g) (tableIn g work) p (g .text .count) (g .figures .count) side list
 
           pub walk-written : (answer : Answer) → answer ≡ markOf bytes (take (2 * p) list′) → Written bytes g list answer list′
           unfolding markOf markRead
           walk-written answer told-answer =
               let w =
               solved-written (sym told-last ∙ e) list′
-              (is ∙ ap (λ c. writeBack (sidesIn g) (tableIn g work) p (g .lines) (g .figures) c list) at-side
-              ∙ ap (λ k. writeBack (sidesIn g) (tableIn g work) k (g .lines) (g .figures) (lastOf (modelOf bytes g) (tableIn g work)) list) all-pages) in
+              (is ∙ ap (λ c. writeBack (sidesIn g) (tableIn g work) p (g .text .count) (g .figures .count) c list) at-side
+              ∙ ap (λ k. writeBack (sidesIn g) (tableIn g work) k (g .text .count) (g .figures .count) (lastOf (modelOf bytes g) (tableIn g work)) list) all-pages) in
               let m : answer ≡ marked (modelOf bytes g) (take (2 * p) list′) = told-answer ∙ ap (markRead bytes (take (2 * p) list′)) (solved .reads) in
               record {
                 answers = m ∙ ap (λ k. marked (modelOf bytes g) (take (2 * k) list′)) all-pages ∙ w .answers;

@@ -56,9 +56,9 @@ module _ (M : model.Galley) (q : ℕ) (last : Bool) (u v : model.Place) (n : ℕ
 -- What rule 13 says of the two counts.
 pub record Onward (g : Galley) (a b i j : ℕ) : Type 0 where
   pub lines : a ≤ i
-  pub topLine : i ≤ g .lines
+  pub topLine : i ≤ g .text .count
   pub figures : b ≤ j
-  pub topFigure : j ≤ g .figures
+  pub topFigure : j ≤ g .figures .count
 
 pub onward : (bytes : List ℕ) (g : Galley) (a b i j : ℕ) → forward (modelOf bytes g) (a ∷ b ∷ []) (i ∷ j ∷ []) ≡ true
     → Onward g a b i j

@@ -25,9 +25,9 @@ use Rattle.theorems.specs.turns.LeafEnds.{Orderly, x-by-ends}
 use Rattle.theorems.specs.turns.Costs.{orderly}
 use Rattle.galley.specs.declared.Galley.{Galley}
 use Rattle.galley.specs.Sound.{Sound}
-use Rattle.galley.specs.Model.{figuresOf, modelOf}
+use Rattle.galley.specs.Model.{floatsOf, modelOf}
 use Rattle.rules.specs.Parts.{Citing, waitingAt, counts, finished}
-use Rattle.marking.specs.Parts.{Listed, rest}
+use Rattle.marking.specs.Parts.{WholePages, rest}
 use Rattle.rules.specs.laws.Two.{full-two, zeros-two, blocks-two}
 use Rattle.rules.specs.laws.Citing.{waiting-two, citing-none}
 use Rattle.marking.specs.laws.Rest.{rest-all, rest-none, rest-next, rest-ended}
@@ -47,10 +47,10 @@ waited bytes g = pageSum (atEnd (modelOf bytes g .spec .sides) (waiting (modelOf
 -- After `done` pages, the last of which ends at (a, b): c figures are cited, and x is X so far.
 pub record Run (bytes : List ℕ) (g : Galley) (ws : List ℕ) (done a b c x : ℕ) : Type 0 where
   pub within : done ≤ length ws / 2
-  pub lines : a ≤ g .lines
-  pub figures : b ≤ g .figures
+  pub lines : a ≤ g .text .count
+  pub figures : b ≤ g .figures .count
   pub most : x ≤ 200 * done
-  pub citing : Citing (figuresOf bytes g) a c
+  pub citing : Citing (floatsOf bytes (g .figures)) a c
   pub judging : judged bytes g ws (done + 1) (a ∷ b ∷ []) (rest ws (length ws / 2) done) ≡ wholly bytes g ws
   pub waiting : x + waited bytes g (done + 1) (rest ws (length ws / 2) done) ≡ waited bytes g 1 (pagesOf (modelOf bytes g) ws)
 
@@ -96,7 +96,7 @@ module _ (bytes : List ℕ) (g : Galley) (sane : Sane (modelOf bytes g)) (ws : L
           let last = rest-ended ws (length ws / 2) (done + 1) (omega arith) in
           rw (here, last) at (run .judging)
 
-      step-waiting : (c′ : ℕ) → Citing (figuresOf bytes g) (getD ws (2 * done) 0) c′
+      step-waiting : (c′ : ℕ) → Citing (floatsOf bytes (g .figures)) (getD ws (2 * done) 0) c′
           → waited bytes g (done + 1) (rest ws (length ws / 2) done)
           ≡ waitingAt g (done + 1) c′ (getD ws (2 * done + 1) 0) + waited bytes g (done + 1 + 1) (rest ws (length ws / 2) (done + 1))
       unfolding waited pageSum atEnd waitingAt
@@ -110,8 +110,8 @@ module _ (bytes : List ℕ) (g : Galley) (sane : Sane (modelOf bytes g)) (ws : L
       refused-here n e h =
           sym (refuse-some n (done + 1) after h) ∙ ap (λ n. refuse n (done + 1) after) e ∙ step
 
-      next-here : brokenAt bytes g ws done (a ∷ b ∷ []) ≡ 0 → g .figures ≤ 200
-          → (c′ : ℕ) → Citing (figuresOf bytes g) (getD ws (2 * done) 0) c′
+      next-here : brokenAt bytes g ws done (a ∷ b ∷ []) ≡ 0 → g .figures .count ≤ 200
+          → (c′ : ℕ) → Citing (floatsOf bytes (g .figures)) (getD ws (2 * done) 0) c′
           → Run bytes g ws (done + 1) (getD ws (2 * done) 0) (getD ws (2 * done + 1) 0) c′
           (x + waitingAt g (done + 1) c′ (getD ws (2 * done + 1) 0))
       unfolding refuse after count waitingAt allowed
@@ -146,7 +146,7 @@ module _ (bytes : List ℕ) (g : Galley) (sane : Sane (modelOf bytes g)) (ws : L
 
         -- A page that breaks none goes on to the next.
         pub run-next : broken (modelOf bytes g) (done + 1) (eqb (done + 1) (length ws / 2)) (a ∷ b ∷ []) (i ∷ j ∷ []) ≡ 0
-            → g .figures ≤ 200 → (c′ : ℕ) → Citing (figuresOf bytes g) i c′
+            → g .figures .count ≤ 200 → (c′ : ℕ) → Citing (floatsOf bytes (g .figures)) i c′
             → Run bytes g ws (done + 1) i j c′ (x + waitingAt g (done + 1) c′ j)
         run-next e few c′ citing = rw (ei, ej) (next-here (rw (ei, ej) at e) few c′ (rw ei at citing))
 
@@ -154,7 +154,7 @@ module _ (bytes : List ℕ) (g : Galley) (sane : Sane (modelOf bytes g)) (ws : L
       none : rest ws (length ws / 2) done ≡ []
       none = ap (rest ws (length ws / 2)) e ∙ rest-none ws (length ws / 2)
 
-      end : pick (eqb a (g .lines) && eqb b (g .figures)) (countsOf (modelOf bytes g) (pagesOf (modelOf bytes g) ws))
+      end : pick (eqb a (g .text .count) && eqb b (g .figures .count)) (countsOf (modelOf bytes g) (pagesOf (modelOf bytes g) ws))
           (Refused 18 (length ws / 2))
           ≡ wholly bytes g ws
       unfolding judged judge
@@ -186,9 +186,9 @@ module _ (bytes : List ℕ) (g : Galley) (sane : Sane (modelOf bytes g)) (ws : L
       -- After the last page comes rule 18, and then the counts, for as many pages as the list has.
       pub run-finish : (pages : ℕ) → pages ≡ length ws / 2 → finished g pages a b x ≡ wholly bytes g ws
       unfolding finished
-      run-finish pages is = rw is (go (eqb a (g .lines) && eqb b (g .figures)) refl)
+      run-finish pages is = rw is (go (eqb a (g .text .count) && eqb b (g .figures .count)) refl)
         where
-          go : (t : Bool) → (eqb a (g .lines) && eqb b (g .figures)) ≡ t
+          go : (t : Bool) → (eqb a (g .text .count) && eqb b (g .figures .count)) ≡ t
               → pick t (counts g (length ws / 2) x) (Refused 18 (length ws / 2)) ≡ wholly bytes g ws
           go true t =
               let good : countsOf (modelOf bytes g) (pagesOf (modelOf bytes g) ws) ≡ wholly bytes g ws = rw t at end in
@@ -197,7 +197,7 @@ module _ (bytes : List ℕ) (g : Galley) (sane : Sane (modelOf bytes g)) (ws : L
 
 -- The words that rule 12 lets pass are whole pages, and no more than there are blocks.
 pub counted-listed : (bytes : List ℕ) (g : Galley) → Sound bytes g → (ws : List ℕ) → counted (modelOf bytes g) ws ≡ true
-    → Listed bytes g ws
+    → WholePages bytes g ws
 unfolding streams
 counted-listed bytes g so ws h =
     let w = counted-at (modelOf bytes g) ws h in

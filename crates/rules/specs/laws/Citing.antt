@@ -8,15 +8,17 @@ use mathlib.Core.List.{List, [], _∷_}
 use lib.Dec.{leb, ltb}
 use borrow.Author.Tests.{ltb-true, ltb-false, le-leb, lt-leb}
 use Rattle.model.specs.Gather.{pick, one, sum}
-use Rattle.model.specs.Galley.{Stream, Sane, count}
+use Rattle.model.specs.Galley as model
+use Rattle.model.specs.Galley.{Sane, count}
 use Rattle.model.specs.Leaf.{ends, sidesOf}
 use Rattle.theorems.specs.turns.Waiting.{dangles, waitingIn, waiting}
-use Rattle.theorems.specs.turns.Costs.{cite-mono}
+use Rattle.galley.specs.declared.Stream.{Stream}
 use Rattle.galley.specs.declared.Galley.{Galley}
-use Rattle.galley.specs.Model.{figuresOf, modelOf}
+use Rattle.galley.specs.Sound.{Growing}
+use Rattle.galley.specs.Model.{floatsOf, modelOf}
 use Rattle.rules.specs.Parts.{Citing, waitingAt}
 
-module _ (st : Stream) (i j c : ℕ) (h : Citing st i c) where
+module _ (st : model.Stream) (i j c : ℕ) (h : Citing st i c) where
   past : ℕ → ℕ
   past k = one (ltb j k && leb (st .cite k) i)
 
@@ -47,18 +49,18 @@ module _ (st : Stream) (i j c : ℕ) (h : Citing st i c) where
       go false below = omega arith
 
 -- The figures that wait at a place are those cited by then but not placed.
-pub waiting-two : (bytes : List ℕ) (g : Galley) (i j c : ℕ) → Citing (figuresOf bytes g) i c
+pub waiting-two : (bytes : List ℕ) (g : Galley) (i j c : ℕ) → Citing (floatsOf bytes (g .figures)) i c
     → waiting (modelOf bytes g) (i ∷ j ∷ []) ≡ c - j
 unfolding waiting waitingIn dangles sum count past
 waiting-two bytes g i j c h =
     let few = h .few in
-    let e : c + (g .figures - c) ≡ g .figures = omega arith in
-    let r = rest-uncited (figuresOf bytes g) i j c h (g .figures - c) (omega arith) in
-    let s = ap (λ n. sum n (past (figuresOf bytes g) i j c h)) e in
+    let e : c + (g .figures .count - c) ≡ g .figures .count = omega arith in
+    let r = rest-uncited (floatsOf bytes (g .figures)) i j c h (g .figures .count - c) (omega arith) in
+    let s = ap (λ n. sum n (past (floatsOf bytes (g .figures)) i j c h)) e in
     omega arith
 
 -- No figure is cited by line 0.
-pub citing-none : (bytes : List ℕ) (g : Galley) → Sane (modelOf bytes g) → Citing (figuresOf bytes g) 0 0
+pub citing-none : (bytes : List ℕ) (g : Galley) → Sane (modelOf bytes g) → Citing (floatsOf bytes (g .figures)) 0 0
 citing-none bytes g sane =
     record {
       few = omega arith;
@@ -66,19 +68,15 @@ citing-none bytes g sane =
       beyond = λ k p q. sane .cites 1 k (omega arith) (record { stream = omega arith; first = p; last = q }) .first;
     }
 
--- The count goes on while figures are cited by line i or earlier, and stops at the first that is not, since citations grow.
-pub citing-stop : (bytes : List ℕ) (g : Galley) → Sane (modelOf bytes g) → (i c : ℕ) → c < g .figures
-    → ((k : ℕ) → 1 ≤ k → k ≤ c → figuresOf bytes g .cite k ≤ i) → i < figuresOf bytes g .cite (c + 1)
-    → Citing (figuresOf bytes g) i c
-citing-stop bytes g sane i c l upto stop =
+-- The count goes on while floats are cited by line i or earlier, and stops at the first that is not, since citations grow.
+pub citing-stop : (bytes : List ℕ) (floats : Stream) → Growing bytes floats → (i c : ℕ) → c < floats .count
+    → ((k : ℕ) → 1 ≤ k → k ≤ c → floatsOf bytes floats .cite k ≤ i) → i < floatsOf bytes floats .cite (c + 1)
+    → Citing (floatsOf bytes floats) i c
+citing-stop bytes floats grow i c l upto stop =
     record {
       few = omega arith;
       upto = upto;
-      beyond = λ k p q.
-          let order =
-          cite-mono (modelOf bytes g) sane 1 (c + 1) k (omega arith) (omega arith) (omega arith)
-          (record { stream = omega arith; first = omega arith; last = q }) in
-          omega arith;
+      beyond = λ k p q. let order = grow (c + 1) k (omega arith) (omega arith) q in omega arith;
     }
 
 -- Where no leaf ends, or every cited figure is placed, none is counted.
@@ -95,10 +93,10 @@ upto-next f i c upto here k p q = go (decLe k c)
     go (yes l) = upto k p l
     go (no l) = let e : k ≡ c + 1 = omega arith in rw e here
 
--- Every figure is cited.
-pub citing-all : (bytes : List ℕ) (g : Galley) (i c : ℕ) → g .figures ≤ c → c ≤ g .figures
-    → ((k : ℕ) → 1 ≤ k → k ≤ c → figuresOf bytes g .cite k ≤ i) → Citing (figuresOf bytes g) i c
-citing-all bytes g i c l h upto = record { few = h; upto = upto; beyond = λ k p q. absurd (omega arith) }
+-- Every float is cited.
+pub citing-all : (bytes : List ℕ) (floats : Stream) (i c : ℕ) → floats .count ≤ c → c ≤ floats .count
+    → ((k : ℕ) → 1 ≤ k → k ≤ c → floatsOf bytes floats .cite k ≤ i) → Citing (floatsOf bytes floats) i c
+citing-all bytes floats i c l h upto = record { few = h; upto = upto; beyond = λ k p q. absurd (omega arith) }
 
 -- No more wait than are cited.
 pub waits-few : (g : Galley) (q c j : ℕ) → waitingAt g q c j ≤ c

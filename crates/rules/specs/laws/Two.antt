@@ -12,8 +12,8 @@ use Rattle.model.specs.Leaf.{ends}
 use Rattle.model.specs.Rules.{forward, mayEnd, closes, cited}
 use Rattle.model.specs.Answers.{same}
 use Rattle.galley.specs.declared.Galley.{Galley}
-use Rattle.galley.specs.Model.{textOf, figuresOf, modelOf}
-use Rattle.rules.specs.Parts.{separation}
+use Rattle.galley.specs.Model.{textOf, floatsOf, modelOf}
+use Rattle.blocks.specs.Heights.{separation}
 
 some-kind : (a b : Bool) → ltb 0 (one a + (0 + one b)) ≡ (a || b)
 some-kind true true = refl
@@ -33,8 +33,7 @@ implies-and : (a b c : Bool) → implies a (implies b c) ≡ implies (a && b) c
 implies-and true b c = refl
 implies-and false b c = refl
 
-separated : (a b : Bool) (s : ℕ) → pred (one a + (0 + one b)) * s ≡ separation a b s
-unfolding separation
+separated : (a b : Bool) (s : ℕ) → pred (one a + (0 + one b)) * s ≡ separation (a && b) s
 separated true true s = omega arith
 separated true false s = omega arith
 separated false true s = omega arith
@@ -44,33 +43,33 @@ module _ (bytes : List ℕ) (g : Galley) where
   -- Rule 13.
   pub forward-two : (a b i j : ℕ)
       → forward (modelOf bytes g) (a ∷ b ∷ []) (i ∷ j ∷ [])
-      ≡ (((leb a i && leb i (g .lines)) && (leb b j && leb j (g .figures))) && (ltb a i || ltb b j))
+      ≡ (((leb a i && leb i (g .text .count)) && (leb b j && leb j (g .figures .count))) && (ltb a i || ltb b j))
   unfolding forward every each kinds has total sum count
   forward-two a b i j = simp (some-kind (ltb a i) (ltb b j))
 
   -- Rule 14: a page may end after any figure.
-  pub closes-two : (i j : ℕ) → closes (modelOf bytes g) (i ∷ j ∷ []) ≡ mayEnd (textOf bytes g) i
+  pub closes-two : (i j : ℕ) → closes (modelOf bytes g) (i ∷ j ∷ []) ≡ mayEnd (textOf bytes (g .text)) i
   unfolding closes every each mayEnd count
   closes-two i j = simp (implies-true, and-true)
 
   -- The height of a page.
   pub height-two : (gap : Stream → ℕ → ℕ) (s a b i j : ℕ)
       → height (modelOf bytes g) gap s (a ∷ b ∷ []) (i ∷ j ∷ [])
-      ≡ separation (ltb a i) (ltb b j) s
-      + stacked (textOf bytes g) (gap (textOf bytes g)) a i
-      + stacked (figuresOf bytes g) (gap (figuresOf bytes g)) b j
+      ≡ separation (ltb a i && ltb b j) s
+      + stacked (textOf bytes (g .text)) (gap (textOf bytes (g .text))) a i
+      + stacked (floatsOf bytes (g .figures)) (gap (floatsOf bytes (g .figures))) b j
   unfolding height kinds has total sum count
   height-two gap s a b i j = let e = separated (ltb a i) (ltb b j) s in omega arith
 
   -- Rule 17.
   pub cited-two : (q : ℕ) (last : Bool) (i j : ℕ)
       → cited (modelOf bytes g) q last (i ∷ j ∷ [])
-      ≡ implies ((ends (modelOf bytes g .spec .sides) q || last) && ltb 0 j) (leb (figuresOf bytes g .cite j) i)
+      ≡ implies ((ends (modelOf bytes g .spec .sides) q || last) && ltb 0 j) (leb (floatsOf bytes (g .figures) .cite j) i)
   unfolding cited each count
-  cited-two q last i j = implies-and (ends (modelOf bytes g .spec .sides) q || last) (ltb 0 j) (leb (figuresOf bytes g .cite j) i)
+  cited-two q last i j = implies-and (ends (modelOf bytes g .spec .sides) q || last) (ltb 0 j) (leb (floatsOf bytes (g .figures) .cite j) i)
 
   -- The full place.
-  pub full-two : (a b : ℕ) → same (a ∷ b ∷ []) (sizes (modelOf bytes g)) ≡ (eqb a (g .lines) && eqb b (g .figures))
+  pub full-two : (a b : ℕ) → same (a ∷ b ∷ []) (sizes (modelOf bytes g)) ≡ (eqb a (g .text .count) && eqb b (g .figures .count))
   unfolding same sizes row streams
   full-two a b = simp and-true
 
@@ -78,6 +77,6 @@ module _ (bytes : List ℕ) (g : Galley) where
   unfolding zeros row streams
   zeros-two = refl
 
-  pub blocks-two : blocks (modelOf bytes g) ≡ g .lines + g .figures
+  pub blocks-two : blocks (modelOf bytes g) ≡ g .text .count + g .figures .count
   unfolding blocks total sum
   blocks-two = omega arith

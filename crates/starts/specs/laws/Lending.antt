@@ -3,74 +3,73 @@ use Prim.Native.Nat.{ℕ, suc, _+_, _-_, _≤_}
 use native.Mathlib.Numerals.{add-one}
 use native.Mathlib.Omega.{arith}
 use mathlib.Core.Path.{_≡_}
-use mathlib.Core.Bool.{Bool, true, false}
+use mathlib.Core.Bool.{Bool}
 use mathlib.Core.List.{List}
 use lib.ListN.{length}
-use Rattle.model.specs.Gather.{pick}
 use Rattle.galley.specs.declared.Galley.{Galley}
-use Rattle.galley.specs.Model.{textOf, figuresOf}
+use Rattle.galley.specs.Model.{textOf, floatsOf}
 use Rattle.places.specs.laws.Address.{address-in}
 use Rattle.window.specs.declared.slide.Window.{Window}
 use Rattle.window.specs.declared.queue.Queue.{Queue}
 use Rattle.window.specs.Slide.{Reachable, Slidable, Ends}
 use Rattle.window.specs.Queue.{columnOf, FeedAsked, FrontAsked}
 use Rattle.window.specs.laws.Sums.{sums-small}
-use Rattle.starts.specs.declared.heights.Heights.{Heights}
-use Rattle.starts.specs.Heights.{Stacked}
-use Rattle.starts.specs.Sweep.{loadOf, Lent, Summed, Addable, AloneAsked}
-use Rattle.starts.specs.laws.Heights.{figures-low}
+use Rattle.blocks.specs.declared.heights.Heights.{Heights}
+use Rattle.blocks.specs.Heights.{noHeights, Addable, Stacked}
+use Rattle.blocks.specs.laws.Heights.{separation-most, Low, stacked-small}
+use Rattle.starts.specs.Sweep.{sideOf, loadOf, Lent, Summed, AloneAsked}
+use Rattle.starts.specs.laws.Queues.{side-either}
 
 -- What is lent for a column is the same while the lengths are.
-pub lent-sized : {bytes : List ℕ} {g : Galley} {w words best : List ℕ} {j side : ℕ} (words′ best′ : List ℕ)
-    → length words′ ≡ length words → length best′ ≡ length best → Lent bytes g w words best j side → Lent bytes g w words′
-    best′ j side
-lent-sized words′ best′ p q l =
+pub lent-sized : {bytes : List ℕ} {g : Galley} {w words : List ℕ} {j : ℕ} (w′ words′ : List ℕ) → length w′ ≡ length w
+    → length words′ ≡ length words → Lent bytes g w words j → Lent bytes g w′ words′ j
+lent-sized w′ words′ p q l =
     record {
       sound = l .sound;
       column = l .column;
-      room = l .room;
+      room = omega (arith, l .room);
       wordsRoom = omega (arith, l .wordsRoom);
-      bestRoom = omega (arith, l .bestRoom);
-      either = l .either;
     }
 
-module _ {bytes : List ℕ} {g : Galley} {w words best : List ℕ} {j side : ℕ} (lent : Lent bytes g w words best j side) where
+module _ {bytes : List ℕ} {g : Galley} {w words : List ℕ} {j : ℕ} (lent : Lent bytes g w words j) where
   -- The figures of a page can be added to its lines.
-  pub figures-add : (b : ℕ) (figures : Heights) → Stacked (figuresOf bytes g) b j figures → Addable g figures
+  figures-low : (b : ℕ) (figures : Heights) → Stacked (floatsOf bytes (g .figures)) b j figures → Low 40000000 figures
+  figures-low b figures floats =
+      let few = lent .sound .fewFigures in
+      let low = stacked-small bytes (g .figures) b j figures (lent .sound .figures) (lent .column) floats in
+      record { tight = omega arith; loose = omega arith }
+
+  pub figures-add : (b : ℕ) (figures : Heights) → Stacked (floatsOf bytes (g .figures)) b j figures
+      → Addable (g .spec) noHeights figures
   figures-add b figures floats =
-      let low = figures-low bytes g (lent .sound) b j figures (lent .column) floats in
+      let low = figures-low b figures floats in
       let spec = lent .sound .specRanged in
       record {
         smin = omega (arith, spec .smins, spec .smaxs);
         smax = spec .smaxs;
-        tight = omega (arith, low .tight);
-        loose = omega (arith, low .loose);
+        lineTight = omega arith;
+        lineLoose = omega arith;
+        figureTight = omega (arith, low .tight);
+        figureLoose = omega (arith, low .loose);
       }
 
-  small : (mixed : Bool) (n : ℕ) → n ≤ 100000 → pick mixed n 0 ≤ 100000
-  small true n l = l
-  small false n l = omega arith
-
   -- Both ends of a window can be moved on to line i.
-  pub can-slide : {sums : List ℕ} → Summed bytes g sums → (mixed : Bool) (b : ℕ) (figures : Heights) → Stacked (figuresOf
-      bytes g) b j figures → (window : Window) (i : ℕ) → i ≤ g .lines
-      → Ends (textOf bytes g) (loadOf g mixed figures) window i → Slidable sums (loadOf g mixed figures) window i
-  can-slide {sums} summed mixed b figures floats window i h ends = record {
-    low = from (window .low) (ends .low);
-    high = from
-        (window .high) (ends .high);
-  }
+  pub can-slide : {sums : List ℕ} → Summed bytes g sums → (mixed : Bool) (b : ℕ) (figures : Heights) → Stacked (floatsOf bytes (g .figures)) b j figures
+      → (window : Window) (i : ℕ) → i ≤ g .text .count
+      → Ends (textOf bytes (g .text)) (loadOf g mixed figures) window i → Slidable sums (loadOf g mixed figures) window i
+  can-slide {sums} summed mixed b figures floats window i h ends =
+      record { low = from (window .low) (ends .low); high = from (window .high) (ends .high) }
     where
       from : (a : ℕ) → a ≤ i → Reachable sums (loadOf g mixed figures) a i
       from a l =
-          let low = figures-low bytes g (lent .sound) b j figures (lent .column) floats in
+          let low = figures-low b figures floats in
           let spec = lent .sound .specRanged in
-          let p = small mixed (g .spec .smin) (omega (arith, spec .smins, spec .smaxs)) in
-          let q = small mixed (g .spec .smax) (spec .smaxs) in
+          let p = separation-most mixed (g .spec .smin) (omega (arith, spec .smins, spec .smaxs)) in
+          let q = separation-most mixed (g .spec .smax) (spec .smaxs) in
           record {
             start = l;
             room = omega (arith, summed .room);
-            small = sums-small bytes g (lent .sound) sums (summed .rows) i h;
+            small = sums-small bytes (g .text) (lent .sound .text) (lent .sound .fewLines) sums (summed .rows) i h;
             tight = omega (arith, low .tight);
             loose = omega (arith, low .loose);
             htmin = omega (arith, spec .htmins, spec .htmaxs);
@@ -78,19 +77,19 @@ module _ {bytes : List ℕ} {g : Galley} {w words best : List ℕ} {j side : ℕ
           }
 
   -- A queue of starts with b figures can be moved on to a window that ends by line i.
-  pub can-feed : (b : ℕ) → b ≤ g .figures → (queue : Queue) (old new : Window) (i : ℕ) → i ≤ g .lines → old .high ≤ new .high
-      → new .high ≤ i
-      → queue .head ≤ queue .tail → queue .tail ≤ old .high → FeedAsked w (g .lines + 1) b side words queue (old .high)
-      (new .high)
-  can-feed b k queue old new i h rises inside order short =
+  pub can-feed : (b : ℕ) → b ≤ g .figures .count → (queue : Queue) (c from to i : ℕ) → i ≤ g .text .count → from ≤ to → to ≤ i
+      → queue .base ≤ g .text .count → queue .base ≤ queue .head → queue .head ≤ queue .tail → queue .tail ≤ queue .base + from
+      → FeedAsked w (g .text .count + 1) b (sideOf g c) words queue from to
+  can-feed b k queue c from to i h rises inside low based order short =
       record {
         high = omega (arith, lent .sound .fewLines);
         row = omega arith;
         column = omega (arith, lent .sound .fewFigures);
-        either = lent .either;
+        either = side-either g c;
         stands = λ a l.
-            let within = address-in (g .lines) (g .figures) a b side (omega arith) k (lent .either) in
+            let within = address-in (g .text .count) (g .figures .count) a b (sideOf g c) (omega arith) k (side-either g c) in
             omega (arith, lent .room);
+        based = based;
         order = order;
         short = short;
         start = rises;
@@ -98,25 +97,24 @@ module _ {bytes : List ℕ} {g : Galley} {w words best : List ℕ} {j side : ℕ
       }
 
   -- The first entry of the queue of such a window can be read.
-  pub can-front : (b : ℕ) → b ≤ g .figures → (queue : Queue) (high i : ℕ) → i ≤ g .lines → high ≤ i → queue .head ≤
-      queue .tail → queue .tail ≤ high
-      → FrontAsked words queue b
-  can-front b k queue high i h l order short =
+  pub can-front : (b : ℕ) → b ≤ g .figures .count → (queue : Queue) (high : ℕ) → high ≤ g .text .count → queue .base ≤ g .text .count
+      → queue .head ≤ queue .tail → queue .tail ≤ queue .base + high → FrontAsked words queue b
+  can-front b k queue high l low order short =
       record { order = order; room = omega (arith, lent .wordsRoom); column = omega (arith, lent .sound .fewFigures) }
 
   -- (i, b) is a place.
-  pub can-alone : (i b : ℕ) → i ≤ g .lines → b ≤ g .figures → AloneAsked g w i b side
-  can-alone i b h k =
+  pub can-alone : (i b c : ℕ) → i ≤ g .text .count → b ≤ g .figures .count → AloneAsked g w i b (sideOf g c)
+  can-alone i b c h k =
       record {
         few = lent .sound .fewLines;
         line = h;
         figure = omega (arith, lent .sound .fewFigures);
         within = k;
-        either = lent .either;
+        either = side-either g c;
         room = lent .room;
       }
 
 -- The column that a queue reads, by one name of its height or the other.
-pub column-named : (w : List ℕ) (g : Galley) (b side : ℕ) → columnOf w (g .lines + 1) b side ≡ columnOf w (suc (g .lines)) b
+pub column-named : (w : List ℕ) (g : Galley) (b side : ℕ) → columnOf w (g .text .count + 1) b side ≡ columnOf w (suc (g .text .count)) b
     side
 column-named w g b side = rw add-one

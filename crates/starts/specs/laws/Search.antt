@@ -12,7 +12,7 @@ use Rattle.model.specs.Gather.{pick}
 use Rattle.model.specs.Rules.{fits, fills}
 use Rattle.theorems.specs.pages.Graph.{full}
 use Rattle.galley.specs.declared.Galley.{Galley}
-use Rattle.galley.specs.Model.{textOf, figuresOf, modelOf}
+use Rattle.galley.specs.Model.{textOf, floatsOf, modelOf}
 use Rattle.rules.specs.laws.Two.{full-two}
 use Rattle.places.specs.declared.Start.{Start}
 use Rattle.places.specs.declared.Entry.{Entry}
@@ -20,11 +20,12 @@ use Rattle.places.specs.declared.Entry.the-variants.{Unreached, Least}
 use Rattle.places.specs.Entry.{entryAt}
 use Rattle.places.specs.Address.{address}
 use Rattle.places.specs.Table.{tableOf}
-use Rattle.starts.specs.declared.heights.Heights.{Heights}
+use Rattle.blocks.specs.declared.heights.Heights.{Heights}
 use Rattle.starts.specs.Search.{place, better, offered, row, rows}
-use Rattle.starts.specs.Heights.{Stacked, together}
+use Rattle.blocks.specs.Heights.{noHeights, together, Stacked}
+use Rattle.blocks.specs.laws.Heights.{stacked-nothing}
 use Rattle.starts.specs.Asked.{searchOf, worth}
-use Rattle.starts.specs.laws.Heights.{together-tight, together-loose, stacked-nothing}
+use Rattle.starts.specs.laws.Heights.{together-tight, together-loose}
 
 -- A test and false is false.
 pub and-false : (a : Bool) → (a && false) ≡ false
@@ -32,14 +33,14 @@ and-false true = refl
 and-false false = refl
 
 -- The entry read at a place's address is the table's.
-pub table-read : (g : Galley) (w : List ℕ) (a b side at : ℕ) → at ≡ address (g .lines + 1) a b side
-    → tableOf (suc (g .lines)) w a b side ≡ entryAt w at
+pub table-read : (g : Galley) (w : List ℕ) (a b side at : ℕ) → at ≡ address (g .text .count + 1) a b side
+    → tableOf (suc (g .text .count)) w a b side ≡ entryAt w at
 unfolding tableOf
 table-read g w a b side at e = rw (e, add-one)
 
 module _ (bytes : List ℕ) (g : Galley) (w : List ℕ) (i j side a : ℕ) (lines : Heights)
-    (text : Stacked (textOf bytes g) a i lines) where
-  module _ (top b : ℕ) (next : top ≡ suc b) (figures : Heights) (floats : Stacked (figuresOf bytes g) b j figures)
+    (text : Stacked (textOf bytes (g .text)) a i lines) where
+  module _ (top b : ℕ) (next : top ≡ suc b) (figures : Heights) (floats : Stacked (floatsOf bytes (g .figures)) b j figures)
       (page : Heights)
       (whole : page ≡ together (g .spec) (ltb a i && ltb b j) lines figures) where
     fits-page : fits (modelOf bytes g) (place a b) (place i j) ≡ leb (page .tight) (g .spec .htmax)
@@ -51,7 +52,7 @@ module _ (bytes : List ℕ) (g : Galley) (w : List ℕ) (i j side a : ℕ) (line
 
     offered-page : (best : Entry)
         → offered (searchOf bytes g w i j side) a b best
-        ≡ pick (worth g a b i j (page .loose)) (better (tableOf (suc (g .lines)) w a b side) a b best) best
+        ≡ pick (worth g a b i j (page .loose)) (better (tableOf (suc (g .text .count)) w a b side) a b best) best
     unfolding offered fills full
     offered-page best =
         let e = full-two bytes g i j in
@@ -77,7 +78,7 @@ module _ (bytes : List ℕ) (g : Galley) (w : List ℕ) (i j side a : ℕ) (line
           turn ∙ ap (row (searchOf bytes g w i j side) a b) o
 
       -- An unreached start is passed over.
-      pub row-unreached : worth g a b i j (page .loose) ≡ true → tableOf (suc (g .lines)) w a b side ≡ Unreached
+      pub row-unreached : worth g a b i j (page .loose) ≡ true → tableOf (suc (g .text .count)) w a b side ≡ Unreached
           → row (searchOf bytes g w i j side) a top best ≡ row (searchOf bytes g w i j side) a b best
       unfolding better
       row-unreached t u =
@@ -85,7 +86,7 @@ module _ (bytes : List ℕ) (g : Galley) (w : List ℕ) (i j side a : ℕ) (line
           turn ∙ ap (row (searchOf bytes g w i j side) a b) o
 
       -- A start that is reached is weighed against the best so far.
-      pub row-weighed : worth g a b i j (page .loose) ≡ true → (x : ℕ) (r : Start) → tableOf (suc (g .lines)) w a b side
+      pub row-weighed : worth g a b i j (page .loose) ≡ true → (x : ℕ) (r : Start) → tableOf (suc (g .text .count)) w a b side
           ≡ Least x r
           → row (searchOf bytes g w i j side) a top best
           ≡ row (searchOf bytes g w i j side) a b (better (Least x r) a b best)
@@ -96,8 +97,8 @@ module _ (bytes : List ℕ) (g : Galley) (w : List ℕ) (i j side a : ℕ) (line
 
   fits-lines : fits (modelOf bytes g) (place a j) (place i j) ≡ leb (lines .tight) (g .spec .htmax)
   fits-lines =
-      let none : Heights = record { tight = 0; loose = 0 } in
-      let e = fits-page (suc j) j refl none (stacked-nothing (figuresOf bytes g) j j (le-refl j))
+      let none : Heights = noHeights in
+      let e = fits-page (suc j) j refl none (stacked-nothing (floatsOf bytes (g .figures)) j j (le-refl j))
       (together (g .spec) (ltb a i && ltb j j) lines none) refl in
       let f = and-false (ltb a i) in
       let n : lines .tight + 0 + 0 ≡ lines .tight = omega arith in

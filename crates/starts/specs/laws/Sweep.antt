@@ -15,8 +15,7 @@ use Rattle.model.specs.Rules.{fits, fills}
 use Rattle.model.specs.laws.Gather.{or-cases, or-left, or-right}
 use Rattle.theorems.specs.pages.Graph.{full}
 use Rattle.galley.specs.declared.Galley.{Galley}
-use Rattle.galley.specs.Model.{textOf, figuresOf, modelOf}
-use Rattle.rules.specs.Parts.{separation}
+use Rattle.galley.specs.Model.{textOf, floatsOf, modelOf}
 use Rattle.rules.specs.laws.Two.{height-two, full-two}
 use Rattle.places.specs.declared.Start.{Start}
 use Rattle.places.specs.declared.Entry.{Entry}
@@ -26,13 +25,13 @@ use Rattle.window.specs.declared.slide.Load.{Load}
 use Rattle.window.specs.declared.slide.Window.{Window}
 use Rattle.window.specs.Slide.{Open}
 use Rattle.window.specs.Queue.{columnOf, Cheapest}
-use Rattle.starts.specs.declared.heights.Heights.{Heights}
+use Rattle.blocks.specs.declared.heights.Heights.{Heights}
 use Rattle.starts.specs.Search.{place, better, Search, bestStart}
 use Rattle.starts.specs.Choice.{chosen, Candidate, Leads, Best, Any, Between}
-use Rattle.starts.specs.Heights.{Stacked}
+use Rattle.blocks.specs.Heights.{Stacked}
 use Rattle.starts.specs.Asked.{searchOf, allPlaced}
 use Rattle.starts.specs.Sweep.{loadOf, aloneOf}
-use Rattle.starts.specs.laws.Heights.{stacked-none}
+use Rattle.blocks.specs.laws.Stacked.{stacked-none}
 use Rattle.starts.specs.laws.Choice.{best-none, best-one, best-chosen, best-unique}
 use Rattle.starts.specs.laws.Found.{best-start}
 
@@ -44,7 +43,7 @@ abbrev pub Level : ℕ → ℕ → ℕ → ℕ → Type 0
 Level b i a′ b′ = (b′ ≡ b) × (a′ ≡ i)
 
 module _ (bytes : List ℕ) (g : Galley) (w : List ℕ) (i j side b : ℕ) (figures : Heights)
-    (floats : Stacked (figuresOf bytes g) b j figures) where
+    (floats : Stacked (floatsOf bytes (g .figures)) b j figures) where
   abbrev load : Load
   load = loadOf g (ltb b j) figures
 
@@ -52,9 +51,9 @@ module _ (bytes : List ℕ) (g : Galley) (w : List ℕ) (i j side b : ℕ) (figu
   search = searchOf bytes g w i j side
 
   -- A page with a line is as high as its lines and its load.
-  tight-sum : (a : ℕ) → a < i → tightest (modelOf bytes g) (place a b) (place i j) ≡ stacked (textOf bytes g) (textOf bytes
-      g .least) a i + load .tight
-  unfolding tightest separation
+  tight-sum : (a : ℕ) → a < i → tightest (modelOf bytes g) (place a b) (place i j)
+      ≡ stacked (textOf bytes (g .text)) (textOf bytes (g .text) .least) a i + load .tight
+  unfolding tightest
   tight-sum a l =
       let e = height-two bytes g (λ st. st .least) (g .spec .smin) a b i j in
       let t = lt-ltb a i l in
@@ -62,9 +61,9 @@ module _ (bytes : List ℕ) (g : Galley) (w : List ℕ) (i j side b : ℕ) (figu
       let h = rw t at e in
       omega arith
 
-  loose-sum : (a : ℕ) → a < i → loosest (modelOf bytes g) (place a b) (place i j) ≡ stacked (textOf bytes g) (textOf bytes
-      g .most) a i + load .loose
-  unfolding loosest separation
+  loose-sum : (a : ℕ) → a < i → loosest (modelOf bytes g) (place a b) (place i j)
+      ≡ stacked (textOf bytes (g .text)) (textOf bytes (g .text) .most) a i + load .loose
+  unfolding loosest
   loose-sum a l =
       let e = height-two bytes g (λ st. st .most) (g .spec .smax) a b i j in
       let t = lt-ltb a i l in
@@ -78,8 +77,8 @@ module _ (bytes : List ℕ) (g : Galley) (w : List ℕ) (i j side b : ℕ) (figu
     not-full = full-two bytes g i j ∙ inner
 
     -- The cheapest line of the window is the best of all lines before i.
-    pub window-best : b ≤ j → (window : Window) → Open (textOf bytes g) load window i → (e : Entry)
-        → Cheapest (columnOf w (suc (g .lines)) b side) (window .low) (window .high) b e → Best search (Above b i) e
+    pub window-best : b ≤ j → (window : Window) → Open (textOf bytes (g .text)) load window i → (e : Entry)
+        → Cheapest (columnOf w (suc (g .text .count)) b side) (window .low) (window .high) b e → Best search (Above b i) e
     unfolding fits fills Leads
     window-best k window opened e cheap = record { among = among; may = may; leads = leads e cheap }
       where
@@ -89,7 +88,7 @@ module _ (bytes : List ℕ) (g : Galley) (w : List ℕ) (i j side b : ℕ) (figu
         among : (x : ℕ) (r : Start) → e ≡ Least x r → Above b i (r .line) (r .figure)
         among x r q = (cheap .figure x r q, before (r .line) (cheap .to x r q))
 
-        candidate : (a x : ℕ) (q : Start) → window .low ≤ a → a < window .high → tableOf (suc (g .lines)) w a b side ≡ Least x q
+        candidate : (a x : ℕ) (q : Start) → window .low ≤ a → a < window .high → tableOf (suc (g .text .count)) w a b side ≡ Least x q
             → Candidate search a b x
         candidate a x q low high t =
             let l = before a high in
@@ -109,7 +108,7 @@ module _ (bytes : List ℕ) (g : Galley) (w : List ℕ) (i j side b : ℕ) (figu
             }
           where
             small : (a : ℕ) → window .low ≤ a → a < i
-                → tightest (modelOf bytes g) (place a b) (place i j) ≡ stacked (textOf bytes g) (textOf bytes g .least) a i +
+                → tightest (modelOf bytes g) (place a b) (place i j) ≡ stacked (textOf bytes (g .text)) (textOf bytes (g .text) .least) a i +
                 load .tight
                 → tightest (modelOf bytes g) (place a b) (place i j) ≤ g .spec .htmax
             small a low l tight = go (decLe (tightest (modelOf bytes g) (place a b) (place i j)) (g .spec .htmax))
@@ -145,7 +144,7 @@ module _ (bytes : List ℕ) (g : Galley) (w : List ℕ) (i j side b : ℕ) (figu
                 let loose = loose-sum a l in
                 absurd (opened .short a (omega arith) l (omega arith))
 
-        leads : (e : Entry) → Cheapest (columnOf w (suc (g .lines)) b side) (window .low) (window .high) b e
+        leads : (e : Entry) → Cheapest (columnOf w (suc (g .text .count)) b side) (window .low) (window .high) b e
             → (a b′ y : ℕ) → Above b i a b′ → Candidate search a b′ y → Leads e a b′ y
         leads Unreached cheap a b′ y (p, l) c =
             let d = rw p at c in
@@ -170,7 +169,7 @@ module _ (bytes : List ℕ) (g : Galley) (w : List ℕ) (i j side b : ℕ) (figu
 
     -- The page of figures alone is the best with those figures that starts after line i.
     pub alone-best : b < j → figures .tight ≤ g .spec .htmax → Best search (Level b i) (aloneOf g w i b side (figures .loose))
-    unfolding fits fills better tightest loosest separation
+    unfolding fits fills better tightest loosest
     alone-best k short = go (ltb (figures .loose) (g .spec .htmin)) refl
       where
         empty : ltb i i ≡ false
@@ -179,7 +178,7 @@ module _ (bytes : List ℕ) (g : Galley) (w : List ℕ) (i j side b : ℕ) (figu
         tight : tightest (modelOf bytes g) (place i b) (place i j) ≡ figures .tight
         tight =
             let e = height-two bytes g (λ st. st .least) (g .spec .smin) i b i j in
-            let t = stacked-none (textOf bytes g) (textOf bytes g .least) i i (le-refl i) in
+            let t = stacked-none (textOf bytes (g .text)) (textOf bytes (g .text) .least) i i (le-refl i) in
             let f = floats .tight in
             let n = empty in
             let h = rw n at e in
@@ -188,7 +187,7 @@ module _ (bytes : List ℕ) (g : Galley) (w : List ℕ) (i j side b : ℕ) (figu
         loose : loosest (modelOf bytes g) (place i b) (place i j) ≡ figures .loose
         loose =
             let e = height-two bytes g (λ st. st .most) (g .spec .smax) i b i j in
-            let t = stacked-none (textOf bytes g) (textOf bytes g .most) i i (le-refl i) in
+            let t = stacked-none (textOf bytes (g .text)) (textOf bytes (g .text) .most) i i (le-refl i) in
             let f = floats .loose in
             let n = empty in
             let h = rw n at e in
@@ -197,7 +196,7 @@ module _ (bytes : List ℕ) (g : Galley) (w : List ℕ) (i j side b : ℕ) (figu
         at-level : (a b′ x : ℕ) → Level b i a b′ → Candidate search a b′ x → Candidate search i b x
         at-level a b′ x (p, q) c = rw (p, q) at c
 
-        found : (d : Entry) → tableOf (suc (g .lines)) w i b side ≡ d → g .spec .htmin ≤ figures .loose
+        found : (d : Entry) → tableOf (suc (g .text .count)) w i b side ≡ d → g .spec .htmin ≤ figures .loose
             → Best search (Level b i) (better d i b Unreached)
         found Unreached t h =
             best-none search (Level b i)
@@ -222,7 +221,7 @@ module _ (bytes : List ℕ) (g : Galley) (w : List ℕ) (i j side b : ℕ) (figu
             (λ a b′ y p c. (p .1, p .0))
 
         go : (t : Bool) → ltb (figures .loose) (g .spec .htmin) ≡ t
-            → Best search (Level b i) (pick t Unreached (better (tableOf (suc (g .lines)) w i b side) i b Unreached))
+            → Best search (Level b i) (pick t Unreached (better (tableOf (suc (g .text .count)) w i b side) i b Unreached))
         go true t =
             let l = ltb-true (figures .loose) (g .spec .htmin) t in
             let f = not-full in
@@ -232,7 +231,7 @@ module _ (bytes : List ℕ) (g : Galley) (w : List ℕ) (i j side b : ℕ) (figu
             let h = leb-true (g .spec .htmin) (loosest (modelOf bytes g) (place i b) (place i j)) (rw f at (at-level a b′ x p
             c .filling)) in
             omega arith)
-        go false t = found (tableOf (suc (g .lines)) w i b side) refl (ltb-false (figures .loose) (g .spec .htmin) t)
+        go false t = found (tableOf (suc (g .text .count)) w i b side) refl (ltb-false (figures .loose) (g .spec .htmin) t)
 
     -- With the starts of b figures, those with more being known, the starts of b or more are known.
     pub improved : b < j → (held front alone : Entry) → Best search (Between (suc b) j) held → Best search (Above b i) front
@@ -281,7 +280,7 @@ start-chosen bytes g w i j side held front h f =
 
 -- What is known of starts stays known while their entries do not change.
 pub best-same : (bytes : List ℕ) (g : Galley) (w v : List ℕ) (i j side : ℕ) (P : ℕ → ℕ → Type 0) (e : Entry)
-    → ((a b : ℕ) → P a b → a ≤ i → b ≤ j → tableOf (suc (g .lines)) v a b side ≡ tableOf (suc (g .lines)) w a b side)
+    → ((a b : ℕ) → P a b → a ≤ i → b ≤ j → tableOf (suc (g .text .count)) v a b side ≡ tableOf (suc (g .text .count)) w a b side)
     → Best (searchOf bytes g w i j side) P e → Best (searchOf bytes g v i j side) P e
 best-same bytes g w v i j side P e same h =
     record {
@@ -290,7 +289,7 @@ best-same bytes g w v i j side P e same h =
       leads = λ a b y p c. h .leads a b y p (moved w v (λ l m. sym (same a b p l m)) c);
     }
   where
-    moved : (v w : List ℕ) {a b x : ℕ} → (a ≤ i → b ≤ j → tableOf (suc (g .lines)) v a b side ≡ tableOf (suc (g .lines)) w a b
+    moved : (v w : List ℕ) {a b x : ℕ} → (a ≤ i → b ≤ j → tableOf (suc (g .text .count)) v a b side ≡ tableOf (suc (g .text .count)) w a b
         side)
         → Candidate (searchOf bytes g w i j side) a b x → Candidate (searchOf bytes g v i j side) a b x
     moved v w t c =

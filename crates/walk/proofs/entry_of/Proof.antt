@@ -21,7 +21,7 @@ entry-at-requires : tie.Need-entry-at-requires
 entry-at-requires c κs =
     let a = c .before .before .before .args in
     let p = c .before .before .before .pre .1 in
-    let within = address-in (a .g .lines) (a .g .figures) (a .i) (a .j) (a .side) (p .line) (p .figure) (p .side) in
+    let within = address-in (a .g .text .count) (a .g .figures .count) (a .i) (a .j) (a .side) (p .line) (p .figure) (p .side) in
     omega (arith, c .address-of .ensures)
 
 returns : tie.Need-returns
@@ -29,7 +29,7 @@ unfolding tableOf
 returns c =
     let a = c .before .before .before .before .args in
     c .entry-at .ensures ∙ ap (entryAt (a .work .now)) (c .before .address-of .ensures)
-    ∙ ap (λ (k : ℕ). entryAt (a .work .now) (address k (a .i) (a .j) (a .side))) (add-one (a .g .lines))
+    ∙ ap (λ (k : ℕ). entryAt (a .work .now) (address k (a .i) (a .j) (a .side))) (add-one (a .g .text .count))
 
 pub entry-of-spec : {M : Type 1} → statement M
 entry-of-spec = tie.close (tie.spec add-address-of address-of-requires entry-at-requires returns)

@@ -126,9 +126,9 @@ module _ (g : Galley) (w : List ℕ) (tr : Traceable g w) where
       omega (arith, start-precedes g w i j c tr v .less h, s .line, s .figure)
 
   -- The count begins at the full place,
-  pub counting-first : (c : ℕ) → Side (sidesIn g) c → Counting g w c (g .lines) (g .figures) c 0
+  pub counting-first : (c : ℕ) → Side (sidesIn g) c → Counting g w c (g .text .count) (g .figures .count) c 0
   counting-first c side =
-      let e : g .lines + g .figures - 0 ≡ g .lines + g .figures = omega arith in
+      let e : g .text .count + g .figures .count - 0 ≡ g .text .count + g .figures .count = omega arith in
       record {
         visits = record { line = omega arith; figure = omega arith; side = side };
         left = omega arith;
@@ -141,8 +141,8 @@ module _ (g : Galley) (w : List ℕ) (tr : Traceable g w) where
       → Counting g w from i′ j′ c′ (p + 1)
   counting-next from i j c p i′ j′ c′ n h s =
       let l = step-less i j c i′ j′ c′ (n .visits) s h in
-      let e : g .lines + g .figures - p - 1 ≡ g .lines + g .figures - (p + 1) = omega arith in
-      let one = count-step (sidesIn g) (tableIn g w) (g .lines + g .figures - p) i j c p h (omega (arith, n .left)) in
+      let e : g .text .count + g .figures .count - p - 1 ≡ g .text .count + g .figures .count - (p + 1) = omega arith in
+      let one = count-step (sidesIn g) (tableIn g w) (g .text .count + g .figures .count - p) i j c p h (omega (arith, n .left)) in
       record {
         visits = step-visits i j c i′ j′ c′ (n .visits) s;
         left = omega (arith, n .left);
@@ -152,7 +152,7 @@ module _ (g : Galley) (w : List ℕ) (tr : Traceable g w) where
   -- and ends where nothing is placed.
   pub counting-done :
       (from i j c p : ℕ) → Counting g w from i j c p → i + j ≡ 0
-      → p ≡ countBack (sidesIn g) (tableIn g w) (g .lines + g .figures) (g .lines) (g .figures) from 0
+      → p ≡ countBack (sidesIn g) (tableIn g w) (g .text .count + g .figures .count) (g .text .count) (g .figures .count) from 0
   counting-done from i j c p n h = sym (count-stop (sidesIn g) (tableIn g w) _ i j c p h) ∙ n .same
 
   -- The writing goes on by a page,
@@ -173,22 +173,22 @@ module _ (g : Galley) (w : List ℕ) (tr : Traceable g w) where
   -- and ends where no page is left.
   pub writing-done :
       (from p : ℕ) (first ws : List ℕ) (i j c r : ℕ) → Writing g w from p first ws i j c r → r ≡ 0
-      → ws ≡ writeBack (sidesIn g) (tableIn g w) p (g .lines) (g .figures) from first
+      → ws ≡ writeBack (sidesIn g) (tableIn g w) p (g .text .count) (g .figures .count) from first
   writing-done from p first ws i j c r n h = sym (write-stop (sidesIn g) (tableIn g w) r i j c ws h) ∙ n .same
 
 -- A work area that was filled to the full place may be walked.
 pub filled-traceable :
-    (bytes : List ℕ) (g : Galley) (w : List ℕ) → Lent g w → Filled (modelOf bytes g) (tableIn g w) (suc (g .lines)) (g .figures)
+    (bytes : List ℕ) (g : Galley) (w : List ℕ) → Lent g w → Filled (modelOf bytes g) (tableIn g w) (suc (g .text .count)) (g .figures .count)
     → Traceable g w
 filled-traceable bytes g w l f =
     record {
       lent = l;
-      entered = λ a b c x s h k side e. f .entered a b c x s (earlier a b h k (ltb b (g .figures)) refl) h
+      entered = λ a b c x s h k side e. f .entered a b c x s (earlier a b h k (ltb b (g .figures .count)) refl) h
           side e;
     }
   where
     earlier :
-        (a b : ℕ) → a ≤ g .lines → b ≤ g .figures → (v : Bool) → ltb b (g .figures) ≡ v → Earlier a b (suc (g .lines))
-        (g .figures)
-    earlier a b h k true e = inl (ltb-true b (g .figures) e)
-    earlier a b h k false e = let l = ltb-false b (g .figures) e in inr (omega arith, omega arith)
+        (a b : ℕ) → a ≤ g .text .count → b ≤ g .figures .count → (v : Bool) → ltb b (g .figures .count) ≡ v → Earlier a b (suc (g .text .count))
+        (g .figures .count)
+    earlier a b h k true e = inl (ltb-true b (g .figures .count) e)
+    earlier a b h k false e = let l = ltb-false b (g .figures .count) e in inr (omega arith, omega arith)

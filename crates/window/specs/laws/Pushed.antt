@@ -3,6 +3,7 @@ use Prim.Native.Nat.{ℕ, suc, _+_, _-_, _*_, _≤_, _<_}
 use native.Mathlib.Decide.{decLe}
 use native.Mathlib.Omega.{arith}
 use mathlib.Core.Path.{_≡_, sym, ap, _∙_}
+use mathlib.Core.Logic.{_⊎_, inl, inr}
 use mathlib.Core.List.{List}
 use lib.ListN.{length, set, length-set}
 use lib.Seq.{getD-set-same, getD-set-other}
@@ -10,13 +11,25 @@ use Rattle.places.specs.declared.Start.{Start}
 use Rattle.places.specs.declared.Entry.{Entry}
 use Rattle.places.specs.declared.Entry.the-variants.{Least}
 use Rattle.window.specs.declared.queue.Queue.{Queue}
-use Rattle.window.specs.Queue.{lineAt, costAt, pushed, tailed, Cover, Held, Dropped}
+use Rattle.window.specs.Queue.{lineAt, costAt, pushed, tailed, Cover, Held, Dropped, Beside}
 
 -- The words after a push: the entry itself, and those before it.
 module _ (words : List ℕ) (t line cost : ℕ) where
   pub pushed-length : length (pushed words t line cost) ≡ length words
   unfolding pushed
   pushed-length = simp length-set
+
+  other-line : (k : ℕ) → ¬ (k ≡ t) → lineAt (pushed words t line cost) k ≡ lineAt words k
+  unfolding pushed
+  other-line k h =
+      getD-set-other (set words (2 * t) line) (2 * t + 1) (2 * k) cost 0 (λ e. h (omega arith))
+      ∙ getD-set-other words (2 * t) (2 * k) line 0 (λ e. h (omega arith))
+
+  other-cost : (k : ℕ) → ¬ (k ≡ t) → costAt (pushed words t line cost) k ≡ costAt words k
+  unfolding pushed
+  other-cost k h =
+      getD-set-other (set words (2 * t) line) (2 * t + 1) (2 * k + 1) cost 0 (λ e. h (omega arith))
+      ∙ getD-set-other words (2 * t) (2 * k + 1) line 0 (λ e. h (omega arith))
 
   pushed-line : (k : ℕ) → k < t → lineAt (pushed words t line cost) k ≡ lineAt words k
   unfolding pushed
@@ -29,6 +42,19 @@ module _ (words : List ℕ) (t line cost : ℕ) where
   pushed-cost k h =
       getD-set-other (set words (2 * t) line) (2 * t + 1) (2 * k + 1) cost 0 (omega arith)
       ∙ getD-set-other words (2 * t) (2 * k + 1) line 0 (omega arith)
+
+  -- Entries other than the one pushed are as they were.
+  pub pushed-beside : {old : List ℕ} {from to : ℕ} → from ≤ t → t < to → Beside old words from to
+      → Beside old (pushed words t line cost) from to
+  pushed-beside {old} {from} {to} l m h =
+      record {
+        lines = λ k p. other-line k (apart k p) ∙ h .lines k p;
+        costs = λ k p. other-cost k (apart k p) ∙ h .costs k p;
+      }
+    where
+      apart : (k : ℕ) → (k < from) ⊎ (to ≤ k) → ¬ (k ≡ t)
+      apart k (inl p) e = omega arith
+      apart k (inr p) e = omega arith
 
   pushed-own-line : 2 * t + 2 ≤ length words → lineAt (pushed words t line cost) t ≡ line
   unfolding pushed
@@ -153,6 +179,7 @@ module _ (col : ℕ → Entry) (words : List ℕ) (queue : Queue) (low a x t : �
   pub held-pushed : Held col (pushed words t a x) (tailed queue (t + 1)) low (a + 1)
   held-pushed =
       record {
+        based = h .based;
         order = let from = dropped .from in omega arith;
         short = let to = dropped .to in let short = h .short in omega arith;
         lines = push-lines;

@@ -11,9 +11,9 @@ use Rattle.model.specs.Galley.{Stream}
 use Rattle.model.specs.Height.{stacked}
 use Rattle.model.specs.laws.Gather.{between-sum}
 use Rattle.model.specs.laws.Height.{sum-mono}
-use Rattle.galley.specs.declared.Galley.{Galley}
+use Rattle.galley.specs.declared.Stream as galley
 use Rattle.galley.specs.Model.{textOf}
-use Rattle.galley.specs.Sound.{Sound}
+use Rattle.galley.specs.Sound.{SoundStream}
 use Rattle.window.specs.Sums.{reach, rowPut, Row, Sums}
 use Rattle.window.specs.Run.{SumsRun, SumsFit}
 
@@ -142,17 +142,17 @@ high-low st gap i =
     let less = sum-mono (pred i) i gap (omega arith) in
     omega arith
 
--- A galley's sums are small in every line.
-module _ (bytes : List ℕ) (g : Galley) (sound : Sound bytes g) where
-  pub tight-low : (i : ℕ) → i ≤ g .lines → reach (textOf bytes g) (textOf bytes g .least) i ≤ i * 200000
+-- A text's sums are small in every line.
+module _ (bytes : List ℕ) (text : galley.Stream) (sound : SoundStream bytes text) where
+  pub tight-low : (i : ℕ) → i ≤ text .count → reach (textOf bytes text) (textOf bytes text .least) i ≤ i * 200000
   tight-low i m =
-      reach-low (textOf bytes g) (textOf bytes g .least) (g .lines) (λ k p q. sound .lineRanged k p q .heights)
-      (λ k p q. let r = sound .lineRanged k p q in omega (arith, r .leasts, r .mosts)) i m
+      reach-low (textOf bytes text) (textOf bytes text .least) (text .count) (λ k p q. sound .ranged k p q .heights)
+      (λ k p q. let r = sound .ranged k p q in omega (arith, r .leasts, r .mosts)) i m
 
-  pub loose-low : (i : ℕ) → i ≤ g .lines → reach (textOf bytes g) (textOf bytes g .most) i ≤ i * 200000
+  pub loose-low : (i : ℕ) → i ≤ text .count → reach (textOf bytes text) (textOf bytes text .most) i ≤ i * 200000
   loose-low i m =
-      reach-low (textOf bytes g) (textOf bytes g .most) (g .lines) (λ k p q. sound .lineRanged k p q .heights)
-      (λ k p q. sound .lineRanged k p q .mosts) i m
+      reach-low (textOf bytes text) (textOf bytes text .most) (text .count) (λ k p q. sound .ranged k p q .heights)
+      (λ k p q. sound .ranged k p q .mosts) i m
 
 -- Each of the first 4 n words is one of the four sums of a line before n.
 four-each : (P : ℕ → Type 0) (n : ℕ) → ((q : ℕ) → q < n → P (4 * q) × P (4 * q + 1) × P (4 * q + 2) × P (4 * q + 3))
@@ -171,10 +171,9 @@ four-each P (suc n) h k l =
     go below here (no a) (no b) (no c) (no d) = let e : k ≡ 4 * n + 3 = omega arith in rw e (here .3)
 
 -- The words of the sums up to a line are small.
-pub sums-small : (bytes : List ℕ) (g : Galley) → Sound bytes g → (sums : List ℕ) → Sums (textOf bytes g) (g .lines) sums → (i
-    : ℕ)
-    → i ≤ g .lines → (k : ℕ) → k < 4 * i + 4 → getD sums k 0 ≤ 1000000000
-sums-small bytes g sound sums rows i m k h =
+pub sums-small : (bytes : List ℕ) (text : galley.Stream) → SoundStream bytes text → text .count ≤ 4000 → (sums : List ℕ)
+    → Sums (textOf bytes text) (text .count) sums → (i : ℕ) → i ≤ text .count → (k : ℕ) → k < 4 * i + 4 → getD sums k 0 ≤ 1000000000
+sums-small bytes text sound few sums rows i m k h =
     four-each (λ n. getD sums n 0 ≤ 1000000000) (suc i)
     (λ q l.
     let row = rows q (omega arith) in
@@ -182,43 +181,40 @@ sums-small bytes g sound sums rows i m k h =
     let b = row .high in
     let c = row .loose in
     let d = row .wide in
-    let few = sound .fewLines in
-    let tight = tight-low bytes g sound q (omega arith) in
-    let loose = loose-low bytes g sound q (omega arith) in
-    let high = high-low (textOf bytes g) (textOf bytes g .least) q in
-    let wide = high-low (textOf bytes g) (textOf bytes g .most) q in
+    let tight = tight-low bytes text sound q (omega arith) in
+    let loose = loose-low bytes text sound q (omega arith) in
+    let high = high-low (textOf bytes text) (textOf bytes text .least) q in
+    let wide = high-low (textOf bytes text) (textOf bytes text .most) q in
     (omega arith, omega arith, omega arith, omega arith)) k (omega arith)
 
 -- The row of zeros is that of the place before the first line.
-pub sums-first : (bytes : List ℕ) (g : Galley) (sums new : List ℕ) → 4 * g .lines + 4 ≤ length sums → new ≡ rowPut sums 0 0 0
-    0 0
-    → SumsRun bytes g new new 0 0 0
-sums-first bytes g sums new room e =
+pub sums-first : (bytes : List ℕ) (text : galley.Stream) (sums new : List ℕ) → 4 * text .count + 4 ≤ length sums
+    → new ≡ rowPut sums 0 0 0 0 0 → SumsRun bytes text new new 0 0 0
+sums-first bytes text sums new room e =
     record {
       within = omega arith;
       sized = refl;
-      tights = sym (reach-none (textOf bytes g) (textOf bytes g .least));
-      looses = sym (reach-none (textOf bytes g) (textOf bytes g .most));
-      rows = λ q l. let z : 0 ≡ q = omega arith in subst (Row (textOf bytes g) new) z first;
+      tights = sym (reach-none (textOf bytes text) (textOf bytes text .least));
+      looses = sym (reach-none (textOf bytes text) (textOf bytes text .most));
+      rows = λ q l. let z : 0 ≡ q = omega arith in subst (Row (textOf bytes text) new) z first;
     }
   where
-    first : Row (textOf bytes g) new 0
+    first : Row (textOf bytes text) new 0
     first =
         rw e
-        (row-own sums 0 0 0 0 0 (textOf bytes g) (omega arith) (sym (reach-none (textOf bytes g) (textOf bytes g .least)))
-        (sym (high-none (textOf bytes g) (textOf bytes g .least))) (sym (reach-none (textOf bytes g) (textOf bytes g .most)))
-        (sym (high-none (textOf bytes g) (textOf bytes g .most))))
+        (row-own sums 0 0 0 0 0 (textOf bytes text) (omega arith) (sym (reach-none (textOf bytes text) (textOf bytes text .least)))
+        (sym (high-none (textOf bytes text) (textOf bytes text .least))) (sym (reach-none (textOf bytes text) (textOf bytes text .most)))
+        (sym (high-none (textOf bytes text) (textOf bytes text .most))))
 
 -- One line more: its row is written, and its sums are in hand.
-module _ (bytes : List ℕ) (g : Galley) (sums₀ sums : List ℕ) (tight loose k height least most : ℕ)
-    (run : SumsRun bytes g sums₀ sums tight loose k) (some : k < g .lines) (a : height ≡ textOf bytes g .ht (k + 1))
-    (b : least ≡ textOf bytes g .least (k + 1)) (c : most ≡ textOf bytes g .most (k + 1)) where
-  pub sums-fit : Sound bytes g → SumsFit tight loose height least most
-  sums-fit sound =
-      let few = sound .fewLines in
-      let ranged = sound .lineRanged (k + 1) (omega arith) (omega arith) in
-      let low = tight-low bytes g sound k (omega arith) in
-      let wide = loose-low bytes g sound k (omega arith) in
+module _ (bytes : List ℕ) (text : galley.Stream) (sums₀ sums : List ℕ) (tight loose k height least most : ℕ)
+    (run : SumsRun bytes text sums₀ sums tight loose k) (some : k < text .count) (a : height ≡ textOf bytes text .ht (k + 1))
+    (b : least ≡ textOf bytes text .least (k + 1)) (c : most ≡ textOf bytes text .most (k + 1)) where
+  pub sums-fit : SoundStream bytes text → text .count ≤ 4000 → SumsFit tight loose height least most
+  sums-fit sound few =
+      let ranged = sound .ranged (k + 1) (omega arith) (omega arith) in
+      let low = tight-low bytes text sound k (omega arith) in
+      let wide = loose-low bytes text sound k (omega arith) in
       let t = run .tights in
       let l = run .looses in
       let h = ranged .heights in
@@ -226,9 +222,9 @@ module _ (bytes : List ℕ) (g : Galley) (sums₀ sums : List ℕ) (tight loose 
       let n = ranged .mosts in
       record { tights = omega arith; looses = omega arith; heights = omega arith; leasts = omega arith; mosts = omega arith }
 
-  pub sums-next : (new : List ℕ) → 4 * g .lines + 4 ≤ length sums
+  pub sums-next : (new : List ℕ) → 4 * text .count + 4 ≤ length sums
       → new ≡ rowPut sums (k + 1) (tight + height + least) (tight + height) (loose + height + most) (loose + height)
-      → SumsRun bytes g sums₀ new (tight + height + least) (loose + height + most) (k + 1)
+      → SumsRun bytes text sums₀ new (tight + height + least) (loose + height + most) (k + 1)
   sums-next new room e =
       record {
         within = omega arith;
@@ -238,33 +234,33 @@ module _ (bytes : List ℕ) (g : Galley) (sums₀ sums : List ℕ) (tight loose 
         rows = λ q l. rw e (go q (decLe q k) l);
       }
     where
-      tights : tight + height + least ≡ reach (textOf bytes g) (textOf bytes g .least) (k + 1)
+      tights : tight + height + least ≡ reach (textOf bytes text) (textOf bytes text .least) (k + 1)
       tights =
-          let step = reach-next (textOf bytes g) (textOf bytes g .least) k in
+          let step = reach-next (textOf bytes text) (textOf bytes text .least) k in
           let t = run .tights in
           omega arith
 
-      looses : loose + height + most ≡ reach (textOf bytes g) (textOf bytes g .most) (k + 1)
+      looses : loose + height + most ≡ reach (textOf bytes text) (textOf bytes text .most) (k + 1)
       looses =
-          let step = reach-next (textOf bytes g) (textOf bytes g .most) k in
+          let step = reach-next (textOf bytes text) (textOf bytes text .most) k in
           let t = run .looses in
           omega arith
 
-      high : tight + height ≡ stacked (textOf bytes g) (textOf bytes g .least) 0 (k + 1)
+      high : tight + height ≡ stacked (textOf bytes text) (textOf bytes text .least) 0 (k + 1)
       high =
-          let step = high-next (textOf bytes g) (textOf bytes g .least) k in
+          let step = high-next (textOf bytes text) (textOf bytes text .least) k in
           let t = run .tights in
           omega arith
 
-      wide : loose + height ≡ stacked (textOf bytes g) (textOf bytes g .most) 0 (k + 1)
+      wide : loose + height ≡ stacked (textOf bytes text) (textOf bytes text .most) 0 (k + 1)
       wide =
-          let step = high-next (textOf bytes g) (textOf bytes g .most) k in
+          let step = high-next (textOf bytes text) (textOf bytes text .most) k in
           let t = run .looses in
           omega arith
 
-      go : (q : ℕ) → Dec (q ≤ k) → q ≤ k + 1 → Row (textOf bytes g)
+      go : (q : ℕ) → Dec (q ≤ k) → q ≤ k + 1 → Row (textOf bytes text)
           (rowPut sums (k + 1) (tight + height + least) (tight + height) (loose + height + most) (loose + height)) q
-      go q (yes p) l = row-before sums (k + 1) _ _ _ _ (textOf bytes g) q (omega arith) (run .rows q p)
+      go q (yes p) l = row-before sums (k + 1) _ _ _ _ (textOf bytes text) q (omega arith) (run .rows q p)
       go q (no p) l =
           let last : q ≡ k + 1 = omega arith in
-          rw last (row-own sums (k + 1) _ _ _ _ (textOf bytes g) (omega arith) tights high looses wide)
+          rw last (row-own sums (k + 1) _ _ _ _ (textOf bytes text) (omega arith) tights high looses wide)

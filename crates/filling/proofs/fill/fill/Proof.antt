@@ -15,27 +15,12 @@ slice-aggregate-fill-columns c = search needs
 slice-aggregate-fill-columns-2 : tie.Need-slice-aggregate-fill-columns-2
 slice-aggregate-fill-columns-2 c = search needs
 
-slice-aggregate-fill-columns-3 : tie.Need-slice-aggregate-fill-columns-3
-slice-aggregate-fill-columns-3 c = search needs
-
-slice-aggregate-fill-columns-4 : tie.Need-slice-aggregate-fill-columns-4
-slice-aggregate-fill-columns-4 c = search needs
-
-slice-aggregate-fill-columns-5 : tie.Need-slice-aggregate-fill-columns-5
-slice-aggregate-fill-columns-5 c = search needs
-
 fill-columns-requires : tie.Need-fill-columns-requires
 fill-columns-requires c κs =
     record {
-      fill = c .before .before .before .before .before .before .before .before .before .before .before .pre;
-      summed = record {
-        rows = c .before .before .before .before .before .before .before .gather .ensures;
-        room = search needs;
-      };
-      evensRoom = search needs;
-      evenRoom = search needs;
-      oddsRoom = search needs;
-      oddRoom = search needs;
+      fill = c .before .before .before .before .before .before .before .before .pre;
+      summed = record { rows = c .before .before .before .before .gather .ensures; room = search needs };
+      wordsRoom = search needs;
     }
 
 same-length : tie.Need-same-length
@@ -52,9 +37,6 @@ fill-spec =
     gather-requires
     slice-aggregate-fill-columns
     slice-aggregate-fill-columns-2
-    slice-aggregate-fill-columns-3
-    slice-aggregate-fill-columns-4
-    slice-aggregate-fill-columns-5
     fill-columns-requires
     same-length
     returns)

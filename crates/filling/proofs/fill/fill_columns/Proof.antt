@@ -1,6 +1,5 @@
 -- `fill_columns` meets its contract. The loop's invariant is `ColumnsRun`: what is left of the columns makes of the words
--- what all columns
--- make of those at the start.
+-- what all columns make of those at the start.
 use Prim.Native.Nat.{_+_, _-_}
 use mathlib.Core.Path.{refl}
 use native.Mathlib.Omega.{arith}
@@ -12,80 +11,37 @@ use Rattle.filling.proofs.fill.fill_columns.Statement.{statement}
 use Rattle.filling.proofs.fill.fill_columns.Tie as tie
 
 abbrev Inv-loop : tie.InvT-loop
-Inv-loop s g work₀ sums evens₀ even₀ odds₀ odd₀ j₀ work evens even odds odd j =
-    ColumnsRun s g work₀ work evens₀ evens even₀ even odds₀ odds odd₀ odd j
+Inv-loop s g work₀ sums words₀ j₀ work words j = ColumnsRun s g work₀ work words₀ words j
 
 abbrev μ-loop : tie.MeasureT-loop
-μ-loop s g work₀ sums evens₀ even₀ odds₀ odd₀ j₀ work evens even odds odd j = g .figures + 1 - j
+μ-loop s g work₀ sums words₀ j₀ work words j = g .figures .count + 1 - j
 
 loop-holds : tie.Need-loop-holds Inv-loop μ-loop
 loop-holds c =
-    let start = c .before .before .before .before .before .before .before in
+    let start = c .before .before .before .before in
     let a = start .args in
-    record {
-      table = table-start (a .s .now) (a .g) (a .work .now) (start .pre .fill);
-      evensSized = refl;
-      evenSized = refl;
-      oddsSized = refl;
-      oddSized = refl;
-    }
+    record { table = table-start (a .s .now) (a .g) (a .work .now) (start .pre .fill); wordsSized = refl }
 
 fill-column-requires : tie.Need-fill-column-requires Inv-loop μ-loop
 fill-column-requires c κs =
-    columns-lent
-    (c .before .before .before .before .before .before .before .before .before .before .before .before .before .before .before .pre)
-    (c .before .before .before .before .before .before .before .loop .inv) (omega (
-      arith,
-      c .before .before .before .before .before .if1 .taken,
-    ))
+    columns-lent (c .before .before .before .before .before .before .before .before .before .pre) (c .before .before .before .before .loop .inv) (omega (arith, c .before .before .if1 .taken))
 
 add-j : tie.Need-add-j Inv-loop μ-loop
-add-j c =
-    omega (
-      arith,
-      c .before .before .before .before .before .before .before .before .before .before .before .before .before .before .before .before .before .before .before .before .before .before .before .before .before .before .pre .fill .sound .fewFigures,
-      c .before .before .before .before .before .before .before .before .before .before .before .before .before .before .before .before .if1 .taken,
-    )
+add-j c = search needs
 
 loop-less : tie.Need-loop-less Inv-loop μ-loop
 loop-less c = search needs
 
 loop-again : tie.Need-loop-again Inv-loop μ-loop
 loop-again c =
-    let start =
-    c .before .before .before .before .before .before .before .before .before .before .before .before .before .before .before .before .before .before .before .before .before .before .before .before .before .before
-    in
+    let start = c .before .before .before .before .before .before .before .before .before .before .before .before .before .before in
     let a = start .args in
-    let st =
-    c .before .before .before .before .before .before .before .before .before .before .before .before .before .before .before .before .before .before .loop
-    in
+    let st = c .before .before .before .before .before .before .before .before .before .loop in
     record {
       table =
-          table-next (a .s .now) (a .g) (a .work .now) (start .pre .fill) (st .work) (st .j) (st .inv .table) (omega (
-            arith,
-            c .before .before .before .before .before .before .before .before .before .before .before .before .before .before .before .before .if1 .taken,
-          ))
-          _
-          (c .before .before .before .before .before .before .before .before .before .before .fill-column .ensures);
-      evensSized = search (
-        needs,
-        c .before .before .before .before .before .before .before .evens .given,
-        c .before .before .before .before .before .before .slice-known7 .given,
-        st .inv .evensSized,
-      );
-      evenSized = search (
-        needs,
-        c .before .before .before .before .before .even .given,
-        c .before .before .before .before .slice-known8 .given,
-        st .inv .evenSized,
-      );
-      oddsSized = search (
-        needs,
-        c .before .before .before .odds .given,
-        c .before .before .slice-known9 .given,
-        st .inv .oddsSized,
-      );
-      oddSized = search (needs, c .before .odd .given, c .slice-known10 .given, st .inv .oddSized);
+          table-next (a .s .now) (a .g) (a .work .now) (start .pre .fill) (st .work) (st .j) (st .inv .table)
+          (omega (arith, c .before .before .before .before .before .before .before .if1 .taken)) _ (c .before .before .before .before .fill-column .ensures);
+      wordsSized = search (needs, c .before .words .given, c .slice-known4 .given, st .inv .wordsSized);
     }
 
 same-length : tie.Need-same-length Inv-loop μ-loop
@@ -94,18 +50,9 @@ same-length c = search needs
 same-length-2 : tie.Need-same-length-2 Inv-loop μ-loop
 same-length-2 c = search needs
 
-same-length-3 : tie.Need-same-length-3 Inv-loop μ-loop
-same-length-3 c = search needs
-
-same-length-4 : tie.Need-same-length-4 Inv-loop μ-loop
-same-length-4 c = search needs
-
-same-length-5 : tie.Need-same-length-5 Inv-loop μ-loop
-same-length-5 c = search needs
-
 returns : tie.Need-returns Inv-loop μ-loop
 returns c =
-    let a = c .before .before .before .before .before .before .before .before .before .before .args in
+    let a = c .before .before .before .before .before .before .before .args in
     let st = c .before .before .loop in
     table-end (a .s .now) (a .g) (a .work .now) (st .work) (st .j) (st .inv .table) (omega (arith, c .if1 .left))
 
@@ -122,7 +69,4 @@ fill-columns-spec =
     loop-again
     same-length
     same-length-2
-    same-length-3
-    same-length-4
-    same-length-5
     returns)

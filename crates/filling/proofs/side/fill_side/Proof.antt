@@ -4,70 +4,52 @@ use mathlib.Core.Path.{ap, _∙_}
 use Prim.Native.Nat.{ℕ, suc}
 use native.Mathlib.Numerals.{add-one}
 use native.Mathlib.Omega.{arith}
-use Rattle.model.specs.Leaf.{sidesOf}
 use Rattle.places.specs.Entry.{stored}
 use Rattle.places.specs.Address.{address}
 use Rattle.places.specs.laws.Address.{address-in}
 use Rattle.filling.specs.Fill.{tall, fillSide}
-use Rattle.filling.specs.laws.Entered.{side-low}
-use Rattle.filling.specs.laws.Column.{side-feeds, side-starts, side-done}
+use Rattle.filling.specs.laws.Column.{side-low-here, side-feeds, side-starts}
 use borrow.Author.Needs.{needs}
 use Rattle.filling.proofs.side.fill_side.Statement.{statement}
 use Rattle.filling.proofs.side.fill_side.Tie as tie
 
 side-before-requires : tie.Need-side-before-requires
-side-before-requires c κs =
-    let start = c .before .before .before .before in
-    side-low (sidesOf (start .args .g .spec .sides)) (start .args .c) (start .pre .asked .side)
+side-before-requires c κs = search needs
 
 add-advance : tie.Need-add-advance
-add-advance c =
-    omega (arith, c .before .before .before .before .before .before .before .pre .asked .placed .sound .fewLines)
+add-advance c = search needs
 
 advance-requires : tie.Need-advance-requires
 advance-requires c κs =
-    rw (c .before .before .before .side-before .ensures) (side-feeds
-    (c .before .before .before .before .before .before .before .before .pre))
+    rw (c .before .before .before .side-before .ensures) (side-feeds (c .before .before .before .before .before .before .before .pre))
 
 entry-of-requires : tie.Need-entry-of-requires
 entry-of-requires c κs =
-    side-starts
-    (c .before .before .before .before .before .before .before .before .before .before .before .before .before .pre) _
-    (search needs) (c .before .before .before .before .advance .result) (rw (←
-    c .before .before .before .before .before .before .before .before .side-before .ensures)
-    (c .before .before .before .before .advance .ensures))
+    let moved = c .before .before .before .before in
+    side-starts (c .before .before .before .before .before .before .before .before .before .before .before .before .pre) _ (search needs) (moved .advance .result)
+    (rw (← c .before .before .before .before .before .before .before .before .side-before .ensures) (moved .advance .ensures))
 
 add-address-of : tie.Need-add-address-of
 add-address-of c =
-    omega (
-      arith,
-      c .before .before .before .before .before .before .before .before .before .before .before .before .before .before .before .pre .asked .placed .sound .fewLines,
-    )
+    omega (arith, c .before .before .before .before .before .before .before .before .before .before .before .before .before .before .pre .lent .sound .fewLines)
 
 address-of-requires : tie.Need-address-of-requires
 address-of-requires c κs =
-    let start =
-    c .before .before .before .before .before .before .before .before .before .before .before .before .before .before .before
-    in
-    let a = start .args in
-    let low = side-low (sidesOf (a .g .spec .sides)) (a .c) (start .pre .asked .side) in
-    let placed = start .pre .asked .placed in
+    let start = c .before .before .before .before .before .before .before .before .before .before .before .before .before .before in
+    let sound = start .pre .lent .sound in
     record {
-      high = omega (arith, placed .sound .fewLines);
-      row = omega (arith, placed .line);
-      column = omega (arith, placed .figure, placed .sound .fewFigures);
-      either = low;
+      high = omega (arith, sound .fewLines);
+      row = omega (arith, start .pre .asked .placed .line);
+      column = omega (arith, start .pre .lent .column, sound .fewFigures);
+      either = side-low-here (start .pre);
     }
 
 store-requires : tie.Need-store-requires
 store-requires c κs =
-    let start =
-    c .before .before .before .before .before .before .before .before .before .before .before .before .before .before .before .before .before
-    in
+    let start = c .before .before .before .before .before .before .before .before .before .before .before .before .before .before .before .before in
     let a = start .args in
-    let low = side-low (sidesOf (a .g .spec .sides)) (a .c) (start .pre .asked .side) in
-    let placed = start .pre .asked .placed in
-    let within = address-in (a .g .lines) (a .g .figures) (a .i) (a .j) (a .c) (placed .line) (placed .figure) low in
+    let within = address-in (a .g .text .count) (a .g .figures .count) (a .end .line) (a .end .column) (a .end .side)
+    (start .pre .asked .placed .line) (start .pre .lent .column) (side-low-here (start .pre)) in
     omega (arith, within, c .before .address-of .ensures, start .pre .asked .room)
 
 same-length : tie.Need-same-length
@@ -79,25 +61,18 @@ same-length-2 c = search needs
 returns : tie.Need-returns
 unfolding fillSide tall
 returns c =
-    let start =
-    c .before .before .before .before .before .before .before .before .before .before .before .before .before .before .before .before .before .before .before .before
-    in
+    let start = c .before .before .before .before .before .before .before .before .before .before .before .before .before .before .before .before .before .before .before in
     let a = start .args in
+    let e = a .end in
+    let entry = c .before .before .before .before .before .before .entry-of in
     let at = c .before .before .before .before .address-of .ensures
-    ∙ ap (λ (n : ℕ). address n (a .i) (a .j) (a .c)) (add-one (a .g .lines)) in
-    let filled = c .before .before .store .ensures ∙ ap (λ (n : ℕ). stored (a .work .now) n
-    (c .before .before .before .before .before .before .entry-of .result)) at
-    ∙ ap (stored (a .work .now) (address (suc (a .g .lines)) (a .i) (a .j) (a .c)))
-    (c .before .before .before .before .before .before .entry-of .ensures) in
-    side-done (start .pre) _ (search (
-      needs,
-      c .before .before .before .before .before .before .before .before .before .slice-known3 .given,
-      c .before .before .before .before .before .before .before .before .before .before .words .given,
-    ))
-    (c .before .before .before .before .before .before .before .before .before .before .before .advance .result) (rw (←
-    c .before .before .before .before .before .before .before .before .before .before .before .before .before .before .before .side-before .ensures)
-    (c .before .before .before .before .before .before .before .before .before .before .before .advance .ensures)) _
-    filled
+    ∙ ap (λ (n : ℕ). address n (e .line) (e .column) (e .side)) (add-one (a .g .text .count)) in
+    record {
+      filled =
+          c .before .before .store .ensures ∙ ap (λ (n : ℕ). stored (a .work .now) n (entry .result)) at
+          ∙ ap (stored (a .work .now) (address (suc (a .g .text .count)) (e .line) (e .column) (e .side))) (entry .ensures);
+      advanced = rw (← c .before .before .before .before .before .before .before .before .before .before .before .before .before .before .before .side-before .ensures) (c .before .before .before .before .before .before .before .before .before .before .before .advance .ensures);
+    }
 
 pub fill-side-spec : {M : Type 1} → statement M
 fill-side-spec =

@@ -1,8 +1,12 @@
--- `galley::records::figure_fields` meets its contract. Each field is the word that the definition reads.
+-- `galley::records::figure_fields` meets its contract. The heights are those of the block, and the last field is the word that the
+-- definition reads.
 use borrow.Author.Needs.{needs}
 use Rattle.galley.specs.Record.{figureOf}
 use Rattle.galley.proofs.records.figure_fields.Statement.{statement}
 use Rattle.galley.proofs.records.figure_fields.Tie as tie
+
+block-fields-requires : tie.Need-block-fields-requires
+block-fields-requires c κs = search needs
 
 add-word-at : tie.Need-add-word-at
 add-word-at c = search needs
@@ -10,43 +14,10 @@ add-word-at c = search needs
 word-at-requires : tie.Need-word-at-requires
 word-at-requires c κs = search needs
 
-add-word-at-2 : tie.Need-add-word-at-2
-add-word-at-2 c = search needs
-
-word-at-requires-2 : tie.Need-word-at-requires-2
-word-at-requires-2 c κs = search needs
-
-add-word-at-3 : tie.Need-add-word-at-3
-add-word-at-3 c = search needs
-
-word-at-requires-3 : tie.Need-word-at-requires-3
-word-at-requires-3 c κs = search needs
-
-add-word-at-4 : tie.Need-add-word-at-4
-add-word-at-4 c = search needs
-
-word-at-requires-4 : tie.Need-word-at-requires-4
-word-at-requires-4 c κs = search needs
-
 returns : tie.Need-returns
 unfolding figureOf
-returns c = simp (
-  c .word-at4 .ensures,
-  c .before .word-at3 .ensures,
-  c .before .before .word-at2 .ensures,
-  c .before .before .before .word-at .ensures,
-)
+returns c = simp (c .word-at .ensures, c .before .block-fields .ensures)
 
 pub figure-fields-spec : {M : Type 1} → statement M
 figure-fields-spec =
-    tie.close
-    (tie.spec
-    add-word-at
-    word-at-requires
-    add-word-at-2
-    word-at-requires-2
-    add-word-at-3
-    word-at-requires-3
-    add-word-at-4
-    word-at-requires-4
-    returns)
+    tie.close (tie.spec block-fields-requires add-word-at word-at-requires returns)

@@ -1,8 +1,7 @@
--- `galley::records::record_at` meets its contract. Where the mark is there, each arm is what the definition reads
--- after that kind of mark.
+-- `galley::records::record_at` meets its contract. The mark is there, the fields are there and in range, as the definition asks.
 use borrow.Author.Tests.{lt-ltb, le-ltb}
 use borrow.Author.Needs.{needs}
-use Rattle.galley.specs.Record.{recordAt, openedBy}
+use Rattle.galley.specs.Record.{openedBy, recordAt}
 use Rattle.galley.proofs.records.record_at.Statement.{statement}
 use Rattle.galley.proofs.records.record_at.Tie as tie
 
@@ -19,86 +18,55 @@ mark-at-requires c κs = search needs
 kind-of-requires : tie.Need-kind-of-requires
 kind-of-requires c κs = search needs
 
-enum-told : tie.Need-enum-told
-enum-told c = search needs
-
-spec-record-requires : tie.Need-spec-record-requires
-spec-record-requires c κs = search needs
-
-enum-told-2 : tie.Need-enum-told-2
-enum-told-2 c = search needs
-
-line-record-requires : tie.Need-line-record-requires
-line-record-requires c κs = search needs
-
-enum-told-3 : tie.Need-enum-told-3
-enum-told-3 c = search needs
-
-figure-record-requires : tie.Need-figure-record-requires
-figure-record-requires c κs = search needs
-
-enum-told-4 : tie.Need-enum-told-4
-enum-told-4 c = search needs
-
-enum-told-5 : tie.Need-enum-told-5
-enum-told-5 c = search needs
+size-of-requires : tie.Need-size-of-requires
+size-of-requires c κs = search needs
 
 returns-2 : tie.Need-returns-2
-unfolding recordAt
+unfolding recordAt openedBy
 returns-2 c =
     simp (
-      ← c .before .before .before .before .before .before .left-from .ensures,
-      le-ltb _ _ (c .before .before .before .before .before .if1 .left),
-      ← c .before .before .before .before .mark-at .ensures,
-      ← c .before .before .before .kind-of .ensures,
-      c .before .enum-told .given .1,
+      ← c .before .before .before .before .before .left-from .ensures,
+      le-ltb _ _ (c .before .before .before .before .if1 .left),
+      ← c .before .before .before .mark-at .ensures,
+      ← c .before .before .kind-of .ensures,
+      ← c .before .size-of .ensures,
+      lt-ltb _ _ (c .if2 .taken),
     )
-    (c .spec-record .ensures)
+
+fields-of-requires : tie.Need-fields-of-requires
+fields-of-requires c κs = search needs
+
+is-in-range-requires : tie.Need-is-in-range-requires
+is-in-range-requires c κs = search needs
 
 returns-3 : tie.Need-returns-3
-unfolding recordAt
+unfolding recordAt openedBy
 returns-3 c =
     simp (
-      ← c .before .before .before .before .before .before .left-from .ensures,
-      le-ltb _ _ (c .before .before .before .before .before .if1 .left),
-      ← c .before .before .before .before .mark-at .ensures,
-      ← c .before .before .before .kind-of .ensures,
-      c .before .enum-told2 .given .1,
+      ← c .before .before .before .before .before .before .before .before .left-from .ensures,
+      le-ltb _ _ (c .before .before .before .before .before .before .before .if1 .left),
+      ← c .before .before .before .before .before .before .mark-at .ensures,
+      ← c .before .before .before .before .before .kind-of .ensures,
+      ← c .before .before .before .before .size-of .ensures,
+      le-ltb _ _ (c .before .before .before .if2 .left),
+      ← c .before .before .fields-of .ensures,
+      ← c .before .is-in-range .ensures,
+      c .if3 .taken,
     )
-    (c .line-record .ensures)
 
 returns-4 : tie.Need-returns-4
-unfolding recordAt
+unfolding recordAt openedBy
 returns-4 c =
     simp (
-      ← c .before .before .before .before .before .before .left-from .ensures,
-      le-ltb _ _ (c .before .before .before .before .before .if1 .left),
-      ← c .before .before .before .before .mark-at .ensures,
-      ← c .before .before .before .kind-of .ensures,
-      c .before .enum-told3 .given .1,
-    )
-    (c .figure-record .ensures)
-
-returns-5 : tie.Need-returns-5
-unfolding recordAt openedBy
-returns-5 c =
-    simp (
-      ← c .before .before .before .before .before .left-from .ensures,
-      le-ltb _ _ (c .before .before .before .before .if1 .left),
-      ← c .before .before .before .mark-at .ensures,
-      ← c .before .before .kind-of .ensures,
-      c .enum-told4 .given .1,
-    )
-
-returns-6 : tie.Need-returns-6
-unfolding recordAt openedBy
-returns-6 c =
-    simp (
-      ← c .before .before .before .before .before .left-from .ensures,
-      le-ltb _ _ (c .before .before .before .before .if1 .left),
-      ← c .before .before .before .mark-at .ensures,
-      ← c .before .before .kind-of .ensures,
-      c .enum-told5 .given .1,
+      ← c .before .before .before .before .before .before .before .before .left-from .ensures,
+      le-ltb _ _ (c .before .before .before .before .before .before .before .if1 .left),
+      ← c .before .before .before .before .before .before .mark-at .ensures,
+      ← c .before .before .before .before .before .kind-of .ensures,
+      ← c .before .before .before .before .size-of .ensures,
+      le-ltb _ _ (c .before .before .before .if2 .left),
+      ← c .before .before .fields-of .ensures,
+      ← c .before .is-in-range .ensures,
+      c .if3 .left,
     )
 
 pub record-at-spec : {M : Type 1} → statement M
@@ -109,16 +77,9 @@ record-at-spec =
     returns
     mark-at-requires
     kind-of-requires
-    enum-told
-    spec-record-requires
-    enum-told-2
-    line-record-requires
-    enum-told-3
-    figure-record-requires
-    enum-told-4
-    enum-told-5
+    size-of-requires
     returns-2
+    fields-of-requires
+    is-in-range-requires
     returns-3
-    returns-4
-    returns-5
-    returns-6)
+    returns-4)

@@ -8,8 +8,8 @@ use native.Mathlib.Omega.{arith}
 use denote.Ref.{now}
 use borrow.Author.Needs.{needs}
 use Rattle.galley.specs.declared.Record.the-variants as found
-use Rattle.galley.specs.Laws.Blocks.{blocks-line, blocks-figure, blocks-end, blocks-spec, blocks-refused}
-use Rattle.galley.specs.Laws.Whole.{line-placed, figure-placed, refused-placed}
+use Rattle.galley.specs.laws.Blocks.{blocks-line, blocks-figure, blocks-end, blocks-spec, blocks-refused}
+use Rattle.galley.specs.laws.Whole.{line-in-place, figure-in-place, refused-in-place}
 use Rattle.galley.specs.Whole.{recordIn, dueAt, blocks}
 use Rattle.galley.proofs.whole.read_blocks.Statement.{statement}
 use Rattle.galley.proofs.whole.read_blocks.Tie as tie
@@ -53,7 +53,7 @@ loop-less c =
     let at = dueAt (a .first) (l .lines) (l .figures) in
     let e : recordIn (now (a .s)) at true (l .lines) (l .figures) (l .last) ≡ found.Line _
     = sym (c .before .before .before .record-in .ensures) ∙ c .before .found .given .1 in
-    let p = line-placed (now (a .s)) at true (l .lines) (l .figures) (l .last) e in
+    let p = line-in-place (now (a .s)) at true (l .lines) (l .figures) (l .last) e in
     omega (arith, p .few, l .inv .1)
 
 loop-again : tie.Need-loop-again Inv-loop μ-loop
@@ -63,7 +63,7 @@ loop-again c =
     let at = dueAt (a .first) (l .lines) (l .figures) in
     let e : recordIn (now (a .s)) at true (l .lines) (l .figures) (l .last) ≡ found.Line _
     = sym (c .before .before .before .record-in .ensures) ∙ c .before .found .given .1 in
-    let p = line-placed (now (a .s)) at true (l .lines) (l .figures) (l .last) e in
+    let p = line-in-place (now (a .s)) at true (l .lines) (l .figures) (l .last) e in
     let room : l .lines + l .figures ≤ 4200 = omega (arith, l .inv .0, l .inv .1) in
     let run
     = blocks-line (now (a .s)) (a .spec) (a .first) (l .lines) (l .figures) (l .last) room _ e in
@@ -82,7 +82,7 @@ loop-less-2 c =
     let at = dueAt (a .first) (l .lines) (l .figures) in
     let e : recordIn (now (a .s)) at true (l .lines) (l .figures) (l .last) ≡ found.Figure _
     = sym (c .before .before .before .record-in .ensures) ∙ c .before .found2 .given .1 in
-    let p = figure-placed (now (a .s)) at true (l .lines) (l .figures) (l .last) e in
+    let p = figure-in-place (now (a .s)) at true (l .lines) (l .figures) (l .last) e in
     omega (arith, p .few, l .inv .0)
 
 loop-again-2 : tie.Need-loop-again-2 Inv-loop μ-loop
@@ -92,7 +92,7 @@ loop-again-2 c =
     let at = dueAt (a .first) (l .lines) (l .figures) in
     let e : recordIn (now (a .s)) at true (l .lines) (l .figures) (l .last) ≡ found.Figure _
     = sym (c .before .before .before .record-in .ensures) ∙ c .before .found2 .given .1 in
-    let p = figure-placed (now (a .s)) at true (l .lines) (l .figures) (l .last) e in
+    let p = figure-in-place (now (a .s)) at true (l .lines) (l .figures) (l .last) e in
     let room : l .lines + l .figures ≤ 4200 = omega (arith, l .inv .0, l .inv .1) in
     let run
     = blocks-figure (now (a .s)) (a .spec) (a .first) (l .lines) (l .figures) (l .last) room _ e in
@@ -100,6 +100,12 @@ loop-again-2 c =
 
 enum-told : tie.Need-enum-told Inv-loop μ-loop
 enum-told c = search needs
+
+mul-t18 : tie.Need-mul-t18 Inv-loop μ-loop
+mul-t18 c = search needs
+
+add-t19 : tie.Need-add-t19 Inv-loop μ-loop
+add-t19 c = search needs
 
 returns : tie.Need-returns Inv-loop μ-loop
 returns c =
@@ -116,8 +122,8 @@ returns c =
 enum-known-found-3 : tie.Need-enum-known-found-3 Inv-loop μ-loop
 enum-known-found-3 c = search needs
 
-cast-t18 : tie.Need-cast-t18 Inv-loop μ-loop
-cast-t18 c = search needs
+cast-t22 : tie.Need-cast-t22 Inv-loop μ-loop
+cast-t22 c = search needs
 
 returns-2 : tie.Need-returns-2 Inv-loop μ-loop
 returns-2 c =
@@ -134,14 +140,14 @@ returns-2 c =
 enum-known-found-4 : tie.Need-enum-known-found-4 Inv-loop μ-loop
 enum-known-found-4 c = search needs
 
-cast-t19 : tie.Need-cast-t19 Inv-loop μ-loop
-cast-t19 c =
+cast-t23 : tie.Need-cast-t23 Inv-loop μ-loop
+cast-t23 c =
     let a = c .before .before .before .before .before .before .args in
     let l = c .before .before .before .before .loop in
     let at = dueAt (a .first) (l .lines) (l .figures) in
     let e : recordIn (now (a .s)) at true (l .lines) (l .figures) (l .last) ≡ found.Refused _ _
     = sym (c .before .before .before .record-in .ensures) ∙ c .before .found4 .given .1 in
-    let near = refused-placed (now (a .s)) at true (l .lines) (l .figures) (l .last) e in
+    let near = refused-in-place (now (a .s)) at true (l .lines) (l .figures) (l .last) e in
     omega (arith, near, l .inv .0, l .inv .1)
 
 returns-3 : tie.Need-returns-3 Inv-loop μ-loop
@@ -177,10 +183,12 @@ read-blocks-spec =
     loop-less-2
     loop-again-2
     enum-told
+    mul-t18
+    add-t19
     returns
     enum-known-found-3
-    cast-t18
+    cast-t22
     returns-2
     enum-known-found-4
-    cast-t19
+    cast-t23
     returns-3)

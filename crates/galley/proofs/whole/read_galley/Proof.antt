@@ -5,7 +5,7 @@ use mathlib.Core.Path.{sym, _∙_}
 use native.Mathlib.Omega.{arith}
 use denote.Ref.{now}
 use borrow.Author.Needs.{needs}
-use Rattle.galley.specs.Laws.Whole.{refused-placed}
+use Rattle.galley.specs.laws.Whole.{refused-in-place}
 use Rattle.galley.specs.Whole.{opened, galleyOf}
 use Rattle.galley.proofs.whole.read_galley.Statement.{statement}
 use Rattle.galley.proofs.whole.read_galley.Tie as tie
@@ -35,7 +35,7 @@ cast-t9 : tie.Need-cast-t9
 cast-t9 c =
     omega (
       arith,
-      refused-placed (now (c .before .before .before .before .before .args .s)) 0 false 0 0 0 (sym (c .before .before .before .record-in .ensures) ∙ c .before .found4 .given .1),
+      refused-in-place (now (c .before .before .before .before .before .args .s)) 0 false 0 0 0 (sym (c .before .before .before .record-in .ensures) ∙ c .before .found4 .given .1),
     )
 
 returns : tie.Need-returns

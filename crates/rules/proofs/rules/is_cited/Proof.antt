@@ -4,7 +4,7 @@ use borrow.Author.Tests.{ltb-true}
 use denote.Ref.{now}
 use lib.Dec.{ltb}
 use mathlib.Core.Bool.{Bool, _||_}
-use Rattle.galley.specs.Laws.Sound.{sound-within}
+use native.Mathlib.Omega.{arith}
 use Rattle.rules.specs.laws.Two.{cited-two}
 use Rattle.model.specs.laws.Gather.{and-right}
 use Rattle.rules.proofs.rules.is_cited.Statement.{statement}
@@ -13,13 +13,13 @@ use Rattle.rules.proofs.rules.is_cited.Tie as tie
 ends-spread-requires : tie.Need-ends-spread-requires
 ends-spread-requires c κs = search needs
 
-figure-cite-requires : tie.Need-figure-cite-requires
-figure-cite-requires c κs =
+field-requires : tie.Need-field-requires
+field-requires c κs =
     let a = c .before .before .before .args in
     let both : Bool = c .before .ends-spread .result || a .last in
     let low = ltb-true 0 (a .j) (and-right both (ltb 0 (a .j)) (c .if1 .taken)) in
     let so = c .before .before .before .pre in
-    record { within = sound-within _ _ (so .0); low = low; high = so .1 }
+    record { within = so .0 .figures .within; low = low; high = so .1; field = omega arith }
 
 size-requires : tie.Need-size-requires
 size-requires c κs = search needs
@@ -31,7 +31,7 @@ returns c =
       cited-two (now (a .s)) (a .g) (a .page .0) (a .last) (a .i) (a .j),
       ← c .before .before .before .ends-spread .ensures,
       c .before .before .if1 .taken,
-      ← c .before .figure-cite .ensures,
+      ← c .before .field .ensures,
       c .size .ensures,
     )
 
@@ -43,4 +43,4 @@ returns-2 c =
 
 pub is-cited-spec : {M : Type 1} → statement M
 is-cited-spec =
-    tie.close (tie.spec ends-spread-requires figure-cite-requires size-requires returns returns-2)
+    tie.close (tie.spec ends-spread-requires field-requires size-requires returns returns-2)

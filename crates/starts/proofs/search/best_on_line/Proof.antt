@@ -5,24 +5,24 @@ use Prim.Native.Nat.{ℕ, suc, _+_, _-_, _≤_}
 use native.Mathlib.Numerals.{add-one}
 use native.Mathlib.Omega.{arith}
 use borrow.Author.Tests.{not-true, not-false}
-use Rattle.galley.specs.Model.{figuresOf}
+use Rattle.galley.specs.Model.{floatsOf}
 use Rattle.places.specs.laws.Address.{address-in}
 use Rattle.starts.specs.Search.{row}
-use Rattle.starts.specs.Heights.{Stacked}
+use Rattle.blocks.specs.Heights.{Stacked}
 use Rattle.starts.specs.Asked.{searchOf}
-use Rattle.starts.specs.laws.Heights.{lines-low, figures-low, stacked-nothing}
+use Rattle.blocks.specs.laws.Heights.{stacked-nothing, stacked-small, stacked-room, back-stacked}
 use Rattle.starts.specs.laws.Search.{table-read, row-high, row-passed, row-unreached, row-weighed}
 use borrow.Author.Needs.{needs}
 use Rattle.starts.proofs.search.best_on_line.Statement.{statement}
 use Rattle.starts.proofs.search.best_on_line.Tie as tie
 
 abbrev Inv-loop : tie.InvT-loop
-Inv-loop s g work i j side a lines best₀ figures₀ b₀ best figures b =
-    (b ≤ j + 1) × Stacked (figuresOf s g) b j figures
-    × (row (searchOf s g work i j side) a b best ≡ row (searchOf s g work i j side) a (suc j) best₀)
+Inv-loop s g work i j side lines a best₀ figures₀ b₀ best figures b =
+    (b ≤ j + 1) × Stacked (floatsOf s (g .figures)) b j figures
+    × (row (searchOf s g work i j side) (lines .from) b best ≡ row (searchOf s g work i j side) (lines .from) (suc j) best₀)
 
 abbrev μ-loop : tie.MeasureT-loop
-μ-loop s g work i j side a lines best₀ figures₀ b₀ best figures b = b
+μ-loop s g work i j side lines a best₀ figures₀ b₀ best figures b = b
 
 add-b : tie.Need-add-b Inv-loop μ-loop
 add-b c = search needs
@@ -31,25 +31,33 @@ loop-holds : tie.Need-loop-holds Inv-loop μ-loop
 loop-holds c =
     let a = c .before .before .args in (
       omega arith,
-      stacked-nothing (figuresOf (a .s .now) (a .g)) (a .j + 1) (a .j) (omega arith),
-      ap (λ (n : ℕ). row (searchOf (a .s .now) (a .g) (a .work .now) (a .i) (a .j) (a .side)) (a .a) n (a .known))
+      stacked-nothing (floatsOf (a .s .now) (a .g .figures)) (a .j + 1) (a .j) (omega arith),
+      ap (λ (n : ℕ). row (searchOf (a .s .now) (a .g) (a .work .now) (a .i) (a .j) (a .side)) (a .lines .from) n (a .known))
           (add-one (a .j)),
     )
 
 sub-b : tie.Need-sub-b Inv-loop μ-loop
 sub-b c = search needs
 
-figure-before-requires : tie.Need-figure-before-requires Inv-loop μ-loop
-figure-before-requires c κs =
+block-before-requires : tie.Need-block-before-requires Inv-loop μ-loop
+block-before-requires c κs =
     let start = c .before .before .before .before in
+    let a = start .args in
     let st = c .before .loop in
-    let some = c .loop-test .taken in
-    let same : st .b ≡ st .b - 1 + 1 = omega arith in
-    record {
-      sound = start .pre .searched .placed .sound;
-      within = start .pre .searched .placed .figure;
-      after = rw same at (st .inv .1);
-    }
+    let placed = start .pre .searched .placed in
+    let few = placed .sound .fewFigures in
+    stacked-room (a .s .now) (a .g .figures) (st .b) (a .j) (st .figures) (placed .sound .figures) (omega arith) (placed .figure)
+    (st .inv .1)
+
+-- With the figure before, the figures have the heights in hand.
+figures : (c : tie.After-block-before Inv-loop μ-loop)
+    → Stacked (floatsOf (c .before .before .before .before .before .args .s .now) (c .before .before .before .before .before .args .g .figures))
+    (c .before .before .loop .b - 1) (c .before .before .before .before .before .args .j) (c .block-before .result)
+figures c =
+    let a = c .before .before .before .before .before .args in
+    let st = c .before .before .loop in
+    back-stacked (a .s .now) (a .g .figures) (st .b) (a .j) (st .figures) (c .block-before .result) (c .before .loop-test .taken)
+    (c .block-before .ensures) (st .inv .1)
 
 page-heights-requires : tie.Need-page-heights-requires Inv-loop μ-loop
 page-heights-requires c κs =
@@ -58,17 +66,18 @@ page-heights-requires c κs =
     let sound = start .pre .searched .placed .sound in
     let spec = sound .specRanged in
     let low =
-    lines-low (a .s .now) (a .g) sound (a .a) (a .i) (a .lines) (start .pre .searched .placed .line) (start .pre .text) in
+    stacked-small (a .s .now) (a .g .text) (a .lines .from) (a .i) (a .lines .heights) (sound .text) (start .pre .searched .placed .line)
+    (start .pre .text) in
     let few =
-    figures-low (a .s .now) (a .g) sound (c .before .before .loop .b - 1) (a .j) (c .figure-before .result)
-    (start .pre .searched .placed .figure) (c .figure-before .ensures) in
+    stacked-small (a .s .now) (a .g .figures) (c .before .before .loop .b - 1) (a .j) (c .block-before .result) (sound .figures)
+    (start .pre .searched .placed .figure) (figures c) in
     record {
       smin = omega (arith, spec .smins, spec .smaxs);
       smax = spec .smaxs;
-      lineTight = omega (arith, low .tight);
-      lineLoose = omega (arith, low .loose);
-      figureTight = omega (arith, few .tight);
-      figureLoose = omega (arith, few .loose);
+      lineTight = omega (arith, low .tight, sound .fewLines);
+      lineLoose = omega (arith, low .loose, sound .fewLines);
+      figureTight = omega (arith, few .tight, sound .fewFigures);
+      figureLoose = omega (arith, few .loose, sound .fewFigures);
     }
 
 returns : tie.Need-returns Inv-loop μ-loop
@@ -80,10 +89,10 @@ returns c =
     let a = start .args in
     let some = inside .loop-test .taken in
     let next : st .b ≡ suc (st .b - 1) = omega arith in
-    let floats = page .before .figure-before .ensures in
+    let floats = figures (page .before) in
     let whole = page .page-heights .ensures in
     sym
-    (row-high (a .s .now) (a .g) (a .work .now) (a .i) (a .j) (a .side) (a .a) (a .lines) (start .pre .text) (st .b) (st .b - 1)
+    (row-high (a .s .now) (a .g) (a .work .now) (a .i) (a .j) (a .side) (a .lines .from) (a .lines .heights) (start .pre .text) (st .b) (st .b - 1)
     next _ floats _ whole (st .best) (c .if1 .taken))
     ∙ st .inv .2
 
@@ -104,11 +113,11 @@ loop-again c =
     let a = start .args in
     let some = inside .loop-test .taken in
     let next : st .b ≡ suc (st .b - 1) = omega arith in
-    let floats = page .before .figure-before .ensures in
+    let floats = figures (page .before) in
     let whole = page .page-heights .ensures in
     let passed = sym (counts .counts .ensures) ∙ not-true _ (c .if2 .taken) in
     let turn =
-    row-passed (a .s .now) (a .g) (a .work .now) (a .i) (a .j) (a .side) (a .a) (a .lines) (start .pre .text) (st .b)
+    row-passed (a .s .now) (a .g) (a .work .now) (a .i) (a .j) (a .side) (a .lines .from) (a .lines .heights) (start .pre .text) (st .b)
     (st .b - 1)
     next _ floats _ whole (st .best) (low .if1 .left) passed in
     (omega arith, floats, sym turn ∙ st .inv .2)
@@ -137,7 +146,7 @@ entry-at-requires c κs =
     let st = c .before .before .before .before .before .before .before .before .before .before .loop in
     let placed = start .pre .searched .placed in
     let within =
-    address-in (a .g .lines) (a .g .figures) (a .a) (st .b - 1) (a .side) (omega (arith, start .pre .start, placed .line))
+    address-in (a .g .text .count) (a .g .figures .count) (a .lines .from) (st .b - 1) (a .side) (omega (arith, start .pre .start, placed .line))
     (omega (arith, st .inv .0, placed .figure)) (start .pre .searched .either) in
     omega (arith, within, c .address-of .ensures, start .pre .searched .room)
 
@@ -163,15 +172,15 @@ loop-again-2 c =
     let a = start .args in
     let some = inside .loop-test .taken in
     let next : st .b ≡ suc (st .b - 1) = omega arith in
-    let floats = page .before .figure-before .ensures in
+    let floats = figures (page .before) in
     let whole = page .page-heights .ensures in
     let worthy = sym (counts .counts .ensures) ∙ not-false _ (weighed .if2 .left) in
     let read =
-    table-read (a .g) (a .work .now) (a .a) (st .b - 1) (a .side) (at .address-of .result) (at .address-of .ensures)
+    table-read (a .g) (a .work .now) (a .lines .from) (st .b - 1) (a .side) (at .address-of .result) (at .address-of .ensures)
     ∙ sym (c .before .before .entry-at .ensures)
     ∙ c .enum-told .given .1 in
     let turn =
-    row-unreached (a .s .now) (a .g) (a .work .now) (a .i) (a .j) (a .side) (a .a) (a .lines) (start .pre .text) (st .b)
+    row-unreached (a .s .now) (a .g) (a .work .now) (a .i) (a .j) (a .side) (a .lines .from) (a .lines .heights) (start .pre .text) (st .b)
     (st .b - 1)
     next _ floats _ whole (st .best) (low .if1 .left) worthy read in
     (omega arith, floats, sym turn ∙ st .inv .2)
@@ -205,19 +214,19 @@ loop-again-3 c =
     let a = start .args in
     let some = inside .loop-test .taken in
     let next : st .b ≡ suc (st .b - 1) = omega arith in
-    let floats = page .before .figure-before .ensures in
+    let floats = figures (page .before) in
     let whole = page .page-heights .ensures in
     let worthy = sym (counts .counts .ensures) ∙ not-false _ (weighed .if2 .left) in
     let read =
-    table-read (a .g) (a .work .now) (a .a) (st .b - 1) (a .side) (at .address-of .result) (at .address-of .ensures)
+    table-read (a .g) (a .work .now) (a .lines .from) (st .b - 1) (a .side) (at .address-of .result) (at .address-of .ensures)
     ∙ sym (reached .before .before .entry-at .ensures)
     ∙ reached .entry .given .1 in
     let turn =
-    row-weighed (a .s .now) (a .g) (a .work .now) (a .i) (a .j) (a .side) (a .a) (a .lines) (start .pre .text) (st .b)
+    row-weighed (a .s .now) (a .g) (a .work .now) (a .i) (a .j) (a .side) (a .lines .from) (a .lines .heights) (start .pre .text) (st .b)
     (st .b - 1)
     next _ floats _ whole (st .best) (low .if1 .left) worthy _ _ read in
     let best =
-    ap (row (searchOf (a .s .now) (a .g) (a .work .now) (a .i) (a .j) (a .side)) (a .a) (st .b - 1)) (c .cheaper .ensures _) in
+    ap (row (searchOf (a .s .now) (a .g) (a .work .now) (a .i) (a .j) (a .side)) (a .lines .from) (st .b - 1)) (c .cheaper .ensures _) in
     (omega arith, floats, best ∙ sym turn ∙ st .inv .2)
 
 returns-2 : tie.Need-returns-2 Inv-loop μ-loop
@@ -226,7 +235,7 @@ returns-2 c =
     let st = c .before .loop in
     let a = c .before .before .before .before .args in
     let none : st .b ≡ 0 = omega (arith, c .loop-test .left) in
-    sym (ap (λ (n : ℕ). row (searchOf (a .s .now) (a .g) (a .work .now) (a .i) (a .j) (a .side)) (a .a) n (st .best)) none)
+    sym (ap (λ (n : ℕ). row (searchOf (a .s .now) (a .g) (a .work .now) (a .i) (a .j) (a .side)) (a .lines .from) n (st .best)) none)
     ∙ st .inv .2
 
 pub best-on-line-spec : {M : Type 1} → statement M
@@ -238,7 +247,7 @@ best-on-line-spec =
     add-b
     loop-holds
     sub-b
-    figure-before-requires
+    block-before-requires
     page-heights-requires
     returns
     counts-requires

@@ -22,7 +22,7 @@ entry-at-requires : tie.Need-entry-at-requires
 entry-at-requires c κs =
     let start = c .before .before .before .before .before in
     let a = start .args in
-    let within = address-in (a .g .lines) (a .g .figures) (a .i) (a .b) (a .side) (start .pre .line) (start .pre .within)
+    let within = address-in (a .g .text .count) (a .g .figures .count) (a .i) (a .b) (a .side) (start .pre .line) (start .pre .within)
     (start .pre .either) in
     omega (arith, within, c .address-of .ensures, start .pre .room)
 

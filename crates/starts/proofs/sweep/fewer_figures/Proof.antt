@@ -1,44 +1,30 @@
 -- `fewer_figures` meets its contract. The loop's invariant is `FewerRun`: the starts with b figures or more are known.
-use Prim.Native.Nat.{_-_}
 use native.Mathlib.Omega.{arith}
-use mathlib.Core.Path.{_≡_, refl}
+use mathlib.Core.Path.{_≡_}
 use Rattle.starts.specs.Sweep.{FewerRun}
-use Rattle.starts.specs.laws.Fewer.{fewer-first, fewer-before, fewer-sweeps, fewer-next, fewer-over}
+use Rattle.starts.specs.laws.Fewer.{fewer-first, fewer-room, fewer-sweeps, fewer-next, fewer-over, fewer-since}
 use borrow.Author.Needs.{needs}
 use Rattle.starts.proofs.sweep.fewer_figures.Statement.{statement}
 use Rattle.starts.proofs.sweep.fewer_figures.Tie as tie
 
 abbrev Inv-loop : tie.InvT-loop
-Inv-loop s g work sums words₀ best₀ j side figures₀ b₀ words best figures b =
-    FewerRun s g work words₀ words best₀ best j side figures b
+Inv-loop s g work₀ sums words₀ j figures₀ b₀ work words figures b =
+    FewerRun s g work₀ work words₀ words j figures b
 
 abbrev μ-loop : tie.MeasureT-loop
-μ-loop s g work sums words₀ best₀ j side figures₀ b₀ words best figures b = b
+μ-loop s g work₀ sums words₀ j figures₀ b₀ work words figures b = b
 
-add-clear : tie.Need-add-clear Inv-loop μ-loop
-add-clear c =
-    omega (arith, c .before .before .before .before .before .before .before .pre .lent .sound .fewLines)
-
-mul-clear : tie.Need-mul-clear Inv-loop μ-loop
-mul-clear c =
-    omega (arith, c .before .before .before .before .before .before .before .pre .lent .sound .fewLines)
-
-clear-requires : tie.Need-clear-requires Inv-loop μ-loop
-clear-requires c κs =
-    omega (arith, c .before .before .before .before .before .before .before .pre .lent .bestRoom)
+clear-column-requires : tie.Need-clear-column-requires Inv-loop μ-loop
+clear-column-requires c κs = search needs
 
 loop-holds : tie.Need-loop-holds Inv-loop μ-loop
-loop-holds c =
-    fewer-first (c .before .before .before .before .before .before .before .before .before .before .pre .lent) _ refl _
-    (c .before .before .clear .ensures) (search needs)
+loop-holds c = fewer-first (c .before .before .before .before .before .before .before .before .pre .lent) _ (c .before .before .clear-column .ensures)
 
 sub-b : tie.Need-sub-b Inv-loop μ-loop
 sub-b c = search needs
 
-figure-before-requires : tie.Need-figure-before-requires Inv-loop μ-loop
-figure-before-requires c κs =
-    let st = c .before .loop in
-    fewer-before (st .inv) (c .loop-test .taken)
+block-before-requires : tie.Need-block-before-requires Inv-loop μ-loop
+block-before-requires c κs = fewer-room (c .before .loop .inv) (c .loop-test .taken)
 
 same-length : tie.Need-same-length Inv-loop μ-loop
 same-length c = search needs
@@ -48,30 +34,25 @@ same-length-2 c = search needs
 
 returns : tie.Need-returns Inv-loop μ-loop
 returns c =
-    let st = c .before .before .before .before .before .loop in
-    fewer-over (st .inv) (c .before .before .before .before .loop-test .taken)
-    (c .before .before .before .figure-before .result) (c .before .before .before .figure-before .ensures) (c .if1 .taken)
+    let found = c .before .before .before .block-before in
+    fewer-since (c .before .before .before .before .before .before .before .before .before .before .before .before .before .before .pre .lent) _ _ (c .before .before .before .before .before .before .before .before .clear-column .ensures)
+    (fewer-over (c .before .before .before .before .before .loop .inv) (c .before .before .before .before .loop-test .taken) (found .result) (found .ensures) (c .if1 .taken))
 
 sweep-requires : tie.Need-sweep-requires Inv-loop μ-loop
 sweep-requires c κs =
-    let st = c .before .before .before .before .before .before .before .loop in
-    fewer-sweeps (st .inv) (c .before .before .before .before .before .before .loop-test .taken)
-    (c .before .before .before .before .before .figure-before .result)
-    (c .before .before .before .before .before .figure-before .ensures)
-    (c .before .before .before .before .before .before .before .before .before .before .before .before .before .before .before .before .before .before .pre .summed)
-    (omega (arith, c .before .before .if1 .left))
+    let found = c .before .before .before .before .before .block-before in
+    fewer-sweeps (c .before .before .before .before .before .before .before .loop .inv) (c .before .before .before .before .before .before .loop-test .taken) (found .result) (found .ensures)
+    (c .before .before .before .before .before .before .before .before .before .before .before .before .before .before .before .before .pre .summed) (omega (arith, c .before .before .if1 .left))
 
 loop-less : tie.Need-loop-less Inv-loop μ-loop
 loop-less c = search needs
 
 loop-again : tie.Need-loop-again Inv-loop μ-loop
 loop-again c =
-    let st = c .before .before .before .before .before .before .before .before .before .before .before .before .loop in
-    fewer-next (st .inv)
-    (c .before .before .before .before .before .before .before .before .before .before .before .loop-test .taken)
-    (c .before .before .before .before .before .before .before .before .before .before .figure-before .result)
-    (c .before .before .before .before .before .before .before .before .before .before .figure-before .ensures) _ _
-    (search needs) (search needs) (c .before .before .before .before .sweep .ensures)
+    let found = c .before .before .before .before .before .before .before .before .before .before .block-before in
+    fewer-next (c .before .before .before .before .before .before .before .before .before .before .before .before .loop .inv) (c .before .before .before .before .before .before .before .before .before .before .before .loop-test .taken) (found .result) (found .ensures) _ _
+    (search (needs, c .before .before .slice-known4 .given, c .before .before .before .work2 .given))
+    (search (needs, c .slice-known5 .given, c .before .words .given)) (c .before .before .before .before .sweep .ensures)
 
 same-length-3 : tie.Need-same-length-3 Inv-loop μ-loop
 same-length-3 c = search needs
@@ -83,7 +64,8 @@ returns-2 : tie.Need-returns-2 Inv-loop μ-loop
 returns-2 c =
     let st = c .before .loop in
     let none : st .b ≡ 0 = omega (arith, c .loop-test .left) in
-    rw none at (st .inv .known)
+    fewer-since (c .before .before .before .before .before .before .before .before .before .before .pre .lent) _ _ (c .before .before .before .before .clear-column .ensures)
+    (record { known = rw none at (st .inv .known); kept = st .inv .kept })
 
 pub fewer-figures-spec : {M : Type 1} → statement M
 fewer-figures-spec =
@@ -91,12 +73,10 @@ fewer-figures-spec =
     (tie.spec
     Inv-loop
     μ-loop
-    add-clear
-    mul-clear
-    clear-requires
+    clear-column-requires
     loop-holds
     sub-b
-    figure-before-requires
+    block-before-requires
     same-length
     same-length-2
     returns

@@ -3,7 +3,7 @@ use Prim.Native.Nat.{_+_}
 use native.Mathlib.Omega.{arith}
 use mathlib.Core.Path.{_≡_, ap, _∙_}
 use Rattle.model.specs.Gather.{pick}
-use Rattle.starts.specs.declared.heights.Heights.{Heights}
+use Rattle.blocks.specs.declared.heights.Heights.{Heights}
 use borrow.Author.Needs.{needs}
 use Rattle.starts.proofs.sweep.load_of.Statement.{statement}
 use Rattle.starts.proofs.sweep.load_of.Tie as tie

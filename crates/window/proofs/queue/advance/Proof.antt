@@ -1,5 +1,7 @@
 -- `advance` meets its contract: the new lines are fed to the queue, and entries before the window are dropped from its
 -- front.
+use native.Mathlib.Omega.{arith}
+use mathlib.Core.Path.{refl}
 use Rattle.window.specs.Queue.{columnOf}
 use Rattle.window.specs.laws.Held.{held-dropped}
 use borrow.Author.Needs.{needs}
@@ -22,10 +24,13 @@ returns c =
     let fed = c .before .before .before .before .feed in
     let passed = c .drop-passed .ensures in
     record {
+      base = refl;
+      based = omega (arith, start .pre .based, passed .from);
       order = passed .to;
       short = fed .ensures .short;
+      beside = fed .ensures .beside;
       held = λ low l h.
-          held-dropped (columnOf (a .work .now) (a .tall) (a .b) (a .side)) _ (a .queue .head) (fed .result)
+          held-dropped (columnOf (a .work .now) (a .tall) (a .b) (a .side)) _ (a .queue .base) (a .queue .head) (fed .result)
           (c .drop-passed .result)
           low (a .window .low) (a .window .high) l passed (fed .ensures .held low h);
       fresh = passed .kept;

@@ -2,13 +2,13 @@
 -- turn passes an unreached line, or drops what is no cheaper and pushes a reached one.
 use Prim.Native.Nat.{ℕ, _+_, _-_, _*_, _≤_}
 use native.Mathlib.Omega.{arith}
-use mathlib.Core.Path.{_≡_, sym, ap, subst, _∙_}
+use mathlib.Core.Path.{_≡_, refl, sym, ap, subst, _∙_}
 use mathlib.Core.List.{List}
 use lib.ListN.{length}
-use Rattle.window.specs.Queue.{columnOf, tailed, Held}
+use Rattle.window.specs.Queue.{columnOf, tailed, Held, Beside}
 use Rattle.window.specs.Run.{FeedRun}
 use Rattle.window.specs.laws.Held.{column-read, held-passed}
-use Rattle.window.specs.laws.Pushed.{pushed-length, held-pushed}
+use Rattle.window.specs.laws.Pushed.{pushed-length, pushed-beside, held-pushed}
 use borrow.Author.Needs.{needs}
 use Rattle.window.proofs.queue.feed.Statement.{statement}
 use Rattle.window.proofs.queue.feed.Tie as tie
@@ -21,7 +21,17 @@ abbrev μ-loop : tie.MeasureT-loop
 μ-loop work tall b side words₀ queue from to tail₀ a₀ words tail a = to - a
 
 loop-holds : tie.Need-loop-holds Inv-loop μ-loop
-loop-holds c = search needs
+loop-holds c =
+    let start = c .before .before in
+    record {
+      start = omega arith;
+      within = start .pre .start;
+      order = start .pre .order;
+      short = start .pre .short;
+      beside = record { lines = λ k p. refl; costs = λ k p. refl };
+      sized = refl;
+      held = λ low h. h;
+    }
 
 address-of-requires : tie.Need-address-of-requires Inv-loop μ-loop
 address-of-requires c κs = search needs
@@ -63,6 +73,7 @@ loop-again c =
       within = omega arith;
       order = st .inv .order;
       short = omega (arith, st .inv .short);
+      beside = st .inv .beside;
       sized = st .inv .sized;
       held = λ low h. held-passed col (st .words) (tailed (a .queue) (st .tail)) low (st .a) none (st .inv .held low h);
     }
@@ -103,6 +114,9 @@ loop-again-2 c =
       within = omega (arith, test);
       order = omega (arith, dropped .from);
       short = omega (arith, dropped .to, st .inv .short);
+      beside = subst (λ (w : List ℕ). Beside (a .words .now) w (a .queue .base) (a .queue .base + a .to)) (sym new)
+          (pushed-beside (st .words) t _ _ (omega (arith, start .pre .based, dropped .from))
+          (omega (arith, dropped .to, st .inv .short, test)) (st .inv .beside));
       sized = ap length new ∙ pushed-length (st .words) t _ _ ∙ st .inv .sized;
       held = λ low h.
           subst (λ (w : List ℕ). Held col w (tailed (a .queue) (t + 1)) low (st .a + 1)) (sym new)
@@ -123,6 +137,7 @@ returns c =
     record {
       order = st .inv .order;
       short = omega (arith, st .inv .short);
+      beside = st .inv .beside;
       held = λ low h. subst (Held col (st .words) (tailed (a .queue) (st .tail)) low) done (st .inv .held low h);
     }
 

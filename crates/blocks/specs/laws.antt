@@ -1,0 +1,3 @@
+-- The laws of heights.
+pub mod Stacked
+pub mod Heights

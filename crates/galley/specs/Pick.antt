@@ -1,7 +1,0 @@
--- What a test decides.
-use mathlib.Core.Bool.{Bool, true, false}
-
--- The first answer where the test holds, else the second.
-abbrev pub pick : {A : Type 0} → Bool → A → A → A
-pick true a b = a
-pick false a b = b

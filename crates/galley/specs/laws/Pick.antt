@@ -1,0 +1,9 @@
+-- Laws of what a test decides.
+use mathlib.Core.Bool.{Bool, true, false}
+use mathlib.Core.Path.{_≡_, refl}
+use Rattle.model.specs.Gather.{pick}
+
+-- What holds of each answer under its test holds of the answer picked.
+pub pick-has : {A : Type 0} (P : A → Type 0) (x : Bool) (a b : A) → (x ≡ true → P a) → (x ≡ false → P b) → P (pick x a b)
+pick-has P true a b f g = f refl
+pick-has P false a b f g = g refl

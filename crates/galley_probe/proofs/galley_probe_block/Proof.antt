@@ -1,0 +1,119 @@
+-- `galley_probe::galley_probe_block` meets its contract. Block k is there once its number is tested, since a galley that reads
+-- is sound.
+use Prim.Native.Nat.{ℕ, _+_, _*_, _≤_}
+use mathlib.Core.Bool.{Bool, true, false}
+use mathlib.Core.List.{List}
+use mathlib.Core.Path.{sym, _∙_}
+use native.Mathlib.Omega.{arith}
+use lib.Dec.{eqb}
+use lib.ListN.{length}
+use denote.Ref.{now}
+use borrow.Author.Tests.{lt-ltb, le-ltb}
+use borrow.Author.Needs.{needs}
+use Rattle.model.specs.Gather.{pick}
+use Rattle.galley.specs.Block.{Has}
+use Rattle.galley.specs.Sound.{Sound}
+use Rattle.galley.specs.laws.Sound.{sound}
+use Rattle.galley.specs.declared.Galley.{Galley}
+use Rattle.galley_probe.specs.Words.{streamAt, blockWords}
+use Rattle.galley_probe.proofs.galley_probe_block.Statement.{statement}
+use Rattle.galley_probe.proofs.galley_probe_block.Tie as tie
+
+-- Each stream lies within the bytes.
+stream-within : (bytes : List ℕ) (g : Galley) (number : ℕ) → Sound bytes g
+    → streamAt g number .first + streamAt g number .count * 18 ≤ length bytes
+stream-within bytes g number so = go (eqb number 0)
+  where
+    go : (t : Bool) → pick t (g .text) (g .figures) .first + pick t (g .text) (g .figures) .count * 18 ≤ length bytes
+    go true = so .text .within
+    go false = so .figures .within
+
+read-galley-requires : tie.Need-read-galley-requires
+read-galley-requires c κs = search needs
+
+enum-known-reading : tie.Need-enum-known-reading
+enum-known-reading c = search needs
+
+enum-told : tie.Need-enum-told
+enum-told c = search needs
+
+returns : tie.Need-returns
+unfolding blockWords
+returns c = simp (sym (c .before .before .before .read-galley .ensures) ∙ c .before .enum-told .given .1)
+
+stream-at-requires : tie.Need-stream-at-requires
+stream-at-requires c κs = search needs
+
+returns-2 : tie.Need-returns-2
+unfolding blockWords
+returns-2 c =
+    simp (
+      sym (c .before .before .before .before .before .before .read-galley .ensures) ∙ c .before .before .before .before .reading .given .1,
+      lt-ltb _ _ (c .before .if1 .taken),
+    )
+
+returns-3 : tie.Need-returns-3
+unfolding blockWords
+returns-3 c =
+    simp (
+      sym (c .before .before .before .before .before .before .before .before .read-galley .ensures) ∙ c .before .before .before .before .before .before .reading .given .1,
+      le-ltb _ _ (c .before .before .before .if1 .left),
+      ← c .before .before .before .before .stream-at .ensures,
+      lt-ltb _ _ (c .before .if2 .taken),
+    )
+
+-- Once the number is tested, block k has each of its fields.
+has : (c : tie.Else2) (at : ℕ) → at ≤ 14
+    → Has (now (c .before .before .before .before .before .before .before .before .before .args .bytes)) (c .before .before .before .stream-at .result) (c .before .before .before .before .before .before .before .before .before .args .k) at
+has c at inside =
+    let a = c .before .before .before .before .before .before .before .before .before .args in
+    let read = sym (c .before .before .before .before .before .before .before .read-galley .ensures) ∙ c .before .before .before .before .before .reading .given .1 in
+    record {
+      within = rw (c .before .before .before .stream-at .ensures) (stream-within (now (a .bytes)) _ (a .number) (sound _ _ read));
+      low = c .before .before .if1 .left;
+      high = c .if2 .left;
+      field = inside;
+    }
+
+field-requires : tie.Need-field-requires
+field-requires c κs = has c _ (omega arith)
+
+field-requires-2 : tie.Need-field-requires-2
+field-requires-2 c κs = has (c .before) _ (omega arith)
+
+field-requires-3 : tie.Need-field-requires-3
+field-requires-3 c κs = has (c .before .before) _ (omega arith)
+
+field-requires-4 : tie.Need-field-requires-4
+field-requires-4 c κs = has (c .before .before .before) _ (omega arith)
+
+returns-4 : tie.Need-returns-4
+unfolding blockWords
+returns-4 c =
+    simp (
+      sym (c .before .before .before .before .before .before .before .before .before .before .before .before .read-galley .ensures) ∙ c .before .before .before .before .before .before .before .before .before .before .reading .given .1,
+      le-ltb _ _ (c .before .before .before .before .before .before .before .if1 .left),
+      ← c .before .before .before .before .before .before .before .before .stream-at .ensures,
+      le-ltb _ _ (c .before .before .before .before .before .if2 .left),
+      ← c .before .before .before .before .field .ensures,
+      ← c .before .before .before .field2 .ensures,
+      ← c .before .before .field3 .ensures,
+      ← c .before .field4 .ensures,
+    )
+
+pub galley-probe-block-spec : {M : Type 1} → statement M
+galley-probe-block-spec =
+    tie.close
+    (tie.spec
+    read-galley-requires
+    enum-known-reading
+    enum-told
+    returns
+    stream-at-requires
+    returns-2
+    returns-3
+    field-requires
+    field-requires-2
+    field-requires-3
+    field-requires-4
+    returns-4)
