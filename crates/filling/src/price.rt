@@ -2,8 +2,8 @@
 ghost use mathlib.Core.Path.{_≡_};
 ghost use mathlib.Core.List.{List};
 ghost use Prim.Native.Nat.{ℕ};
-ghost use Rattle.theorems.specs.Waiting.{pageCost};
-ghost use Rattle.theorems.specs.PageGraph.{full};
+ghost use Rattle.theorems.specs.turns.Waiting.{pageCost};
+ghost use Rattle.theorems.specs.pages.Graph.{full};
 ghost use Rattle.galley.specs.Model.{figuresOf, modelOf};
 ghost use Rattle.rules.specs.Parts.{Citing};
 ghost use Rattle.starts.specs.Search.{place, mayStop};

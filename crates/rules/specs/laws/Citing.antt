@@ -10,8 +10,8 @@ use borrow.Author.Tests.{ltb-true, ltb-false, le-leb, lt-leb}
 use Rattle.model.specs.Gather.{pick, one, sum}
 use Rattle.model.specs.Galley.{Stream, Sane, count}
 use Rattle.model.specs.Leaf.{ends, sidesOf}
-use Rattle.theorems.specs.Waiting.{dangles, waitingIn, waiting}
-use Rattle.theorems.specs.Costs.{cite-mono}
+use Rattle.theorems.specs.turns.Waiting.{dangles, waitingIn, waiting}
+use Rattle.theorems.specs.turns.Costs.{cite-mono}
 use Rattle.galley.specs.declared.Galley.{Galley}
 use Rattle.galley.specs.Model.{figuresOf, modelOf}
 use Rattle.rules.specs.Parts.{Citing, waitingAt}

@@ -1,5 +1,7 @@
-//! The two functions of `include/barleychime.h` over the plain Rust implementation, and making by its plain search. Never
+//! The functions of `include/barleychime.h` over the plain Rust implementation, and making by its plain search. Never
 //! shipped: it lets the command, the tests and the benchmark be tried without the proved archive.
+
+mod section;
 
 use core::slice::{from_raw_parts, from_raw_parts_mut};
 
@@ -51,4 +53,13 @@ unsafe fn put(answer: *mut u32, made: native::Answer) -> u32 {
     let words = [made.number, made.place, made.p, made.x, made.y, made.t];
     unsafe { from_raw_parts_mut(answer, 6) }.copy_from_slice(&words);
     made.number
+}
+
+/// # Safety
+/// As `include/barleychime.h` says.
+#[no_mangle]
+pub unsafe extern "C" fn barleychime_report(marks: *const native::Mark, marks_len: usize, report: *mut u64) -> u32 {
+    let words = native::report(unsafe { from_raw_parts(marks, marks_len) });
+    unsafe { from_raw_parts_mut(report, words.len()) }.copy_from_slice(&words);
+    words[0] as u32
 }
