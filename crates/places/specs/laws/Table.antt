@@ -1,16 +1,14 @@
--- The table after a store, which changes one place on one side, and after clearing.
+-- The table after a store, which changes one place on one side.
 use mathlib.Core.Path.{_≡_}
 use mathlib.Core.List.{List}
 use Prim.Native.Nat.{ℕ, _+_, _<_, _≤_}
 use lib.ListN.{length}
 use Rattle.places.specs.declared.Entry.{Entry}
-use Rattle.places.specs.declared.Entry.the-variants.{Unreached}
-use Rattle.places.specs.Entry.{stored, cleared}
+use Rattle.places.specs.Entry.{stored}
 use Rattle.places.specs.Address.{address}
 use Rattle.places.specs.Table.{tableOf}
 use Rattle.places.specs.laws.Address.{address-apart}
 use Rattle.places.specs.laws.Stored.{stored-same, stored-other}
-use Rattle.places.specs.laws.Cleared.{cleared-unreached}
 
 -- The place and side that were stored have what was stored.
 pub table-same :
@@ -27,9 +25,3 @@ pub table-other :
 unfolding tableOf
 table-other tall i j side i′ j′ side′ w e h h′ s s′ differ =
     stored-other w (address tall i j side) (address tall i′ j′ side′) e (address-apart tall i j side i′ j′ side′ h h′ s s′ differ)
-
--- After clearing every place is unreached.
-pub table-cleared :
-    (tall i j side n : ℕ) (w : List ℕ) → address tall i j side + 4 ≤ n → tableOf tall (cleared n w) i j side ≡ Unreached
-unfolding tableOf
-table-cleared tall i j side n w h = cleared-unreached n w (address tall i j side) h

@@ -3,46 +3,24 @@
 use Prim.Native.Nat.{ℕ, zero, suc, _+_, _*_, _-_, _≤_, _<_}
 use native.Mathlib.Omega.{arith}
 use mathlib.Core.Path.{_≡_, refl, sym, _∙_, ap}
-use mathlib.Core.Logic.{inl, inr}
-use mathlib.Core.Bool.{Bool, true, false}
 use mathlib.Core.List.{List}
-use lib.Dec.{ltb}
 use lib.ListN.{length, set, length-set}
-use borrow.Author.Tests.{ltb-true, ltb-false, eq-eqb, ne-eqb}
-use Rattle.model.specs.Galley.{Sides, single, double}
-use Rattle.model.specs.Order.{oddly}
+use borrow.Author.Tests.{eq-eqb, ne-eqb}
+use Rattle.model.specs.Galley.{Sides}
 use Rattle.galley.specs.declared.Galley.{Galley}
-use Rattle.galley.specs.Model.{modelOf}
 use Rattle.places.specs.declared.Start.{Start}
 use Rattle.places.specs.declared.Entry.{Entry}
 use Rattle.places.specs.declared.Entry.the-variants.{Unreached, Least}
-use Rattle.places.specs.Address.{Earlier}
 use Rattle.starts.specs.Search.{Table, before}
-use Rattle.filling.specs.Filled.{Side, Filled}
+use Rattle.filling.specs.Filled.{Side}
 use Rattle.walk.specs.Trace.{startOf, countBack, writeBack}
-use Rattle.walk.specs.Traceable.{sidesIn, tableIn, isReached, Lent, Placed, Traceable, Visits, Counting, Writing}
-use Rattle.filling.specs.laws.Entered.{side-before}
-
--- A reached entry holds a cost and a start,
-pub reached-least : (e : Entry) → isReached e ≡ true → (x : ℕ) × (s : Start) × (e ≡ Least x s)
-reached-least Unreached h = let z : _≡_ {A = ℕ} 0 1 = cc in absurd (omega arith)
-reached-least (Least x s) h = (x, s, refl)
-
--- and any other is unreached.
-pub reached-not : (e : Entry) → isReached e ≡ false → e ≡ Unreached
-reached-not Unreached h = refl
-reached-not (Least x s) h = let z : _≡_ {A = ℕ} 0 1 = cc in absurd (omega arith)
-
--- A side that occurs is 0 or 1.
-pub side-small : (sides : Sides) (c : ℕ) → Side sides c → c ≤ 1
-unfolding oddly
-side-small single c h = omega arith
-side-small double c h = omega arith
+use Rattle.walk.specs.Traceable.{sidesIn, tableIn, Placed, Traceable, Visits, Counting, Writing}
+use Rattle.filling.specs.laws.Entered.{side-low, side-before}
 
 -- Where the walk is, an entry can be read.
 pub visits-placed : {g : Galley} {i j c : ℕ} → Visits g i j c → Placed g i j c
 visits-placed {g} {i} {j} {c} v =
-    record { line = v .line; figure = v .figure; side = side-small (sidesIn g) c (v .side) }
+    record { line = v .line; figure = v .figure; side = side-low (sidesIn g) c (v .side) }
 
 -- The start s of a page that ends at (i, j) lies no later, and before it where something is placed there.
 pub record Precedes (s : Start) (i j : ℕ) : Type 0 where
@@ -175,20 +153,3 @@ module _ (g : Galley) (w : List ℕ) (tr : Traceable g w) where
       (from p : ℕ) (first ws : List ℕ) (i j c r : ℕ) → Writing g w from p first ws i j c r → r ≡ 0
       → ws ≡ writeBack (sidesIn g) (tableIn g w) p (g .text .count) (g .figures .count) from first
   writing-done from p first ws i j c r n h = sym (write-stop (sidesIn g) (tableIn g w) r i j c ws h) ∙ n .same
-
--- A work area that was filled to the full place may be walked.
-pub filled-traceable :
-    (bytes : List ℕ) (g : Galley) (w : List ℕ) → Lent g w → Filled (modelOf bytes g) (tableIn g w) (suc (g .text .count)) (g .figures .count)
-    → Traceable g w
-filled-traceable bytes g w l f =
-    record {
-      lent = l;
-      entered = λ a b c x s h k side e. f .entered a b c x s (earlier a b h k (ltb b (g .figures .count)) refl) h
-          side e;
-    }
-  where
-    earlier :
-        (a b : ℕ) → a ≤ g .text .count → b ≤ g .figures .count → (v : Bool) → ltb b (g .figures .count) ≡ v → Earlier a b (suc (g .text .count))
-        (g .figures .count)
-    earlier a b h k true e = inl (ltb-true b (g .figures .count) e)
-    earlier a b h k false e = let l = ltb-false b (g .figures .count) e in inr (omega arith, omega arith)
