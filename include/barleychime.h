@@ -1,9 +1,15 @@
 /* Barleychime: page make-up and marking for galleys with figures.
  *
  * Making gives the pagination with the fewest page turns that a galley's page specification allows; marking judges a
- * pagination that is handed in. Both work on lent memory alone: they allocate nothing, keep nothing between calls, call
- * nothing and print nothing. Calls on memory that is not shared may run at the same time. Making takes up to 258,000 bytes of
- * stack, marking under 1,000.
+ * pagination that is handed in. Both work on lent memory alone: they allocate nothing, keep nothing between calls, print
+ * nothing, and call nothing but memset of the C library. Calls on memory that is not shared may run at the same time.
+ *
+ * What the caller owes, because no call can see it:
+ *   - A pointer leads to as many bytes or words as its length says, or to the 6 words of an answer. It is aligned as its type
+ *     is, and it is not null, not even where the length is 0 and nothing is read.
+ *   - An area that is written overlaps no other area of the call, and nobody else reads or writes it during the call. Nobody
+ *     writes an area that is only read.
+ *   - The thread has BARLEYCHIME_STACK_BYTES of stack left.
  *
  * A galley has m lines (1 to 4,000) and n figures (0 to 200). A page list has two words a page: the lines placed so far and
  * the figures placed so far. A word is 32 bits in the machine's own byte order; the galley's bytes are the same everywhere.
@@ -33,6 +39,8 @@
  *   16  the page is lower than htMin even at its loosest, and it is not the last
  *   17  a figure stands on a spread that ends before the line that cites it
  *   18  the list ends before everything is placed
+ * Whoever asked for the section can mend this, which only barleychime_section answers. Place: the size.
+ *   33  no section has so many pages: their number is a multiple of 4 from 4 to 64
  *
  * Both calls read the galley first and answer 1 to 8 in the same way. Making then looks at the lengths, 9 before 10, and
  * searches only where both suffice. Of several broken rules marking answers the one on the earliest page, and there the
@@ -53,6 +61,13 @@
 /* Bytes of the longest galley. Whatever is longer is refused, and its first bytes, one more than these, decide how. */
 #define BARLEYCHIME_LONGEST_GALLEY ((size_t)30 + 4200 * 18 + 2)
 
+/* Bytes of stack that a call takes below the frame of its caller, at most: either call, and marking alone. They are what the
+ * archive's machine code takes, rounded up; the tests compare them. Making needs 4,096 bytes more where the dynamic linker
+ * binds memset at its first call, as in a program that is linked without -z now. Signal handlers are not counted.
+ */
+#define BARLEYCHIME_STACK_BYTES ((size_t)258048)
+#define BARLEYCHIME_MARK_STACK_BYTES ((size_t)1024)
+
 /* What the six words of an answer are. */
 enum {
     BARLEYCHIME_NUMBER = 0, /* 0, or the number of the refusal */
@@ -69,8 +84,7 @@ extern "C" {
 
 /* Makes the pages of a galley.
  *
- * The caller owns all memory and lends it for the length of the call. The areas must not overlap. A pointer whose length
- * is 0 is not read, but must not be null.
+ * The caller owns all memory and lends it for the length of the call.
  *   galley      galley_len bytes, only read
  *   work        at least BARLEYCHIME_WORK_WORDS(m, n) words, of any contents
  *   pages       at least BARLEYCHIME_LIST_WORDS(m, n) words, of any contents
@@ -92,6 +106,16 @@ uint32_t barleychime_make(const uint8_t *galley, size_t galley_len, uint32_t *wo
  */
 uint32_t barleychime_mark(const uint8_t *galley, size_t galley_len, const uint32_t *pages, size_t pages_len,
                           uint32_t answer[6]);
+
+/* Gives the folding order of a stitched section of size pages, a multiple of 4 from 4 to 64: its pages as they stand on the
+ * nested sheets, the outermost first, four a sheet: front left, front right, back left, back right. The areas must not
+ * overlap. Like the other calls it works on lent memory alone; it takes under 1,000 bytes of stack.
+ *   numbers     64 words, of any contents
+ *   answer      2 words, always written: number, place
+ * Returns 0 for success. Afterwards the first size words of numbers hold the pages, and the rest is as before; after a
+ * refusal (33) all of it is.
+ */
+uint32_t barleychime_section(uint32_t size, uint32_t numbers[64], uint32_t answer[2]);
 
 #ifdef __cplusplus
 }

@@ -1,26 +1,33 @@
-"""The engine as a shared object: builds `crates/barleychime` and calls it through C."""
+"""The C interface of the engine, for every test that calls it: the one place where its functions are declared."""
 import ctypes
 import pathlib
 import subprocess
 
 ROOT = pathlib.Path(__file__).resolve().parents[1]
-ARCHIVE = ROOT / 'target' / 'staticlib' / 'libbarleychime.a'
-SHARED = ROOT / 'target' / 'libbarleychime.so'
+WORD, LENGTH = ctypes.c_uint32, ctypes.c_size_t
+HIGHEST = 2**32 - 1
 
 
-def build():
-    """Prove and compile the engine, and load it. The archive is position independent, so it can be made a shared object."""
-    subprocess.run(['rt', 'staticlib', 'barleychime'], cwd=ROOT, check=True, stdout=subprocess.DEVNULL, stderr=subprocess.DEVNULL)
-    return load(ARCHIVE, SHARED)
+def proved(crate):
+    """The archive of a crate, proved and compiled."""
+    subprocess.run(['rt', 'staticlib', crate], cwd=ROOT, check=True, stdout=subprocess.DEVNULL, stderr=subprocess.DEVNULL)
+    return ROOT / 'target' / 'staticlib' / f'lib{crate}.a'
 
 
-def load(archive, shared):
+def load(archive, folder=None):
+    """An archive as a shared object, which it can be made since it is position independent."""
+    shared = (folder or archive.parent) / f'{archive.stem}.so'
     subprocess.run(['gcc', '-shared', '-Wl,--whole-archive', archive, '-Wl,--no-whole-archive', '-o', shared], check=True)
     return ctypes.CDLL(str(shared))
 
 
-def lend(words):
-    return (ctypes.c_uint32 * max(1, len(words)))(*words)
+def lent(words):
+    return (WORD * max(1, len(words)))(*words)
+
+
+def held(lent_words, words):
+    """What lent memory of so many words holds."""
+    return tuple(lent_words)[:len(words)]
 
 
 def answered(returned, six):
@@ -33,42 +40,61 @@ def answered(returned, six):
     return ('refused', number, place) if not any(counts) else ('refused with counts', *six)
 
 
-def marker(library):
-    """The marking as a function of bytes and words."""
-    call = library.barleychime_mark
-    call.restype = ctypes.c_uint32
-    call.argtypes = [ctypes.c_char_p, ctypes.c_size_t, ctypes.c_void_p, ctypes.c_size_t, ctypes.c_void_p]
-    six = (ctypes.c_uint32 * 6)()
-
-    def mark(data, words):
-        lent = lend(words)
-        returned = call(data, len(data), lent, len(words), six)
-        if tuple(lent)[:len(words)] != tuple(words):
-            return ('wrote to the list',)
-        return answered(returned, six)
-
-    return mark
+def six(answer):
+    """The six words of an answer that the reference gives."""
+    return (0, 0, *answer[1:]) if answer[0] == 'accepted' else (*answer[1:], 0, 0, 0, 0)
 
 
-def maker(library, name='barleychime_make'):
-    """The making as a function of bytes, work area and page list: the answer, and both afterwards."""
-    call = library[name]
-    call.restype = ctypes.c_uint32
-    call.argtypes = [ctypes.c_char_p, ctypes.c_size_t, ctypes.c_void_p, ctypes.c_size_t, ctypes.c_void_p, ctypes.c_size_t,
-                     ctypes.c_void_p]
-    six = (ctypes.c_uint32 * 6)()
+class Engine:
+    """The functions of include/barleychime.h, on bytes and tuples of words; `making` names another function of making's type."""
 
-    def make(data, work, pages):
-        lent_work, lent_pages = lend(work), lend(pages)
-        returned = call(data, len(data), lent_work, len(work), lent_pages, len(pages), six)
-        return answered(returned, six), tuple(lent_work)[:len(work)], tuple(lent_pages)[:len(pages)]
+    def __init__(self, library, making='barleychime_make'):
+        bytes_lent, words_lent = (ctypes.c_char_p, LENGTH), (ctypes.c_void_p, LENGTH)
+        self.c_make = self.declared(library, making, *bytes_lent, *words_lent, *words_lent, ctypes.c_void_p)
+        self.c_mark = self.declared(library, 'barleychime_mark', *bytes_lent, *words_lent, ctypes.c_void_p)
+        self.c_section = self.declared(library, 'barleychime_section', WORD, ctypes.c_void_p, ctypes.c_void_p)
 
-    return make
+    @staticmethod
+    def declared(library, name, *types):
+        call = library[name]
+        call.argtypes, call.restype = types, WORD
+        return call
+
+    def make(self, data, work, pages):
+        """The answer, and the work area and the page list afterwards."""
+        lent_work, lent_pages, answer = lent(work), lent(pages), lent([HIGHEST] * 6)
+        returned = self.c_make(data, len(data), lent_work, len(work), lent_pages, len(pages), answer)
+        return answered(returned, answer), held(lent_work, work), held(lent_pages, pages)
+
+    def mark(self, data, words):
+        """The answer; the list is only read."""
+        lent_words, answer = lent(words), lent([HIGHEST] * 6)
+        returned = self.c_mark(data, len(data), lent_words, len(words), answer)
+        return answered(returned, answer) if held(lent_words, words) == tuple(words) else ('wrote to the list',)
+
+    def section(self, size, numbers, answer):
+        """The number that is returned, and the numbers and the answer afterwards."""
+        lent_numbers, lent_answer = lent(numbers), lent(answer)
+        returned = self.c_section(size, lent_numbers, lent_answer)
+        return returned, held(lent_numbers, numbers), held(lent_answer, answer)
 
 
-def report(tried, wrong):
-    """Prints what went wrong, first things first, and the count of tests; the exit status."""
-    for line in wrong[:20]:
-        print('FAILED', line)
-    print(f'{tried - len(wrong)} passed, {len(wrong)} failed')
-    return 1 if wrong else 0
+def lengths(galley):
+    """The words that making needs of the work area and of the page list."""
+    places = 1
+    for size in galley.sizes:
+        places *= size + 1
+    return 8 * places, len(galley.streams) * sum(galley.sizes)
+
+
+def made(galley, best, answer, work, pages):
+    """What making owes for a galley with this best list, whose marking is given: the answer, the work area and the page list."""
+    work_words, list_words = lengths(galley)
+    if len(work) < work_words:
+        return ('refused', 9, work_words), work, pages
+    if len(pages) < list_words:
+        return ('refused', 10, list_words), work, pages
+    cleared = (0,) * work_words + work[work_words:]
+    if best is None:
+        return ('refused', 11, 0), cleared, pages
+    return answer, cleared, tuple(best) + pages[len(best):]

@@ -1,4 +1,4 @@
-//! The five commands: files in, an answer out.
+//! The commands on files: files in, an answer out.
 
 use crate::output::{say, Output};
 use barleychime::engine::{self, Desk, Refusal};

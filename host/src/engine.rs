@@ -1,4 +1,4 @@
-//! The engine: the two functions of `include/barleychime.h`, safe to call. All unsafe code is here.
+//! The engine: the functions of `include/barleychime.h`, safe to call. All unsafe code is here.
 
 #[allow(unsafe_code)]
 mod c {
@@ -19,6 +19,7 @@ mod c {
             pages_len: usize,
             answer: *mut [u32; 6],
         ) -> u32;
+        pub fn barleychime_section(size: u32, numbers: *mut [u32; 64], answer: *mut [u32; 2]) -> u32;
     }
 }
 
@@ -110,5 +111,20 @@ pub fn read(galley: &[u8]) -> Result<(), Refusal> {
     match mark(galley, &[]) {
         Err(refusal) if refusal.number <= 8 => Err(refusal),
         _ => Ok(()),
+    }
+}
+
+/// The pages of a stitched section as they stand on its nested sheets, in lent memory: four a sheet, front left and right,
+/// back left and right, the outermost sheet first. A size is a multiple of 4 from 4 to 64; any other is refused with 33.
+#[allow(unsafe_code)]
+pub fn section(size: u32, numbers: &mut [u32; 64]) -> Result<&[u32], Refusal> {
+    let mut answer = [0; 2];
+    // The areas are those of arrays that the borrow checker keeps apart, and the engine writes nothing else.
+    unsafe {
+        c::barleychime_section(size, numbers, &mut answer);
+    }
+    match answer {
+        [0, _] => Ok(&numbers[..size as usize]),
+        [number, place] => Err(Refusal { number, place }),
     }
 }

@@ -14,6 +14,7 @@ Makes the pages of a galley with the fewest page turns, and marks page lists.
   barleychime explain GALLEY LIST    a page list in words, page by page
   barleychime pack TEXT              a galley written as text, as a galley file
   barleychime unpack GALLEY          a galley file as text
+  barleychime fold [SIZE]            the pages of stitched sections, sheet by sheet
   barleychime COMMAND --help         more about a command
   barleychime --version
 
@@ -61,4 +62,12 @@ barleychime unpack GALLEY > TEXT
 
 Writes a galley file as text, one record a line; `barleychime pack` gives the same bytes back. Of a galley that is
 refused the whole records are written as they stand, and the exit status is 1.
+";
+
+pub const FOLD: &str = "\
+barleychime fold [SIZE]
+
+Prints the section of SIZE pages as its pages stand on the nested sheets, the outermost first: a line for each sheet, with
+the left and the right page of its front, then those of its back. SIZE is a multiple of 4 from 4 to 64; any other is
+refused (33). Without SIZE all sections are printed, smaller ones first, with an empty line between two.
 ";

@@ -2,6 +2,7 @@
 #![forbid(unsafe_code)]
 
 mod commands;
+mod fold;
 mod help;
 mod output;
 
@@ -47,6 +48,7 @@ fn run(arguments: &[String], output: &mut Output) -> Result<Outcome, String> {
         "explain" => help::EXPLAIN,
         "pack" => help::PACK,
         "unpack" => help::UNPACK,
+        "fold" => help::FOLD,
         _ => return Err(format!("{command}: no such command; `barleychime --help` names them")),
     };
     let Some(names) = names(rest)? else { return told(output, help) };
@@ -59,6 +61,8 @@ fn run(arguments: &[String], output: &mut Output) -> Result<Outcome, String> {
         ("explain", [galley, list]) => commands::explain(galley, list, output),
         ("pack", [text]) => commands::pack(text, output),
         ("unpack", [galley]) => commands::unpack(galley, output),
+        ("fold", []) => fold::all(output),
+        ("fold", [size]) => fold::one(size, output),
         _ => Err(format!("usage: {}", help.lines().next().unwrap_or(""))),
     }
 }
@@ -67,7 +71,7 @@ fn told(output: &mut Output, text: &str) -> Result<Outcome, String> {
     output.print(text).map(|()| Outcome::Success)
 }
 
-/// The file names among a command's arguments; none if help is wanted instead.
+/// The file names, or the size, among a command's arguments; none if help is wanted instead.
 fn names(arguments: &[String]) -> Result<Option<Vec<&str>>, String> {
     let mut names = Vec::new();
     let mut options = true;

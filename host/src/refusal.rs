@@ -11,6 +11,7 @@ enum Place {
     Page,
     Pages,
     Bytes,
+    Size,
 }
 
 struct Meaning {
@@ -23,7 +24,7 @@ const fn meaning(number: u32, place: Place, sentence: &'static str) -> Meaning {
     Meaning { number, sentence, place }
 }
 
-const MEANINGS: [Meaning; 19] = [
+const MEANINGS: &[Meaning] = &[
     meaning(1, Place::Byte, "the galley stops short, inside a record or without its `ED`"),
     meaning(2, Place::Byte, "a mark is unknown, or known but out of place"),
     meaning(3, Place::Byte, "the value of a field is not allowed"),
@@ -43,6 +44,7 @@ const MEANINGS: [Meaning; 19] = [
     meaning(17, Place::Page, "a figure stands on a spread that ends before the line that cites it"),
     meaning(18, Place::Pages, "the list ends before everything is placed"),
     meaning(19, Place::Bytes, "the input is longer than the small program takes"),
+    meaning(33, Place::Size, "no section has so many pages: their number is a multiple of 4 from 4 to 64"),
 ];
 
 /// Who can mend it, by document 01's groups.
@@ -52,6 +54,7 @@ pub fn mender(number: u32) -> &'static str {
         9 | 10 => "the host program",
         11 => "the designer",
         12..=18 => "whoever handed in the list",
+        33 => "whoever asked for the section",
         _ => "the person at the program",
     }
 }
@@ -82,6 +85,7 @@ pub fn sentence(refusal: Refusal) -> String {
         Place::Page => format!("page {count}: "),
         Place::Pages => format!("page {count}, the last: "),
         Place::Bytes => format!("more than {count} bytes: "),
+        Place::Size => format!("{count} pages: "),
     };
     format!("{place}{sentence}; {} can mend it", mender(refusal.number))
 }

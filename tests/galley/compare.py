@@ -6,30 +6,20 @@ is 'N passed, M failed'.
 import ctypes
 import pathlib
 import random
-import struct
-import subprocess
 import sys
 
-ROOT = pathlib.Path(__file__).resolve().parents[2]
-sys.path.insert(0, str(ROOT / 'tests'))
+sys.path.insert(0, str(pathlib.Path(__file__).resolve().parents[1]))
+import engine  # noqa: E402
+import tally as counts  # noqa: E402
 from reference import galley as reference  # noqa: E402
+from reference.galley import record  # noqa: E402
 
 SEED, RANDOM_GALLEYS, RANDOM_STRINGS = 20261115, 2_000, 2_000
 WORDS = (0, 1, 2, 3, 999, 1_000, 1_001, 99_999, 100_000, 100_001, 2**31, 2**32 - 1)
 MARKS = (b'GS', b'TL', b'FG', b'ED', b'SG', b'LT', b'GF', b'DE', b'gs', b'FO', b'G2', b'FK', b'TB', b'\0\0', b'\xff\xff')
 
 
-def library():
-    """The reader as a shared object, from its proved archive."""
-    subprocess.run(['rt', 'staticlib', 'galley_probe'], cwd=ROOT, check=True, stdout=subprocess.DEVNULL)
-    made = ROOT / 'target' / 'staticlib'
-    shared = made / 'libgalley_probe.so'
-    subprocess.run(['gcc', '-shared', '-Wl,--whole-archive', made / 'libgalley_probe.a', '-Wl,--no-whole-archive',
-                    '-o', shared], check=True)
-    return ctypes.CDLL(str(shared))
-
-
-READER = library()
+READER = engine.load(engine.proved('galley_probe'))
 
 
 def words(function, data, count, *number):
@@ -57,21 +47,11 @@ def due(data):
     return ('galley', tuple(held.spec), [tuple(line) for line in held.lines], [tuple(f) for f in held.figures])
 
 
-class Tally:
-    passed = failed = 0
-
-    def same(self, what, data, answer=None):
+class Tally(counts.Tally):
+    def same(self, what, data, answer=()):
         """Both readers answer alike and, where the answer is known beforehand, with that one."""
         got, wanted = proved(data), due(data)
-        if got == wanted and (answer is None or got[:len(answer)] == answer):
-            self.passed += 1
-        else:
-            self.failed += 1
-            print(f'FAILED {what}: {str(got)[:200]}, due {str(answer or wanted)[:200]}')
-
-
-def record(mark, *fields):
-    return mark + struct.pack(f'>{len(fields)}I', *fields)
+        super().same(what, (got, got[:len(answer)]), (wanted, answer))
 
 
 SPEC = record(b'GS', 30, 30, 0, 0, 1, 1, 1)
@@ -176,11 +156,9 @@ def chance(tally):
 def main():
     tally = Tally()
     for group in (case_a, cuts, marks, ranges, citations, limits, chance):
-        began = tally.passed
         group(tally)
-        print(f'{group.__name__}: {tally.passed - began} byte strings read alike')
-    print(f'{tally.passed} passed, {tally.failed} failed')
-    return 0 if tally.passed and not tally.failed else 1
+        tally.group(group.__name__)
+    return tally.end()
 
 
 if __name__ == '__main__':

@@ -1,4 +1,5 @@
-/* Case A through the C interface: makes it, prints what the program prints, marks two lists, and tries too little memory. */
+/* Case A through the C interface: makes it, prints what the program prints, marks two lists, and tries too little memory.
+ * Then two sections, one of a size that there is none of. */
 #include <barleychime.h>
 #include <stdio.h>
 #include <string.h>
@@ -43,6 +44,18 @@ static void print_answer(const uint32_t answer[6])
     }
 }
 
+static void print_section(uint32_t size)
+{
+    uint32_t numbers[64], answer[2];
+    if (barleychime_section(size, numbers, answer) != 0) {
+        printf("R %u %u\n", (unsigned)answer[BARLEYCHIME_NUMBER], (unsigned)answer[BARLEYCHIME_PLACE]);
+        return;
+    }
+    for (uint32_t k = 0; k < size; k++) {
+        printf("%u%c", (unsigned)numbers[k], k + 1 < size ? ' ' : '\n');
+    }
+}
+
 int main(void)
 {
     static uint32_t work[WORK + 1], pages[LIST + 1];
@@ -75,5 +88,7 @@ int main(void)
     print_answer(answer);
     barleychime_make(galley, galley_len, work, WORK, pages, 0, answer);
     print_answer(answer);
+    print_section(8);
+    print_section(6);
     return 0;
 }

@@ -5,7 +5,8 @@ import subprocess
 
 DUE = ('2 0 1 1\n1 1 1\n2 3 1\n'  # made
        '2 1 1 2\nR 15 1\n'  # marked
-       'R 9 64\nR 10 8\n')  # too little memory lent
+       'R 9 64\nR 10 8\n'  # too little memory lent
+       '8 1 2 7 6 3 4 5\nR 33 6\n')  # sections
 STRICT = ['-Wall', '-Wextra', '-Werror', '-pedantic']
 
 

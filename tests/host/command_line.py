@@ -8,7 +8,8 @@ from reference.galley import Figure, Galley, Line, Spec, write
 
 COMMANDS = {'make': 1, 'mark': 2, 'explain': 2, 'pack': 1, 'unpack': 1}
 MENDERS = [(range(1, 9), "the galley's writer"), (range(9, 11), 'the host program'), (range(11, 12), 'the designer'),
-           (range(12, 19), 'whoever handed in the list'), (range(19, 20), 'the person at the program')]
+           (range(12, 19), 'whoever handed in the list'), (range(19, 20), 'the person at the program'),
+           (range(33, 34), 'whoever asked for the section')]
 
 # Name, bytes of a list for case A, and a part of the remark that must name line and field.
 JUNK = [
@@ -149,7 +150,8 @@ def full_size(tally, command, folder):
     """The longest galley, and what may come after its last figure: no more than one byte past its length is read."""
     spec = Spec(50_000, 55_000, 1_600, 2_200, 2, 1, 1)
     lines = tuple(Line(1_200, 0, 20 + 600 * (k % 5 == 0), int(k % 5 > 1)) for k in range(1, 4_001))
-    largest = Galley(spec, lines, tuple(Figure(9_000 + 1_000 * (k % 13), 1_000, 1_400, 20 * k) for k in range(1, 201)))
+    figures = tuple(Figure(9_000 + 1_000 * (k % 13), 1_000, 1_400, 20 * k) for k in range(1, 201))
+    largest = Galley(spec, (lines, figures))
     data = write(largest)
     path = file(folder, 'largest.galley', data)
     status, output, remarks = command.text('make', path)

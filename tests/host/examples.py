@@ -1,4 +1,4 @@
-"""What the documents have people copy: the C program, the Rust program, the series on all cores."""
+"""What the documents have people copy: the C program, the Rust program, the series on all cores; and what they leave."""
 
 import os
 import re
@@ -24,6 +24,7 @@ def run(tally, command, root, library, folder):
             for source in blocks(document, language):
                 found[language] += 1
                 example(tally, f'{path.name}, {language}', source, command, root, library, folder, galley)
+    ignored(tally, root)
     tally.same('examples found', {language: count > 0 for language, count in found.items()}, dict.fromkeys(found, True))
     tally.group('examples')
 
@@ -62,3 +63,15 @@ def series(tally, what, source, command, root, _library, folder, _galley):
     for galley in sorted((folder / 'series').glob('*.galley')):
         made = galley.with_suffix('.list')
         tally.same(f'{what}: {made.name}', made.is_file() and made.read_text(), command.text('make', galley)[1])
+
+
+def ignored(tally, root):
+    """What README's commands write is not offered to git."""
+    plain = re.sub(r'^```.*?^```$', '', (root / 'README.md').read_text(), flags=re.M | re.S)
+    commands = re.findall(r'^ {4}(.*)$', plain, re.M)
+    written = {name for line in commands for name in re.findall(r'(?:> |-o )(\S+)', line)}
+    tally.same('files that are written', written, {'a.galley', 'make'})
+    for name in sorted(written | {'make.c', 'series/chapter.list', 'target/log', 'host/target/release'}):
+        asked = subprocess.run(['git', 'check-ignore', '--quiet', name], cwd=root, capture_output=True)
+        if asked.returncode != 128:  # a copy without git has nothing to ignore
+            tally.same(f'{name} is ignored by git', asked.returncode, 0)

@@ -12,14 +12,14 @@ FIGURE = re.compile(r'    figure (\d+), cited by line (\d+) on page (\d+): '
                     r'(?:(\d+) turns?, costs (\d+)·\d+ = (\d+)|the same )')
 
 
-def listed(words):
-    return ''.join(f'{i} {j}\n' for i, j in marking.pairs(words)).encode()
+def listed(galley, words):
+    return ''.join(' '.join(map(str, end)) + '\n' for end in marking.places(galley, words)).encode()
 
 
 def accepted(galley, words, text):
     """Whether every number in the text is the reference's."""
-    ends, spec = marking.pairs(words), galley.spec
-    starts = [(0, 0), *ends[:-1]]
+    ends, spec = marking.places(galley, words), galley.spec
+    starts = [galley.nothing, *ends[:-1]]
     pages, heights, figures = PAGE.findall(text), HEIGHT.findall(text), FIGURE.findall(text)
     spreads = [('', '') if spec.sides == 1 else (str(q // 2 + 1), ('left', 'right')[q % 2]) for q in range(1, len(ends) + 1)]
     turns = sum(int(figure[3] or 0) for figure in figures)
@@ -35,9 +35,9 @@ def accepted(galley, words, text):
 def refused(galley, words, number, page, text):
     """Whether the last line gives numbers that do break the rule."""
     said = text.splitlines()[-1]
-    ends = [(0, 0), *marking.pairs(words)]
+    ends = [galley.nothing, *marking.places(galley, words)]
     (a, b), (i, j) = (ends[page - 1], ends[page]) if page else ((0, 0), (0, 0))
-    m, n = len(galley.lines), len(galley.figures)
+    m, n = galley.sizes
     numbers = [int(number) for number in re.findall(r'\d+', said)]
     if number == 12:
         return numbers[0] == len(words) and numbers[2] == 2 * (m + n)
@@ -63,12 +63,12 @@ def run(tally, command, folder):
     for galley in sample.galleys(106, 120, 8, 5):
         path.write_bytes(write(galley))
         best = search.best_by_table(galley)
-        lists = [sample.page_list(rng, galley), (), (1, 1) * (len(galley.lines) + len(galley.figures) + 1)]
+        lists = [sample.page_list(rng, galley), (), (1, 1) * (sum(galley.sizes) + 1)]
         lists += [best, *(sample.mutated(rng, best) for _ in range(5))] if best else []
         for words in lists:
             if len(words) % 2:
                 continue
-            status, text, remarks = command.text('explain', path, '-', given=listed(words))
+            status, text, remarks = command.text('explain', path, '-', given=listed(galley, words))
             marked = marking.mark(galley, words)
             met.add(marked[1] if marked[0] == 'refused' else 0)
             if marked[0] == 'accepted':

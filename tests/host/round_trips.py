@@ -1,7 +1,7 @@
 """Galleys as text and back without loss, and texts with errors, each named by line and field."""
 
 from reference import cases, refusals, sample
-from reference.galley import Figure, Galley, Line, Spec, write
+from reference.galley import STREAMS, Figure, Galley, Line, Spec, write
 
 GOOD = 'GS 30 30 0 0 1 1 1\nTL 10 0 0 1\n'
 
@@ -35,14 +35,14 @@ ERRORS = [
 
 
 def text_of(galley):
-    records = [('GS', *galley.spec), *(('TL', *line) for line in galley.lines),
-               *(('FG', *figure) for figure in galley.figures), ('ED',)]
+    blocks = [(stream.mark.decode(), *block) for stream, held in zip(STREAMS, galley.streams) for block in held]
+    records = [('GS', *galley.spec), *blocks, ('ED',)]
     return ''.join(' '.join(map(str, record)) + '\n' for record in records)
 
 
 def there_and_back(tally, command, root, folder):
     edge = Spec(100_000, 100_000, 100_000, 100_000, 2, 1_000, 1_000)
-    largest = Galley(edge, 4_000 * (Line(100_000, 100_000, 100_000, 0),), 200 * (Figure(100_000, 0, 100_000, 4_000),))
+    largest = Galley(edge, (4_000 * (Line(100_000, 100_000, 100_000, 0),), 200 * (Figure(100_000, 0, 100_000, 4_000),)))
     for galley in [cases.A, cases.C, largest, *sample.galleys(105, 60, 12, 6)]:
         data, text = write(galley), text_of(galley)
         tally.same(f'unpack {galley}', command.text('unpack', '-', given=data), (0, text, ''))

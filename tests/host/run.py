@@ -14,6 +14,7 @@ import tempfile
 from pathlib import Path
 
 ROOT = Path(__file__).resolve().parents[2]
+PROVED = ROOT / 'target/staticlib/libbarleychime.a'
 sys.path.insert(0, str(ROOT / 'tests'))
 sys.path.insert(0, str(ROOT / 'tests' / 'host'))
 
@@ -22,16 +23,18 @@ import c_interface  # noqa: E402
 import command_line  # noqa: E402
 import examples  # noqa: E402
 import explained  # noqa: E402
+import folding  # noqa: E402
 import round_trips  # noqa: E402
 import samples  # noqa: E402
+import stack  # noqa: E402
 import table  # noqa: E402
 from command import Command  # noqa: E402
-from reference.check import Tally  # noqa: E402
+from tally import Tally  # noqa: E402
 
 
 def main():
     tally = Tally()
-    library = Path(os.environ.get('BARLEYCHIME_LIB') or ROOT / 'target/staticlib/libbarleychime.a').resolve()
+    library = Path(os.environ.get('BARLEYCHIME_LIB') or PROVED).resolve()
     if not library.is_file():
         print(f'FAILED {library} is not there')
         print('0 passed, 1 failed')
@@ -47,8 +50,10 @@ def main():
         examples.run(tally, command, ROOT, library, folder)
         samples.run(tally, command, ROOT, folder)
         table.run(tally, command, ROOT)
-    print(f'{tally.passed} passed, {tally.failed} failed')
-    return 0 if tally.failed == 0 and tally.passed > 0 else 1
+        if library == PROVED.resolve():  # the header's figures are the proved archive's
+            stack.run(tally, command, ROOT, library, folder)
+        folding.run(tally, command, library, folder)
+    return tally.end()
 
 
 if __name__ == '__main__':

@@ -17,6 +17,7 @@ from reference import marking  # noqa: E402
 from reference.cases import respec  # noqa: E402
 from reference.galley import read, write  # noqa: E402
 
+STANDS = 'samples/real/TABLE.md'
 FILLS = (100, 90, 70)
 HEAD = '| chapter | fill | LaTeX, single-sided | engine, single-sided | LaTeX, double-sided | engine, double-sided |\n'
 RULE = '|---|---|---|---|---|---|\n'
@@ -43,11 +44,12 @@ def turns(x, y, t):
 
 def latex(command, galley, words):
     """X + Y = T by the goal functions, and the first rule that the engine says is broken."""
-    counted = turns(*marking.turns(galley, marking.pairs(words)))
+    ends = marking.places(galley, words)
+    counted = turns(*marking.turns(galley, ends))
     with tempfile.NamedTemporaryFile(suffix='.galley') as file:
         file.write(write(galley))
         file.flush()
-        listed = ''.join(f'{i} {j}\n' for i, j in marking.pairs(words))
+        listed = ''.join(' '.join(map(str, end)) + '\n' for end in ends)
         _, output, _ = command.text('mark', file.name, '-', given=listed.encode())
     found = output.split()
     if found[0] == 'R':
@@ -65,12 +67,24 @@ def engine(command, galley):
     return f'none; {fill[1]} % at most' if fill else 'none'
 
 
+def told(readme):
+    """The turns of LaTeX and of the engine that README.md gives as an example: mpman-p003 at 90 %, double-sided."""
+    sentence = r"MetaPost's manual .*?90 % full, double-sided: (\d+) turns .*? and (\d+) as the engine does"
+    found = re.search(sentence, ' '.join(readme.split()))
+    return found and found.groups()
+
+
 def run(tally, command, root):
-    """The table stored beside the chapters is today's, and so is the one in README.md if it is there."""
+    """The table beside the chapters is today's and the only one; README.md leads to it, and has its example from it."""
     made = table(command, root)
-    tally.same('samples/real/TABLE.md', made in (root / 'samples/real/TABLE.md').read_text(), True)
+    documents = [root / 'README.md', *sorted((root / 'docs').rglob('*.md')), *sorted((root / 'samples').rglob('*.md'))]
+    where = [str(path.relative_to(root)) for path in documents if HEAD in path.read_text()]
+    tally.same('where the table stands', where, [STANDS])
+    tally.same(STANDS, made in (root / STANDS).read_text(), True)
     readme = (root / 'README.md').read_text()
-    tally.same('README.md', HEAD not in readme or made in readme, True)
+    tally.same('a link in README.md', f']({STANDS})' in readme, True)
+    row_told = next(line for line in made.splitlines() if line.startswith('| mpman-p003 | 90 % |'))
+    tally.same('the example in README.md', told(readme), tuple(re.findall(r'= (\d+)', row_told)[2:]))
     tally.group('table of real chapters')
 
 

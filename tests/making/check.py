@@ -1,6 +1,5 @@
 """The proved making, compiled, against a search of all lists in Python: the answer, the list, and every word of lent memory.
 Galleys with too many lists are compared with the reference's table instead. The last line is 'N passed, M failed'."""
-import collections
 import itertools
 import pathlib
 import random
@@ -10,37 +9,24 @@ sys.path.insert(0, str(pathlib.Path(__file__).resolve().parents[1]))
 import engine  # noqa: E402
 import windows  # noqa: E402
 from reference import cases, galley, marking, sample, search  # noqa: E402
+from tally import Tally  # noqa: E402
 
 GALLEYS, LARGER, FINE, LONG, SEED = 2_400, 60, 1_400, 100, 20261116
 MOST_LISTS = 2_000
-HIGHEST = 2**32 - 1
-
-
-def needed(g):
-    m, n = len(g.lines), len(g.figures)
-    return 8 * (m + 1) * (n + 1), 2 * (m + n)
 
 
 def due(g, best, work, pages):
     """What making owes: its answer, the work area and the page list afterwards."""
-    work_needed, list_needed = needed(g)
-    if len(work) < work_needed:
-        return ('refused', 9, work_needed), work, pages
-    if len(pages) < list_needed:
-        return ('refused', 10, list_needed), work, pages
-    cleared = (0,) * work_needed + work[work_needed:]
-    if best is None:
-        return ('refused', 11, 0), cleared, pages
-    return marking.mark(g, best), cleared, tuple(best) + pages[len(best):]
+    return engine.made(g, best, best and marking.mark(g, best), work, pages)
 
 
 def dirty(rng, length):
-    return tuple(rng.choice((0, 1, 2, HIGHEST, rng.randint(0, HIGHEST))) for _ in range(length))
+    return tuple(rng.choice((0, 1, 2, engine.HIGHEST, rng.randint(0, engine.HIGHEST))) for _ in range(length))
 
 
 def lendings(rng, g):
     """Lent memory of exact and of greater lengths, and now and then too short, with any contents."""
-    work_needed, list_needed = needed(g)
+    work_needed, list_needed = engine.lengths(g)
     yield dirty(rng, work_needed), dirty(rng, list_needed)
     yield dirty(rng, work_needed + rng.randint(1, 9)), dirty(rng, list_needed + rng.randint(1, 5))
     if rng.random() < 0.3:
@@ -65,27 +51,19 @@ def long(count):
 def largest(make, sides):
     """Whether the largest galley of height 0 is made: everything fits one page, so that every place is a start."""
     g = cases.respec(cases.LONGEST, sides=sides)
-    work, pages = ((1,) * length for length in needed(g))
+    work, pages = ((1,) * length for length in engine.lengths(g))
     return make(galley.write(g), work, pages) == due(g, (4_000, 200), work, pages)
 
 
 def main():
-    make = engine.maker(engine.build())
-    wrong, tried, refilled, kinds = [], 0, 0, collections.Counter()
-
-    def compare(name, found, expected):
-        nonlocal tried
-        tried += 1
-        if found != expected:
-            wrong.append(f'{name}: {str(found)[:300]}, not {str(expected)[:300]}')
-
-    rng = random.Random(SEED)
+    make = engine.Engine(engine.load(engine.proved('barleychime'))).make
+    tally, refilled, rng = Tally(), 0, random.Random(SEED)
 
     def try_all(name, g, best):
         for work, pages in lendings(rng, g):
             expected = due(g, best, work, pages)
-            kinds[expected[0][1] if expected[0][0] == 'refused' else f'sides {g.spec.sides}'] += 1
-            compare(name, make(galley.write(g), work, pages), expected)
+            tally.kind(expected[0][1] if expected[0][0] == 'refused' else f'sides {g.spec.sides}')
+            tally.same(name, make(galley.write(g), work, pages), expected)
 
     for name, g, words, counts in cases.MADE:
         if len(g.lines) < 50:
@@ -99,22 +77,21 @@ def main():
     for name, g, best in fine(FINE):
         try_all(name, g, best)
         rows = list(windows.windows(g))
-        compare(f'windows of {name}', all(map(windows.only_rise, rows)), True)
+        tally.same(f'windows of {name}', all(map(windows.only_rise, rows)), True)
         refilled += sum(map(windows.refill, rows))
     for sides in (1, 2):
-        compare(f'the largest galley of height 0, sides {sides}', largest(make, sides), True)
+        tally.same(f'the largest galley of height 0, sides {sides}', largest(make, sides), True)
     for number, g in enumerate(sample.galleys(SEED + 2, 400, 5, 3)):
         broken = sample.broken(rng, galley.write(g))
         read = galley.read(broken)
         if read[0] == 'refused':
             work, pages = dirty(rng, 40), dirty(rng, 10)
-            kinds['refused galley'] += 1
-            compare(f'broken galley {number}', make(broken, work, pages), (read, work, pages))
-    for kind in (9, 10, 11, 'sides 1', 'sides 2', 'refused galley'):
-        compare(f'answers of kind {kind}', kinds[kind] >= 20, True)
-    compare('windows that empty and refill', refilled >= 1_000, True)
-    print('makings by answer:', dict(sorted(kinds.items(), key=str)), f'and {refilled} windows that empty and refill')
-    return engine.report(tried, wrong)
+            tally.kind('refused galley')
+            tally.same(f'broken galley {number}', make(broken, work, pages), (read, work, pages))
+    tally.enough((9, 10, 11, 'sides 1', 'sides 2', 'refused galley'), 20)
+    tally.same('windows that empty and refill', refilled >= 1_000, True)
+    print('makings by answer:', dict(sorted(tally.kinds.items(), key=str)), f'and {refilled} windows that empty and refill')
+    return tally.end()
 
 
 if __name__ == '__main__':

@@ -9,6 +9,7 @@ sys.path.insert(0, str(pathlib.Path(__file__).resolve().parents[1]))
 import check  # noqa: E402
 import engine  # noqa: E402
 from reference import cases, galley, sample, search  # noqa: E402
+from tally import Tally  # noqa: E402
 
 STANDIN = engine.ROOT / 'tests' / 'host' / 'standin'
 SEED = 20261118
@@ -18,9 +19,8 @@ def build():
     """The stand-in for the engine's archive, and its two makings: by queues and by the plain search."""
     command = ['cargo', 'build', '--release', '--offline', '--quiet', '--manifest-path', STANDIN / 'Cargo.toml']
     subprocess.run(command, check=True)
-    folder = STANDIN / 'target' / 'release'
-    library = engine.load(folder / 'libbarleychime.a', folder / 'libstandin.so')
-    return engine.maker(library), engine.maker(library, 'plain_make')
+    library = engine.load(STANDIN / 'target' / 'release' / 'libbarleychime.a')
+    return engine.Engine(library).make, engine.Engine(library, 'plain_make').make
 
 
 def known():
@@ -42,25 +42,21 @@ def unknown():
 def main():
     by_queues, plain = build()
     rng = random.Random(SEED)
-    wrong, tried = [], 0
+    tally = Tally()
 
     def compare(name, g, *expected):
-        nonlocal tried
-        tried += 1
-        work, pages = (tuple(rng.choices((0, 1, 2, check.HIGHEST), k=length + 3)) for length in check.needed(g))
-        answers = [make(galley.write(g), work, pages) for make in (by_queues, plain)]
-        answers += [check.due(g, best, work, pages) for best in expected]
-        if any(answer != answers[0] for answer in answers):
-            wrong.append(f'{name}: ' + ', '.join(str(answer[0]) for answer in answers))
+        work, pages = (tuple(rng.choices((0, 1, 2, engine.HIGHEST), k=length + 3)) for length in engine.lengths(g))
+        first, *others = [make(galley.write(g), work, pages) for make in (by_queues, plain)]
+        others += [check.due(g, best, work, pages) for best in expected]
+        tally.same(name, [first] * len(others), others)
 
     for name, g, best in known():
         compare(name, g, best)
     for number, g in enumerate(unknown()):
         compare(f'galley {number} of unknown best list', g)
     # The plain search would take minutes.
-    if not check.largest(by_queues, 1):
-        wrong.append('the largest galley of height 0')
-    return engine.report(tried + 1, wrong)
+    tally.same('the largest galley of height 0', check.largest(by_queues, 1), True)
+    return tally.end()
 
 
 if __name__ == '__main__':

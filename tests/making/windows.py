@@ -7,11 +7,11 @@ from reference import search
 def windows(g):
     """For each starting and ending figure, place by place, the lines that a page with lines can start after; without the
     full place, whose page may be low."""
-    m, n = len(g.lines), len(g.figures)
+    m, n = g.sizes
     starts = collections.defaultdict(list)
     for a in range(m):
         for b in range(n + 1):
-            for i, j in search.page_ends(g, a, b):
+            for i, j in search.page_ends(g, (a, b)):
                 if a < i and (i, j) != (m, n):
                     starts[b, j, i].append(a)
     ends = [i for i in range(1, m + 1) if i == m or g.lines[i - 1].legal]

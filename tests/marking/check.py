@@ -1,6 +1,5 @@
 """The proved marking, compiled, against the reference in Python: document 01's cases, and random galleys with lists of
 every kind. The last line is 'N passed, M failed'."""
-import collections
 import pathlib
 import random
 import sys
@@ -9,9 +8,9 @@ import time
 sys.path.insert(0, str(pathlib.Path(__file__).resolve().parents[1]))
 import engine  # noqa: E402
 from reference import cases, galley, marking, sample, search  # noqa: E402
+from tally import Tally  # noqa: E402
 
 GALLEYS, SEED = 2_400, 20261115
-HIGHEST = 2**32 - 1
 
 
 def lists_for(rng, g):
@@ -21,41 +20,34 @@ def lists_for(rng, g):
     rising = [sample.page_list(rng, g) for _ in range(4)]
     slipped = [sample.mutated(rng, rng.choice(valid + rising)) for _ in range(5)]
     cut = [words[:-2] for words in valid + rising[:1]]
-    any_words = [tuple(rng.choice((0, 1, 2, 3, HIGHEST, rng.randint(0, HIGHEST))) for _ in range(rng.randint(0, 8)))]
-    highest = [(HIGHEST,) * rng.choice((2, 4))]
-    return valid + rising + slipped + cut + any_words + highest
-
-
-def compare(name, found, expected, wrong):
-    if found != expected:
-        wrong.append(f'{name}: {found}, not {expected}')
-    return 1
+    highest = engine.HIGHEST
+    any_words = [tuple(rng.choice((0, 1, 2, 3, highest, rng.randint(0, highest))) for _ in range(rng.randint(0, 8)))]
+    return valid + rising + slipped + cut + any_words + [(highest,) * rng.choice((2, 4))]
 
 
 def main():
-    mark = engine.marker(engine.build())
-    wrong, tried, kinds = [], 0, collections.Counter()
+    mark = engine.Engine(engine.load(engine.proved('barleychime'))).mark
+    tally = Tally()
     for name, g, words, expected in cases.MARKED + cases.MARKED_LONG:
-        tried += compare(name, mark(galley.write(g), words), expected, wrong)
+        tally.same(name, mark(galley.write(g), words), expected)
     rng = random.Random(SEED)
     for number, g in enumerate(sample.galleys(SEED, GALLEYS, 5, 3)):
         data = galley.write(g)
         for words in lists_for(rng, g):
             expected = marking.mark(g, words)
-            kinds[expected[1] if expected[0] == 'refused' else f'sides {g.spec.sides}'] += 1
-            tried += compare(f'galley {number}, {words}', mark(data, words), expected, wrong)
+            tally.kind(expected[1] if expected[0] == 'refused' else f'sides {g.spec.sides}')
+            tally.same(f'galley {number}, {words}', mark(data, words), expected)
         broken = sample.broken(rng, data)
         read = galley.read(broken)
         if read[0] == 'refused':
-            tried += compare(f'galley {number}, broken', mark(broken, (1, 0)), read, wrong)
-    for kind in [*range(12, 19), 'sides 1', 'sides 2']:
-        tried += compare(f'lists of kind {kind}', kinds[kind] >= 20, True, wrong)
+            tally.same(f'galley {number}, broken', mark(broken, (1, 0)), read)
+    tally.enough([*range(12, 19), 'sides 1', 'sides 2'], 20)
     data = galley.write(cases.LONGEST)
     began = time.perf_counter()
     mark(data, cases.ONE_A_PAGE)
     print(f'4,200 pages, 4,000 lines, 200 figures: {time.perf_counter() - began:.4f} s')
-    print('lists by answer:', dict(sorted(kinds.items(), key=str)))
-    return engine.report(tried, wrong)
+    print('lists by answer:', dict(sorted(tally.kinds.items(), key=str)))
+    return tally.end()
 
 
 if __name__ == '__main__':

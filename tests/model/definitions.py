@@ -8,13 +8,18 @@ ROOT = pathlib.Path(__file__).resolve().parents[2]
 
 
 def copy_to(folder):
-    """The definitions without their laws, and the cases, as a repository of their own."""
+    """The definitions and the cases as a repository of their own, without what would refuse a wrong definition before the cases
+    do: the laws, and the model's functions, which stand after its types."""
     for crate in ('model', 'cases'):
         shutil.copytree(ROOT / 'crates' / crate, folder / 'crates' / crate)
-    shutil.rmtree(folder / 'crates/model/specs/laws')
-    (folder / 'crates/model/specs/laws.antt').unlink()
-    library = folder / 'crates/model/specs/Lib.antt'
+    model = folder / 'crates/model'
+    shutil.rmtree(model / 'specs/laws')
+    (model / 'specs/laws.antt').unlink()
+    library = model / 'specs/Lib.antt'
     library.write_text(library.read_text().replace('pub mod laws\n', ''))
+    shutil.rmtree(model / 'proofs')
+    for source in (model / 'src').glob('*.rt'):
+        source.write_text(re.sub(r'^pub fn .*', '', source.read_text(), flags=re.DOTALL | re.MULTILINE))
     (folder / 'crates.txt').write_text('model:\ncases: model\n')
 
 

@@ -1,9 +1,11 @@
 """The page model's definitions against the reference in Python, on random galleys.
 
 The definitions are mathematics, so they are run by the checker: a table of random galleys, with what the reference answers
-for each, takes the place of the table of cases, and must agree with the definitions in the same way. As a check that the
-table can disagree, one answer is then falsified.
+for each, takes the place of the table of cases, and must agree with the definitions in the same way. Lists are chosen so that
+the sample has every kind of answer, counted by sidedness; a kind that is missing fails. As a check that the table can disagree,
+one answer is then falsified.
 """
+import collections
 import pathlib
 import random
 import sys
@@ -14,7 +16,8 @@ import definitions
 sys.path.insert(0, str(definitions.ROOT / 'tests'))
 from reference import marking, sample, search  # noqa: E402
 
-GALLEYS, LISTS, SEED = 60, 6, 20261115
+GALLEYS, LINES, FIGURES, LISTS, DRAWN, SEED = 120, 5, 2, 5, 40, 20261115
+SIDES = {1: 'single-sided', 2: 'double-sided'}
 
 
 def listed(items):
@@ -40,41 +43,80 @@ def numbers(words):
 
 
 def made(g):
+    """The answer of making, as it is written in the table, and its kind."""
+    valid = list(search.every(g))
+    if not valid:
+        return '(refuses 11 0)', 'made: none (11)'
     best = search.best(g)
-    if best is None:
-        return '(refuses 11 0)'
     _, p, x, y, t = marking.mark(g, best)
-    return f'(makes {p} {x} {y} {t} {numbers(best)})'
+    tied = sum(marking.mark(g, words)[4] == t for words in valid) > 1
+    return f'(makes {p} {x} {y} {t} {numbers(best)})', 'made: ' + ('a tie decides' if tied else 'the turns decide')
 
 
 def marked(g, words):
+    """The answer of marking, as it is written in the table, and its kind."""
     answer = marking.mark(g, words)
-    verb = 'marks' if answer[0] == 'accepted' else 'refuses'
-    return f'({verb} {" ".join(map(str, answer[1:]))})'
+    if answer[0] == 'accepted':
+        return f'(marks {" ".join(map(str, answer[1:]))})', 'marked: accepted'
+    number, place = answer[1:]
+    return f'(refuses {number} {place})', f'marked: {number}{where(g, number, place)}'
 
 
-def rows(seed):
-    """A row for making and for some valid, slipped and random lists of each galley."""
+def where(g, number, place):
+    """Where a list is refused, as far as the kinds tell it apart."""
+    if number == 12:
+        return ''
+    if number == 18:
+        return ' after page 1' if place == 1 else ' after a later page'
+    if number == 17 and g.spec.sides == 2 and place % 2 == 0:
+        return ' on a page that opens a spread, the last of its list'
+    return ' on page 1' if place == 1 else ' on a later page'
+
+
+def kinds(sides):
+    """Every kind of answer that there is."""
+    yield from ('made: none (11)', 'made: a tie decides', 'made: the turns decide', 'marked: accepted', 'marked: 12')
+    for number in range(13, 18):
+        yield from (f'marked: {number} on page 1', f'marked: {number} on a later page')
+    if sides == 2:
+        yield 'marked: 17 on a page that opens a spread, the last of its list'
+    yield from ('marked: 18 after page 1', 'marked: 18 after a later page')
+
+
+def drawn(rng, g, valid):
+    """A list that is valid or random, or comes of it by a slip, by being cut short, or by going on at random after some pages."""
+    words = rng.choice(valid) if valid and rng.random() < 0.7 else sample.page_list(rng, g)
+    kept = 2 * rng.randint(1, len(words) // 2)
+    return rng.choice((words, sample.mutated(rng, words), words[:kept], words[:kept] + sample.page_list(rng, g)[kept:]))
+
+
+def lists(rng, g, seen):
+    """A valid list, if there is one; then, each time, that one of some drawn at random whose kind is least seen so far."""
+    valid = list(search.every(g))
+    if valid:
+        yield rng.choice(valid)
+    for _ in range(LISTS):
+        yield min((drawn(rng, g, valid) for _ in range(DRAWN)), key=lambda words: seen[g.spec.sides, marked(g, words)[1]])
+
+
+def rows(seed, seen):
+    """A row for making and for some lists of each galley; their kinds are counted."""
     rng = random.Random(seed)
-    for g in sample.galleys(seed, GALLEYS, 4, 2):
-        text = galley_text(g)
-        yield f'asks ({text}) making {made(g)}'
-        valid = list(search.every(g))
-        for _ in range(LISTS):
-            words = rng.choice(valid) if valid and rng.random() < 0.7 else sample.page_list(rng, g)
-            if rng.random() < 0.5:
-                words = sample.mutated(rng, words)
-            yield f'asks ({text}) (marking {numbers(words)}) {marked(g, words)}'
+    for g in sample.galleys(seed, GALLEYS, LINES, FIGURES):
+        asked = f'asks ({galley_text(g)})'
+        answer, kind = made(g)
+        seen[g.spec.sides, kind] += 1
+        yield f'{asked} making {answer}'
+        for words in lists(rng, g, seen):
+            answer, kind = marked(g, words)
+            seen[g.spec.sides, kind] += 1
+            yield f'{asked} (marking {numbers(words)}) {answer}'
 
 
-HEAD = '''use mathlib.Core.Bool.{Bool, true, false}
+HEAD = '''use mathlib.Core.Bool.{true, false}
 use mathlib.Core.List.{List, [], _∷_}
-use Prim.Native.Nat.{ℕ}
-use Rattle.model.specs.Galley.{Sides, single, double, Galley}
-use Rattle.cases.specs.Case.{Case, Reply, Question, making, marking, galleyOf, makes, marks, refuses}
-
-unfoldable pub asks : Galley → Question → Reply → Case
-asks g question reply = record { galley = g; question = question; reply = reply }
+use Rattle.model.specs.Galley.{single, double}
+use Rattle.cases.specs.Case.{Case, making, marking, galleyOf, makes, marks, refuses, asks}
 
 unfoldable pub table : List Case
 table =
@@ -85,18 +127,23 @@ def agrees(table):
     with tempfile.TemporaryDirectory() as name:
         folder = pathlib.Path(name)
         definitions.copy_to(folder)
-        specs = folder / 'crates/cases/specs'
-        (specs / 'Table.antt').write_text(HEAD + '    ' + '\n    ∷ '.join([*table, '[]']) + '\n')
-        proof = (specs / 'Agrees.antt').read_text()
-        for only in ('spec', 'line', 'figure', 'three', 'galleyA', 'galleyB', 'galleyC', 'galleyD', 'galleyE'):
-            proof = proof.replace(f'{only}, ', '').replace(f' {only} ', ' ')
-        (specs / 'Agrees.antt').write_text(proof)
-        model, cases, error = definitions.check(folder)
-    return model, cases, error
+        file = folder / 'crates/cases/specs/Table.antt'
+        file.write_text(HEAD + '    ' + '\n    ∷ '.join([*table, '[]']) + '\n')
+        return definitions.check(folder)
+
+
+def missing(seen):
+    """Prints how many answers of each kind there are, and counts the kinds that are missing."""
+    due = [(sides, kind) for sides in SIDES for kind in kinds(sides)]
+    for sides, kind in due:
+        print(f'{SIDES[sides]}, {kind}: {seen[sides, kind] or "MISSING"}')
+    return sum(not seen[each] for each in due)
 
 
 def main():
-    table = list(rows(SEED))
+    seen = collections.Counter()
+    table = list(rows(SEED, seen))
+    lacking = missing(seen)
     right = agrees(table)
     print(f'{len(table)} answers of {GALLEYS} galleys: ' + ('agree' if right[1] else f'DISAGREE, {right}'))
     at = next(i for i, row in enumerate(table) if '(marks ' in row)
@@ -104,7 +151,7 @@ def main():
     wrong = agrees(table)
     caught = wrong[0] and not wrong[1] and wrong[2] and 'Agrees' in wrong[2]
     print('one answer falsified: ' + ('caught' if caught else f'NOT CAUGHT, {wrong}'))
-    failed = (not right[1]) + (not caught)
+    failed = lacking + (not right[1]) + (not caught)
     print(f'{(len(table) if right[1] else 0) + bool(caught)} passed, {failed} failed')
     return 0 if failed == 0 else 1
 

@@ -7,7 +7,9 @@ import sys
 
 ROOT = pathlib.Path(__file__).resolve().parents[2]
 sys.path.insert(0, str(ROOT / 'tests'))
+import engine  # noqa: E402
 from reference import cases, galley, marking, sample, search  # noqa: E402
+from tally import Tally  # noqa: E402
 
 PROGRAM = ROOT / 'target' / 'bin' / 'paginate'
 SEED = 20261117
@@ -22,17 +24,14 @@ def due(data):
     if read[0] == 'refused':
         return f'R {read[1]} {read[2]}\n'
     g = read[1]
-    m, n = len(g.lines), len(g.figures)
-    if WORK < 8 * (m + 1) * (n + 1):
-        return f'R 9 {8 * (m + 1) * (n + 1)}\n'
-    if LIST < 2 * (m + n):
-        return f'R 10 {2 * (m + n)}\n'
+    for number, lent, needed in zip((9, 10), (WORK, LIST), engine.lengths(g)):
+        if lent < needed:
+            return f'R {number} {needed}\n'
     best = search.best_by_table(g)
     if best is None:
         return 'R 11 0\n'
-    pages = marking.pairs(best)
-    counts = ' '.join(map(str, marking.mark(g, best)[1:]))
-    return counts + '\n' + ''.join(f'{q} {i} {j}\n' for q, (i, j) in enumerate(pages, 1))
+    rows = [marking.mark(g, best)[1:], *((q, *end) for q, end in enumerate(marking.places(g, best), 1))]
+    return ''.join(' '.join(map(str, row)) + '\n' for row in rows)
 
 
 def inputs():
@@ -47,15 +46,10 @@ def inputs():
 
 
 def main():
-    passed = failed = 0
+    tally = Tally()
     for data in inputs():
-        wrote = subprocess.run([PROGRAM], input=data, capture_output=True).stdout.decode()
-        expected = due(data)
-        passed, failed = passed + (wrote == expected), failed + (wrote != expected)
-        if wrote != expected:
-            print(f'FAILED on {len(data)} bytes: {wrote!r}, not {expected!r}')
-    print(f'{passed} passed, {failed} failed')
-    return 0 if passed and not failed else 1
+        tally.same(f'{len(data)} bytes', subprocess.run([PROGRAM], input=data, capture_output=True).stdout.decode(), due(data))
+    return tally.end()
 
 
 if __name__ == '__main__':

@@ -7,18 +7,23 @@ from .galley import Figure, Galley, Line, Spec
 
 def plain(spec, heights, figures):
     """A galley without spaces, page ends allowed everywhere; figures as (height, citation)."""
-    return Galley(spec, tuple(Line(height, 0, 0, 1) for height in heights),
-                  tuple(Figure(height, 0, 0, cite) for height, cite in figures))
+    return Galley(spec, (tuple(Line(height, 0, 0, 1) for height in heights),
+                         tuple(Figure(height, 0, 0, cite) for height, cite in figures)))
 
 
 def respec(galley, **fields):
     return replace(galley, spec=galley.spec._replace(**fields))
 
 
+def high(galley, height):
+    """The galley with pages of one height."""
+    return respec(galley, htmin=height, htmax=height)
+
+
 def forbid(galley, number):
     lines = list(galley.lines)
     lines[number - 1] = lines[number - 1]._replace(legal=0)
-    return replace(galley, lines=tuple(lines))
+    return replace(galley, streams=(tuple(lines), *galley.floats))
 
 
 A = plain(Spec(30, 30, 0, 0, 1, 1, 1), (10, 10, 10), [(20, 1)])
@@ -28,7 +33,15 @@ C = plain(A.spec._replace(htmin=10, htmax=20, sides=2), (10, 10, 20, 20), [(20, 
 # Two pages and three both turn one leaf; the even page count decides, then the later start of the last page.
 EVEN = plain(A.spec._replace(htmin=0, htmax=20, sides=2), (10, 10, 10), [])
 PAIR = plain(A.spec._replace(htmin=0, alpha=0, beta=0), (10,), [(10, 1), (10, 1)])
-SPACED = Galley(A.spec._replace(htmin=28), 3 * (Line(10, 5, 8, 1),), ())
+SPACED = Galley(A.spec._replace(htmin=28), (3 * (Line(10, 5, 8, 1),), ()))
+# Galleys F, G and H of the table that is proved (crates/cases): every space and the separation stretch; every other line forbids
+# a page end; a page may end after lines 255 and 300 alone.
+F = Galley(Spec(0, 100_000, 4, 40, 1, 2, 3),
+           ((Line(10, 0, 100, 1), Line(10, 5, 9, 1), Line(10, 1, 10, 1), Line(10, 5, 9, 1), Line(10, 5, 9, 1)),
+            (Figure(10, 5, 9, 1), Figure(10, 2, 20, 1), Figure(10, 5, 9, 2), Figure(10, 5, 9, 3))))
+G = Galley(Spec(20, 30, 0, 0, 1, 1, 1), (tuple(Line(10, 0, 0, legal) for legal in (0, 1, 0, 1, 0)),
+                                         (Figure(10, 0, 0, 5), Figure(30, 0, 0, 5))))
+H = Galley(Spec(0, 300, 0, 0, 1, 1, 1), (tuple(Line(1, 0, 0, int(k in (255, 300, 301))) for k in range(1, 302)), ()))
 LONGEST = plain(Spec(0, 1, 0, 0, 1, 1_000, 1_000), 4_000 * (0,), 200 * [(0, 1)])
 ONE_A_PAGE = tuple(word for page in range(1, 4_201) for word in (min(page, 4_000), max(page - 4_000, 0)))
 
@@ -44,6 +57,12 @@ MADE = [
     ('even page count first', EVEN, (2, 0, 3, 0), (2, 0, 1, 1)),
     ('single-sided, only the later start counts', respec(EVEN, sides=1, beta=0), (1, 0, 2, 0, 3, 0), (3, 0, 2, 0)),
     ('later starting figure', PAIR, (1, 0, 1, 1, 1, 2), (3, 3, 2, 0)),
+    ('start 300 and not 255', H, (300, 0, 301, 0), (2, 0, 1, 1)),
+    ('two pages where the tightest fits', high(F, 61), (2, 3, 5, 4), (2, 0, 1, 3)),
+    ('three pages where it does not', high(F, 60), (1, 2, 3, 4, 5, 4), (3, 0, 2, 6)),
+    ('a last line that forbids a page end', G, (2, 0, 4, 0, 5, 1, 5, 2), (4, 1, 3, 4)),
+    ('a figure alone without separation', plain(A.spec._replace(smin=1, smax=1), (10, 10, 10), [(30, 1)]),
+     (3, 0, 3, 1), (2, 1, 1, 2)),
 ]
 
 # Name, galley, list, and what the marking says of it.
@@ -76,6 +95,27 @@ MARKED = [
     ('spaces stretch no further', respec(SPACED, htmin=29), (2, 0, 3, 0), ('refused', 16, 1)),
     ('spaces shrink to htMax', respec(SPACED, htmin=0, htmax=25), (2, 0, 3, 0), ('accepted', 2, 0, 1, 1)),
     ('spaces shrink no further', respec(SPACED, htmin=0, htmax=24), (2, 0, 3, 0), ('refused', 15, 1)),
+    ('page 2 just low enough', high(F, 47), (2, 1, 4, 3, 5, 4), ('accepted', 3, 3, 2, 12)),
+    ('page 2 too high', high(F, 46), (2, 1, 4, 3, 5, 4), ('refused', 15, 2)),
+    ('page 2 just high enough', high(F, 110), (2, 1, 4, 3, 5, 4), ('accepted', 3, 3, 2, 12)),
+    ('page 2 too low', high(F, 111), (2, 1, 4, 3, 5, 4), ('refused', 16, 2)),
+    ('lines alone just high enough', high(F, 30), (2, 0, 4, 0, 5, 4), ('refused', 15, 3)),
+    ('lines alone too low', high(F, 31), (2, 0, 4, 0, 5, 4), ('refused', 16, 2)),
+    ('the last of several figures too soon', high(F, 47), (2, 1, 2, 4, 5, 4), ('refused', 17, 2)),
+    ('13 before 14, 15 and 17', G, (2, 0, 1, 2, 5, 2), ('refused', 13, 2)),
+    ('14 before 16', G, (2, 0, 3, 0, 5, 2), ('refused', 14, 2)),
+    ('14 before 15 and 17', G, (2, 0, 3, 2, 5, 2), ('refused', 14, 2)),
+    ('15 before 17', G, (2, 0, 4, 2, 5, 2), ('refused', 15, 2)),
+    ('16 before 17', G, (2, 0, 2, 1, 5, 2), ('refused', 16, 2)),
+    ('17 on a page that may be low', G, (2, 0, 2, 1), ('refused', 17, 2)),
+    ('no line on page 1, and the first line forbids a page end', G, (0, 1, 5, 2), ('refused', 16, 1)),
+    ('a figure too soon on page 2, the last of the list', C, (2, 0, 2, 1), ('refused', 17, 2)),
+    ('a spread ends before the citation', C, (2, 0, 2, 1, 3, 1, 4, 1), ('refused', 17, 3)),
+    ('cut short after page 3', G, (2, 0, 4, 0, 5, 1), ('refused', 18, 3)),
+    ('cut short after a low page 3', G, (2, 0, 4, 0, 5, 0), ('refused', 18, 3)),
+    ('cut short after page 2', A, (1, 1, 2, 1), ('refused', 18, 2)),
+    ('more lines than there are, on page 2', A, (3, 0, 4, 1), ('refused', 13, 2)),
+    ('more figures than there are, on page 2', A, (3, 0, 3, 2), ('refused', 13, 2)),
 ]
 
 # As MARKED, but too long for the paper's sums to be worked out literally.

@@ -9,33 +9,7 @@ sys.path.insert(0, str(Path(__file__).resolve().parents[1]))
 
 from reference import cases, marking, refusals, sample, search  # noqa: E402
 from reference.galley import Figure, Galley, Line, Spec, read, write  # noqa: E402
-
-
-class Tally:
-    """Counts checks by group; a failure is printed when it happens, a group when it ends."""
-
-    def __init__(self):
-        self.passed = self.failed = 0
-        self.group_began = 0
-        self.refusals = set()
-
-    def same(self, what, got, due):
-        if got == due:
-            self.passed += 1
-        else:
-            self.failed += 1
-            print(f'FAILED {what}: {got}, due {due}')
-
-    def met(self, answer):
-        """Remembers which refusals were ever reached."""
-        if answer[0] == 'refused':
-            self.refusals.add(answer[1])
-        return answer
-
-    def group(self, title, note=''):
-        checks = self.passed + self.failed - self.group_began
-        self.group_began += checks
-        print(f'{title}: {checks} checks{note}')
+from tally import Tally  # noqa: E402
 
 
 def made(tally):
@@ -64,7 +38,7 @@ def by_paper(galley, words):
     turn = marking.turn_d if galley.spec.sides == 2 else marking.turn_s
     # X and Y are what the turns come to when only the one or the other weighs.
     weights = [(1, 0), (0, 1), (galley.spec.alpha, galley.spec.beta)]
-    return ('accepted', found[2],
+    return ('accepted', found[1],
             *(turn(cases.respec(galley, alpha=alpha, beta=beta), *found) for alpha, beta in weights))
 
 
@@ -76,7 +50,7 @@ def turned_away(tally):
 
 def round_trips(tally):
     edge = Spec(100_000, 100_000, 100_000, 100_000, 2, 1_000, 1_000)
-    largest = Galley(edge, 4_000 * (Line(100_000, 100_000, 100_000, 0),), 200 * (Figure(100_000, 0, 100_000, 4_000),))
+    largest = Galley(edge, (4_000 * (Line(100_000, 100_000, 100_000, 0),), 200 * (Figure(100_000, 0, 100_000, 4_000),)))
     for galley in [largest, *sample.galleys(1, 300, 8, 5)]:
         tally.same(f'round trip of {galley}', read(write(galley)), ('galley', galley))
     tally.same('line 1 begins', write(largest)[largest.first:][:2], b'TL')
@@ -124,25 +98,24 @@ def all_lists(tally):
 
 def paginations(galley):
     """List of words to turns, from every map of the material to pages."""
-    m, n = len(galley.lines), len(galley.figures)
     turn = marking.turn_d if galley.spec.sides == 2 else marking.turn_s
     found = {}
-    for p in range(1, m + n + 1):
-        for pages in product(range(1, p + 1), repeat=m + n):
-            if marking.is_pagination(galley, pages[:m], pages[m:], p):
-                found[marking.words_of_map(pages[:m], pages[m:], p)] = turn(galley, pages[:m], pages[m:], p)
+    for p in range(1, sum(galley.sizes) + 1):
+        for maps in product(*(product(range(1, p + 1), repeat=size) for size in galley.sizes)):
+            if marking.is_pagination(galley, maps, p):
+                found[marking.words_of_map(maps, p)] = turn(galley, maps, p)
     return found
 
 
 def lists_of_words(galley):
     """Every list of no more pages than there is material, each word up to one too high; then some of a wrong length."""
-    m, n = len(galley.lines), len(galley.figures)
-    ends = list(product(range(m + 2), range(n + 2)))
-    for p in range(m + n + 1):
+    whole = galley.sizes
+    ends = list(product(*(range(size + 2) for size in whole)))
+    for p in range(sum(whole) + 1):
         for pages in product(ends, repeat=p):
             yield sum(pages, ())
-        yield (m, n) * p + (m,)
-    yield (m, n) * (m + n + 1)
+        yield whole * p + whole[:1]
+    yield whole * (sum(whole) + 1)
 
 
 def random_lists(tally):
@@ -192,8 +165,7 @@ def main():
     for number in [*range(1, 9), *range(12, 19)]:
         tally.same(f'refusal {number} is reached', number in tally.refusals, True)
     tally.group('refusals reached')
-    print(f'{tally.passed} passed, {tally.failed} failed')
-    return 1 if tally.failed else 0
+    return tally.end()
 
 
 if __name__ == '__main__':

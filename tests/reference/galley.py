@@ -4,8 +4,6 @@ import struct
 from dataclasses import dataclass
 from typing import NamedTuple
 
-MOST_LINES = 4_000
-MOST_FIGURES = 200
 LONGEST = 100_000  # any length, in hundredths of a point
 HEAVIEST = 1_000  # either weight
 
@@ -34,73 +32,113 @@ class Figure(NamedTuple):
     cite: int  # the citing line, counted from 1
 
 
+class Stream(NamedTuple):
+    """A kind of record that makes up a stream of its own."""
+    mark: bytes
+    kind: type
+    most: int  # of its blocks in a galley
+
+
+# In the order in which they follow one another in a file; the first is the text, the others are cited by its lines.
+STREAMS = (Stream(b'TL', Line, 4_000), Stream(b'FG', Figure, 200))
+
+
 @dataclass(frozen=True)
 class Galley:
     spec: Spec
-    lines: tuple
-    figures: tuple
+    streams: tuple  # of blocks, one entry for each of STREAMS
     first: int = 30  # where line 1 begins: only the specification comes before it
 
+    @property
+    def lines(self):
+        return self.streams[0]
 
-CARRIES = {b'GS': Spec, b'TL': Line, b'FG': Figure}
+    @property
+    def floats(self):
+        return self.streams[1:]
+
+    @property
+    def figures(self):
+        return self.streams[1]
+
+    @property
+    def sizes(self):
+        """The place at which everything is placed."""
+        return tuple(map(len, self.streams))
+
+    @property
+    def nothing(self):
+        """The place at which nothing is."""
+        return (0,) * len(self.streams)
+
+
+MARKS = (b'GS', *(stream.mark for stream in STREAMS), b'ED')
 
 
 def read(data):
     """('galley', Galley), or ('refused', number, place) with the first of 1 to 8 in document 01's order of tests."""
-    spec, lines, figures, at = None, [], [], 0
+    spec, streams, at = None, [[] for _ in STREAMS], 0
     while True:
         mark = data[at:at + 2]
-        fault = mark_fault(mark, spec, lines, figures)
+        fault = mark_fault(mark, spec, streams)
         if fault:
             return ('refused', fault, at)
         if mark == b'ED':
             break
-        kind = CARRIES[mark]
+        number = None if mark == b'GS' else stream_of(mark)
+        kind = Spec if number is None else STREAMS[number].kind
         after = at + 2 + 4 * len(kind._fields)
         if after > len(data):
             return ('refused', 1, at)
         record = kind(*struct.unpack(f'>{len(kind._fields)}I', data[at + 2:after]))
-        fault = record_fault(record, lines, figures)
+        fault = record_fault(record, number, streams)
         if fault:
             return ('refused', fault, at)
-        if kind is Spec:
+        if number is None:
             spec = record
         else:
-            (lines if kind is Line else figures).append(record)
+            streams[number].append(record)
         at = after
     if at + 2 < len(data):
         return ('refused', 8, at + 2)
-    return ('galley', Galley(spec, tuple(lines), tuple(figures)))
+    return ('galley', Galley(spec, tuple(map(tuple, streams))))
 
 
-def mark_fault(mark, spec, lines, figures):
+def stream_of(mark):
+    return next(number for number, stream in enumerate(STREAMS) if stream.mark == mark)
+
+
+def mark_fault(mark, spec, streams):
     """Why this mark cannot stand after what was read so far: 1, 2, 5 or 4, tested in that order; None if it can."""
     if len(mark) < 2:
         return 1
     # The specification opens the file and stands nowhere else.
-    if (mark == b'GS') != (spec is None):
+    if (mark == b'GS') != (spec is None) or mark not in MARKS:
         return 2
-    if mark not in (b'GS', b'TL', b'FG', b'ED') or (mark == b'TL' and figures):
+    if mark == b'GS':
+        return None
+    number = len(STREAMS) if mark == b'ED' else stream_of(mark)
+    if any(streams[number + 1:]):
         return 2
-    if mark in (b'FG', b'ED') and not lines:
+    if number > 0 and not streams[0]:
         return 5
-    if (mark == b'TL' and len(lines) == MOST_LINES) or (mark == b'FG' and len(figures) == MOST_FIGURES):
+    if mark != b'ED' and len(streams[number]) == STREAMS[number].most:
         return 4
     return None
 
 
-def record_fault(record, lines, figures):
-    """Why these fields are turned away: 3, then 6, then 7; None if they are not."""
-    if isinstance(record, Spec):
+def record_fault(record, number, streams):
+    """Why these fields are turned away: 3, then 6, then 7; None if they are not. The specification has no stream's number."""
+    if number is None:
         return None if spec_in_range(record) else 3
     if not (record.height <= LONGEST and record.least <= record.most <= LONGEST):
         return 3
-    if isinstance(record, Line):
+    if number == 0:
         return None if record.legal in (0, 1) else 3
-    # All lines precede the first figure, so their number is final here.
-    if not 1 <= record.cite <= len(lines):
+    # All lines precede the first float, so their number is final here.
+    if not 1 <= record.cite <= len(streams[0]):
         return 6
-    if figures and record.cite < figures[-1].cite:
+    if streams[number] and record.cite < streams[number][-1].cite:
         return 7
     return None
 
@@ -113,11 +151,10 @@ def spec_in_range(spec):
 
 def write(galley):
     """The bytes of a galley. Ranges are not tested, so that refused files can be written too."""
-    return (record_bytes(b'GS', galley.spec)
-            + b''.join(record_bytes(b'TL', line) for line in galley.lines)
-            + b''.join(record_bytes(b'FG', figure) for figure in galley.figures)
-            + b'ED')
+    blocks = (record(stream.mark, *block) for stream, held in zip(STREAMS, galley.streams) for block in held)
+    return record(b'GS', *galley.spec) + b''.join(blocks) + b'ED'
 
 
-def record_bytes(mark, fields):
+def record(mark, *fields):
+    """The bytes of one record."""
     return mark + struct.pack(f'>{len(fields)}I', *fields)

@@ -1,19 +1,19 @@
 """Which refusal is due: to some files, from document 01, and to any list, again, from the paper's map of its pages."""
 
-import struct
 from dataclasses import replace
 
 from . import marking
+from .galley import record
 
 
 def of_list(galley, words):
     """Number and place for a list that is no pagination's, from the paper's map of its pages so far."""
-    m, n = len(galley.lines), len(galley.figures)
-    pages = len(words) // 2
-    if len(words) not in range(2, 2 * (m + n) + 1, 2):
+    width = len(galley.streams)
+    pages = len(words) // width
+    if len(words) not in range(width, width * sum(galley.sizes) + 1, width):
         return 12, 0
     for page in range(1, pages + 1):
-        number = of_page(galley, words[:2 * page], page == pages)
+        number = of_page(galley, words[:width * page], page == pages)
         if number:
             return number, page
     return 18, pages
@@ -21,27 +21,24 @@ def of_list(galley, words):
 
 def of_page(galley, words, last):
     """The first of 13 to 17 that the last of these pages breaks, or None; the pages before it break none."""
-    page, (i, j) = len(words) // 2, words[-2:]
-    so_far = replace(galley, lines=galley.lines[:i], figures=galley.figures[:j])
+    width = len(galley.streams)
+    page, end = len(words) // width, words[-width:]
+    so_far = replace(galley, streams=tuple(stream[:count] for stream, count in zip(galley.streams, end)))
     found = marking.map_of_words(so_far, words)
-    if found is None or {*found[0], *found[1]} != {*range(1, page + 1)}:
+    if found is None or set().union(*found[0]) != {*range(1, page + 1)}:
         return 13
-    page_of_line, page_of_figure, _ = found
+    maps = found[0]
     # Lines still to come go to the next page at the earliest, and to no page that could be seen if there is none.
-    to_come = [page + 2 if last else page + 1] * (len(galley.lines) - i)
-    if not marking.ends_are_legal(galley, page_of_line + to_come):
+    text = maps[0] + [page + 2 if last else page + 1] * (len(galley.lines) - end[0])
+    if not marking.ends_are_legal(galley, text):
         return 14
-    if not marking.not_overfull(so_far, page_of_line, page_of_figure, page):
+    if not marking.not_overfull(so_far, maps, page):
         return 15
-    if not last and not marking.not_underfull(so_far, page_of_line, page_of_figure, page):
+    if not last and not marking.not_underfull(so_far, maps, page):
         return 16
-    if not marking.citations_come_first(galley, page_of_line + to_come, page_of_figure):
+    if not marking.citations_come_first(galley, (text, *maps[1:])):
         return 17
     return None
-
-
-def record(mark, *fields):
-    return mark + struct.pack(f'>{len(fields)}I', *fields)
 
 
 def files():

@@ -21,7 +21,7 @@ def one_galley(rng, max_lines, max_figures, sides):
     lines = tuple(Line(*sized(rng, htmax), int(rng.random() < 0.85)) for _ in range(rng.randint(1, max_lines)))
     cites = citations(rng, len(lines), rng.randint(0, max_figures))
     figures = tuple(Figure(*sized(rng, htmax), cite) for cite in cites)
-    return Galley(spec, lines, figures)
+    return Galley(spec, (lines, figures))
 
 
 def fine_galleys(seed, count, least_lines, most_lines, max_figures, highest=24):
@@ -39,8 +39,8 @@ def one_fine_galley(rng, lines, max_figures, htmax, sides):
     spec = Spec(htmin, htmax, smin, smin + rng.choice((0, 1, 5)), sides, rng.choice((0, 0, 1, 3)), rng.choice((0, 0, 1, 2)))
     barred = forbidden_ends(rng, lines)
     cites = citations(rng, lines, rng.randint(0, max_figures))
-    return Galley(spec, tuple(Line(*fine(rng, htmax, 1.5 / lines), int(k not in barred)) for k in range(1, lines + 1)),
-                  tuple(Figure(*fine(rng, htmax, 0.2), cite) for cite in cites))
+    text = tuple(Line(*fine(rng, htmax, 1.5 / lines), int(k not in barred)) for k in range(1, lines + 1))
+    return Galley(spec, (text, tuple(Figure(*fine(rng, htmax, 0.2), cite) for cite in cites)))
 
 
 def fine(rng, htmax, chance):
@@ -76,11 +76,9 @@ def citations(rng, lines, figures):
 
 def page_list(rng, galley):
     """A list that ends with everything placed and never falls, but may break any other rule."""
-    m, n = len(galley.lines), len(galley.figures)
-    pages = rng.randint(1, m + n)
-    lines = sorted(rng.randint(0, m) for _ in range(pages - 1)) + [m]
-    figures = sorted(rng.randint(0, n) for _ in range(pages - 1)) + [n]
-    return tuple(word for end in zip(lines, figures) for word in end)
+    pages = rng.randint(1, sum(galley.sizes))
+    counts = [sorted(rng.randint(0, size) for _ in range(pages - 1)) + [size] for size in galley.sizes]
+    return tuple(word for end in zip(*counts) for word in end)
 
 
 def mutated(rng, words):

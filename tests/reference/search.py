@@ -7,10 +7,10 @@ from . import marking
 
 def every(galley):
     """Every valid list, by trying each page end that rules 13 to 17 allow after each start."""
-    whole = (len(galley.lines), len(galley.figures))
+    whole = galley.sizes
 
     def onward(start, page):
-        for end in product(range(start[0], whole[0] + 1), range(start[1], whole[1] + 1)):
+        for end in product(*(range(u, size + 1) for u, size in zip(start, whole))):
             # Pages are never empty, so the page that ends with everything placed is the last, and no other is.
             last = end == whole
             if marking.page_fault(galley, start, end, page, last):
@@ -18,7 +18,7 @@ def every(galley):
             for rest in [()] if last else onward(end, page + 1):
                 yield end + rest
 
-    return onward((0, 0), 1)
+    return onward(galley.nothing, 1)
 
 
 def best(galley):
@@ -33,9 +33,13 @@ def first(galley, lists):
 def rank(galley, words):
     """What making compares: turns, an odd page count in double-sided work, the starts from the last page backwards."""
     _, p, _, _, turns = marking.mark(galley, words)
-    starts = [(0, 0)] + marking.pairs(words)[:-1]
-    # Each list's starts end with the only (0, 0), so neither of two lists' starts can begin the other's.
-    return turns, galley.spec.sides == 2 and p % 2 == 1, [(-a, -b) for a, b in reversed(starts)]
+    starts = [galley.nothing] + marking.places(galley, words)[:-1]
+    # Each list's starts end with the only place of nothing, so neither of two lists' starts can begin the other's.
+    return turns, galley.spec.sides == 2 and p % 2 == 1, [later_first(start) for start in reversed(starts)]
+
+
+def later_first(place):
+    return tuple(-count for count in place)
 
 
 ENDS, OPENS = 1, 0  # a page's side: whether its leaf ends with it (single-sided, always) or goes on to the next page
@@ -44,54 +48,50 @@ ENDS, OPENS = 1, 0  # a page's side: whether its leaf ends with it (single-sided
 def best_by_table(galley):
     """As best, from a table with one entry for each place and side of the page that ends there.
 
-    Turning a leaf costs beta and, for each figure that is cited but still waiting, alpha; over all turns that makes T.
+    Turning a leaf costs beta and, for each float that is cited but still waiting, alpha; over all turns that makes T.
     A page's side fixes that of the page before it, so the least cost with the latest start is all there is to keep.
     """
-    m, n = len(galley.lines), len(galley.figures)
     double = galley.spec.sides == 2
-    cited = [sum(figure.cite <= i for figure in galley.figures) for i in range(m + 1)]
-    table = {(0, 0, OPENS): (0, 0, 0)}
-    for a, b, side in product(range(m + 1), range(n + 1), (OPENS, ENDS)):
-        if (a, b, side) not in table:
-            continue
-        cost = table[a, b, side][0]
-        if side == ENDS:
-            cost += galley.spec.alpha * (cited[a] - b) + galley.spec.beta
-        next_side = OPENS if double and side == ENDS else ENDS
-        for i, j in page_ends(galley, a, b):
-            if next_side == OPENS or j <= cited[i]:
-                entry = (cost, -a, -b)
-                table[i, j, next_side] = min(entry, table.get((i, j, next_side), entry))
+    cited = [[sum(block.cite <= i for block in floats) for floats in galley.floats] for i in range(len(galley.lines) + 1)]
+    table = {(galley.nothing, OPENS): (0, galley.nothing)}
+    for start in product(*(range(size + 1) for size in galley.sizes)):
+        for side in (OPENS, ENDS):
+            if (start, side) not in table:
+                continue
+            cost = table[start, side][0]
+            if side == ENDS:
+                cost += galley.spec.alpha * (sum(cited[start[0]]) - sum(start[1:])) + galley.spec.beta
+            next_side = OPENS if double and side == ENDS else ENDS
+            for end in page_ends(galley, start):
+                if next_side == OPENS or all(j <= known for j, known in zip(end[1:], cited[end[0]])):
+                    entry = (cost, later_first(start))
+                    table[end, next_side] = min(entry, table.get((end, next_side), entry))
     # Double-sided, even pages open a spread, so OPENS is the even page count and goes first.
-    ends = [(table[m, n, side][0], side) for side in (OPENS, ENDS) if (m, n, side) in table]
-    return traced(table, (m, n), min(ends)[1], double) if ends else None
+    ends = [(table[galley.sizes, side][0], side) for side in (OPENS, ENDS) if (galley.sizes, side) in table]
+    return traced(table, galley, min(ends)[1], double) if ends else None
 
 
-def traced(table, end, side, double):
+def traced(table, galley, side, double):
     """The list that the table's starts spell, from the last page back to the first."""
-    words = ()
-    while end != (0, 0):
+    words, end = (), galley.sizes
+    while end != galley.nothing:
         words = end + words
-        _, a, b = table[(*end, side)]
-        end, side = (-a, -b), (ENDS - side if double else ENDS)
+        end, side = later_first(table[end, side][1]), (ENDS - side if double else ENDS)
     return words
 
 
-def page_ends(galley, a, b):
-    """Where a page that starts at (a, b) can end by its heights and the legal page ends alone."""
-    m, n = len(galley.lines), len(galley.figures)
+def page_ends(galley, start):
+    """Where a page that starts at a place can end by its heights and the legal page ends alone."""
     spec = galley.spec
-    texts = grown(galley.lines[a:], spec.htmax)
-    figures = grown(galley.figures[b:], spec.htmax)
-    for i, (text_tight, text_loose) in enumerate(texts, a):
-        if 0 < i < m and galley.lines[i - 1].legal == 0:
+    runs = [list(enumerate(grown(stream[u:], spec.htmax), u)) for stream, u in zip(galley.streams, start)]
+    for blocks in product(*runs):
+        end = tuple(count for count, _ in blocks)
+        kinds = sum(u < v for u, v in zip(start, end))
+        tight, loose = (sum(heights) for heights in zip(*(heights for _, heights in blocks)))
+        if kinds == 0 or not marking.may_end(galley, end) or tight + (kinds - 1) * spec.smin > spec.htmax:
             continue
-        for j, (figure_tight, figure_loose) in enumerate(figures, b):
-            mixed = i > a and j > b
-            if (i, j) == (a, b) or text_tight + figure_tight + mixed * spec.smin > spec.htmax:
-                continue
-            if (i, j) == (m, n) or text_loose + figure_loose + mixed * spec.smax >= spec.htmin:
-                yield i, j
+        if end == galley.sizes or loose + (kinds - 1) * spec.smax >= spec.htmin:
+            yield end
 
 
 def grown(stream, limit):

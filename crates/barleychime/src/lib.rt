@@ -4,6 +4,8 @@ ghost use Rattle.marking.specs.Mark.{markOf};
 ghost use Rattle.barleychime.specs.Six.{numberOf, sixOf, Exported};
 use model::answer::Answer;
 
+pub mod section; // section.rt: the folding order of a section
+
 // An answer told to the caller: its six numbers in six words, and its number, which is 0 for a success.
 fn tell(answer: Answer, six: &mut [u32; 6]) -> u32
     ensures { λ r. ⌜ (r ≡ numberOf answer) × (now (six .exit) ≡ sixOf answer) ⌝ }

@@ -3,7 +3,6 @@ use Prim.Native.Nat.{ℕ, zero, suc, pred}
 use mathlib.Core.Bool.{Bool, true}
 use mathlib.Core.List.{List, []}
 use lib.ListN.{length, getD}
-use Rattle.model.specs.declared.answer.Answer.{Answer}
 use Rattle.model.specs.declared.answer.Numbers.{Numbers}
 use Rattle.model.specs.Galley.{Spec, Stream, Galley}
 use Rattle.model.specs.Answers.{numbersOf, marked}
@@ -66,6 +65,10 @@ marks p x y t = makes p x y t []
 -- A refusal with its number and place.
 unfoldable pub refuses : ℕ → ℕ → Reply
 refuses n at = record { numbers = record { number = n; place = at; pages = 0; x = 0; y = 0; turns = 0 }; list = [] }
+
+-- A galley, what is asked of it, and what is to be answered.
+unfoldable pub asks : Galley → Question → Reply → Case
+asks g question reply = record { galley = g; question = question; reply = reply }
 
 -- What the page model answers.
 unfoldable pub answered : Galley → Question → Reply

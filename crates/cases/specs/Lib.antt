@@ -1,4 +1,7 @@
 -- How a case is written, the table of cases, and the proof that the page model answers as the table says.
 pub mod Case
+pub mod Galleys
+pub mod Starred
+pub mod Further
 pub mod Table
 pub mod Agrees

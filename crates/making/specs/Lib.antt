@@ -7,4 +7,3 @@ pub mod Shown
 pub mod Back
 pub mod Solved
 pub mod laws
-mod Example

@@ -1,9 +1,9 @@
 -- The table of entries as the graph of pages has it: each start with the side of the page that ends there, and the end.
 use Prim.Native.Nat.{ℕ}
 use Rattle.model.specs.Galley.{Sides, Galley, count}
-use Rattle.theorems.specs.Graph as graph
-use Rattle.theorems.specs.Cell as cell
-use Rattle.theorems.specs.PageGraph.{State, stop, end, pageGraph}
+use Rattle.theorems.specs.optimality.Graph as graph
+use Rattle.theorems.specs.optimality.Cell as cell
+use Rattle.theorems.specs.pages.Graph.{State, stop, end, beginning, Within, pageGraph}
 use Rattle.places.specs.declared.Entry.{Entry}
 use Rattle.places.specs.declared.Entry.the-variants.{Unreached, Least}
 use Rattle.starts.specs.Search.{place, Table, before}
@@ -20,10 +20,14 @@ finished u Unreached = graph.unreached
 finished u (Least x s) = graph.least x u
 
 -- The table: that of the places, and at the end the better side of the full place.
-unfoldable pub tableAt : (g : Galley) → Table → cell.Table (pageGraph g)
+unfoldable pub tableAt : (g : Galley) → Table → cell.Table (pageGraph g (beginning g))
 tableAt g t (stop v c) = shown (g .spec .sides) c (t (count v 0) (count v 1) c)
 tableAt g t end =
     let m = g .stream 0 .size in
     let n = g .stream 1 .size in
     let c = lastSide (g .spec .sides) t m n in
     finished (stop (place m n) c) (t m n c)
+
+-- Every entry of the table is right, the end's included.
+abbrev pub AllRight : Galley → Table → Type 0
+AllRight g t = cell.Right (pageGraph g (beginning g)) (tableAt g t) (Within g (beginning g))

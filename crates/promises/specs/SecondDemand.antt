@@ -1,6 +1,6 @@
 -- The second demand: marking accepts a list exactly where it is a pagination, under the published model, of the galley that
 -- the bytes say, and reports that pagination's page count and goal functions. `markOf` is the contract of `mark`.
-use Prim.Native.Nat.{ℕ, _+_, _-_, _*_, _/_}
+use Prim.Native.Nat.{ℕ, _+_, _-_, _*_, _/_, _≤_}
 use native.Mathlib.Omega.{arith}
 use mathlib.Core.Path.{_≡_, refl, sym, _∙_, ap}
 use mathlib.Core.Logic.{_↔_}
@@ -10,6 +10,7 @@ use Rattle.model.specs.declared.answer.Answer.the-variants.{Counted, Refused}
 use Rattle.model.specs.Gather.{sum}
 use Rattle.model.specs.Galley.{Block}
 use Rattle.model.specs.Leaf.{leaf, sidesOf}
+use Rattle.model.specs.laws.Leaf.{leaf-mono}
 use Rattle.model.specs.Answers.{accepted, marked, wordsOf}
 use Rattle.model.specs.Pagination.{Map, Pagination, listOn, xOn, turnsOn}
 use Rattle.theorems.specs.published.Theorem.{words-published, words-unique, words-counts, turn-single, turn-double}
@@ -113,6 +114,18 @@ module _ {bytes words : List ℕ} {g : Galley} {p : ℕ} {P : Map} (m : Paginate
       let paper = turn-double M p P (ap sidesOf e) in
       let et : turnsOn M p P ≡ T = omega arith in
       reports ∙ cc
+
+  -- No subtraction in X is cut off at 0: no figure is on a leaf before that of the line that cites it. Nor is that in Y, since
+  -- there is a page.
+  pub nothing-cut : ((f : ℕ) → 1 ≤ f → f ≤ g .figures
+      → leaf (sidesOf (g .spec .sides)) (P 0 (citation bytes g f)) ≤ leaf (sidesOf (g .spec .sides)) (P 1 f))
+      × (leaf (sidesOf (g .spec .sides)) 1 ≤ leaf (sidesOf (g .spec .sides)) p)
+  nothing-cut =
+      let lined = reads-sane bytes g (m .says) .lined in
+      let first = m .pages .into 0 1 (record { stream = omega arith; first = omega arith; last = lined }) in (
+        λ f l h. m .pages .fourth 1 f (omega arith) (record { stream = omega arith; first = l; last = h }),
+        leaf-mono (sidesOf (g .spec .sides)) 1 p (omega (arith, first .0, first .1)),
+      )
 
   -- No other pagination of the galley has the same list.
   pub one-pagination : {p′ : ℕ} {P′ : Map} → Paginates bytes words g p′ P′

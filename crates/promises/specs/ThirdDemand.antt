@@ -1,11 +1,12 @@
 -- The third demand: no list can beat the engine. For every galley that reads without refusal, either sidedness, any weights, and
--- a work area and page list of at least the lengths laid down, whatever they hold.
+-- a work area and page list of at least the lengths laid down, whatever they hold. `Made` is the contract of `make`, and `mark` is
+-- proved to answer `markOf`.
 use Prim.Native.Nat.{ℕ, _*_, _≤_}
 use native.Mathlib.Omega.{arith}
-use mathlib.Core.Path.{_≡_, refl, sym, _∙_, ap, subst}
+use mathlib.Core.Path.{_≡_, refl, sym, _∙_, ap}
 use mathlib.Core.Logic.{_⊎_, inl, inr, _↔_}
-use mathlib.Core.Bool.{Bool, true, false}
-use mathlib.Core.List.{List, [], _++_}
+use mathlib.Core.Bool.{true, false}
+use mathlib.Core.List.{List, _++_}
 use lib.ListN.{length, take, drop}
 use lib.Seq.{take-at}
 use borrow.Author.Tests.{le-ltb}
@@ -14,37 +15,35 @@ use Rattle.model.specs.declared.answer.Answer.the-variants.{Counted, Refused}
 use Rattle.model.specs.Galley.{streams}
 use Rattle.model.specs.Answers.{numbersOf, accepted, marked}
 use Rattle.model.specs.Best.{made, madeWords}
-use Rattle.theorems.specs.LeastTurns.{Making, no-list, best-list, making}
+use Rattle.theorems.specs.turns.LeastTurns.{Making, no-list, best-list, making}
 use Rattle.galley.specs.declared.Galley.{Galley}
 use Rattle.galley.specs.declared.Reading.the-variants as reads
 use Rattle.galley.specs.Whole.{galleyOf}
 use Rattle.galley.specs.Model.{modelOf}
 use Rattle.marking.specs.Mark.{markRead, markOf}
-use Rattle.making.specs.Make.{workNeeded, listNeeded, makeRead, makeOf, listRead, listAfter}
+use Rattle.making.specs.Make.{workNeeded, listNeeded, makeRead, makeOf, listRead, listAfter, Made}
 
--- What is promised of making a galley's bytes with a work area of `work` words and a page list that holds `list`.
-pub record ThirdDemand (bytes : List ℕ) (work : ℕ) (list : List ℕ) : Type 0 where
+-- What is promised of the answer of making a galley's bytes and of the page list afterwards.
+pub record ThirdDemand (bytes : List ℕ) (answer : Answer) (list′ : List ℕ) : Type 0 where
   -- making returns a list, or 11
-  pub outcome : (makeOf bytes work (length list) ≡ Refused 11 0) ⊎ (accepted (makeOf bytes work (length list)) ≡ true)
+  pub outcome : (answer ≡ Refused 11 0) ⊎ (accepted answer ≡ true)
   -- the list that it returns, the first p pages of the page list, is accepted by marking the same bytes with the same p, X, Y, T
-  pub same : accepted (makeOf bytes work (length list)) ≡ true
-      → markOf bytes (take (2 * numbersOf (makeOf bytes work (length list)) .pages) (listAfter bytes work list))
-      ≡ makeOf bytes work (length list)
+  pub same : accepted answer ≡ true → markOf bytes (take (2 * numbersOf answer .pages) list′) ≡ answer
   -- every list that marking accepts has at least as many turns
-  pub least : accepted (makeOf bytes work (length list)) ≡ true → (words : List ℕ) → accepted (markOf bytes words) ≡ true
-      → numbersOf (makeOf bytes work (length list)) .turns ≤ numbersOf (markOf bytes words) .turns
+  pub least : accepted answer ≡ true → (words : List ℕ) → accepted (markOf bytes words) ≡ true
+      → numbersOf answer .turns ≤ numbersOf (markOf bytes words) .turns
   -- 11 comes back exactly where marking accepts no list at all
-  pub none : (makeOf bytes work (length list) ≡ Refused 11 0) ↔ ((words : List ℕ) → accepted (markOf bytes words) ≡ false)
+  pub none : (answer ≡ Refused 11 0) ↔ ((words : List ℕ) → accepted (markOf bytes words) ≡ false)
 
-module _ (bytes : List ℕ) (g : Galley) (read : galleyOf bytes ≡ reads.Galley g) (work : ℕ) (list : List ℕ)
-    (enough : workNeeded g ≤ work) (room : listNeeded g ≤ length list) where
-  makes : makeOf bytes work (length list) ≡ made (modelOf bytes g)
+module _ {bytes work list : List ℕ} {answer : Answer} {work′ list′ : List ℕ} (m : Made bytes work list answer work′ list′)
+    (g : Galley) (read : galleyOf bytes ≡ reads.Galley g) (enough : workNeeded g ≤ length work) (room : listNeeded g ≤ length list) where
+  makes : answer ≡ made (modelOf bytes g)
   unfolding makeOf makeRead
-  makes = rw read (simp (le-ltb work (workNeeded g) enough, le-ltb (length list) (listNeeded g) room))
+  makes = m .answers ∙ rw read (simp (le-ltb (length work) (workNeeded g) enough, le-ltb (length list) (listNeeded g) room))
 
-  lists : listAfter bytes work list ≡ madeWords (modelOf bytes g) ++ drop (length (madeWords (modelOf bytes g))) list
+  lists : list′ ≡ madeWords (modelOf bytes g) ++ drop (length (madeWords (modelOf bytes g))) list
   unfolding listAfter listRead
-  lists = rw read (simp (le-ltb work (workNeeded g) enough, le-ltb (length list) (listNeeded g) room))
+  lists = m .listed ∙ rw read (simp (le-ltb (length work) (workNeeded g) enough, le-ltb (length list) (listNeeded g) room))
 
   marks : (words : List ℕ) → markOf bytes words ≡ marked (modelOf bytes g) words
   unfolding markOf markRead
@@ -52,7 +51,7 @@ module _ (bytes : List ℕ) (g : Galley) (read : galleyOf bytes ≡ reads.Galley
 
   -- The demand, from what making means for the galley that was read.
   from-making : (a : Answer) (ws : List ℕ) → Making (modelOf bytes g) a ws → made (modelOf bytes g) ≡ a → madeWords (modelOf bytes g) ≡ ws
-      → ThirdDemand bytes work list
+      → ThirdDemand bytes answer list′
   unfolding streams
   from-making (Refused n at) ws (no-list none) e f =
       record {
@@ -75,9 +74,9 @@ module _ (bytes : List ℕ) (g : Galley) (read : galleyOf bytes ≡ reads.Galley
       refused : {A : Type 0} → true ≡ false → A
       refused z = let q : _≡_ {A = ℕ} 0 1 = cc in absurd (omega arith)
 
-      first : take (2 * p) (listAfter bytes work list) ≡ ws
+      first : take (2 * p) list′ ≡ ws
       first = ap (take (2 * p)) (lists ∙ ap (λ l. l ++ drop (length l) list) f) ∙ take-at ws (drop (length ws) list) (2 * p) (omega arith)
 
-  -- The third demand holds.
-  pub third-demand : ThirdDemand bytes work list
+  -- The third demand holds of whatever the contract of `make` allows.
+  pub third-demand : ThirdDemand bytes answer list′
   third-demand = from-making (made (modelOf bytes g)) (madeWords (modelOf bytes g)) (making (modelOf bytes g)) refl refl

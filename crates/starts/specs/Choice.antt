@@ -7,7 +7,7 @@ use mathlib.Core.Bool.{Bool, true, _&&_, _||_}
 use lib.Dec.{eqb, leb, ltb}
 use Rattle.model.specs.Gather.{pick}
 use Rattle.model.specs.Rules.{fits, fills}
-use Rattle.theorems.specs.PageGraph.{full}
+use Rattle.theorems.specs.pages.Graph.{full}
 use Rattle.places.specs.declared.Start.{Start}
 use Rattle.places.specs.declared.Entry.{Entry}
 use Rattle.places.specs.declared.Entry.the-variants.{Unreached, Least}

@@ -7,8 +7,8 @@ use lib.Dec.{ltb, eqb}
 use Rattle.model.specs.Gather.{pick}
 use Rattle.model.specs.Galley.{Sides, single, double, Galley, Place}
 use Rattle.model.specs.Rules.{closes, fits, fills, cited}
-use Rattle.theorems.specs.Waiting.{pageCost}
-use Rattle.theorems.specs.PageGraph.{full}
+use Rattle.theorems.specs.turns.Waiting.{pageCost}
+use Rattle.theorems.specs.pages.Graph.{full}
 use Rattle.places.specs.declared.Entry.{Entry}
 use Rattle.places.specs.declared.Entry.the-variants.{Unreached, Least}
 

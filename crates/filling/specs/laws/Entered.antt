@@ -13,9 +13,9 @@ use Rattle.model.specs.Galley.{Sides, single, double, Galley}
 use Rattle.model.specs.Order.{oddly}
 use Rattle.model.specs.Rules.{fits, fills}
 use Rattle.model.specs.laws.Gather.{and-left, or-cases}
-use Rattle.theorems.specs.Waiting.{pageCost}
-use Rattle.theorems.specs.PageGraph.{full}
-use Rattle.theorems.specs.Bounds.{dearest, cost-le}
+use Rattle.theorems.specs.turns.Waiting.{pageCost}
+use Rattle.theorems.specs.pages.Graph.{full}
+use Rattle.theorems.specs.turns.Bounds.{dearest, cost-le}
 use Rattle.places.specs.declared.Start.{Start}
 use Rattle.places.specs.declared.Entry.{Entry}
 use Rattle.places.specs.declared.Entry.the-variants.{Unreached, Least}

@@ -8,7 +8,7 @@ use mathlib.Core.Logic.{_⊎_, inl, inr}
 use lib.ListN.{length}
 use Rattle.model.specs.Galley.{Sides, single, double, Galley}
 use Rattle.model.specs.Order.{oddly}
-use Rattle.theorems.specs.Bounds.{dearest}
+use Rattle.theorems.specs.turns.Bounds.{dearest}
 use Rattle.places.specs.declared.Start.{Start}
 use Rattle.places.specs.declared.Entry.the-variants.{Least}
 use Rattle.places.specs.Address.{address, wordsNeeded, Earlier}

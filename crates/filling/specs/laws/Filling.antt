@@ -9,10 +9,10 @@ use borrow.Author.Tests.{eq-eqb, ne-eqb}
 use Rattle.model.specs.Galley as model
 use Rattle.model.specs.Leaf.{sidesOf}
 use Rattle.model.specs.Order.{oddly}
-use Rattle.theorems.specs.Waiting.{pageCost}
-use Rattle.theorems.specs.PageGraph.{full}
-use Rattle.theorems.specs.PageSides.{side-zero}
-use Rattle.theorems.specs.Bounds.{cost-le}
+use Rattle.theorems.specs.turns.Waiting.{pageCost}
+use Rattle.theorems.specs.pages.Graph.{full}
+use Rattle.theorems.specs.pages.Sides.{side-zero}
+use Rattle.theorems.specs.turns.Bounds.{cost-le}
 use Rattle.galley.specs.declared.Galley.{Galley}
 use Rattle.galley.specs.Model.{floatsOf, modelOf}
 use Rattle.rules.specs.Parts.{Citing}

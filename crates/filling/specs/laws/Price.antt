@@ -11,9 +11,9 @@ use Rattle.model.specs.Gather.{implies, sum, each}
 use Rattle.model.specs.Galley.{count}
 use Rattle.model.specs.Leaf.{ends, sidesOf}
 use Rattle.model.specs.Rules.{mayEnd, cited}
-use Rattle.theorems.specs.Waiting.{pageCost}
-use Rattle.theorems.specs.PageGraph.{full}
-use Rattle.theorems.specs.Bounds.{allFloats, dearest}
+use Rattle.theorems.specs.turns.Waiting.{pageCost}
+use Rattle.theorems.specs.pages.Graph.{full}
+use Rattle.theorems.specs.turns.Bounds.{allFloats, dearest}
 use Rattle.galley.specs.declared.Galley.{Galley}
 use Rattle.galley.specs.Model.{textOf, floatsOf, modelOf}
 use Rattle.galley.specs.Sound.{Sound}

@@ -12,17 +12,16 @@ use Rattle.model.specs.Galley.{Galley, Place, Sane, count}
 use Rattle.model.specs.Answers.{wordsOf}
 use Rattle.model.specs.Turns.{turns}
 use Rattle.model.specs.Best as model
-use Rattle.theorems.specs.Graph as graph
-use Rattle.theorems.specs.Cell.{Right, Trace}
-use Rattle.theorems.specs.Optimality.{step-back, trace-length}
-use Rattle.theorems.specs.PageGraph.{State, stop, end, Within, pageGraph, pagesTo, pagesOn}
-use Rattle.theorems.specs.PageLaws.{page-laws, domainOf, step-within, blocksAt}
-use Rattle.theorems.specs.PageTheorem.{table-none, table-best}
+use Rattle.theorems.specs.optimality.Cell.{Trace}
+use Rattle.theorems.specs.optimality.Theorem.{step-back, trace-length}
+use Rattle.theorems.specs.pages.Graph.{State, stop, end, beginning, Within, pageGraph, pagesTo, pagesOn}
+use Rattle.theorems.specs.pages.Laws.{page-laws, page-domain, blocksAt}
+use Rattle.theorems.specs.pages.Best.{table-none, table-best}
 use Rattle.places.specs.declared.Start.{Start}
 use Rattle.places.specs.declared.Entry.the-variants.{Unreached, Least}
 use Rattle.starts.specs.Search.{place, Table, before}
 use Rattle.walk.specs.Trace.{startOf, countBack, writeBack}
-use Rattle.making.specs.Shown.{finished, tableAt}
+use Rattle.making.specs.Shown.{finished, tableAt, AllRight}
 use Rattle.making.specs.Back.{lastOf, pagesBack, Found}
 use Rattle.making.specs.laws.Shown.{zeros-two, placed-two, shown-least, finished-least, last-side, full-within}
 
@@ -37,7 +36,7 @@ drop-pair k i j ws h = rw (add-one, add-two) (go k ws (omega arith))
     go zero (x ∷ (y ∷ ws)) h = refl
     go (suc k) (x ∷ ws) h = go k ws (le-of-suc-le-suc h)
 
-module _ (g : Galley) (one : g .floats ≡ 1) (t : Table) (right : Right (pageGraph g) (tableAt g t) (Within g)) where
+module _ (g : Galley) (one : g .floats ≡ 1) (t : Table) (right : AllRight g t) where
   -- One page back from (i, j) on side c: a block is placed there, and the walk goes on from the start that the entry holds.
   pub record Back (u : State) (us : List State) (i j c : ℕ) : Type 0 where
     pub cost : ℕ
@@ -45,15 +44,15 @@ module _ (g : Galley) (one : g .floats ≡ 1) (t : Table) (right : Right (pageGr
     pub entry : t i j c ≡ Least cost start
     pub some : 0 < i + j
     pub from : u ≡ stop (place (start .line) (start .figure)) (before (g .spec .sides) c)
-    pub within : Within g (stop (place (start .line) (start .figure)) (before (g .spec .sides) c))
-    pub trace : Trace (pageGraph g) (tableAt g t) us (stop (place (start .line) (start .figure)) (before (g .spec .sides) c))
+    pub within : Within g (beginning g) (stop (place (start .line) (start .figure)) (before (g .spec .sides) c))
+    pub trace : Trace (pageGraph g (beginning g)) (tableAt g t) us (stop (place (start .line) (start .figure)) (before (g .spec .sides) c))
 
   back-one :
-      (u : State) (us : List State) (i j c : ℕ) → Within g (stop (place i j) c)
-      → Trace (pageGraph g) (tableAt g t) (u ∷ us) (stop (place i j) c) → Back u us i j c
+      (u : State) (us : List State) (i j c : ℕ) → Within g (beginning g) (stop (place i j) c)
+      → Trace (pageGraph g (beginning g)) (tableAt g t) (u ∷ us) (stop (place i j) c) → Back u us i j c
   unfolding Trace tableAt count blocksAt
   back-one u us i j c w (n, (x, e), r) =
-      let (o, v, l) = step-back (pageGraph g) (page-laws g) (domainOf g (Within g) (λ u v i. step-within g u v)) (tableAt g t) right w n e in
+      let (o, v, l) = step-back (pageGraph g (beginning g)) (page-laws g (beginning g)) (page-domain g (beginning g)) (tableAt g t) right w n e in
       let h = shown-least (g .spec .sides) c (t i j c) x u e in
       record {
         cost = x;
@@ -66,7 +65,7 @@ module _ (g : Galley) (one : g .floats ≡ 1) (t : Table) (right : Right (pageGr
       }
 
   -- Nothing is placed at the origin.
-  origin-empty : (i j c : ℕ) → Trace (pageGraph g) (tableAt g t) [] (stop (place i j) c) → i + j ≡ 0
+  origin-empty : (i j c : ℕ) → Trace (pageGraph g (beginning g)) (tableAt g t) [] (stop (place i j) c) → i + j ≡ 0
   unfolding Trace
   origin-empty i j c e =
       let z = zeros-two g one in
@@ -76,8 +75,8 @@ module _ (g : Galley) (one : g .floats ≡ 1) (t : Table) (right : Right (pageGr
 
   -- The walk back counts the pages that it meets.
   pub trace-count :
-      (us : List State) (i j c most p : ℕ) → Within g (stop (place i j) c)
-      → Trace (pageGraph g) (tableAt g t) us (stop (place i j) c) → length us ≤ most
+      (us : List State) (i j c most p : ℕ) → Within g (beginning g) (stop (place i j) c)
+      → Trace (pageGraph g (beginning g)) (tableAt g t) us (stop (place i j) c) → length us ≤ most
       → countBack (g .spec .sides) t most i j c p ≡ p + length us
   unfolding countBack startOf
   trace-count [] i j c zero p w r h = omega arith
@@ -90,8 +89,8 @@ module _ (g : Galley) (one : g .floats ≡ 1) (t : Table) (right : Right (pageGr
 
   -- It meets a start for each page,
   pub trace-pages :
-      (us : List State) (i j c : ℕ) (after : List Place) → Within g (stop (place i j) c)
-      → Trace (pageGraph g) (tableAt g t) us (stop (place i j) c)
+      (us : List State) (i j c : ℕ) (after : List Place) → Within g (beginning g) (stop (place i j) c)
+      → Trace (pageGraph g (beginning g)) (tableAt g t) us (stop (place i j) c)
       → length (pagesTo us (stop (place i j) c) after) ≡ length us + length after
   unfolding pagesTo
   trace-pages [] i j c after w r = omega arith
@@ -102,8 +101,8 @@ module _ (g : Galley) (one : g .floats ≡ 1) (t : Table) (right : Right (pageGr
 
   -- and writes each page where its number says, before the pages that are there.
   trace-words :
-      (us : List State) (i j c : ℕ) (after : List Place) (ws rest : List ℕ) → Within g (stop (place i j) c)
-      → Trace (pageGraph g) (tableAt g t) us (stop (place i j) c) → 2 * length us ≤ length ws
+      (us : List State) (i j c : ℕ) (after : List Place) (ws rest : List ℕ) → Within g (beginning g) (stop (place i j) c)
+      → Trace (pageGraph g (beginning g)) (tableAt g t) us (stop (place i j) c) → 2 * length us ≤ length ws
       → drop (2 * length us) ws ≡ wordsOf after ++ rest
       → writeBack (g .spec .sides) t (length us) i j c ws ≡ wordsOf (pagesTo us (stop (place i j) c) after) ++ rest
   unfolding pagesTo writeBack startOf wordsOf
@@ -122,22 +121,21 @@ module _ (g : Galley) (one : g .floats ≡ 1) (t : Table) (right : Right (pageGr
 
   -- So the words of the pages stand before the rest of the list.
   pub trace-write :
-      (us : List State) (i j c : ℕ) (ws : List ℕ) → Within g (stop (place i j) c)
-      → Trace (pageGraph g) (tableAt g t) us (stop (place i j) c) → 2 * length us ≤ length ws
+      (us : List State) (i j c : ℕ) (ws : List ℕ) → Within g (beginning g) (stop (place i j) c)
+      → Trace (pageGraph g (beginning g)) (tableAt g t) us (stop (place i j) c) → 2 * length us ≤ length ws
       → writeBack (g .spec .sides) t (length us) i j c ws
       ≡ wordsOf (pagesTo us (stop (place i j) c) []) ++ drop (2 * length us) ws
   unfolding wordsOf
   trace-write us i j c ws w r h = trace-words us i j c [] ws (drop (2 * length us) ws) w r h refl
 
 module _
-    (g : Galley) (sane : Sane g) (one : g .floats ≡ 1) (t : Table)
-    (right : Right (pageGraph g) (tableAt g t) (Within g))
+    (g : Galley) (sane : Sane g) (one : g .floats ≡ 1) (t : Table) (right : AllRight g t)
   where
     -- Where the table is right and the full place unreached, there is no best list.
     pub back-none : t (g .stream 0 .size) (g .stream 1 .size) (lastOf g t) ≡ Unreached → model.best g ≡ none
     unfolding tableAt finished Within
     back-none e =
-        table-none g (Within g) (λ u v i. step-within g u v) (tableAt g t) right sane tt
+        table-none g sane (tableAt g t) right
         (ap (finished (stop (place (g .stream 0 .size) (g .stream 1 .size)) (lastOf g t))) e)
 
     -- Where it is reached, the walk back from the better side counts and writes the best list.
@@ -145,7 +143,7 @@ module _
         → (ps : List Place) × Found g t x ps
     unfolding tableAt finished Trace pagesTo blocksAt Within
     back-best x s e =
-        let (us, r, is, cost) = table-best g (Within g) (λ u v i. step-within g u v) (tableAt g t) right sane tt x (stop whole (lastOf g t))
+        let (us, r, is, cost) = table-best g sane (tableAt g t) right x (stop whole (lastOf g t))
         (ap (finished (stop whole (lastOf g t))) e) in
         go us r is cost
       where
@@ -156,12 +154,12 @@ module _
         last = stop whole (lastOf g t)
 
         reached :
-            (us : List State) → Within g last → Trace (pageGraph g) (tableAt g t) us last
+            (us : List State) → Within g (beginning g) last → Trace (pageGraph g (beginning g)) (tableAt g t) us last
             → model.best g ≡ some (pagesTo us last []) → turns g (pagesTo us last []) ≡ x → (ps : List Place) × Found g t x ps
         reached us w r is cost =
             let m = g .stream 0 .size in
             let n = g .stream 1 .size in
-            let short = trace-length (pageGraph g) (page-laws g) (domainOf g (Within g) (λ u v i. step-within g u v)) (tableAt g t) right us w r in
+            let short = trace-length (pageGraph g (beginning g)) (page-laws g (beginning g)) (page-domain g (beginning g)) (tableAt g t) right us w r in
             let few : length us ≤ m + n = omega (arith, placed-two g one m n) in
             let count = trace-count g one t right us m n (lastOf g t) (m + n) 0 w r few in
             let pages = trace-pages g one t right us m n (lastOf g t) [] w r in
@@ -177,7 +175,7 @@ module _
             )
 
         go :
-            (us : List State) → Trace (pageGraph g) (tableAt g t) us end → model.best g ≡ some (pagesOn us)
+            (us : List State) → Trace (pageGraph g (beginning g)) (tableAt g t) us end → model.best g ≡ some (pagesOn us)
             → turns g (pagesOn us) ≡ x → (ps : List Place) × Found g t x ps
         go [] r is cost = let z : _≡_ {A = ℕ} 0 1 = cc in absurd (omega arith)
         go (u ∷ us) (n, (y, f), r) is cost =

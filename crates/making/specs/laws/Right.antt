@@ -10,16 +10,14 @@ use Rattle.model.specs.Order.{oddly}
 use Rattle.model.specs.laws.Rules.{kept, forward-at}
 use Rattle.model.specs.laws.Lists.{Inside}
 use Rattle.model.specs.laws.Valid.{count-sizes}
-use Rattle.theorems.specs.Graph as graph
-use Rattle.theorems.specs.Cell.{Cell, Right, Table as Table′}
-use Rattle.theorems.specs.LoopStep as step
-use Rattle.theorems.specs.PageGraph.{State, stop, end, Within, Step, pageGraph}
-use Rattle.theorems.specs.PageLaws.{page-laws}
+use Rattle.theorems.specs.optimality.Cell.{Cell, Right, Table as Table′}
+use Rattle.theorems.specs.optimality.Storing as storing
+use Rattle.theorems.specs.pages.Graph.{State, stop, end, beginning, Within, Step, pageGraph}
 use Rattle.places.specs.Address.{Earlier}
 use Rattle.starts.specs.Search.{place}
 use Rattle.filling.specs.Filled.{Side}
 use Rattle.filling.specs.Fill.{Words, tall, fillSide, fillPlace, fillColumn, fillColumns, filled}
-use Rattle.making.specs.Shown.{shown, tableAt}
+use Rattle.making.specs.Shown.{shown, tableAt, AllRight}
 use Rattle.making.specs.laws.Shown.{sizes-two, end-right}
 use Rattle.filling.specs.laws.Entered.{side-low}
 use Rattle.making.specs.laws.Seen.{two-counts, entry-cell}
@@ -28,37 +26,37 @@ use Rattle.filling.specs.laws.Fill.{Room, held, side-same, side-other, room-sid
 -- The states filled so far: those of places before (i, j), and of (i, j) on sides below k.
 unfoldable pub Done : Galley → ℕ → ℕ → ℕ → State → Type 0
 Done g i j k (stop v c) =
-    Within g (stop v c) × (Earlier (count v 0) (count v 1) i j ⊎ ((count v 0 ≡ i) × (count v 1 ≡ j) × (c < k)))
+    Within g (beginning g) (stop v c) × (Earlier (count v 0) (count v 1) i j ⊎ ((count v 0 ≡ i) × (count v 1 ≡ j) × (c < k)))
 Done g i j k end = ⊥
 
 -- A state of the table has no more lines than there are, and a side that occurs.
-lines-low : (g : Galley) (v : Place) (c : ℕ) → Within g (stop v c) → count v 0 ≤ g .stream 0 .size
+lines-low : (g : Galley) (v : Place) (c : ℕ) → Within g (beginning g) (stop v c) → count v 0 ≤ g .stream 0 .size
 unfolding Within count
 lines-low g v c h = let e = count-sizes g 0 (omega arith) in let u = h .0 .under 0 in omega arith
 
-sides-in : (g : Galley) (v : Place) (c : ℕ) → Within g (stop v c) → Side (g .spec .sides) c
+sides-in : (g : Galley) (v : Place) (c : ℕ) → Within g (beginning g) (stop v c) → Side (g .spec .sides) c
 unfolding Within
 sides-in g v c h = h .1
 
-figures-low : (g : Galley) → g .floats ≡ 1 → (v : Place) (c : ℕ) → Within g (stop v c) → count v 1 ≤ g .stream 1 .size
+figures-low : (g : Galley) → g .floats ≡ 1 → (v : Place) (c : ℕ) → Within g (beginning g) (stop v c) → count v 1 ≤ g .stream 1 .size
 unfolding Within count
 figures-low g two v c h = let e = count-sizes g 1 (omega arith) in let u = h .0 .under 1 in omega arith
 
 -- Nothing is filled before the first place, and everything after the last column.
-nothing-done : (g : Galley) (D : Table′ (pageGraph g)) → Right (pageGraph g) D (Done g 0 0 0)
+nothing-done : (g : Galley) (D : Table′ (pageGraph g (beginning g))) → Right (pageGraph g (beginning g)) D (Done g 0 0 0)
 unfolding Done
 nothing-done g D (stop v c) (h, inl (inl l)) = absurd (omega arith)
 nothing-done g D (stop v c) (h, inl (inr (e, l))) = absurd (omega arith)
 nothing-done g D (stop v c) (h, inr (x, y, z)) = absurd (omega arith)
 nothing-done g D end d = absurd d
 
-all-done : (g : Galley) → g .floats ≡ 1 → (v : Place) (c : ℕ) → Within g (stop v c) → Done g 0 (suc (g .stream 1 .size)) 0 (stop v c)
+all-done : (g : Galley) → g .floats ≡ 1 → (v : Place) (c : ℕ) → Within g (beginning g) (stop v c) → Done g 0 (suc (g .stream 1 .size)) 0 (stop v c)
 unfolding Done
 all-done g two v c h = let l = figures-low g two v c h in (h, inl (inl (omega arith)))
 
 module _ (g : Galley) (two : g .floats ≡ 1) where
   -- A page starts at an earlier place than it ends.
-  step-earlier : (u v : Place) (b c : ℕ) → Step g (stop u b) (stop v c) → Earlier (count u 0) (count u 1) (count v 0) (count v 1)
+  step-earlier : (u v : Place) (b c : ℕ) → Step g (beginning g) (stop u b) (stop v c) → Earlier (count u 0) (count u 1) (count v 0) (count v 1)
   unfolding Step
   step-earlier u v b c p =
       let f = forward-at g u v (kept (p .may) .rule13) in
@@ -78,7 +76,7 @@ module _ (g : Galley) (two : g .floats ≡ 1) where
   earlier-trans a b p q i j (inr (e, l)) (inr (f, m)) = inr (omega arith, omega arith)
 
   -- Whatever starts a page to a place filled so far is filled so far.
-  done-closed : (i j k : ℕ) (s t : State) → Done g i j k t → Step g s t → Done g i j k s
+  done-closed : (i j k : ℕ) (s t : State) → Done g i j k t → Step g (beginning g) s t → Done g i j k s
   unfolding Done Step
   done-closed i j k (stop u b) (stop v c) d p = (p .within, inl (go (d .1)))
     where
@@ -91,11 +89,11 @@ module _ (g : Galley) (two : g .floats ≡ 1) where
   module _ (i j : ℕ) (high : i ≤ g .stream 0 .size) (wide : j ≤ g .stream 1 .size) (inside : Inside (sizes g) (place i j)) where
     -- One side of place (i, j) filled.
     right-side : (c : ℕ) (w : Words) → Room g w → Side (g .spec .sides) c
-        → Right (pageGraph g) (tableAt g (held g w)) (Done g i j c)
-        → Right (pageGraph g) (tableAt g (held g (fillSide g i j c w))) (Done g i j (suc c))
+        → Right (pageGraph g (beginning g)) (tableAt g (held g w)) (Done g i j c)
+        → Right (pageGraph g (beginning g)) (tableAt g (held g (fillSide g i j c w))) (Done g i j (suc c))
     unfolding Done tableAt count
     right-side c w room k right =
-        step.stored (pageGraph g) (page-laws g) (tableAt g (held g w)) (tableAt g (held g w′)) (done-closed i j c) starts-done only same right
+        storing.stored (pageGraph g (beginning g)) (tableAt g (held g w)) (tableAt g (held g w′)) (done-closed i j c) starts-done only same right
         (rw (side-same g i j c w room high wide low) (entry-cell g two (held g w) i j c inside k))
       where
         w′ : Words
@@ -104,7 +102,7 @@ module _ (g : Galley) (two : g .floats ≡ 1) where
         low : c ≤ 1
         low = side-low (g .spec .sides) c k
 
-        starts-done : (s : State) → Step g s (stop (place i j) c) → Done g i j c s
+        starts-done : (s : State) → Step g (beginning g) s (stop (place i j) c) → Done g i j c s
         starts-done (stop u b) p = (unfold Step in p .within, inl (step-earlier u (place i j) b c p))
         starts-done end p = absurd (unfold Step in p)
 
@@ -147,13 +145,13 @@ module _ (g : Galley) (two : g .floats ≡ 1) where
         go (inr (x, y, z)) = absurd (omega arith)
     done-next k all end d = absurd (unfold Done in d)
 
-    right-place : (w : Words) → Room g w → Right (pageGraph g) (tableAt g (held g w)) (Done g i j 0)
-        → Right (pageGraph g) (tableAt g (held g (fillPlace (g .spec .sides) g i j w))) (Done g (suc i) j 0)
+    right-place : (w : Words) → Room g w → Right (pageGraph g (beginning g)) (tableAt g (held g w)) (Done g i j 0)
+        → Right (pageGraph g (beginning g)) (tableAt g (held g (fillPlace (g .spec .sides) g i j w))) (Done g (suc i) j 0)
     unfolding fillPlace oddly
     right-place w room right = go (g .spec .sides) refl
       where
         go : (sides : Sides) → g .spec .sides ≡ sides
-            → Right (pageGraph g) (tableAt g (held g (fillPlace sides g i j w))) (Done g (suc i) j 0)
+            → Right (pageGraph g (beginning g)) (tableAt g (held g (fillPlace sides g i j w))) (Done g (suc i) j 0)
         go single e s d =
             right-side 0 w room (rw e refl) right s (done-next 1 (λ c k. let z : 0 ≡ c = rw e at k in omega arith) s d)
         go double e s d =
@@ -171,8 +169,8 @@ module _ (g : Galley) (two : g .floats ≡ 1) where
 
   -- A column filled.
   right-to : (j : ℕ) → j ≤ g .stream 1 .size → (k i : ℕ) (w : Words) → k + i ≡ suc (g .stream 0 .size) → Room g w
-      → Right (pageGraph g) (tableAt g (held g w)) (Done g i j 0)
-      → Right (pageGraph g) (tableAt g (held g (fillColumn g j k i w))) (Done g (suc (g .stream 0 .size)) j 0)
+      → Right (pageGraph g (beginning g)) (tableAt g (held g w)) (Done g i j 0)
+      → Right (pageGraph g (beginning g)) (tableAt g (held g (fillColumn g j k i w))) (Done g (suc (g .stream 0 .size)) j 0)
   unfolding fillColumn
   right-to j wide zero i w e room right = let q : i ≡ suc (g .stream 0 .size) = omega arith in rw q at right
   right-to j wide (suc k) i w e room right =
@@ -189,8 +187,8 @@ module _ (g : Galley) (two : g .floats ≡ 1) where
 
   -- All columns filled.
   right-across : (k j : ℕ) (w : Words) → k + j ≡ suc (g .stream 1 .size) → Room g w
-      → Right (pageGraph g) (tableAt g (held g w)) (Done g 0 j 0)
-      → Right (pageGraph g) (tableAt g (held g (fillColumns g k j w))) (Done g 0 (suc (g .stream 1 .size)) 0)
+      → Right (pageGraph g (beginning g)) (tableAt g (held g w)) (Done g 0 j 0)
+      → Right (pageGraph g (beginning g)) (tableAt g (held g (fillColumns g k j w))) (Done g 0 (suc (g .stream 1 .size)) 0)
   unfolding fillColumns tall
   right-across zero j w e room right = let q : j ≡ suc (g .stream 1 .size) = omega arith in rw q at right
   right-across (suc k) j w e room right =
@@ -199,19 +197,19 @@ module _ (g : Galley) (two : g .floats ≡ 1) where
       (λ s d. right-to j (omega arith) (suc (g .stream 0 .size)) 0 w (omega arith) room right s (done-column j s d))
 
   -- After filling, every place on every side that occurs has a right entry, whatever the work area held before.
-  pub places-right : (w : Words) → Room g w → (v : Place) (c : ℕ) → Within g (stop v c)
-      → Cell (pageGraph g) (tableAt g (held g (filled g w))) (stop v c) (tableAt g (held g (filled g w)) (stop v c))
+  pub places-right : (w : Words) → Room g w → (v : Place) (c : ℕ) → Within g (beginning g) (stop v c)
+      → Cell (pageGraph g (beginning g)) (tableAt g (held g (filled g w))) (stop v c) (tableAt g (held g (filled g w)) (stop v c))
   unfolding filled
   places-right w room v c h =
       right-across (suc (g .stream 1 .size)) 0 w (omega arith) room none (stop v c) (all v c h)
     where
-      none : Right (pageGraph g) (tableAt g (held g w)) (Done g 0 0 0)
+      none : Right (pageGraph g (beginning g)) (tableAt g (held g w)) (Done g 0 0 0)
       none = nothing-done g (tableAt g (held g w))
 
-      all : (v : Place) (c : ℕ) → Within g (stop v c) → Done g 0 (suc (g .stream 1 .size)) 0 (stop v c)
+      all : (v : Place) (c : ℕ) → Within g (beginning g) (stop v c) → Done g 0 (suc (g .stream 1 .size)) 0 (stop v c)
       all v c h = all-done g two v c h
 
   -- The whole table is right, the end included.
-  pub table-right : (w : Words) → Room g w → Right (pageGraph g) (tableAt g (held g (filled g w))) (Within g)
+  pub table-right : (w : Words) → Room g w → AllRight g (held g (filled g w))
   table-right w room (stop v c) h = places-right w room v c h
   table-right w room end h = end-right g two (held g (filled g w))

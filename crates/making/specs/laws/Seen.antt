@@ -11,19 +11,20 @@ use lib.ListN.{length, getD}
 use lib.Dec.{ltb, eqb}
 use borrow.Author.Tests.{eqb-true, eqb-false, ltb-true, lt-ltb, le-leb, lt-leb}
 use Rattle.model.specs.Gather.{pick}
-use Rattle.model.specs.Galley.{Sides, single, double, Galley, Place, count, zeros, sizes}
+use Rattle.model.specs.Galley.{Sides, single, double, Galley, Place, count, sizes}
 use Rattle.model.specs.Order.{lex, geb, oddly}
 use Rattle.model.specs.Rules.{closes, fits, fills, cited}
 use Rattle.model.specs.laws.Gather.{and-left, and-right, and-both, or-cases, or-left, or-right}
 use Rattle.model.specs.laws.Rules.{kept, kept-allowed, forward-at, forward-of}
 use Rattle.model.specs.laws.Lists.{Inside}
 use Rattle.model.specs.laws.Valid.{count-sizes}
-use Rattle.theorems.specs.Waiting.{pageCost}
-use Rattle.theorems.specs.Graph as graph
-use Rattle.theorems.specs.Cell.{All, Ahead, Offer, Seen, Cell}
-use Rattle.theorems.specs.LoopStep as step
-use Rattle.theorems.specs.PageGraph.{State, stop, end, full, Within, Step, price, Prefers, pageGraph}
-use Rattle.theorems.specs.PageLaws.{page-laws}
+use Rattle.theorems.specs.turns.Waiting.{pageCost}
+use Rattle.theorems.specs.optimality.Graph as graph
+use Rattle.theorems.specs.optimality.Cell.{Ahead, Offer, Seen, Cell}
+use Rattle.theorems.specs.optimality.Storing.{none-reached}
+use Rattle.theorems.specs.pages.Graph.{State, stop, end, full, beginning, Within, Step, price, Prefers, pageGraph}
+use Rattle.theorems.specs.pages.Sides.{side-zero}
+use Rattle.theorems.specs.pages.Lists.{past-beginning}
 use Rattle.places.specs.declared.Start.{Start}
 use Rattle.places.specs.declared.Entry.{Entry}
 use Rattle.places.specs.declared.Entry.the-variants.{Unreached, Least}
@@ -95,7 +96,7 @@ module _ (g : Galley) (two : g .floats ≡ 1) (t : Table) (i j c : ℕ) (inside 
     filling : fills g (full g (place i j)) u (place i j) ≡ true
     may-cite : cited g c (full g (place i j)) (place i j) ≡ true
 
-  starts : (u : Place) (e : ℕ) → Step g (stop u e) here → Starts u e
+  starts : (u : Place) (e : ℕ) → Step g (beginning g) (stop u e) here → Starts u e
   unfolding Step Within here count
   starts u e p =
       let k = kept (p .may) in
@@ -120,11 +121,11 @@ module _ (g : Galley) (two : g .floats ≡ 1) (t : Table) (i j c : ℕ) (inside 
 
   -- A start that passes the tests has a page to (i, j).
   page-from : (a b : ℕ) → a ≤ i → b ≤ j → (ltb a i || ltb b j) ≡ true → mayStop g i j c ≡ true
-      → fits g (place a b) (place i j) ≡ true → fills g (full g (place i j)) (place a b) (place i j) ≡ true → Step g (from a b) here
+      → fits g (place a b) (place i j) ≡ true → fills g (full g (place i j)) (place a b) (place i j) ≡ true → Step g (beginning g) (from a b) here
   unfolding Step Within here from mayStop count
   page-from a b h k some may fit fill =
       record {
-        within = (record { long = inside .long; under = below }, side-before (g .spec .sides) c side);
+        within = (lower, side-before (g .spec .sides) c side, past-beginning g (place a b) lower);
         next = side-after (g .spec .sides) c side;
         may =
             kept-allowed
@@ -150,6 +151,9 @@ module _ (g : Galley) (two : g .floats ≡ 1) (t : Table) (i j c : ℕ) (inside 
       below (suc zero) = le-trans k (inside .under 1)
       below (suc (suc s)) = omega arith
 
+      lower : Inside (sizes g) (place a b)
+      lower = record { long = inside .long; under = below }
+
       more : (ltb a i ≡ true) ⊎ (ltb b j ≡ true) → (s : ℕ) × (s ≤ g .floats) × (getD (place a b) s 0 < getD (place i j) s 0)
       more (inl e) = (0, omega arith, ltb-true a i e)
       more (inr e) = (1, omega arith, ltb-true b j e)
@@ -172,7 +176,7 @@ module _ (g : Galley) (two : g .floats ≡ 1) (t : Table) (i j c : ℕ) (inside 
 
   module _ (may : mayStop g i j c ≡ true) where
     -- The best start, with the price of the page, is offered by the graph,
-    offered : (e : Entry) → Best search Any e → (x : ℕ) (u : State) → now e ≡ graph.least x u → Offer (pageGraph g) (tableAt g t) All here x u
+    offered : (e : Entry) → Best search Any e → (x : ℕ) (u : State) → now e ≡ graph.least x u → Offer (pageGraph g (beginning g)) (tableAt g t) here x u
     unfolding now priced shown search tableAt here price cost from count
     offered Unreached best x u q = let z : _≡_ {A = ℕ} 0 1 = cc in absurd (omega arith)
     offered (Least y r) best x u q =
@@ -181,7 +185,6 @@ module _ (g : Galley) (two : g .floats ≡ 1) (t : Table) (i j c : ℕ) (inside 
         let sum : y + cost ≡ x = cc in
         rw (← at, ← sum)
         (record {
-          among = tt;
           may = page-from (r .line) (r .figure) (d .line) (d .figure) (d .some) may (d .fitting) (d .filling);
           cost = y;
           start = stop (place (d .start .line) (d .start .figure)) (before (g .spec .sides) (before (g .spec .sides) c));
@@ -190,20 +193,20 @@ module _ (g : Galley) (two : g .floats ≡ 1) (t : Table) (i j c : ℕ) (inside 
         })
 
     -- and no offer is ahead of it.
-    ahead : (e : Entry) (a b y : ℕ) → Leads e a b y → Ahead (pageGraph g) (now e) (graph.least (y + cost) (from a b))
+    ahead : (e : Entry) (a b y : ℕ) → Leads e a b y → Ahead (pageGraph g (beginning g)) (now e) (graph.least (y + cost) (from a b))
     unfolding now priced shown Leads Ahead Prefers from
     ahead Unreached a b y l = absurd l
     ahead (Least x r) a b y (l, f) = (omega arith, λ q. (later a b (r .line) (r .figure) (f (omega arith)), λ _. le-refl _))
 
-    best-ahead : (e : Entry) → Best search Any e → (x : ℕ) (u : State) → Offer (pageGraph g) (tableAt g t) All here x u
-        → Ahead (pageGraph g) (now e) (graph.least x u)
+    best-ahead : (e : Entry) → Best search Any e → (x : ℕ) (u : State) → Offer (pageGraph g (beginning g)) (tableAt g t) here x u
+        → Ahead (pageGraph g (beginning g)) (now e) (graph.least x u)
     unfolding here Step tableAt price cost shown from
     best-ahead e best x (stop u d) o = go (t (count u 0) (count u 1) d) refl
       where
         st : Starts u d
         st = starts u d (o .may)
 
-        go : (f : Entry) → t (count u 0) (count u 1) d ≡ f → Ahead (pageGraph g) (now e) (graph.least x (stop u d))
+        go : (f : Entry) → t (count u 0) (count u 1) d ≡ f → Ahead (pageGraph g (beginning g)) (now e) (graph.least x (stop u d))
         go Unreached q =
             let r : graph.unreached ≡ graph.least (o .cost) (o .start) = sym (ap (shown (g .spec .sides) d) q) ∙ o .reached in
             let z : _≡_ {A = ℕ} 0 1 = cc in
@@ -218,16 +221,16 @@ module _ (g : Galley) (two : g .floats ≡ 1) (t : Table) (i j c : ℕ) (inside 
     best-ahead e best x end o = absurd (o .may)
 
     -- So what the search finds is the best of all starts.
-    best-seen : Seen (pageGraph g) (tableAt g t) All here (now (bestStart search))
+    best-seen : Seen (pageGraph g (beginning g)) (tableAt g t) here (now (bestStart search))
     unfolding search
     best-seen =
         let best = best-start search two in
         record { offered = offered (bestStart search) best; best = best-ahead (bestStart search) best }
 
   -- Where no page may end at (i, j), nothing has a page to it.
-  none-seen : mayStop g i j c ≡ false → Seen (pageGraph g) (tableAt g t) All here (now Unreached)
+  none-seen : mayStop g i j c ≡ false → Seen (pageGraph g (beginning g)) (tableAt g t) here (now Unreached)
   unfolding now priced shown here mayStop
-  none-seen shut = step.started (pageGraph g) (page-laws g) (tableAt g t) none
+  none-seen shut = none-reached (pageGraph g (beginning g)) (tableAt g t) none
     where
       never : (u : Place) (d : ℕ) → Starts u d → ⊥
       never u d st =
@@ -235,12 +238,12 @@ module _ (g : Galley) (two : g .floats ≡ 1) (t : Table) (i j c : ℕ) (inside 
           let z : _≡_ {A = ℕ} 0 1 = cc in
           omega arith
 
-      none : (u : State) → All u → Step g u (stop (place i j) c) → tableAt g t u ≡ graph.unreached
-      none (stop u d) p st = absurd (never u d (starts u d st))
-      none end p st = unfold Step in absurd st
+      none : (u : State) → Step g (beginning g) u (stop (place i j) c) → tableAt g t u ≡ graph.unreached
+      none (stop u d) st = absurd (never u d (starts u d st))
+      none end st = unfold Step in absurd st
 
   -- Only where nothing is placed, on side 0, is (i, j) the origin.
-  not-origin : ¬ (i + j + c ≡ 0) → ¬ (here ≡ stop (zeros g) 0)
+  not-origin : ¬ (i + j + c ≡ 0) → ¬ (here ≡ pageGraph g (beginning g) .o)
   unfolding here
   not-origin away e = away (origin (place-of e) (side-of e))
     where
@@ -252,11 +255,11 @@ module _ (g : Galley) (two : g .floats ≡ 1) (t : Table) (i j c : ℕ) (inside 
       sides-of (stop v d) = d
       sides-of end = 0
 
-      place-of : stop (place i j) c ≡ stop (zeros g) 0 → place i j ≡ place 0 0
+      place-of : stop (place i j) c ≡ pageGraph g (beginning g) .o → place i j ≡ place 0 0
       place-of e = ap places e ∙ zeros-two g two
 
-      side-of : stop (place i j) c ≡ stop (zeros g) 0 → c ≡ 0
-      side-of e = ap sides-of e
+      side-of : stop (place i j) c ≡ pageGraph g (beginning g) .o → c ≡ 0
+      side-of e = ap sides-of e ∙ side-zero (g .spec .sides)
 
       origin : place i j ≡ place 0 0 → c ≡ 0 → i + j + c ≡ 0
       origin p q =
@@ -265,12 +268,12 @@ module _ (g : Galley) (two : g .floats ≡ 1) (t : Table) (i j c : ℕ) (inside 
           omega arith
 
   -- The entry of place (i, j) on side c is right.
-  pub entry-cell : Cell (pageGraph g) (tableAt g t) (stop (place i j) c) (shown (g .spec .sides) c (entryOf g t i j c))
+  pub entry-cell : Cell (pageGraph g (beginning g)) (tableAt g t) (stop (place i j) c) (shown (g .spec .sides) c (entryOf g t i j c))
   unfolding entryOf here now search cost shown priced
   entry-cell = go (eqb (i + j + c) 0) refl (mayStop g i j c) refl
     where
       go : (a : Bool) → eqb (i + j + c) 0 ≡ a → (b : Bool) → mayStop g i j c ≡ b
-          → Cell (pageGraph g) (tableAt g t) (stop (place i j) c)
+          → Cell (pageGraph g (beginning g)) (tableAt g t) (stop (place i j) c)
           (shown (g .spec .sides) c
           (pick a (Least 0 (record { line = 0; figure = 0 })) (pick b (priced cost (bestStart search)) Unreached)))
       go true e b m =
@@ -278,9 +281,7 @@ module _ (g : Galley) (two : g .floats ≡ 1) (t : Table) (i j c : ℕ) (inside 
           let x : i ≡ 0 = omega arith in
           let y : j ≡ 0 = omega arith in
           let k : c ≡ 0 = omega arith in
-          let o : stop (place i j) c ≡ stop (zeros g) 0 = cc (zeros-two g two) in
+          let o : stop (place i j) c ≡ pageGraph g (beginning g) .o = cc (zeros-two g two, side-zero (g .spec .sides)) in
           Cell.base o (stop (place 0 0) (before (g .spec .sides) c)) refl
-      go false e true m =
-          step.finished (pageGraph g) (page-laws g) (tableAt g t) (not-origin (eqb-false (i + j + c) 0 e)) (λ u p. inl tt) (best-seen m)
-      go false e false m =
-          step.finished (pageGraph g) (page-laws g) (tableAt g t) (not-origin (eqb-false (i + j + c) 0 e)) (λ u p. inl tt) (none-seen m)
+      go false e true m = Cell.inner (not-origin (eqb-false (i + j + c) 0 e)) (best-seen m)
+      go false e false m = Cell.inner (not-origin (eqb-false (i + j + c) 0 e)) (none-seen m)

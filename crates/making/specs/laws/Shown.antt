@@ -9,10 +9,12 @@ use Rattle.model.specs.Gather.{pick, sum, total, row}
 use Rattle.model.specs.Galley.{Sides, single, double, Galley, Place, count, streams, zeros, sizes}
 use Rattle.model.specs.Order.{oddly}
 use Rattle.model.specs.laws.Rules.{placed}
-use Rattle.theorems.specs.Graph as graph
-use Rattle.theorems.specs.Cell.{All, Ahead, Offer, Cell, inner}
-use Rattle.theorems.specs.PageGraph.{State, stop, end, Within, Step, Prefers, price, pageGraph}
-use Rattle.theorems.specs.PageLaws.{page-laws}
+use Rattle.model.specs.laws.Lists.{Inside}
+use Rattle.theorems.specs.optimality.Graph as graph
+use Rattle.theorems.specs.optimality.Cell.{Ahead, Offer, Cell, inner}
+use Rattle.theorems.specs.pages.Graph.{State, stop, end, beginning, Within, Step, Prefers, price, pageGraph}
+use Rattle.theorems.specs.pages.Laws.{page-laws}
+use Rattle.theorems.specs.pages.Lists.{past-beginning}
 use Rattle.places.specs.declared.Start.{Start}
 use Rattle.places.specs.declared.Entry.{Entry}
 use Rattle.places.specs.declared.Entry.the-variants.{Unreached, Least}
@@ -136,9 +138,12 @@ last-leads double t i j b x s side h = go (t i j 0) (t i j 1) refl refl b (omega
 module _ (g : Galley) (one : g .floats ≡ 1) where
   -- The full place lies in the table, on each side that occurs.
   pub full-within :
-      (c : ℕ) → Side (g .spec .sides) c → Within g (stop (place (g .stream 0 .size) (g .stream 1 .size)) c)
+      (c : ℕ) → Side (g .spec .sides) c → Within g (beginning g) (stop (place (g .stream 0 .size) (g .stream 1 .size)) c)
   unfolding Within
-  full-within c side = rw (sizes-two g one) (record { long = refl; under = λ i. omega arith }, side)
+  full-within c side =
+      let full : Inside (sizes g) (place (g .stream 0 .size) (g .stream 1 .size)) =
+      rw (sizes-two g one) (record { long = refl; under = λ i. omega arith }) in
+      (full, side, past-beginning g (place (g .stream 0 .size) (g .stream 1 .size)) full)
 
   -- A step to the end starts at the full place, on a side that occurs.
   pub record Final (u : State) : Type 0 where
@@ -146,7 +151,7 @@ module _ (g : Galley) (one : g .floats ≡ 1) where
     pub occurs : Side (g .spec .sides) side
     pub from : u ≡ stop (place (g .stream 0 .size) (g .stream 1 .size)) side
 
-  step-final : (u : State) → Step g u end → Final u
+  step-final : (u : State) → Step g (beginning g) u end → Final u
   unfolding Step Within
   step-final (stop w b) p =
       record { side = b; occurs = p .within .1; from = ap (λ v. stop v b) (p .whole ∙ sizes-two g one) }
@@ -161,7 +166,7 @@ module _ (g : Galley) (one : g .floats ≡ 1) where
     shown-full c = refl
 
     -- The end is right by the choice of the last side: the less dear of the two, then side 0.
-    pub end-right : Cell (pageGraph g) (tableAt g t) end (tableAt g t end)
+    pub end-right : Cell (pageGraph g (beginning g)) (tableAt g t) end (tableAt g t end)
     unfolding Step Ahead Prefers price shown finished tableAt
     end-right =
         inner (λ e. let z : _≡_ {A = ℕ} 0 1 = cc in absurd (omega arith)) (record { offered = offered; best = best })
@@ -172,15 +177,14 @@ module _ (g : Galley) (one : g .floats ≡ 1) where
         last : ℕ
         last = lastSide (g .spec .sides) t (g .stream 0 .size) (g .stream 1 .size)
 
-        offered : (c : ℕ) (u : State) → tableAt g t end ≡ graph.least c u → Offer (pageGraph g) (tableAt g t) All end c u
+        offered : (c : ℕ) (u : State) → tableAt g t end ≡ graph.least c u → Offer (pageGraph g (beginning g)) (tableAt g t) end c u
         offered c u e =
             let (s, h, from) = finished-least (stop whole last) (t (g .stream 0 .size) (g .stream 1 .size) last) c u e in
-            let finish : Step g (stop whole last) end = record {
+            let finish : Step g (beginning g) (stop whole last) end = record {
               within = full-within last (last-side (g .spec .sides) t (g .stream 0 .size) (g .stream 1 .size));
               whole = sym (sizes-two g one);
             } in
             record {
-              among = tt;
               may = rw from finish;
               cost = c;
               start = stop (place (s .line) (s .figure)) (before (g .spec .sides) last);
@@ -189,12 +193,12 @@ module _ (g : Galley) (one : g .floats ≡ 1) where
             }
 
         ahead : (b c : ℕ) → Leads t (g .stream 0 .size) (g .stream 1 .size) last b c
-            → Ahead (pageGraph g) (tableAt g t end) (graph.least c (stop whole b))
+            → Ahead (pageGraph g (beginning g)) (tableAt g t end) (graph.least c (stop whole b))
         ahead b c l =
-            rw (l .reached) (l .low, λ e. (page-laws g .tie-refl (stop whole 0) .0, λ f. l .tie e))
+            rw (l .reached) (l .low, λ e. (page-laws g (beginning g) .tie-refl (stop whole 0) .0, λ f. l .tie e))
 
-        best : (c : ℕ) (u : State) → Offer (pageGraph g) (tableAt g t) All end c u
-            → Ahead (pageGraph g) (tableAt g t end) (graph.least c u)
+        best : (c : ℕ) (u : State) → Offer (pageGraph g (beginning g)) (tableAt g t) end c u
+            → Ahead (pageGraph g (beginning g)) (tableAt g t end) (graph.least c u)
         best c u o =
             let f = step-final u (o .may) in
             let b = f .side in

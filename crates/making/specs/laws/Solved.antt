@@ -19,10 +19,8 @@ use Rattle.model.specs.laws.Lists.{_∈_}
 use Rattle.model.specs.laws.Words.{length-words}
 use Rattle.model.specs.laws.Valid.{valid-accepted}
 use Rattle.model.specs.laws.Best.{Makes, makes, impossible, best-makes}
-use Rattle.theorems.specs.Cell.{Right}
-use Rattle.theorems.specs.PageGraph.{Within, pageGraph}
-use Rattle.theorems.specs.LeastTurns.{valid-counts}
-use Rattle.theorems.specs.Bounds.{allFloats, dearest, Limits, rate-limit}
+use Rattle.theorems.specs.turns.LeastTurns.{valid-counts}
+use Rattle.theorems.specs.turns.Bounds.{allFloats, dearest, Limits, rate-limit}
 use Rattle.galley.specs.declared.Galley.{Galley}
 use Rattle.galley.specs.declared.Reading.the-variants as reads
 use Rattle.galley.specs.Whole.{galleyOf}
@@ -36,7 +34,7 @@ use Rattle.starts.specs.Search.{Table, before}
 use Rattle.walk.specs.Trace.{startOf, countBack, writeBack}
 use Rattle.filling.specs.Filled.{Side}
 use Rattle.filling.specs.Fill.{tall}
-use Rattle.making.specs.Shown.{tableAt}
+use Rattle.making.specs.Shown.{AllRight}
 use Rattle.making.specs.Make.{workNeeded}
 use Rattle.making.specs.Back.{lastOf, pagesBack, wordsBack, Found}
 use Rattle.walk.specs.Traceable.{sidesIn, tableIn, isReached, Lent, Traceable, Walkable, Writable}
@@ -122,10 +120,10 @@ module _ (bytes : List ℕ) (g : Galley) (work list : List ℕ) (solved : Solved
   solved-walkable = record { table = solved-traceable; side = solved-side }
 
   -- and every entry is right.
-  right : Right (pageGraph (modelOf bytes g)) (tableAt (modelOf bytes g) (tableIn g work)) (Within (modelOf bytes g))
+  right : AllRight (modelOf bytes g) (tableIn g work)
   unfolding tall
   right =
-      subst (λ w. Right (pageGraph (modelOf bytes g)) (tableAt (modelOf bytes g) (tableIn g w)) (Within (modelOf bytes g))) (sym (solved .is))
+      subst (λ w. AllRight (modelOf bytes g) (tableIn g w)) (sym (solved .is))
       (table-right (modelOf bytes g) refl (solved .before) room)
 
   last : Entry

@@ -19,10 +19,10 @@ use Rattle.model.specs.Best.{allowed}
 use Rattle.model.specs.laws.Rules.{kept, forward-at}
 use Rattle.model.specs.laws.Judge.{accepts, judge-accepts}
 use Rattle.model.specs.laws.Words.{length-pages, counted-at}
-use Rattle.theorems.specs.Waiting.{waiting, pageSum, atEnd}
-use Rattle.theorems.specs.Pages.{along, accepts-along}
-use Rattle.theorems.specs.LeafEnds.{Orderly, x-by-ends}
-use Rattle.theorems.specs.Costs.{orderly}
+use Rattle.theorems.specs.turns.Waiting.{waiting, pageSum, atEnd}
+use Rattle.theorems.specs.turns.Pages.{along, accepts-along}
+use Rattle.theorems.specs.turns.LeafEnds.{Orderly, x-by-ends}
+use Rattle.theorems.specs.turns.Costs.{orderly}
 use Rattle.galley.specs.declared.Galley.{Galley}
 use Rattle.galley.specs.Sound.{Sound}
 use Rattle.galley.specs.Model.{floatsOf, modelOf}

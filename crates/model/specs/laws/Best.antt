@@ -1,14 +1,14 @@
 -- The best list is a valid list that comes before every other, it is the only one, and there is none only where no list is valid.
 use Prim.Native.Nat.{ℕ, _≤_}
 use native.Mathlib.Omega.{arith}
-use mathlib.Core.Path.{_≡_, refl, sym, _∙_, ap, subst}
+use mathlib.Core.Path.{_≡_, refl, sym, ap, subst}
 use mathlib.Core.Logic.{_⊎_, inl, inr}
 use mathlib.Core.Bool.{Bool, true, false}
 use mathlib.Core.List.{List, [], _∷_, List·Memᴰ·head, List·Memᴰ·tail, List·Memᴰ·cases-cons, List·Memᴰ·not-nil}
 use mathlib.Core.Option.{Option, none, some}
 use lib.Dec.{leb}
 use borrow.Author.Tests.{leb-true}
-use Rattle.model.specs.Gather.{pick, implies}
+use Rattle.model.specs.Gather.{pick}
 use Rattle.model.specs.Galley.{Galley, Place}
 use Rattle.model.specs.Turns.{turns}
 use Rattle.model.specs.Order.{thenBy, by, before}
@@ -16,7 +16,7 @@ use Rattle.model.specs.Best.{valid, firstOf, best}
 use Rattle.model.specs.laws.Gather.{and-left}
 use Rattle.model.specs.laws.Lists.{_∈_}
 use Rattle.model.specs.laws.Valid.{valid-accepted}
-use Rattle.model.specs.laws.Order.{Preference, before-preference, before-antisymm}
+use Rattle.model.specs.laws.Order.{Preference, preference-refl, before-preference, before-antisymm}
 
 module _ {A : Type 0} (le : A → A → Bool) (o : Preference le) where
   -- x is in the list and comes before all that is in it.
@@ -24,18 +24,11 @@ module _ {A : Type 0} (le : A → A → Bool) (o : Preference le) where
     pub among : x ∈ xs
     pub ahead : (y : A) → y ∈ xs → le x y ≡ true
 
-  itself : (x : A) → le x x ≡ true
-  itself x = go (o .total x x)
-    where
-      go : (le x x ≡ true) ⊎ (le x x ≡ true) → le x x ≡ true
-      go (inl h) = h
-      go (inr h) = h
-
   alone : (x : A) → First x (x ∷ [])
   alone x = record { among = List·Memᴰ·head refl; ahead = λ y m. go y (List·Memᴰ·cases-cons m) }
     where
       go : (y : A) → (y ≡ x) ⊎ (y ∈ []) → le x y ≡ true
-      go y (inl e) = rw e (itself x)
+      go y (inl e) = rw e (preference-refl o x)
       go y (inr m) = absurd (List·Memᴰ·not-nil m)
 
   other-way : (x y : A) → le x y ≡ false → le y x ≡ true
@@ -50,7 +43,7 @@ module _ {A : Type 0} (le : A → A → Bool) (o : Preference le) where
   better x y xs f = go (le x y) refl
     where
       x-first : le x y ≡ true → (w : A) → (w ≡ x) ⊎ (w ∈ xs) → le x w ≡ true
-      x-first h w (inl e) = rw e (itself x)
+      x-first h w (inl e) = rw e (preference-refl o x)
       x-first h w (inr m) = o .trans x y w h (f .ahead w m)
 
       y-first : le x y ≡ false → (w : A) → (w ≡ x) ⊎ (w ∈ xs) → le y w ≡ true

@@ -1,13 +1,12 @@
 -- Laws of tests and sums over 1 to n and 0 to n.
 use Prim.Native.Nat.{ℕ, zero, suc, _+_, _-_, _≤_, _<_}
-use native.Mathlib.Nat.{le-suc-iff, not-suc-le-zero, le-refl, add-zero, add-suc, zero-add, suc-add, sub-self}
+use native.Mathlib.Nat.{le-suc-iff, not-suc-le-zero, le-refl, add-zero, add-suc}
 use native.Mathlib.Omega.{arith}
 use mathlib.Core.Path.{_≡_, refl, sym, _∙_, ap, subst}
-use mathlib.Core.Logic.{_⊎_, ⊎-elim, inl, inr}
-use mathlib.Core.Bool.{Bool, true, false, not, _&&_, _||_}
-use mathlib.Core.List.{List, [], _∷_}
+use mathlib.Core.Logic.{_⊎_, inl, inr}
+use mathlib.Core.Bool.{Bool, true, false, _&&_, _||_}
 use lib.ListN.{length, getD}
-use Rattle.model.specs.Gather.{pick, implies, one, sum, between, total, each, every, row}
+use Rattle.model.specs.Gather.{implies, sum, between, total, each, every, row}
 
 -- A conjunction holds exactly where both parts do.
 pub and-left : (a b : Bool) → a && b ≡ true → a ≡ true
@@ -29,11 +28,6 @@ implies-at false b h p = let z : _≡_ {A = ℕ} 0 1 = cc in absurd (omega arith
 pub implies-of : (a b : Bool) → (a ≡ true → b ≡ true) → implies a b ≡ true
 implies-of true b h = h refl
 implies-of false b h = refl
-
--- A test holds or does not.
-pub decide : (b : Bool) → (b ≡ true) ⊎ (b ≡ false)
-decide true = inl refl
-decide false = inr refl
 
 -- A disjunction holds exactly where a part does.
 pub or-cases : (a b : Bool) → a || b ≡ true → (a ≡ true) ⊎ (b ≡ true)
@@ -107,15 +101,6 @@ sum-split n (suc d) f =
     let below = sum-split n d f in
     rw add-suc (let at : f (suc (n + d)) ≡ f (n + suc d) = ap f (sym (add-suc n d)) in omega arith)
 
--- Two sums may be taken in either order.
-pub sum-swap : (n m : ℕ) (f : ℕ → ℕ → ℕ) → sum n (λ i. sum m (λ j. f i j)) ≡ sum m (λ j. sum n (λ i. f i j))
-unfolding sum
-sum-swap zero m f = sym (sum-zero m)
-sum-swap (suc n) m f =
-    let below = sum-swap n m f in
-    let more = sum-add m (λ j. sum n (λ i. f i j)) (λ j. f (suc n) j) in
-    omega arith
-
 -- What stands between a and b is what the sum to b has beyond the sum to a.
 pub between-sum : (a b : ℕ) (f : ℕ → ℕ) → a ≤ b → sum a f + between a b f ≡ sum b f
 unfolding between
@@ -137,10 +122,6 @@ total-le n f g h =
     let first = h 0 (omega arith) in
     let after = sum-le n f g (λ k p q. h k q) in
     omega arith
-
-pub total-add : (n : ℕ) (f g : ℕ → ℕ) → total n (λ k. f k + g k) ≡ total n f + total n g
-unfolding total
-total-add n f g = let after = sum-add n f g in omega arith
 
 -- A total is strictly more where no term is less and one is more.
 pub sum-lt : (n : ℕ) (f g : ℕ → ℕ) → ((k : ℕ) → 1 ≤ k → k ≤ n → f k ≤ g k) → (j : ℕ) → 1 ≤ j → j ≤ n → f j < g j → sum n f < sum n g

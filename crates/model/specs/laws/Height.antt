@@ -1,15 +1,15 @@
 -- A page that grows, at its end or back from its start, never gets less high.
-use Prim.Native.Nat.{ℕ, zero, suc, pred, _+_, _-_, _*_, _≤_, _<_}
-use native.Mathlib.Nat.{le-refl, pred-le-pred, mul-le-mul-right}
+use Prim.Native.Nat.{ℕ, pred, _+_, _-_, _≤_}
+use native.Mathlib.Nat.{pred-le-pred, mul-le-mul-right}
 use native.Mathlib.Decide.{decLe}
 use native.Mathlib.Omega.{arith}
-use mathlib.Core.Path.{_≡_, refl, sym, _∙_, ap}
+use mathlib.Core.Path.{_≡_, refl, ap}
 use mathlib.Core.Bool.{Bool, true, false}
 use lib.Dec.{ltb}
 use borrow.Author.Tests.{ltb-true, lt-ltb}
-use Rattle.model.specs.Gather.{one, sum, between, total}
+use Rattle.model.specs.Gather.{one, sum, between}
 use Rattle.model.specs.Galley.{Stream, Galley, Place, count}
-use Rattle.model.specs.Height.{has, kinds, stacked, height, tightest, loosest}
+use Rattle.model.specs.Height.{has, kinds, stacked, height, tightest}
 use Rattle.model.specs.laws.Gather.{between-sum, total-le}
 
 -- The page from u′ to v′ has all that the page from u to v has.
@@ -71,11 +71,7 @@ height-grows g gap separation u v u′ v′ w =
     let seps = mul-le-mul-right separation (pred-le-pred (kinds-grow g u v u′ v′ w)) in
     omega arith
 
--- Growing along a page never lowers its tightest height, nor its loosest.
+-- Growing along a page never lowers its tightest height.
 pub tightest-grows : (g : Galley) (u v u′ v′ : Place) → Wider g u v u′ v′ → tightest g u v ≤ tightest g u′ v′
 unfolding tightest
 tightest-grows g = height-grows g (λ st. st .least) (g .spec .smin)
-
-pub loosest-grows : (g : Galley) (u v u′ v′ : Place) → Wider g u v u′ v′ → loosest g u v ≤ loosest g u′ v′
-unfolding loosest
-loosest-grows g = height-grows g (λ st. st .most) (g .spec .smax)

@@ -1,17 +1,16 @@
 -- The marking accepts a list exactly where each page is allowed and the last ends at the full place.
-use Prim.Native.Nat.{ℕ, zero, suc, pred, _+_, _≤_}
+use Prim.Native.Nat.{ℕ, zero, suc, pred}
 use native.Mathlib.Omega.{arith}
-use mathlib.Core.Path.{_≡_, refl, sym, _∙_, ap}
+use mathlib.Core.Path.{_≡_, refl, _∙_, ap}
 use mathlib.Core.Bool.{Bool, true, false, _&&_}
 use mathlib.Core.List.{List, [], _∷_}
-use lib.ListN.{length}
 use lib.Dec.{eqb, eqb·suc-zero}
 use Rattle.model.specs.declared.answer.Answer.{Answer}
-use Rattle.model.specs.declared.answer.Answer.the-variants.{Counted, Refused}
+use Rattle.model.specs.declared.answer.Answer.the-variants.{Refused}
 use Rattle.model.specs.Gather.{pick}
-use Rattle.model.specs.Galley.{Galley, Place, zeros, sizes, blocks}
+use Rattle.model.specs.Galley.{Galley, Place, sizes}
 use Rattle.model.specs.Rules.{broken}
-use Rattle.model.specs.Answers.{accepted, same, ended, refuse, judge, counted, countsOf, pagesOf, marked}
+use Rattle.model.specs.Answers.{accepted, same, ended, refuse, judge}
 use Rattle.model.specs.Best.{Allowed, allowed}
 
 -- Each page, numbered from q and starting at u, is allowed, and the last ends at l.

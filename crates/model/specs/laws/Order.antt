@@ -1,6 +1,6 @@
 -- Orders that are total and transitive, and stay so when they are combined; the order of preference is one, and takes two valid
 -- lists as equal only where they are the same.
-use Prim.Native.Nat.{ℕ, zero, suc, _≤_}
+use Prim.Native.Nat.{ℕ, suc, _≤_}
 use native.Mathlib.Nat.{le-trans, le-antisymm}
 use native.Mathlib.Decide.{decLe}
 use native.Mathlib.Omega.{arith}
@@ -14,10 +14,10 @@ use borrow.Author.Tests.{leb-true, le-leb}
 use Rattle.model.specs.Gather.{implies}
 use Rattle.model.specs.Galley.{Galley, Place, zeros, sizes}
 use Rattle.model.specs.Turns.{turns}
-use Rattle.model.specs.Answers.{same, ended}
+use Rattle.model.specs.Answers.{ended}
 use Rattle.model.specs.Order.{thenBy, by, lex, geb, oddly, startsOf, before}
 use Rattle.model.specs.Best.{Allowed, allowed}
-use Rattle.model.specs.laws.Gather.{and-left, and-right, and-both, implies-at, implies-of, decide}
+use Rattle.model.specs.laws.Gather.{and-left, and-right, and-both, implies-at, implies-of}
 use Rattle.model.specs.laws.Judge.{accepts}
 use Rattle.model.specs.laws.Valid.{Accepted, same-true}
 
@@ -25,6 +25,14 @@ use Rattle.model.specs.laws.Valid.{Accepted, same-true}
 pub record Preference {A : Type 0} (le : A → A → Bool) : Type 0 where
   pub total : (x y : A) → (le x y ≡ true) ⊎ (le y x ≡ true)
   pub trans : (x y z : A) → le x y ≡ true → le y z ≡ true → le x z ≡ true
+
+-- Whatever is compared with itself comes no later.
+pub preference-refl : {A : Type 0} {le : A → A → Bool} → Preference le → (x : A) → le x x ≡ true
+preference-refl {le = le} o x = go (o .total x x)
+  where
+    go : (le x x ≡ true) ⊎ (le x x ≡ true) → le x x ≡ true
+    go (inl h) = h
+    go (inr h) = h
 
 pub leb-preference : Preference leb
 leb-preference =

@@ -1,19 +1,16 @@
 -- What a page keeps that breaks no rule: the five tests, and the inequalities behind them.
-use Prim.Native.Nat.{ℕ, zero, suc, _+_, _≤_, _<_}
-use native.Mathlib.Nat.{le-refl}
+use Prim.Native.Nat.{ℕ, _≤_, _<_}
 use native.Mathlib.Omega.{arith}
-use mathlib.Core.Path.{_≡_, refl, sym, _∙_, ap}
-use mathlib.Core.Logic.{_⊎_, inl, inr}
-use mathlib.Core.Bool.{Bool, true, false, _&&_, _||_}
-use lib.Dec.{leb, ltb, eqb}
-use borrow.Author.Tests.{eqb-true, eq-eqb, leb-true, le-leb, ltb-true, lt-ltb, ltb-false}
-use Rattle.model.specs.Gather.{implies, one, total, each, every}
-use Rattle.model.specs.Galley.{Galley, Stream, Place, count, blocks}
-use Rattle.model.specs.Height.{has, kinds, tightest, loosest}
-use Rattle.model.specs.Leaf.{ends}
-use Rattle.model.specs.Rules.{forward, mayEnd, closes, fits, fills, cited, firstBroken, broken}
+use mathlib.Core.Path.{_≡_, refl}
+use mathlib.Core.Bool.{Bool, true, false, _&&_}
+use lib.Dec.{leb, ltb}
+use borrow.Author.Tests.{eqb-true, leb-true, le-leb, ltb-true, lt-ltb}
+use Rattle.model.specs.Gather.{one, total, every}
+use Rattle.model.specs.Galley.{Galley, Place, count}
+use Rattle.model.specs.Height.{has, kinds}
+use Rattle.model.specs.Rules.{forward, closes, fits, fills, cited, firstBroken, broken}
 use Rattle.model.specs.Best.{allowed}
-use Rattle.model.specs.laws.Gather.{and-left, and-right, and-both, implies-at, implies-of, each-at, each-of, every-at, every-of, total-some, total-has, total-lt, or-left, or-right}
+use Rattle.model.specs.laws.Gather.{and-left, and-right, and-both, every-at, every-of, total-some, total-has, total-lt}
 
 -- The page keeps rules 13 to 17.
 pub record Kept (g : Galley) (q : ℕ) (last : Bool) (u v : Place) : Type 0 where

@@ -1,26 +1,26 @@
 -- A list of words is accepted exactly where it is the words of a member of "every valid list"; such a list has no more pages
 -- than there are blocks.
-use Prim.Native.Nat.{ℕ, zero, suc, _+_, _≤_, _<_}
+use Prim.Native.Nat.{ℕ, suc, _+_, _≤_, _<_}
 use native.Mathlib.Omega.{arith}
 use native.Mathlib.Decide.{decLe}
 use mathlib.Core.Path.{_≡_, refl, sym, _∙_, ap, subst}
 use mathlib.Core.Logic.{_↔_}
-use mathlib.Core.Bool.{Bool, true, false, not, _&&_}
+use mathlib.Core.Bool.{Bool, true, false, not}
 use mathlib.Core.List.{List, [], _∷_}
 use lib.ListN.{length, getD, List·getD-eq-default}
 use lib.Dec.{eqb}
 use borrow.Author.Tests.{eqb-true, eq-eqb}
 use Rattle.model.specs.declared.answer.Answer.{Answer}
 use Rattle.model.specs.declared.answer.Answer.the-variants.{Refused}
-use Rattle.model.specs.Gather.{pick, total, row}
+use Rattle.model.specs.Gather.{pick}
 use Rattle.model.specs.Galley.{Galley, Place, count, streams, zeros, sizes, blocks}
 use Rattle.model.specs.Answers.{accepted, same, ended, judge, counted, countsOf, pagesOf, wordsOf, marked}
 use Rattle.model.specs.Best.{allowed, keep, lists, valid}
-use Rattle.model.specs.laws.Gather.{and-left, and-right, and-both, total-ext, total-has, length-row, row-at}
-use Rattle.model.specs.laws.Rules.{Kept, kept, Forward, forward-at, placed, placed-grows}
+use Rattle.model.specs.laws.Gather.{and-left, and-right, and-both, total-ext, length-row, row-at}
+use Rattle.model.specs.laws.Rules.{kept, Forward, forward-at, placed, placed-grows}
 use Rattle.model.specs.laws.Judge.{accepts, judge-accepts, judge-good}
-use Rattle.model.specs.laws.Words.{Shaped, WholePages, counted-at, length-pages, pages-shaped, words-pages, pages-words, counted-of}
-use Rattle.model.specs.laws.Lists.{_∈_, ∈-keep, ∈-kept, Inside, AllInside, Listed, listed, unlisted}
+use Rattle.model.specs.laws.Words.{Shaped, counted-at, length-pages, pages-shaped, words-pages, pages-words, counted-of}
+use Rattle.model.specs.laws.Lists.{_∈_, ∈-keep, ∈-kept, Inside, AllInside, listed, unlisted}
 
 -- The test for the same place is equality.
 pub same-true : (u v : Place) → same u v ≡ true → u ≡ v
@@ -68,7 +68,7 @@ module _ (g : Galley) where
       let after = pages-fit (suc q) v vs (and-right (allowed g q (ended vs) u v) (accepts (allowed g) (sizes g) (suc q) v vs) h) in
       omega arith
 
-  length-sizes : length (sizes g) ≡ streams g
+  pub length-sizes : length (sizes g) ≡ streams g
   unfolding sizes
   length-sizes = length-row 0 (streams g) (λ s. g .stream s .size)
 

@@ -1,9 +1,9 @@
 -- A page list's words and its places say the same: k words to a place, both ways without loss.
 use Prim.Native.Nat.{ℕ, zero, suc, _+_, _-_, _*_, _/_, _%_, _≤_, _<_}
-use native.Mathlib.Nat.{suc-mul, zero-mul, mul-div-cancel, div-add-mod', add-zero, mul-comm, mul-mod-left, mul-le-mul-left, le-of-mul-le-mul-right}
+use native.Mathlib.Nat.{suc-mul, zero-mul, mul-div-cancel, div-add-mod', mul-comm, mul-mod-left, mul-le-mul-left, le-of-mul-le-mul-right}
 use native.Mathlib.Omega.{arith}
 use mathlib.Core.Path.{_≡_, refl, sym, _∙_, ap, subst}
-use mathlib.Core.Bool.{Bool, true, false, _&&_}
+use mathlib.Core.Bool.{Bool, true, _&&_}
 use mathlib.Core.List.{List, [], _∷_, _++_}
 use lib.ListN.{length, take, drop, length-append, length-drop, take-append-drop}
 use lib.Seq.{length-take-le, take-at, drop-at}

@@ -11,8 +11,8 @@ use Rattle.model.specs.Gather.{pick, one, sum}
 use Rattle.model.specs.Galley as model
 use Rattle.model.specs.Galley.{Sane, count}
 use Rattle.model.specs.Leaf.{ends, sidesOf}
-use Rattle.theorems.specs.Waiting.{dangles, waitingIn, waiting}
 use Rattle.galley.specs.declared.Stream.{Stream}
+use Rattle.theorems.specs.turns.Waiting.{dangles, waitingIn, waiting}
 use Rattle.galley.specs.declared.Galley.{Galley}
 use Rattle.galley.specs.Sound.{Growing}
 use Rattle.galley.specs.Model.{floatsOf, modelOf}

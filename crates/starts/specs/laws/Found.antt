@@ -14,7 +14,7 @@ use Rattle.model.specs.Galley.{count}
 use Rattle.model.specs.Height.{tightest}
 use Rattle.model.specs.Rules.{fits, fills}
 use Rattle.model.specs.laws.Height.{tightest-grows}
-use Rattle.theorems.specs.PageGraph.{full}
+use Rattle.theorems.specs.pages.Graph.{full}
 use Rattle.places.specs.declared.Start.{Start}
 use Rattle.places.specs.declared.Entry.{Entry}
 use Rattle.places.specs.declared.Entry.the-variants.{Unreached, Least}

@@ -10,7 +10,7 @@ use lib.Dec.{leb, ltb}
 use borrow.Author.Tests.{le-leb, lt-leb, le-ltb}
 use Rattle.model.specs.Gather.{pick}
 use Rattle.model.specs.Rules.{fits, fills}
-use Rattle.theorems.specs.PageGraph.{full}
+use Rattle.theorems.specs.pages.Graph.{full}
 use Rattle.galley.specs.declared.Galley.{Galley}
 use Rattle.galley.specs.Model.{textOf, floatsOf, modelOf}
 use Rattle.rules.specs.laws.Two.{full-two}

@@ -13,7 +13,7 @@ use Rattle.model.specs.Gather.{pick}
 use Rattle.model.specs.Height.{stacked, tightest, loosest}
 use Rattle.model.specs.Rules.{fits, fills}
 use Rattle.model.specs.laws.Gather.{or-cases, or-left, or-right}
-use Rattle.theorems.specs.PageGraph.{full}
+use Rattle.theorems.specs.pages.Graph.{full}
 use Rattle.galley.specs.declared.Galley.{Galley}
 use Rattle.galley.specs.Model.{textOf, floatsOf, modelOf}
 use Rattle.rules.specs.laws.Two.{height-two, full-two}

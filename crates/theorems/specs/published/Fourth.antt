@@ -14,7 +14,7 @@ use Rattle.model.specs.Rules.{cited}
 use Rattle.model.specs.Pagination.{Map}
 use Rattle.model.specs.laws.Gather.{or-left, or-right, or-cases}
 use Rattle.model.specs.laws.Leaf.{leaf-next, leaf-mono, leaf-after}
-use Rattle.theorems.specs.Costs.{cite-mono}
+use Rattle.theorems.specs.turns.Costs.{cite-mono}
 use Rattle.theorems.specs.published.Heights.{After}
 use Rattle.theorems.specs.published.Keeping.{cited-at, cited-of}
 

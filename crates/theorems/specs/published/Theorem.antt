@@ -1,53 +1,28 @@
 -- The published model (sections 2 and 3 of the paper) and document 01's rules and numbers say the same, for any number of
 -- float streams. Asked of the galley is only what reading it makes sure of: there is a line, and citations grow and exist.
-use Prim.Native.Nat.{ℕ, suc, _+_, _-_, _*_, _/_, _≤_}
+use Prim.Native.Nat.{ℕ, _+_, _-_, _*_, _/_}
 use native.Mathlib.Omega.{arith}
 use mathlib.Core.Path.{_≡_, refl, sym, _∙_, ap, subst}
 use mathlib.Core.Logic.{_↔_}
 use mathlib.Core.Bool.{true}
 use mathlib.Core.List.{List}
 use lib.ListN.{length}
-use lib.Dec.{eqb}
 use Rattle.model.specs.declared.answer.Answer.the-variants.{Counted}
 use Rattle.model.specs.Gather.{sum}
-use Rattle.model.specs.Galley.{Galley, Place, Block, Sane, single, double, streams, zeros, sizes}
+use Rattle.model.specs.Galley.{Galley, Place, Block, Sane, single, double}
 use Rattle.model.specs.Leaf.{leaf}
-use Rattle.model.specs.Rules.{cited}
 use Rattle.model.specs.Turns.{pageOf}
 use Rattle.model.specs.Answers.{accepted, marked, pagesOf, wordsOf, countsOf}
-use Rattle.model.specs.Best.{allowed, valid}
-use Rattle.model.specs.Pagination.{Map, Pagination, placeOn, listOn, xOn, turnsOn}
-use Rattle.model.specs.laws.Judge.{accepts}
-use Rattle.model.specs.laws.Words.{Shaped, pages-words}
+use Rattle.model.specs.Best.{valid}
+use Rattle.model.specs.Pagination.{Map, Pagination, listOn, xOn, turnsOn}
+use Rattle.model.specs.laws.Words.{pages-words}
 use Rattle.model.specs.laws.Lists.{_∈_}
 use Rattle.model.specs.laws.Valid.{Accepted, valid-accepted, accepted-valid, marked-counts}
-use Rattle.theorems.specs.published.Heights.{After}
-use Rattle.theorems.specs.published.Fourth.{fourth-of, cited-on}
-use Rattle.theorems.specs.published.OfMap.{place-after, length-list, list-shaped}
+use Rattle.theorems.specs.published.OfMap.{length-list, list-shaped}
 use Rattle.theorems.specs.published.Accepted.{accepted-pagination, pagination-accepts}
 use Rattle.theorems.specs.published.Numbers.{page-on, x-on, y-on, turns-on, weighted}
 
 module _ (g : Galley) (sane : Sane g) where
-  -- For blocks on pages 1 to p in the order of their streams, rule 17 on each page is the fourth constraint.
-  pub fourth-published : (p : ℕ) (P : Map) → ((s k : ℕ) → Block g s k → (1 ≤ P s k) × (P s k ≤ p))
-      → ((s k : ℕ) → Block g s k → Block g s (suc k) → P s k ≤ P s (suc k))
-      → ((q : ℕ) → 1 ≤ q → q ≤ p → cited g q (eqb q p) (placeOn g P q) ≡ true)
-      ↔ ((s k : ℕ) → 1 ≤ s → Block g s k → leaf (g .spec .sides) (P 0 (g .stream s .cite k)) ≤ leaf (g .spec .sides) (P s k))
-  fourth-published p P into order =
-      let after : (q : ℕ) → q ≤ p → After g P q (placeOn g P q) = λ q b. place-after order q in (
-        λ rule s k a b. fourth-of g sane p (placeOn g P) P after rule s k a b (into s k b .0) (into s k b .1),
-        λ fourth. cited-on g sane p (placeOn g P) P after fourth (λ k b. into 0 k b .1),
-      )
-
-  -- Rules 13 to 18 accept a list of places exactly where it is the list of a pagination.
-  pub places-published : (ps : List Place) → Shaped (streams g) ps
-      → (accepts (allowed g) (sizes g) 1 (zeros g) ps ≡ true)
-      ↔ ((P : Map) × Pagination g (length ps) P × (listOn g P (length ps) 1 ≡ ps))
-  places-published ps shaped = (
-    accepted-pagination g sane ps shaped,
-    λ r. subst (λ ps. accepts (allowed g) (sizes g) 1 (zeros g) ps ≡ true) (r .2) (pagination-accepts g sane (r .1)),
-  )
-
   list-accepted : {p : ℕ} {P : Map} → Pagination g p P → Accepted g (listOn g P p 1)
   list-accepted {p} {P} m =
       let line = m .into 0 1 (let lined = sane .lined in omega arith) in
@@ -105,13 +80,6 @@ module _ (g : Galley) (sane : Sane g) where
         marked-counts g (wordsOf (listOn g P p 1)) (words-published (wordsOf (listOn g P p 1)) .1 (p, P, m, refl))
         ∙ ap (countsOf g) (pages-words g (listOn g P p 1) (list-shaped g P p 1))
         ∙ places-counts
-
-    -- No difference that X sums is cut off at 0: a float's leaf is its line's leaf and the leaves between them.
-    pub nothing-cut : (s k : ℕ) → 1 ≤ s → Block g s k
-        → leaf (g .spec .sides) (P s k)
-        ≡ leaf (g .spec .sides) (P 0 (g .stream s .cite k))
-        + (leaf (g .spec .sides) (P s k) - leaf (g .spec .sides) (P 0 (g .stream s .cite k)))
-    nothing-cut s k a b = let l = m .fourth s k a b in omega arith
 
 module _ (g : Galley) (p : ℕ) (P : Map) where
   -- Single-sided, the turns are the paper's Turn.S: Σ α·(P(f) − P(R(f))) + β·(p − 1).

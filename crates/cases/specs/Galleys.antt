@@ -1,0 +1,77 @@
+-- The galleys of the table: those of document 01, "Galleys to try", under their letters there, then those for what they leave
+-- open. What the cases vary of a galley is left open in it.
+use mathlib.Core.Bool.{Bool, true, false}
+use mathlib.Core.List.{List, [], _∷_, _++_}
+use Prim.Native.Nat.{ℕ}
+use lib.ListN.{replicate}
+use Rattle.model.specs.Galley.{Sides, single, Spec, Galley}
+use Rattle.cases.specs.Case.{Block, galleyOf}
+
+unfoldable pub spec : ℕ → ℕ → ℕ → ℕ → Sides → ℕ → ℕ → Spec
+spec a b c d sides α β = record { htmin = a; htmax = b; smin = c; smax = d; sides = sides; alpha = α; beta = β }
+
+-- A line with no space after it, and a page end allowed or not.
+unfoldable pub line : ℕ → Bool → Block
+line h legal = record { height = h; least = 0; most = 0; legal = legal; cite = 0 }
+
+-- A figure with no space after it, and the line that cites it.
+unfoldable pub figure : ℕ → ℕ → Block
+figure h cite = record { height = h; least = 0; most = 0; legal = true; cite = cite }
+
+-- A line or figure with another space after it, from its least to its greatest height.
+unfoldable pub spaced : ℕ → ℕ → Block → Block
+spaced least most b = record { height = b .height; least = least; most = most; legal = b .legal; cite = b .cite }
+
+-- Three lines of 10.
+unfoldable pub three : List Block
+three = line 10 true ∷ line 10 true ∷ line 10 true ∷ []
+
+-- Galley A, with the separation, the figure's height and the weights left open.
+unfoldable pub galleyA : ℕ → ℕ → ℕ → ℕ → Galley
+galleyA separation tall α β = galleyOf (spec 30 30 separation separation single α β) three (figure tall 1 ∷ [])
+
+-- Galley B, with htMin and the first line's page end left open.
+unfoldable pub galleyB : ℕ → Bool → Galley
+galleyB least legal = galleyOf (spec least 30 0 0 single 1 1) (line 20 legal ∷ line 20 true ∷ []) []
+
+-- Galley C, with the sidedness left open.
+unfoldable pub galleyC : Sides → Galley
+galleyC sides =
+    galleyOf (spec 10 20 0 0 sides 1 1) (line 10 true ∷ line 10 true ∷ line 20 true ∷ line 20 true ∷ []) (figure 20 4 ∷ [])
+
+-- Galley D: three lines of 10, two to a page, no figure, with the sidedness and the weight of Y left open.
+unfoldable pub galleyD : Sides → ℕ → Galley
+galleyD sides β = galleyOf (spec 0 20 0 0 sides 1 β) three []
+
+-- Galley E: a line that cites two figures, two blocks to a page, with X left out of the turns.
+unfoldable pub galleyE : Galley
+galleyE = galleyOf (spec 0 20 0 0 single 0 1) (line 10 true ∷ []) (figure 10 1 ∷ figure 10 1 ∷ [])
+
+-- Galley F: every space and the separation can stretch, with htMin = htMax left open. Lines 3 and 4 with figures 2 and 3 have
+-- spaces of their own on every side; together they are 40 + 1 + 2 + 4 = 47 at the tightest, 40 + 10 + 20 + 40 = 110 at the
+-- loosest.
+unfoldable pub galleyF : ℕ → Galley
+galleyF high =
+    galleyOf (spec high high 4 40 single 2 3)
+    (spaced 0 100 (line 10 true)
+    ∷ spaced 5 9 (line 10 true)
+    ∷ spaced 1 10 (line 10 true)
+    ∷ spaced 5 9 (line 10 true)
+    ∷ spaced 5 9 (line 10 true)
+    ∷ [])
+    (spaced 5 9 (figure 10 1) ∷ spaced 2 20 (figure 10 1) ∷ spaced 5 9 (figure 10 2) ∷ spaced 5 9 (figure 10 3) ∷ [])
+
+-- Galley G: five lines of 10, of which every other one forbids a page end, the first and the last included; figures of 10 and
+-- 30, both cited by the last line.
+unfoldable pub galleyG : Galley
+galleyG =
+    galleyOf (spec 20 30 0 0 single 1 1)
+    (line 10 false ∷ line 10 true ∷ line 10 false ∷ line 10 true ∷ line 10 false ∷ [])
+    (figure 10 5 ∷ figure 30 5 ∷ [])
+
+-- Galley H: 301 lines of 1, 300 to a page, where a page may end after lines 255 and 300 alone.
+unfoldable pub galleyH : Galley
+galleyH =
+    galleyOf (spec 0 300 0 0 single 1 1)
+    (replicate 254 (line 1 false) ++ line 1 true ∷ replicate 44 (line 1 false) ++ line 1 true ∷ line 1 true ∷ [])
+    []

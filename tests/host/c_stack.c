@@ -1,0 +1,141 @@
+/* Makes or marks on a thread that has a given number of bytes of stack left at the call.
+ *
+ *     c_stack                     prints the header's figures, for making and for marking
+ *     c_stack BYTES GALLEY        makes the galley: prints the bytes left at the call, those taken, and the six words
+ *     c_stack BYTES GALLEY LIST   marks the list, two numbers a page, in the same way
+ *
+ * Below the stack lies memory that nobody may touch, so a call that takes more ends the program by a signal. Above the
+ * call a thread's stack has the thread's own data and the frames of those that called; what the stack has too much is given
+ * away there. What a call takes is what it changes of a stack that was painted before.
+ */
+#define _GNU_SOURCE
+#include <alloca.h>
+#include <barleychime.h>
+#include <inttypes.h>
+#include <limits.h>
+#include <pthread.h>
+#include <stdio.h>
+#include <stdlib.h>
+#include <sys/mman.h>
+
+#define PAGE ((size_t)4096)
+#define FORBIDDEN (64 * PAGE)
+#define ALIGNMENT ((size_t)16)
+#define PAINT 0xa5
+
+static uint8_t galley[BARLEYCHIME_LONGEST_GALLEY + 1];
+static uint32_t work[BARLEYCHIME_MOST_WORK_WORDS], pages[BARLEYCHIME_MOST_LIST_WORDS], answer[6];
+static size_t galley_len, pages_len = BARLEYCHIME_MOST_LIST_WORDS;
+static int marks = 0;
+
+static unsigned char *lowest, *at_call; /* the stack's first byte, and where the caller's frame ends at the call */
+static size_t wanted, left, taken;
+
+typedef uint32_t maker(const uint8_t *, size_t, uint32_t *, size_t, uint32_t *, size_t, uint32_t *);
+typedef uint32_t marker(const uint8_t *, size_t, const uint32_t *, size_t, uint32_t *);
+
+/* Between the end of the caller's frame and a frame pointer lie the return address and the frame pointer before. */
+#define SEE_STACK() (at_call = (unsigned char *)__builtin_frame_address(0) + 2 * sizeof(void *))
+
+/* Stand-ins that only see where a call finds the stack. */
+static uint32_t see_make(const uint8_t *bytes, size_t bytes_len, uint32_t *area, size_t area_len, uint32_t *list,
+                         size_t list_len, uint32_t *six)
+{
+    SEE_STACK();
+    return bytes != NULL && area != NULL && list != NULL && six != NULL && bytes_len + area_len + list_len > 0;
+}
+
+static uint32_t see_mark(const uint8_t *bytes, size_t bytes_len, const uint32_t *list, size_t list_len, uint32_t *six)
+{
+    SEE_STACK();
+    return bytes != NULL && list != NULL && six != NULL && bytes_len + list_len > 0;
+}
+
+/* One call, of the engine or of its stand-in, from the same place: no compiler knows which. */
+static __attribute__((noinline)) void call(maker *volatile make, marker *volatile mark)
+{
+    if (marks) {
+        mark(galley, galley_len, pages, pages_len, answer);
+    } else {
+        make(galley, galley_len, work, BARLEYCHIME_MOST_WORK_WORDS, pages, pages_len, answer);
+    }
+}
+
+static void *run(void *given)
+{
+    volatile unsigned char *byte;
+    call(see_make, see_mark);
+    left = (size_t)(at_call - lowest);
+    *(volatile char *)alloca(left - wanted - ALIGNMENT) = 0; /* alloca may take ALIGNMENT more */
+    call(see_make, see_mark);
+    left = (size_t)(at_call - lowest);
+    for (byte = lowest; byte < at_call; byte++) {
+        *byte = PAINT;
+    }
+    call(barleychime_make, barleychime_mark);
+    for (byte = lowest; byte < at_call && *byte == PAINT; byte++) {
+    }
+    taken = (size_t)(at_call - byte);
+    return given;
+}
+
+static int run_on_thread(void)
+{
+    const size_t size = (wanted + (size_t)PTHREAD_STACK_MIN) / PAGE * PAGE + 4 * PAGE;
+    unsigned char *area = mmap(NULL, FORBIDDEN + size, PROT_NONE, MAP_PRIVATE | MAP_ANONYMOUS, -1, 0);
+    pthread_attr_t attributes;
+    pthread_t thread;
+    if (area == MAP_FAILED) {
+        return 0;
+    }
+    lowest = area + FORBIDDEN;
+    return mprotect(lowest, size, PROT_READ | PROT_WRITE) == 0 && pthread_attr_init(&attributes) == 0 &&
+           pthread_attr_setstack(&attributes, lowest, size) == 0 &&
+           pthread_create(&thread, &attributes, run, NULL) == 0 && pthread_join(thread, NULL) == 0;
+}
+
+static int read_galley(const char *name)
+{
+    FILE *file = fopen(name, "rb");
+    if (file == NULL) {
+        return 0;
+    }
+    galley_len = fread(galley, 1, sizeof galley, file);
+    return fclose(file) == 0;
+}
+
+static int read_list(const char *name)
+{
+    FILE *file = fopen(name, "r");
+    if (file == NULL) {
+        return 0;
+    }
+    marks = 1;
+    for (pages_len = 0; pages_len < BARLEYCHIME_MOST_LIST_WORDS; pages_len++) {
+        if (fscanf(file, "%" SCNu32, &pages[pages_len]) != 1) {
+            break;
+        }
+    }
+    return fclose(file) == 0;
+}
+
+int main(int count, char **words)
+{
+    if (count == 1) {
+        printf("%zu %zu\n", BARLEYCHIME_STACK_BYTES, BARLEYCHIME_MARK_STACK_BYTES);
+        return 0;
+    }
+    if (count < 3 || !read_galley(words[2]) || (count > 3 && !read_list(words[3]))) {
+        return 2;
+    }
+    wanted = strtoul(words[1], NULL, 10);
+    if (!run_on_thread()) {
+        return 2;
+    }
+    printf("%zu %zu", left, taken);
+    for (int k = 0; k < 6; k++) {
+        printf(" %u", (unsigned)answer[k]);
+    }
+    printf("\n");
+    return 0;
+}

@@ -1,0 +1,100 @@
+"""What the header says of the archive: the stack that a call takes, the functions that it calls, and that nothing is kept.
+
+The figures are compared with the archive's machine code, and then tried: on threads that have just so many bytes left.
+"""
+
+import re
+import signal
+import subprocess
+
+from c_interface import STRICT
+from engine import six
+from frames import Unknown, needed, symbols
+from reference import marking
+from reference.galley import read
+
+SPARE = 4096  # bytes that the header may have more than the machine code takes, and that more than is seen
+BINDING = 4096  # bytes for the dynamic linker where it binds memset at its first call, as the header has it
+STEP = 32  # bytes to which the stack that is left can be set
+
+
+def built(root, library, folder, binding):
+    """The C program, its calls of other libraries bound before it starts (now) or at their first call (lazy)."""
+    program = folder / f'c_stack_{binding}'
+    subprocess.run(['cc', '-std=c99', *STRICT, '-I', root / 'include', root / 'tests/host/c_stack.c', library, '-pthread',
+                    f'-Wl,-z,{binding}', '-o', program], check=True)
+    return program
+
+
+def called(program, stack, files):
+    """Exit status, bytes left at the call, bytes taken, and the six words of the answer."""
+    ran = subprocess.run([program, str(stack), *files], capture_output=True, text=True)
+    left, taken, *answer = map(int, ran.stdout.split()) if ran.returncode == 0 else (0, 0)
+    return ran.returncode, left, taken, tuple(answer)
+
+
+def calls(command, root, folder):
+    """What is called, with the answer that is due: (whether it marks, name, files, six words)."""
+    made, none = root / 'samples/real/mpman-p003.galley', root / 'samples/real/mpman-p081.galley'
+    cut, lists = folder / 'cut.galley', folder / 'made.list'
+    cut.write_bytes(made.read_bytes()[:-1])
+    refused = (1, made.stat().st_size - 2, 0, 0, 0, 0)
+    pages = [line.split()[1:] for line in command.text('make', made)[1].splitlines()[1:]]
+    lists.write_text(''.join(f'{i} {j}\n' for i, j in pages))
+    words = tuple(int(number) for page in pages for number in page)
+    _, galley = read(made.read_bytes())
+    best = six(marking.mark(galley, words))
+    latex = made.with_suffix('.latex')
+    loose = six(marking.mark(galley, tuple(map(int, latex.read_text().split()))))
+    return [(False, 'a chapter made', [made], best), (False, 'no pagination', [none], (11, 0, 0, 0, 0, 0)),
+            (False, 'a galley cut short', [cut], refused), (True, 'the best list', [made, lists], best),
+            (True, "LaTeX's list", [made, latex], loose), (True, 'a list for a galley cut short', [cut, lists], refused)]
+
+
+def figures(tally, stated, takes, seen):
+    """The header's figures, what the machine code takes, and what calls were seen to take, for making and for marking."""
+    for work, header, code, calls_took in zip(('making', 'marking'), stated, takes, seen):
+        tally.same(f'stack of {work}: the header has {header} bytes, the archive takes {code}', code <= header <= code + SPARE,
+                   True)
+        tally.same(f'stack of {work}: {calls_took} bytes were seen, the archive takes {code}',
+                   calls_took <= code <= calls_took + SPARE, True)
+
+
+def threads(tally, lazy, now, what, stated, takes):
+    """A call has the bytes that are stated and no more; with less than it takes, it runs into forbidden memory."""
+    marks, name, files, due = what
+    status, left, taken, answer = called(now, stated, files)
+    tally.same(f'{name}: on a stack of {stated} bytes', (status, answer), (0, due))
+    tally.same(f'{name}: {left} bytes were left', stated <= left < stated + STEP, True)
+    tally.same(f'{name}: took {taken} bytes of {takes}', 0 < taken <= takes, True)
+    tally.same(f'{name}: with too little', called(now, taken - STEP, files)[0], -signal.SIGSEGV)
+    more = 0 if marks else BINDING
+    status, _, _, answer = called(lazy, stated + more, files)
+    tally.same(f'{name}: on a stack of {stated} and {more} bytes, bound at the first call', (status, answer), (0, due))
+    return taken
+
+
+def linked(tally, root, library):
+    """The archive asks for the functions that the header names, and has no memory of its own that it could write."""
+    header = (root / 'include/barleychime.h').read_text().replace('\n * ', ' ')
+    named = re.search(r'call nothing but (.+?) of the C library', header)
+    kinds = symbols(library)
+    tally.same('functions of the C library', kinds.pop('U', []), re.split(', | and ', named[1]) if named else None)
+    tally.same('nothing but code and constants', [kind for kind in kinds if kind not in 'TtRr'], [])
+
+
+def run(tally, command, root, library, folder):
+    linked(tally, root, library)
+    try:
+        takes = [needed(library, name) for name in ('barleychime_make', 'barleychime_mark')]
+    except Unknown as error:
+        tally.same('the machine code can be followed', str(error), '')
+        return
+    lazy, now = (built(root, library, folder, binding) for binding in ('lazy', 'now'))
+    stated = tuple(map(int, subprocess.run([now], check=True, capture_output=True, text=True).stdout.split()))
+    seen = [0, 0]
+    for what in calls(command, root, folder):
+        marks = what[0]
+        seen[marks] = max(seen[marks], threads(tally, lazy, now, what, stated[marks], takes[marks]))
+    figures(tally, stated, takes, seen)
+    tally.group('stack', f'; making takes {takes[0]:,} bytes, marking {takes[1]:,}')

@@ -1,0 +1,109 @@
+"""Nothing stands in the sources for nobody.
+
+A name that a `use` brings in and its file does not use fails, and so does a definition or law that nothing reaches. Reached is what
+a function, a proof of one, a promise, the table of cases, or docs/PROMISES.md cites, and whatever that cites in turn. Two faults are
+planted first, so that the test is known to find them.
+"""
+import pathlib
+import re
+import sys
+
+import names
+
+ROOT = pathlib.Path(__file__).resolve().parents[2]
+CRATES = ROOT / 'crates'
+FINAL = {'promises', 'cases'}
+
+
+def unused(sources):
+    """The names that a `use` brings in for nothing."""
+    for source in sources:
+        for use in source.uses:
+            idle = [name for name, known in use.names if not any(source.cites(known, line) for line in source.lines)]
+            if not use.names and use.alias and not re.search(rf'(?<![\w·]){re.escape(use.alias)}[.\s)]', source.body):
+                idle.append(use.alias)
+            if idle:
+                yield f'{source.path.relative_to(ROOT)}:{use.line}: {use.path} brings in {", ".join(idle)}, which the file does not use'
+
+
+def seen_from(source, modules):
+    """What each name means in a file: the declaration that it cites, with its file."""
+    seen = {}
+    for use in source.uses:
+        match = names.CRATE_PATH.match(use.path)
+        there = modules.get(match.groups()) if match else None
+        if there:
+            known = {inner: d for d in there.declarations for inner in (d.name, *d.inner)}
+            if use.names:
+                seen.update({alias: (there, known[name]) for name, alias in use.names if name in known})
+            else:
+                seen.update({f'{use.alias or use.path.split(".")[-1]}.{name}': (there, d) for name, d in known.items()})
+    seen.update({inner: (source, d) for d in source.declarations for inner in (d.name, *d.inner)})
+    return seen
+
+
+def citations(sources):
+    """For each declaration, and for what needs nobody to cite it (None), the declarations that it cites."""
+    modules = {(source.crate, source.module): source for source in sources if not source.is_code}
+    cited = {None: set()}
+    for source in sources:
+        seen = seen_from(source, modules)
+        operators = [name for name in seen if name.strip('_') != name]
+        final = source.is_code or source.is_proof or source.crate in FINAL
+        for at, line in enumerate(source.lines):
+            found = {name for name in (*words_of(source, line), *(o for o in operators if source.cites(o, line))) if name in seen}
+            owner = source.owner(at)
+            here = None if final or owner is None else owner
+            cited.setdefault(here, set()).update(d for _, d in map(seen.get, found) if d is not owner)
+    return cited
+
+
+def words_of(source, line):
+    for match in names.WORD.finditer(line):
+        yield match.group(0)
+    yield from source.words(line)
+
+
+def uncited(sources):
+    """The declarations that nothing reaches."""
+    promised = set(re.findall(r'`([^`\s]+)`', (ROOT / 'docs/PROMISES.md').read_text()))
+    cited = citations(sources)
+    todo = list(cited[None]) + [d for s in sources for d in s.declarations if d.name in promised]
+    reached = set()
+    while todo:
+        declaration = todo.pop()
+        if declaration not in reached:
+            reached.add(declaration)
+            todo += cited.get(declaration, ())
+    for source in sources:
+        if not (source.is_proof or source.crate in FINAL):
+            for declaration in source.declarations:
+                if declaration not in reached:
+                    yield f'{source.path.relative_to(ROOT)}:{declaration.first + 1}: nothing cites {declaration.name}'
+
+
+def faults(sources):
+    return [*unused(sources), *uncited(sources)]
+
+
+def planted():
+    """What is found in a file with a law that nothing cites and a name that it brings in for nothing."""
+    path = CRATES / 'model/specs/Leaf.antt'
+    text = path.read_text() + '\n-- A law of nothing.\npub planted-law : ℕ → ℕ\nplanted-law q = leaf single q\n'
+    text = text.replace('use lib.Dec.{eqb}', 'use lib.Dec.{eqb, planted-name}')
+    return [fault for fault in faults(names.read(CRATES, {path: text})) if 'planted' in fault]
+
+
+def main():
+    found = faults(names.read(CRATES))
+    for fault in found:
+        print(fault)
+    caught = planted()
+    print(f'two faults planted, {len(caught)} found')
+    failed = len(found) + (len(caught) != 2)
+    print(f'{2 - (len(found) > 0) - (len(caught) != 2)} passed, {failed} failed')
+    return 1 if failed else 0
+
+
+if __name__ == '__main__':
+    sys.exit(main())
