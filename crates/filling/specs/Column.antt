@@ -8,6 +8,7 @@ use Rattle.model.specs.Leaf.{sidesOf}
 use Rattle.model.specs.Galley as model
 use Rattle.galley.specs.declared.Galley.{Galley}
 use Rattle.galley.specs.Model.{textOf, modelOf}
+use Rattle.blocks.specs.Heights.{noHeights}
 use Rattle.places.specs.Table.{tableOf}
 use Rattle.window.specs.declared.slide.Load.{Load}
 use Rattle.window.specs.declared.slide.Window.{Window}

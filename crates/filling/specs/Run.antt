@@ -5,7 +5,7 @@ use mathlib.Core.List.{List}
 use lib.ListN.{length}
 use Rattle.galley.specs.declared.Galley.{Galley}
 use Rattle.galley.specs.Model.{modelOf}
-use Rattle.rules.specs.Parts.{CitedBefore}
+use Rattle.rules.specs.Parts.{Citations}
 use Rattle.places.specs.Table.{tableOf}
 use Rattle.filling.specs.Fill.{fillColumn, fillColumns, filled}
 use Rattle.filling.specs.Filled.{Filled}
@@ -14,7 +14,7 @@ use Rattle.filling.specs.Filled.{Filled}
 pub record ColumnRun (bytes : List ℕ) (g : Galley) (w₀ w : List ℕ) (j cited i : ℕ) : Type 0 where
   pub within : i ≤ suc (g .text .count)
   pub sized : length w ≡ length w₀
-  pub citing : CitedBefore bytes g i cited
+  pub citing : Citations bytes (g .figures) i cited
   pub entries : Filled (modelOf bytes g) (tableOf (suc (g .text .count)) w) i j
   pub run : fillColumn (modelOf bytes g) j (suc (g .text .count) - i) i w ≡ fillColumn (modelOf bytes g) j (suc (g .text .count)) 0 w₀
 

@@ -7,7 +7,7 @@ ghost use Rattle.filling.specs.Asked.{FillAsked};
 ghost use Rattle.filling.specs.Column.{LastAsked, ColumnLent, TableLent};
 use crate::side::End;
 use galley::Galley;
-use starts::heights::Heights;
+use blocks::heights::Heights;
 use starts::sweep::Windows;
 use window::queue::Queue;
 use window::slide::Window;
@@ -35,7 +35,7 @@ fn last_sweep(s: &[u8], g: Galley, work: &mut [u32], sums: &[u32], words: &mut [
     ];
     let mut i = 0;
     while i <= g.text.count {
-        cited = rules::cites::cited_through(s, g, i, cited);
+        cited = rules::cites::cited_through(s, g.figures, i, cited);
         let from = span;
         span = window::slide::slide(sums, load, from, i);
         let end = End {
@@ -87,6 +87,6 @@ pub fn fill(s: &[u8], g: Galley, work: &mut [u32])
     // For 4,000 lines: four sums to a line, and for each side a queue of two words to a line.
     let mut sums = [0u32; 16004];
     let mut words = [0u32; 16000];
-    window::sums::gather(s, g, &mut sums);
+    window::sums::gather(s, g.text, &mut sums);
     fill_columns(s, g, work, &sums, &mut words);
 }

@@ -25,7 +25,7 @@ pub fn may_stop(s: &[u8], g: Galley, i: usize, j: usize, c: usize, cited: usize)
     requires { ⌜ Stopping (now s) g i j c cited ⌝ }
     ensures { λ r. ⌜ r ≡ mayStop (modelOf (now (s .entry)) g) i j c ⌝ }
 {
-    rules::rules::may_end(s, g, i)
+    rules::rules::may_end(s, g.text, i)
         & (!(ends_leaf(g, c) | starts::search::is_full(g, i, j)) | (j <= cited))
 }
 

@@ -27,9 +27,9 @@ use Rattle.window.specs.laws.Front.{front-cheapest}
 use Rattle.starts.specs.declared.sweep.Windows.{Windows}
 use Rattle.starts.specs.Search.{entryOf}
 use Rattle.starts.specs.Choice.{Between}
-use Rattle.blocks.specs.Heights.{Stacked}
-use Rattle.starts.specs.Sweep.{sideOf, Known, Scratched, queueAt, Queues, Lent, Addable, FewerAsked, FewerDone}
-use Rattle.starts.specs.laws.Heights.{stacked-nothing}
+use Rattle.blocks.specs.Heights.{noHeights, Addable, Stacked}
+use Rattle.blocks.specs.laws.Heights.{stacked-nothing}
+use Rattle.starts.specs.Sweep.{sideOf, Known, Scratched, queueAt, Queues, Lent, FewerAsked, FewerDone}
 use Rattle.starts.specs.laws.Sweep.{window-best}
 use Rattle.starts.specs.laws.Queues.{side-either, queues-none, base-low, queues-round, queues-same, queues-next}
 use Rattle.starts.specs.laws.Cells.{scratched-length, cell-other, knows-other}
@@ -229,10 +229,17 @@ module _ {bytes : List ℕ} {g : Galley} {w₀ words₀ : List ℕ} {queues₀ :
 -- One line after another.
 module _ {bytes : List ℕ} {g : Galley} {w₀ sums words₀ : List ℕ} {j : ℕ} (asked : LastAsked bytes g w₀ sums words₀ j) where
   -- Nothing beside the lines is small.
-  pub plain-add : Addable g noHeights
+  pub plain-add : Addable (g .spec) noHeights noHeights
   plain-add =
       let spec = asked .lent .column .sound .specRanged in
-      record { smin = omega (arith, spec .smins, spec .smaxs); smax = spec .smaxs; tight = omega arith; loose = omega arith }
+      record {
+        smin = omega (arith, spec .smins, spec .smaxs);
+        smax = spec .smaxs;
+        lineTight = omega arith;
+        lineLoose = omega arith;
+        figureTight = omega arith;
+        figureLoose = omega arith;
+      }
 
   lent-first : Lent bytes g w₀ words₀ j
   lent-first =

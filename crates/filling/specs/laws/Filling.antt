@@ -103,7 +103,13 @@ module _ (bytes : List ℕ) (g : Galley) (w₀ : List ℕ) where
         record {
           within = omega arith;
           sized = refl;
-          citing = record { sound = asked .sound; few = omega arith; upto = λ k p q. absurd (omega arith) };
+          citing =
+              record {
+                sound = asked .sound .figures;
+                grow = asked .sound .citations .grow;
+                few = omega arith;
+                upto = λ k p q. absurd (omega arith);
+              };
           entries = asked .filled;
           run = let e : suc (g .text .count) - 0 ≡ suc (g .text .count) = omega arith in rw e;
         }
@@ -141,7 +147,8 @@ module _ (bytes : List ℕ) (g : Galley) (w₀ : List ℕ) where
           sized = omega arith;
           citing =
               record {
-                sound = asked .sound;
+                sound = asked .sound .figures;
+                grow = asked .sound .citations .grow;
                 few = citing .few;
                 upto = λ k p q. let by = citing .upto k p q in omega arith;
               };

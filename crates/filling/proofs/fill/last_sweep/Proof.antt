@@ -39,7 +39,7 @@ fill-place-requires c κs =
     (citing .result) (citing .ensures) (slid .result) (rw (← c .before .before .before .before .before .before .before .load-of .ensures) (slid .ensures))
 
 add-i : tie.Need-add-i Inv-loop μ-loop
-add-i c = search needs
+add-i c = omega (arith, c .before .before .before .before .before .before .before .before .before .if1 .taken, c .before .before .before .before .before .before .before .before .before .before .before .before .before .before .before .before .before .pre .lent .column .sound .fewLines)
 
 loop-less : tie.Need-loop-less Inv-loop μ-loop
 loop-less c = search needs

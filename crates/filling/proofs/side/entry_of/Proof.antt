@@ -59,7 +59,15 @@ returns-3 c =
     (may .before .if1 .left) allowed best)
 
 price-requires : tie.Need-price-requires
-price-requires c κs = search needs
+price-requires c κs =
+    let asked = c .before .before .before .before .before .before .before .before .before .before .before .before .pre .asked in
+    let sound = asked .placed .sound in
+    record {
+      alphas = sound .specRanged .alphas;
+      betas = sound .specRanged .betas;
+      either = omega (arith, asked .side);
+      few = omega (arith, asked .citing .few, sound .fewFigures);
+    }
 
 add-t16 : tie.Need-add-t16
 add-t16 c =
