@@ -41,7 +41,7 @@ pub fn may_end(s: &[u8], text: Stream, i: usize) -> bool
 }
 
 // 17: where a leaf or the list ends, the last figure placed is cited by a line already placed.
-fn is_cited(s: &[u8], g: Galley, page: Page, last: bool, i: usize, j: usize) -> bool
+pub fn is_cited(s: &[u8], g: Galley, page: Page, last: bool, i: usize, j: usize) -> bool
     requires { ⌜ (Sound (now s) g) × (j ≤ g .figures .count) ⌝ }
     ensures { λ r. ⌜ r ≡ cited (modelOf (now (s .entry)) g) (page .0) last (i ∷ j ∷ []) ⌝ }
 {

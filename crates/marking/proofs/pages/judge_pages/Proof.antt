@@ -5,40 +5,41 @@ use borrow.Author.Needs.{needs}
 use denote.Ref.{now}
 use mathlib.Core.Path.{_∙_}
 use native.Mathlib.Omega.{arith}
-use Rattle.rules.specs.laws.Citing.{waits-few}
-use Rattle.rules.specs.laws.Sane.{sound-sane}
-use Rattle.marking.specs.laws.Page.{Begun, begun, begun-refused, Underway, underway-start, underway-line-room, underway-line, underway-figure-room, underway-figure, underway-over, underway-ended, underway-next, underway-cites}
+use Rattle.galley.specs.Model.{floatsOf}
+use Rattle.rules.specs.laws.Waiting.{waits-few}
+use Rattle.rules.specs.laws.Walked.{waiting-at-few}
+use Rattle.marking.specs.laws.Page.{Begun, begun, begun-refused, Underway, underway-start, underway-line-room, underway-line, underway-figure-room, underway-figure, underway-over, underway-ended, underway-next, underway-walked}
 use Rattle.marking.specs.laws.Run.{Run, run-start, run-finish}
 use Rattle.marking.proofs.pages.judge_pages.Statement.{statement}
 use Rattle.marking.proofs.pages.judge_pages.Tie as tie
 
 abbrev Inv-loop : tie.InvT-loop
-Inv-loop s g list pages done a b cited x number i j start heights₀ k₀ f₀ heights k f = Underway s g list done a b cited x i j start k f heights
+Inv-loop s g list pages done a b waiting x number i j start heights₀ k₀ f₀ heights k f = Underway s g list done a b waiting x i j start k f heights
 
 abbrev μ-loop : tie.MeasureT-loop
-μ-loop s g list pages done a b cited x number i j start heights₀ k₀ f₀ heights k f = (i - k) + (j - f)
+μ-loop s g list pages done a b waiting x number i j start heights₀ k₀ f₀ heights k f = (i - k) + (j - f)
 
 abbrev Inv-pages : tie.InvT-pages
-Inv-pages s g list pages done₀ a₀ b₀ cited₀ x₀ done a b cited x = Run s g list done a b cited x
+Inv-pages s g list pages done₀ a₀ b₀ waiting₀ x₀ done a b waiting x = Run s g list done a b waiting x
 
 abbrev μ-pages : tie.MeasureT-pages
-μ-pages s g list pages done₀ a₀ b₀ cited₀ x₀ done a b cited x = pages - done
+μ-pages s g list pages done₀ a₀ b₀ waiting₀ x₀ done a b waiting x = pages - done
 
 -- Once 13 and 14 are tested, this is what is known of the page.
 page : (c : tie.After-start-fault Inv-loop μ-loop Inv-pages μ-pages)
     → Begun (now (c .before .before .before .before .before .before .before .before .before .args .s)) (c .before .before .before .before .before .before .before .before .before .args .g) (now (c .before .before .before .before .before .before .before .before .before .args .list)) (c .before .before .before .before .before .before .pages .done) (c .before .before .before .before .before .before .pages .a) (c .before .before .before .before .before .before .pages .b)
-    (c .before .before .before .before .before .before .pages .cited) (c .before .before .before .before .before .before .pages .x) (c .before .before .before .size .result) (c .before .size2 .result) (c .start-fault .result)
+    (c .before .before .before .before .before .before .pages .waiting) (c .before .before .before .before .before .before .pages .x) (c .before .before .before .size .result) (c .before .size2 .result) (c .start-fault .result)
 page c =
     let st = c .before .before .before .before .before .before .before .before .before in
     let pg = c .before .before .before .before .before .before .pages in
-    begun (now (st .args .s)) (st .args .g) (now (st .args .list)) (pg .done) (pg .a) (pg .b) (pg .cited) (pg .x)
+    begun (now (st .args .s)) (st .args .g) (now (st .args .list)) (pg .done) (pg .a) (pg .b) (pg .waiting) (pg .x)
     (c .before .before .before .size .result) (c .before .size2 .result) (c .start-fault .result) (st .pre) (pg .inv) (c .before .before .before .before .before .if1 .left) (c .before .before .before .size .ensures)
     (c .before .size2 .ensures) (c .start-fault .ensures)
 
 pages-holds : tie.Need-pages-holds Inv-loop μ-loop Inv-pages μ-pages
 pages-holds c =
     let st = c .before .before in
-    run-start (now (st .args .s)) (st .args .g) (sound-sane (now (st .args .s)) (st .args .g) (st .pre .sound)) (now (st .args .list))
+    run-start (now (st .args .s)) (st .args .g) (st .pre .sound) (now (st .args .list))
 
 cast-finish : tie.Need-cast-finish Inv-loop μ-loop Inv-pages μ-pages
 cast-finish c = search needs
@@ -119,7 +120,7 @@ end-fault-requires : tie.Need-end-fault-requires Inv-loop μ-loop Inv-pages μ-p
 end-fault-requires c κs = search needs
 
 cited-through-requires : tie.Need-cited-through-requires Inv-loop μ-loop Inv-pages μ-pages
-cited-through-requires c κs = underway-cites (c .before .before .before .before .before .before .before .loop .inv)
+cited-through-requires c κs = underway-walked (c .before .before .before .before .before .before .before .loop .inv)
 
 waiting-at-requires : tie.Need-waiting-at-requires Inv-loop μ-loop Inv-pages μ-pages
 waiting-at-requires c κs = search needs
@@ -149,7 +150,7 @@ returns c =
     let st = c .before .before .before .before .before in
     let pg = c .before .before .pages in
     c .finish .ensures
-    ∙ run-finish (now (st .args .s)) (st .args .g) (sound-sane (now (st .args .s)) (st .args .g) (st .pre .sound)) (now (st .args .list))
+    ∙ run-finish (now (st .args .s)) (st .args .g) (st .pre .sound) (now (st .args .list))
     (st .pre .whole) (pg .inv) (c .before .if1 .taken)
 
 returns-2 : tie.Need-returns-2 Inv-loop μ-loop Inv-pages μ-pages
