@@ -1,6 +1,6 @@
 -- `judge_pages` meets its contract. The outer invariant is the run over the pages so far (laws/Run), the inner one the page under
 -- way with its heights so far (laws/Page); each way of leaving a page is one law of laws/Page.
-use Prim.Native.Nat.{_+_, _-_}
+use Prim.Native.Nat.{_+_, _-_, _≤_}
 use borrow.Author.Needs.{needs}
 use denote.Ref.{now}
 use mathlib.Core.Path.{_∙_}
@@ -119,31 +119,45 @@ add-end-fault c = omega (arith, c .before .before .before .before .before .befor
 end-fault-requires : tie.Need-end-fault-requires Inv-loop μ-loop Inv-pages μ-pages
 end-fault-requires c κs = search needs
 
-cited-through-requires : tie.Need-cited-through-requires Inv-loop μ-loop Inv-pages μ-pages
-cited-through-requires c κs = underway-walked (c .before .before .before .before .before .before .before .loop .inv)
+sub-still-waiting : tie.Need-sub-still-waiting Inv-loop μ-loop Inv-pages μ-pages
+sub-still-waiting c = c .before .before .before .before .before .before .before .loop .inv .onward .figures
+
+still-waiting-requires : tie.Need-still-waiting-requires Inv-loop μ-loop Inv-pages μ-pages
+still-waiting-requires c κs = search needs
+
+waiting-floats-requires : tie.Need-waiting-floats-requires Inv-loop μ-loop Inv-pages μ-pages
+waiting-floats-requires c κs = underway-walked (c .before .before .before .before .before .before .before .before .loop .inv) (c .still-waiting .result) (c .still-waiting .ensures)
+
+-- No more figures wait than there are.
+few : (c : tie.After-waiting-floats Inv-loop μ-loop Inv-pages μ-pages) → c .waiting-floats .result ≤ 200
+few c =
+    let a = c .before .before .before .before .before .before .before .before .before .before .before .before .before .before .before .before .before .before .before .before .before .args in
+    let waits = waits-few (floatsOf (now (a .s)) (a .g .figures)) (c .before .before .before .before .before .before .before .before .before .before .before .before .before .before .before .size .result) (c .before .before .before .before .before .before .before .before .before .before .before .before .before .size2 .result) in
+    omega (arith, waits, c .waiting-floats .ensures, c .before .before .before .before .before .before .before .before .before .before .before .before .before .before .before .before .before .before .before .before .before .pre .sound .fewFigures)
 
 waiting-at-requires : tie.Need-waiting-at-requires Inv-loop μ-loop Inv-pages μ-pages
-waiting-at-requires c κs = search needs
+waiting-at-requires c κs = few c
 
 add-x : tie.Need-add-x Inv-loop μ-loop Inv-pages μ-pages
 add-x c =
-    let st = c .before .before .before .before .before .before .before .before .before .before .before .before .before .before .before .before .before .before .before .before .before in
-    let pg = c .before .before .before .before .before .before .before .before .before .before .before .before .before .before .before .before .before .before .pages in
-    let waits = waits-few (st .args .g) (pg .done + 1) (c .before .cited-through .result) (c .before .before .before .before .before .before .before .before .before .before .before .before .before .size2 .result) in
-    omega (arith, waits, c .waiting-at .ensures, c .before .cited-through .ensures .few, pg .inv .most, pg .inv .within, st .pre)
+    let st = c .before .before .before .before .before .before .before .before .before .before .before .before .before .before .before .before .before .before .before .before .before .before in
+    let pg = c .before .before .before .before .before .before .before .before .before .before .before .before .before .before .before .before .before .before .before .pages in
+    let counted = waiting-at-few (st .args .g) (pg .done + 1) (c .before .waiting-floats .result) in
+    omega (arith, counted, c .waiting-at .ensures, few (c .before), pg .inv .most, pg .inv .within, st .pre .few)
 
 add-done : tie.Need-add-done Inv-loop μ-loop Inv-pages μ-pages
 add-done c = search needs
 
 pages-less : tie.Need-pages-less Inv-loop μ-loop Inv-pages μ-pages
-pages-less c = search needs
+pages-less c = let more = c .before .before .before .before .before .before .before .before .before .before .loop .inv .begun .more in omega arith
 
 pages-again : tie.Need-pages-again Inv-loop μ-loop Inv-pages μ-pages
 pages-again c =
-    let end = c .before .before .before .end-fault in
+    let end = c .before .before .before .before .end-fault in
+    let found = c .before .waiting-floats in
     rw (c .waiting-at .ensures)
-    (underway-next (c .before .before .before .before .before .before .before .before .before .loop .inv) (c .before .before .before .before .before .before .if3 .left) (c .before .before .before .before .before .if4 .left) (c .before .before .before .before .if5 .left) (end .result) (end .ensures)
-    (c .before .before .if6 .left) (c .before .cited-through .result) (c .before .cited-through .ensures))
+    (underway-next (c .before .before .before .before .before .before .before .before .before .before .loop .inv) (c .before .before .before .before .before .before .before .if3 .left) (c .before .before .before .before .before .before .if4 .left) (c .before .before .before .before .before .if5 .left) (end .result) (end .ensures)
+    (c .before .before .before .if6 .left) (found .result) (found .ensures))
 
 returns : tie.Need-returns Inv-loop μ-loop Inv-pages μ-pages
 returns c =
@@ -199,7 +213,9 @@ judge-pages-spec =
     loop-again-2
     add-end-fault
     end-fault-requires
-    cited-through-requires
+    sub-still-waiting
+    still-waiting-requires
+    waiting-floats-requires
     waiting-at-requires
     add-x
     add-done
