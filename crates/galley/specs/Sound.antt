@@ -31,6 +31,10 @@ pub record SoundCitations (bytes : List ℕ) (floats : Stream) (lines : ℕ) : T
   pub line : (k : ℕ) → 1 ≤ k → k ≤ floats .count → fieldOf bytes floats citeAt k ≤ lines
   pub grow : Growing bytes floats
 
+-- The number of the line that figure k cites.
+abbrev pub citation : List ℕ → Galley → ℕ → ℕ
+citation bytes g k = fieldOf bytes (g .figures) citeAt k
+
 -- From 1 to 4,000 lines and up to 200 figures, each read where its number says, every field in range, citations that name
 -- lines and never decrease, and nothing between or after the records.
 pub record Sound (bytes : List ℕ) (g : Galley) : Type 0 where
