@@ -1,4 +1,4 @@
--- `may_stop` meets its contract: the last figure placed is cited exactly where no more figures are placed than cited.
+-- `may_stop` meets its contract: rule 14 asks about line i alone, and rule 17 about figure j.
 use Rattle.filling.specs.laws.Price.{may-stop-two}
 use borrow.Author.Needs.{needs}
 use Rattle.filling.proofs.price.may_stop.Statement.{statement}
@@ -7,19 +7,20 @@ use Rattle.filling.proofs.price.may_stop.Tie as tie
 may-end-requires : tie.Need-may-end-requires
 may-end-requires c κs = search needs
 
-ends-leaf-requires : tie.Need-ends-leaf-requires
-ends-leaf-requires c κs = search needs
+cast-t8 : tie.Need-cast-t8
+cast-t8 c = search needs
 
 is-full-requires : tie.Need-is-full-requires
 is-full-requires c κs = search needs
 
+is-cited-requires : tie.Need-is-cited-requires
+is-cited-requires c κs = search needs
+
 returns : tie.Need-returns
 returns c =
-    let start = c .before .before .before .before in
-    let a = start .args in
-    let law = may-stop-two (a .s .now) (a .g) (a .i) (a .j) (a .cited) (start .pre .citing) (a .c) (start .pre .placed .figure)
-    in
-    simp (law, c .is-full .ensures, c .before .ends-leaf .ensures, c .before .before .may-end .ensures)
+    let a = c .before .before .before .before .args in
+    let law = may-stop-two (a .s .now) (a .g) (a .i) (a .j) (a .c) in
+    simp (law, c .is-cited .ensures, c .before .is-full .ensures, c .before .before .may-end .ensures)
 
 pub may-stop-spec : {M : Type 1} → statement M
-may-stop-spec = tie.close (tie.spec may-end-requires ends-leaf-requires is-full-requires returns)
+may-stop-spec = tie.close (tie.spec may-end-requires cast-t8 is-full-requires is-cited-requires returns)
