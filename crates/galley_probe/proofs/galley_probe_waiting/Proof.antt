@@ -2,7 +2,7 @@
 -- more figures wait than there are.
 use borrow.Author.Needs.{needs}
 use denote.Ref.{now}
-use mathlib.Core.Path.{_≡_, sym, _∙_}
+use mathlib.Core.Path.{sym, _∙_}
 use native.Mathlib.Omega.{arith}
 use Rattle.galley.specs.Model.{floatsOf}
 use Rattle.galley.specs.laws.Sound.{sound}
@@ -21,22 +21,40 @@ enum-told : tie.Need-enum-told
 enum-told c = search needs
 
 returns : tie.Need-returns
-returns c = ?
+unfolding waitingOf
+returns c = simp (sym (c .before .before .read-galley .ensures) ∙ c .enum-told .given .1)
 
 returns-2 : tie.Need-returns-2
-returns-2 c = ?
+unfolding waitingOf
+returns-2 c =
+    let a = c .before .before .before .before .before .before .before .args in
+    let g = c .before .before .before .reading .given .0 .0 in
+    let none = waits-end (floatsOf (now (a .bytes)) (g .figures)) (a .i) (a .j) (omega (arith, c .if1 .taken)) in
+    simp (sym (c .before .before .before .before .before .read-galley .ensures) ∙ c .before .before .before .reading .given .1, none)
 
 known-from-requires : tie.Need-known-from-requires
-known-from-requires c κs = ?
+known-from-requires c κs =
+    (sound _ _ (sym (c .before .before .before .before .before .read-galley .ensures) ∙ c .before .before .before .reading .given .1) .figures, c .if1 .left)
 
 waiting-floats-requires : tie.Need-waiting-floats-requires
 waiting-floats-requires c κs = c .known-from .ensures
 
 cast-result : tie.Need-cast-result
-cast-result c = ?
+cast-result c =
+    let a = c .before .before .before .before .before .before .before .before .before .args in
+    let g = c .before .before .before .before .before .reading .given .0 .0 in
+    let few = waits-few (floatsOf (now (a .bytes)) (g .figures)) (a .i) (a .j) in
+    omega (
+      arith,
+      few,
+      c .waiting-floats .ensures,
+      sound _ _ (sym (c .before .before .before .before .before .before .before .read-galley .ensures) ∙ c .before .before .before .before .before .reading .given .1) .fewFigures,
+    )
 
 returns-3 : tie.Need-returns-3
-returns-3 c = ?
+unfolding waitingOf
+returns-3 c =
+    simp (sym (c .before .before .before .before .before .before .before .read-galley .ensures) ∙ c .before .before .before .before .before .reading .given .1) (c .waiting-floats .ensures)
 
 pub galley-probe-waiting-spec : {M : Type 1} → statement M
 galley-probe-waiting-spec =
