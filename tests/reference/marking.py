@@ -83,6 +83,13 @@ def turns(galley, ends):
     return x, y, spec.alpha * x + spec.beta * y
 
 
+def waiting(galley, place):
+    """Of each float stream the numbers of the floats that are not placed at a place though a line that is cites them."""
+    lines, *placed = place
+    return tuple(tuple(k for k, block in enumerate(floats, 1) if k > j and block.cite <= lines)
+                 for floats, j in zip(galley.floats, placed))
+
+
 # By the paper: maps[s][k] is P of block k + 1 of stream s, the text first, and p is the page count.
 
 

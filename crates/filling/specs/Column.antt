@@ -30,7 +30,7 @@ plain g = loadOf g false noHeights
 
 -- The entries before the place are filled, and the starts of its page on a side are known.
 pub record EntryAsked (bytes : List ℕ) (g : Galley) (w words : List ℕ) (queue : Queue) (end : End) : Type 0 where
-  pub asked : SideAsked bytes g w (end .line) (end .column) (end .side) (end .cited)
+  pub asked : SideAsked bytes g w (end .line) (end .column) (end .side) (end .waiting)
   pub start : StartAsked bytes g w words queue (end .line) (end .column) (end .side)
 
 -- The windows of line i, for pages of lines alone.
@@ -41,7 +41,7 @@ pub record Turned (bytes : List ℕ) (g : Galley) (windows : Windows) (i : ℕ) 
 
 -- One side of a place comes next: its words hold the best start with fewer figures, and its queue the starts above.
 pub record SideMoved (bytes : List ℕ) (g : Galley) (w words : List ℕ) (queue : Queue) (windows : Windows) (end : End) : Type 0 where
-  pub asked : SideAsked bytes g w (end .line) (end .column) (end .side) (end .cited)
+  pub asked : SideAsked bytes g w (end .line) (end .column) (end .side) (end .waiting)
   pub occurs : end .side < g .spec .sides
   pub lent : Lent bytes g w words (end .column)
   pub turned : Turned bytes g windows (end .line)
@@ -69,7 +69,7 @@ fillSides g i j (suc c) w = fillSide g i j c (fillSides g i j c w)
 -- The sides of a place come next.
 pub record PlaceMoved (bytes : List ℕ) (g : Galley) (w words : List ℕ) (queues : List Queue) (windows : Windows) (end : End)
     : Type 0 where
-  pub asked : PlaceAsked bytes g w (end .line) (end .column) (end .cited)
+  pub asked : PlaceAsked bytes g w (end .line) (end .column) (end .waiting)
   pub lent : Lent bytes g w words (end .column)
   pub turned : Turned bytes g windows (end .line)
   pub queued : Queues g w words queues (end .column) (windows .from) (windows .to) 0
@@ -105,9 +105,9 @@ pub record LastAsked (bytes : List ℕ) (g : Galley) (w sums words : List ℕ) (
   pub known : Known bytes g w j 0
 
 -- Column j is filled above line i, and the queues are those of the window of the line above.
-pub record LastRun (bytes : List ℕ) (g : Galley) (w₀ w words₀ words : List ℕ) (j cited : ℕ) (window : Window)
+pub record LastRun (bytes : List ℕ) (g : Galley) (w₀ w words₀ words : List ℕ) (j waiting : ℕ) (window : Window)
     (queues : List Queue) (i : ℕ) : Type 0 where
-  pub column : ColumnRun bytes g w₀ w j cited i
+  pub column : ColumnRun bytes g w₀ w j waiting i
   pub wordsSized : length words ≡ length words₀
   pub ends : Ends (textOf bytes (g .text)) (plain g) window i
   pub queued : Queues g w words queues j window window 0

@@ -19,7 +19,7 @@ fn last_sweep(s: &[u8], g: Galley, work: &mut [u32], sums: &[u32], words: &mut [
     ensures { λ _. ⌜ now (work .exit) ≡ fillColumn (modelOf (now (s .entry)) g) j (suc (g .text .count)) 0 (now (work .entry)) ⌝ }
 {
     let load = starts::sweep::load_of(g, false, Heights { tight: 0, loose: 0 });
-    let mut cited = 0;
+    let mut waiting = 0;
     let mut span = Window { low: 0, high: 0 };
     let mut queues = [
         Queue {
@@ -35,14 +35,14 @@ fn last_sweep(s: &[u8], g: Galley, work: &mut [u32], sums: &[u32], words: &mut [
     ];
     let mut i = 0;
     while i <= g.text.count {
-        cited = rules::cites::cited_through(s, g.figures, i, cited);
+        waiting = rules::waiting::waiting_floats(s, g.figures, i, j, waiting);
         let from = span;
         span = window::slide::slide(sums, load, from, i);
         let end = End {
             line: i,
             column: j,
             side: 0,
-            cited,
+            waiting,
         };
         let moved = crate::side::fill_place(
             s,

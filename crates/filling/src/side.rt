@@ -11,12 +11,12 @@ use places::Start;
 use starts::sweep::Windows;
 use window::queue::Queue;
 
-// Where a page ends: the line and the column, its side, and how many figures are cited by that line or earlier.
+// Where a page ends: the line and the column, its side, and how many figures wait there.
 pub struct End {
     pub line: usize,
     pub column: usize,
     pub side: usize,
-    pub cited: usize,
+    pub waiting: usize,
 }
 
 // The entry of a place on a side, from the entries of the places before it.
@@ -27,7 +27,7 @@ fn entry_of(s: &[u8], g: Galley, work: &[u32], words: &[u32], queue: Queue, end:
     if end.line + end.column + end.side == 0 {
         return Entry::Least(0, Start { line: 0, figure: 0 });
     }
-    if !crate::price::may_stop(s, g, end.line, end.column, end.side, end.cited) {
+    if !crate::price::may_stop(s, g, end.line, end.column, end.side) {
         return Entry::Unreached;
     }
     let start = starts::place::start_of(s, g, work, words, queue, end.line, end.column, end.side);
@@ -35,7 +35,7 @@ fn entry_of(s: &[u8], g: Galley, work: &[u32], words: &[u32], queue: Queue, end:
         return Entry::Unreached;
     };
     Entry::Least(
-        x + crate::price::price(g, end.line, end.column, end.side, end.cited),
+        x + crate::price::price(g, end.line, end.column, end.side, end.waiting),
         from,
     )
 }
@@ -90,7 +90,7 @@ pub fn fill_place(
             line: end.line,
             column: end.column,
             side: c,
-            cited: end.cited,
+            waiting: end.waiting,
         };
         let moved = fill_side(s, g, work, words, all[c], windows, here);
         all[c] = moved;

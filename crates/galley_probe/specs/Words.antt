@@ -5,6 +5,8 @@ use lib.Dec.{ltb, eqb}
 use Rattle.model.specs.Gather.{pick}
 use Rattle.galley.specs.Record.{heightAt, leastAt, mostAt, citeAt}
 use Rattle.galley.specs.Block.{fieldOf}
+use Rattle.galley.specs.Model.{floatsOf}
+use Rattle.rules.specs.Waiting.{waits}
 use Rattle.galley.specs.declared.Stream.{Stream}
 use Rattle.galley.specs.declared.Galley as galley
 use Rattle.galley.specs.declared.Reading.{Reading}
@@ -32,3 +34,8 @@ blockWords bytes number k (Galley g) =
     (pick (ltb (stream .count) k) zeros
     (fieldOf bytes stream heightAt k ∷ fieldOf bytes stream leastAt k ∷ fieldOf bytes stream mostAt k ∷ fieldOf bytes stream citeAt k ∷ []))
 blockWords bytes number k (Refused refusal place) = zeros
+
+-- How many figures wait with i lines and j figures placed, or 0 where the galley is refused.
+unfoldable pub waitingOf : List ℕ → ℕ → ℕ → Reading → ℕ
+waitingOf bytes i j (Galley g) = waits (floatsOf bytes (g .figures)) i j
+waitingOf bytes i j (Refused number place) = 0

@@ -1,7 +1,10 @@
-// The reader of galleys for tests in another language: what it reads, as words.
+// The reader of galleys, and the walk over the figures that wait, for tests in another language: what they find, as words.
 ghost use mathlib.Core.Path.{_≡_};
+ghost use Prim.Native.Nat.{_≤_};
 ghost use Rattle.galley.specs.Whole.{galleyOf};
-ghost use Rattle.galley_probe.specs.Words.{wordsOf, streamAt, blockWords};
+ghost use Rattle.galley.specs.Sound.{SoundStream};
+ghost use Rattle.rules.specs.Waiting.{Walked};
+ghost use Rattle.galley_probe.specs.Words.{wordsOf, streamAt, blockWords, waitingOf};
 use galley::Galley;
 use galley::Reading;
 use galley::Stream;
@@ -70,4 +73,32 @@ pub extern "C" fn galley_probe_block(bytes: &[u8], number: usize, k: usize, out:
         blocks::field(bytes, stream, k, galley::MOST),
         blocks::field(bytes, stream, k, galley::CITE),
     ];
+}
+
+// How many floats a walk for an earlier line finds; none where that line is not earlier.
+fn known_from(s: &[u8], floats: Stream, earlier: usize, i: usize, j: usize) -> usize
+    requires { ⌜ (SoundStream (now s) floats) × (j ≤ floats .count) ⌝ }
+    ensures { λ r. ⌜ Walked (now (s .entry)) floats i j r ⌝ }
+{
+    if earlier <= i {
+        return rules::waiting::waiting_floats(s, floats, earlier, j, 0);
+    }
+    0
+}
+
+// How many figures wait with i lines and j figures placed, by a walk that goes on from one for an earlier line; 0 where the
+// galley is refused or has fewer figures.
+#[no_mangle]
+pub extern "C" fn galley_probe_waiting(bytes: &[u8], earlier: usize, i: usize, j: usize) -> u32
+    ensures { λ r. ⌜ r ≡ waitingOf (now (bytes .entry)) i j (galleyOf (now (bytes .entry))) ⌝ }
+{
+    let reading = galley::whole::read_galley(bytes);
+    let Reading::Galley(g) = reading else {
+        return 0;
+    };
+    if g.figures.count < j {
+        return 0;
+    }
+    let known = known_from(bytes, g.figures, earlier, i, j);
+    rules::waiting::waiting_floats(bytes, g.figures, i, j, known) as u32
 }

@@ -18,7 +18,7 @@ fn judge_pages(s: &[u8], g: Galley, list: &[u32]) -> Answer
     let mut done: usize = 0;
     let mut a: usize = 0;
     let mut b: usize = 0;
-    let mut cited: usize = 0;
+    let mut waiting: usize = 0;
     let mut x: u32 = 0;
     let answer = 'pages: loop {
         if done == pages {
@@ -71,8 +71,9 @@ fn judge_pages(s: &[u8], g: Galley, list: &[u32]) -> Answer
                 place: number,
             };
         }
-        cited = rules::cites::cited_through(s, g.figures, i, cited);
-        x += rules::cites::waiting_at(g, Page(number), cited, j);
+        let still = rules::waiting::still_waiting(waiting, j - b);
+        waiting = rules::waiting::waiting_floats(s, g.figures, i, j, still);
+        x += rules::waiting::waiting_at(g, Page(number), waiting);
         done += 1;
         a = i;
         b = j;

@@ -3,6 +3,7 @@
 use Prim.Native.Nat.{ℕ, zero, suc, _+_, _-_}
 use mathlib.Core.Bool.{Bool, true, false, not, _&&_, _||_}
 use mathlib.Core.List.{List, [], _∷_}
+use lib.Dec.{eqb}
 
 -- The first of two values where the test holds, else the second (notation; the paper's cases in section 2).
 abbrev pub pick : {A : Type 0} → Bool → A → A → A
@@ -44,3 +45,8 @@ every n f = f 0 && each n f
 unfoldable pub row : ℕ → ℕ → (ℕ → ℕ) → List ℕ
 row a zero f = []
 row a (suc n) f = f a ∷ row (suc a) n f
+
+-- How often a number stands in a list (notation; for what document 02 asks to be there exactly once).
+unfoldable pub times : ℕ → List ℕ → ℕ
+times k [] = 0
+times k (x ∷ xs) = pick (eqb x k) (suc (times k xs)) (times k xs)

@@ -5,3 +5,4 @@ pub mod FirstDemand
 pub mod SecondDemand
 pub mod ThirdDemand
 pub mod Limit
+pub mod Waiting

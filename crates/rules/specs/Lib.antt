@@ -1,3 +1,4 @@
 -- Rules and counts: their definitions first, then the laws about them.
 pub mod Parts
+pub mod Waiting
 pub mod laws

@@ -1,19 +1,15 @@
 -- The parts of one page's test and of the counts, as the functions of this crate divide them.
-use Prim.Native.Nat.{ℕ, _+_, _*_, _-_, _≤_, _<_}
+use Prim.Native.Nat.{ℕ, _+_, _*_, _-_, _≤_}
 use mathlib.Core.Bool.{Bool, _&&_}
-use mathlib.Core.List.{List}
 use lib.Dec.{eqb}
 use Rattle.model.specs.Gather.{pick}
 use Rattle.model.specs.Galley as model
 use Rattle.model.specs.Rules.{forward, closes}
-use Rattle.model.specs.Leaf.{leaf, ends, sidesOf}
+use Rattle.model.specs.Leaf.{leaf, sidesOf}
 use Rattle.model.specs.declared.answer.Answer.{Answer}
 use Rattle.model.specs.declared.answer.Answer.the-variants.{Counted, Refused}
-use Rattle.galley.specs.declared.Stream.{Stream}
 use Rattle.galley.specs.declared.Galley.{Galley}
-use Rattle.galley.specs.Sound.{SoundStream, Growing}
 use Rattle.galley.specs.Range.{SpecRanged}
-use Rattle.galley.specs.Model.{floatsOf}
 
 -- Rules 13 and 14, which ask for no height: the number of the first that fails, or 0.
 unfoldable pub startFault : model.Galley → model.Place → model.Place → ℕ
@@ -22,16 +18,6 @@ startFault g u v = pick (forward g u v) (pick (closes g v) 0 14) 13
 -- Rules 16 and 17, given what each says of the page: the number of the first that fails, or 0.
 unfoldable pub endFault : Bool → Bool → ℕ
 endFault fills cited = pick fills (pick cited 0 17) 16
-
--- The first c floats of a stream are cited by line a or earlier, and no other.
-pub record Citing (st : model.Stream) (a c : ℕ) : Type 0 where
-  pub few : c ≤ st .size
-  pub upto : (k : ℕ) → 1 ≤ k → k ≤ c → st .cite k ≤ a
-  pub beyond : (k : ℕ) → c < k → k ≤ st .size → a < st .cite k
-
--- What page q adds to X, which ends at figure j with c cited by then.
-unfoldable pub waitingAt : Galley → ℕ → ℕ → ℕ → ℕ
-waitingAt g q c j = pick (ends (sidesOf (g .spec .sides)) q) (c - j) 0
 
 -- The counts of p pages with X known.
 unfoldable pub counts : Galley → ℕ → ℕ → Answer
@@ -42,13 +28,6 @@ counts g p x =
 -- The answer once p pages are judged: 18 where the last does not end at the full place, else the counts.
 unfoldable pub finished : Galley → ℕ → ℕ → ℕ → ℕ → Answer
 finished g p a b x = pick (eqb a (g .text .count) && eqb b (g .figures .count)) (counts g p x) (Refused 18 p)
-
--- The citations of a stream of floats never decrease, and the first `before` of them are by line i or earlier.
-pub record Citations (bytes : List ℕ) (floats : Stream) (i before : ℕ) : Type 0 where
-  pub sound : SoundStream bytes floats
-  pub grow : Growing bytes floats
-  pub few : before ≤ floats .count
-  pub upto : (k : ℕ) → 1 ≤ k → k ≤ before → floatsOf bytes floats .cite k ≤ i
 
 -- Numbers of pages and of X, and weights, that keep T within 32 bits.
 pub record Few (g : Galley) (pages x : ℕ) : Type 0 where

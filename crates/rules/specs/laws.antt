@@ -1,5 +1,6 @@
 -- The laws of rules and counts.
 pub mod Two
-pub mod Citing
+pub mod Waiting
+pub mod Walked
 pub mod Counts
 pub mod Sane

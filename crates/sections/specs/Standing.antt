@@ -1,17 +1,12 @@
 -- How pages stand in a section, and tests of every section of a table (document 02, folding order).
-use Prim.Native.Nat.{ℕ, suc, _+_, _-_, _*_, _/_}
+use Prim.Native.Nat.{ℕ, _+_, _-_, _*_, _/_}
 use mathlib.Core.Bool.{Bool, _&&_}
-use mathlib.Core.List.{List, [], _∷_}
+use mathlib.Core.List.{List}
 use lib.Dec.{eqb}
 use lib.ListN.{length, getD}
-use Rattle.model.specs.Gather.{pick, each, every}
+use Rattle.model.specs.Gather.{each, every, times}
 use Rattle.model.specs.Answers.{same}
 use Rattle.sections.specs.Folding.{section, partOf}
-
--- How often page p stands in a section (document 02: every page exactly once).
-unfoldable pub times : ℕ → List ℕ → ℕ
-times p [] = 0
-times p (x ∷ xs) = pick (eqb x p) (suc (times p xs)) (times p xs)
 
 -- The pages on the left and on the right of a side (document 02: left then right). Sides are counted from 0, sheet by sheet.
 abbrev pub leftOf : List ℕ → ℕ → ℕ

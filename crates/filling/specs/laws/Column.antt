@@ -15,7 +15,7 @@ use Rattle.model.specs.Leaf.{sidesOf}
 use Rattle.theorems.specs.pages.Sides.{side-zero}
 use Rattle.galley.specs.declared.Galley.{Galley}
 use Rattle.galley.specs.Model.{textOf, floatsOf, modelOf}
-use Rattle.rules.specs.Parts.{Citing}
+use Rattle.rules.specs.Waiting.{waits}
 use Rattle.places.specs.Address.{address, wordsNeeded, Earlier}
 use Rattle.places.specs.Table.{tableOf}
 use Rattle.window.specs.declared.slide.Window.{Window}
@@ -163,7 +163,7 @@ module _ {bytes : List ℕ} {g : Galley} {w₀ words₀ : List ℕ} {queues₀ :
           line = end .line;
           column = end .column;
           side = c;
-          cited = end .cited;
+          waiting = end .waiting;
         })
         sides-asked =
             record {
@@ -171,7 +171,7 @@ module _ {bytes : List ℕ} {g : Galley} {w₀ words₀ : List ℕ} {queues₀ :
                   record {
                     placed = asked .asked .placed;
                     room = room;
-                    citing = asked .asked .citing;
+                    found = asked .asked .found;
                     side = side-occurs (g .spec .sides) c two occurs;
                     filled = run .entries;
                   };
@@ -189,7 +189,7 @@ module _ {bytes : List ℕ} {g : Galley} {w₀ words₀ : List ℕ} {queues₀ :
               line = end .line;
               column = end .column;
               side = c;
-              cited = end .cited;
+              waiting = end .waiting;
             }) r
             → SidesRun bytes g w₀ v words₀ words′ (set queues c r) windows end (c + 1)
         unfolding fillSides fillSide tall Room
@@ -262,8 +262,8 @@ module _ {bytes : List ℕ} {g : Galley} {w₀ sums words₀ : List ℕ} {j : �
         waits = λ k c l m n. asked .known k c l m;
       }
 
-  module _ {w words : List ℕ} {cited : ℕ} {window : Window} {queues : List Queue} {i : ℕ}
-      (run : LastRun bytes g w₀ w words₀ words j cited window queues i) (at : i ≤ g .text .count) where
+  module _ {w words : List ℕ} {waiting : ℕ} {window : Window} {queues : List Queue} {i : ℕ}
+      (run : LastRun bytes g w₀ w words₀ words j waiting window queues i) (at : i ≤ g .text .count) where
     lent-now : Lent bytes g w words j
     lent-now = lent-sized w words (run .column .sized) (run .wordsSized) lent-first
 
@@ -273,7 +273,7 @@ module _ {bytes : List ℕ} {g : Galley} {w₀ sums words₀ : List ℕ} {j : �
         can-slide lent-now (asked .lent .summed) false j noHeights (no-figures bytes g j) window i at
         (run .ends)
 
-    module _ (cited′ : ℕ) (citing : Citing (floatsOf bytes (g .figures)) i cited′) (new : Window)
+    module _ (waiting′ : ℕ) (found : waiting′ ≡ waits (floatsOf bytes (g .figures)) i j) (new : Window)
         (slid : (st : Stream) (m : ℕ) → Slid sums st m (plain g) window i new) where
       opened : Open (textOf bytes (g .text)) (plain g) new i
       opened = slid (textOf bytes (g .text)) (g .text .count) .opens (asked .lent .summed .rows) at (run .ends)
@@ -283,11 +283,11 @@ module _ {bytes : List ℕ} {g : Galley} {w₀ sums words₀ : List ℕ} {j : �
         line = i;
         column = j;
         side = 0;
-        cited = cited′;
+        waiting = waiting′;
       })
       last-place =
           record {
-            asked = column-place bytes g w₀ j (asked .lent .column) w cited i cited′ (run .column) at citing;
+            asked = column-place bytes g w₀ j (asked .lent .column) w waiting i waiting′ (run .column) at found;
             lent = lent-now;
             turned =
                 record {
@@ -312,13 +312,13 @@ module _ {bytes : List ℕ} {g : Galley} {w₀ sums words₀ : List ℕ} {j : �
             line = i;
             column = j;
             side = 0;
-            cited = cited′;
+            waiting = waiting′;
           })
-          → LastRun bytes g w₀ v words₀ words′ j cited′ new next (i + 1)
+          → LastRun bytes g w₀ v words₀ words′ j waiting′ new next (i + 1)
       last-next v words′ sized next done =
           let n : 2 * i + 2 ≡ 2 * (i + 1) = omega arith in
           record {
-            column = column-next bytes g w₀ j (asked .lent .column) w cited i cited′ (run .column) at citing v (done .filled);
+            column = column-next bytes g w₀ j (asked .lent .column) w waiting i waiting′ (run .column) at found v (done .filled);
             wordsSized = sized ∙ run .wordsSized;
             ends = rw add-one (ends-next (textOf bytes (g .text)) (plain g) new i opened);
             queued = done .queued;

@@ -15,7 +15,8 @@ use Rattle.theorems.specs.pages.Sides.{side-zero}
 use Rattle.theorems.specs.turns.Bounds.{cost-le}
 use Rattle.galley.specs.declared.Galley.{Galley}
 use Rattle.galley.specs.Model.{floatsOf, modelOf}
-use Rattle.rules.specs.Parts.{Citing}
+use Rattle.rules.specs.Waiting.{waits}
+use Rattle.rules.specs.laws.Walked.{walked-none, walked-here, walked-on}
 use Rattle.places.specs.declared.Start.{Start}
 use Rattle.places.specs.declared.Entry.the-variants.{Unreached, Least}
 use Rattle.places.specs.Table.{tableOf}
@@ -63,11 +64,11 @@ module _ (g : model.Galley) (t : Table) (i j c : ℕ) (some : i + j + c ≡ 0 �
     entry-least x r b = found ∙ ap (priced (pageCost g c (full g (place i j)) (place i j))) b
 
 -- The cost of a start and the price of the page are a word.
-pub cost-low : (bytes : List ℕ) (g : Galley) (w : List ℕ) (i j c cited : ℕ) → SideAsked bytes g w i j c cited
+pub cost-low : (bytes : List ℕ) (g : Galley) (w : List ℕ) (i j c waiting : ℕ) → SideAsked bytes g w i j c waiting
     → (x : ℕ) (r : Start)
     → bestStart (searchOf bytes g w i j (before (sidesOf (g .spec .sides)) c)) ≡ Least x r
     → x + pageCost (modelOf bytes g) c (full (modelOf bytes g) (place i j)) (place i j) ≤ 1000000000
-cost-low bytes g w i j c cited asked x r e =
+cost-low bytes g w i j c waiting asked x r e =
     let line = asked .placed .line in
     let figure = asked .placed .figure in
     let lines = asked .placed .sound .fewLines in
@@ -103,37 +104,31 @@ module _ (bytes : List ℕ) (g : Galley) (w₀ : List ℕ) where
         record {
           within = omega arith;
           sized = refl;
-          citing =
-              record {
-                sound = asked .sound .figures;
-                grow = asked .sound .citations .grow;
-                few = omega arith;
-                upto = λ k p q. absurd (omega arith);
-              };
+          walked = walked-none (asked .sound .figures) 0 j (asked .column);
           entries = asked .filled;
           run = let e : suc (g .text .count) - 0 ≡ suc (g .text .count) = omega arith in rw e;
         }
 
     -- The next place of the column may be filled.
-    pub column-place : ColumnAsked bytes g w₀ j → (w : List ℕ) (cited i cited′ : ℕ) → ColumnRun bytes g w₀ w j cited i
+    pub column-place : ColumnAsked bytes g w₀ j → (w : List ℕ) (waiting i waiting′ : ℕ) → ColumnRun bytes g w₀ w j waiting i
         → i ≤ g .text .count
-        → Citing (floatsOf bytes (g .figures)) i cited′ → PlaceAsked bytes g w i j cited′
-    column-place asked w cited i cited′ r l citing =
+        → waiting′ ≡ waits (floatsOf bytes (g .figures)) i j → PlaceAsked bytes g w i j waiting′
+    column-place asked w waiting i waiting′ r l found =
         let long = r .sized in
         record {
           placed = record { sound = asked .sound; line = l; figure = asked .column };
           room = omega (arith, asked .room);
-          citing = citing;
+          found = found;
           filled = r .entries;
         }
 
     -- One place more is filled.
-    pub column-next : ColumnAsked bytes g w₀ j → (w : List ℕ) (cited i cited′ : ℕ) → ColumnRun bytes g w₀ w j cited i
+    pub column-next : ColumnAsked bytes g w₀ j → (w : List ℕ) (waiting i waiting′ : ℕ) → ColumnRun bytes g w₀ w j waiting i
         → i ≤ g .text .count
-        → Citing (floatsOf bytes (g .figures)) i cited′ → (v : List ℕ) → v ≡ fillPlace (sidesOf (g .spec .sides)) (modelOf bytes g) i j w
-        → ColumnRun bytes g w₀ v j cited′ (i + 1)
+        → waiting′ ≡ waits (floatsOf bytes (g .figures)) i j → (v : List ℕ) → v ≡ fillPlace (sidesOf (g .spec .sides)) (modelOf bytes g) i j w
+        → ColumnRun bytes g w₀ v j waiting′ (i + 1)
     unfolding Room tall fillColumn
-    column-next asked w cited i cited′ r l citing v e =
+    column-next asked w waiting i waiting′ r l found v e =
         let long = r .sized in
         let kept = ap length e ∙ length-place (modelOf bytes g) (sidesOf (g .spec .sides)) i j w in
         let s : i + 1 ≡ suc i = omega arith in
@@ -145,22 +140,18 @@ module _ (bytes : List ℕ) (g : Galley) (w₀ : List ℕ) where
         record {
           within = omega arith;
           sized = omega arith;
-          citing =
-              record {
-                sound = asked .sound .figures;
-                grow = asked .sound .citations .grow;
-                few = citing .few;
-                upto = λ k p q. let by = citing .upto k p q in omega arith;
-              };
+          walked =
+              walked-on (walked-here (asked .sound .figures) i j waiting′ (asked .column) found) (i + 1) j waiting′ (omega arith)
+              (omega arith) (asked .column) (omega arith);
           entries = rw (s, e) next;
           run = rw (s, e) (rw n at (r .run));
         }
 
     -- After the last place the column is filled.
-    pub column-end : (w : List ℕ) (cited i : ℕ) → ColumnRun bytes g w₀ w j cited i → g .text .count < i
+    pub column-end : (w : List ℕ) (waiting i : ℕ) → ColumnRun bytes g w₀ w j waiting i → g .text .count < i
         → w ≡ fillColumn (modelOf bytes g) j (suc (g .text .count)) 0 w₀
     unfolding fillColumn
-    column-end w cited i r l =
+    column-end w waiting i r l =
         let within = r .within in
         let n : suc (g .text .count) - i ≡ 0 = omega arith in
         rw n at (r .run)

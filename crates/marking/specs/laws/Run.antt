@@ -11,7 +11,6 @@ use Rattle.model.specs.declared.answer.Answer.{Answer}
 use Rattle.model.specs.declared.answer.Answer.the-variants.{Refused}
 use Rattle.model.specs.Gather.{pick}
 use Rattle.model.specs.Galley.{Place, Sane, count, zeros, sizes, streams}
-use Rattle.model.specs.Leaf.{ends, sidesOf}
 use Rattle.model.specs.Rules.{broken}
 use Rattle.model.specs.Turns.{xOf, yOf, turns}
 use Rattle.model.specs.Answers.{accepted, refuse, judge, counted, countsOf, pagesOf, marked}
@@ -26,10 +25,13 @@ use Rattle.theorems.specs.turns.Costs.{orderly}
 use Rattle.galley.specs.declared.Galley.{Galley}
 use Rattle.galley.specs.Sound.{Sound}
 use Rattle.galley.specs.Model.{floatsOf, modelOf}
-use Rattle.rules.specs.Parts.{Citing, waitingAt, counts, finished}
+use Rattle.rules.specs.Parts.{counts, finished}
+use Rattle.rules.specs.Waiting.{waits, Walked, waitingAt}
 use Rattle.marking.specs.Parts.{WholePages, rest}
 use Rattle.rules.specs.laws.Two.{full-two, zeros-two, blocks-two}
-use Rattle.rules.specs.laws.Citing.{waiting-two, citing-none}
+use Rattle.rules.specs.laws.Sane.{sound-sane}
+use Rattle.rules.specs.laws.Waiting.{waits-few}
+use Rattle.rules.specs.laws.Walked.{waiting-two, walked-none, walked-here, waiting-at-few}
 use Rattle.marking.specs.laws.Rest.{rest-all, rest-none, rest-next, rest-ended}
 
 -- The answer of judging pages numbered from q that start at place u, for the counts of the whole list of words.
@@ -44,13 +46,13 @@ wholly bytes g ws = judged bytes g ws 1 (zeros (modelOf bytes g)) (pagesOf (mode
 unfoldable pub waited : List ℕ → Galley → ℕ → List Place → ℕ
 waited bytes g = pageSum (atEnd (modelOf bytes g .spec .sides) (waiting (modelOf bytes g)))
 
--- After `done` pages, the last of which ends at (a, b): c figures are cited, and x is X so far.
-pub record Run (bytes : List ℕ) (g : Galley) (ws : List ℕ) (done a b c x : ℕ) : Type 0 where
+-- After `done` pages, the last of which ends at (a, b): w figures wait there, and x is X so far.
+pub record Run (bytes : List ℕ) (g : Galley) (ws : List ℕ) (done a b w x : ℕ) : Type 0 where
   pub within : done ≤ length ws / 2
   pub lines : a ≤ g .text .count
   pub figures : b ≤ g .figures .count
   pub most : x ≤ 200 * done
-  pub citing : Citing (floatsOf bytes (g .figures)) a c
+  pub walked : Walked bytes (g .figures) a b w
   pub judging : judged bytes g ws (done + 1) (a ∷ b ∷ []) (rest ws (length ws / 2) done) ≡ wholly bytes g ws
   pub waiting : x + waited bytes g (done + 1) (rest ws (length ws / 2) done) ≡ waited bytes g 1 (pagesOf (modelOf bytes g) ws)
 
@@ -67,7 +69,10 @@ unfolding refuse
 refuse-some zero q after h = absurd (omega arith)
 refuse-some (suc n) q after h = refl
 
-module _ (bytes : List ℕ) (g : Galley) (sane : Sane (modelOf bytes g)) (ws : List ℕ) where
+module _ (bytes : List ℕ) (g : Galley) (so : Sound bytes g) (ws : List ℕ) where
+  sane : Sane (modelOf bytes g)
+  sane = sound-sane bytes g so
+
   -- Before the first page.
   pub run-start : Run bytes g ws 0 0 0 0 0
   unfolding wholly
@@ -79,12 +84,12 @@ module _ (bytes : List ℕ) (g : Galley) (sane : Sane (modelOf bytes g)) (ws : L
         lines = omega arith;
         figures = omega arith;
         most = omega arith;
-        citing = citing-none bytes g sane;
+        walked = walked-none (so .figures) 0 0 (omega arith);
         judging = rw (all, start);
         waiting = rw all (omega arith);
       }
 
-  module _ (whole : length ws ≡ 2 * (length ws / 2)) {done a b c x : ℕ} (run : Run bytes g ws done a b c x) where
+  module _ (whole : length ws ≡ 2 * (length ws / 2)) {done a b w x : ℕ} (run : Run bytes g ws done a b w x) where
     module _ (more : done < length ws / 2) where
       after : Answer
       after = judged bytes g ws (suc (done + 1)) (pageAt ws done) (rest ws (length ws / 2) (done + 1))
@@ -96,46 +101,44 @@ module _ (bytes : List ℕ) (g : Galley) (sane : Sane (modelOf bytes g)) (ws : L
           let last = rest-ended ws (length ws / 2) (done + 1) (omega arith) in
           rw (here, last) at (run .judging)
 
-      step-waiting : (c′ : ℕ) → Citing (floatsOf bytes (g .figures)) (getD ws (2 * done) 0) c′
+      step-waiting : (w′ : ℕ) → w′ ≡ waits (floatsOf bytes (g .figures)) (getD ws (2 * done) 0) (getD ws (2 * done + 1) 0)
           → waited bytes g (done + 1) (rest ws (length ws / 2) done)
-          ≡ waitingAt g (done + 1) c′ (getD ws (2 * done + 1) 0) + waited bytes g (done + 1 + 1) (rest ws (length ws / 2) (done + 1))
+          ≡ waitingAt g (done + 1) w′ + waited bytes g (done + 1 + 1) (rest ws (length ws / 2) (done + 1))
       unfolding waited pageSum atEnd waitingAt
-      step-waiting c′ citing =
+      step-waiting w′ found =
           let here = rest-next ws (length ws / 2) done whole more in
           let s : suc (done + 1) ≡ done + 1 + 1 = omega arith in
-          let wait = waiting-two bytes g (getD ws (2 * done) 0) (getD ws (2 * done + 1) 0) c′ citing in
-          rw (here, wait, s)
+          let wait = waiting-two bytes g sane (getD ws (2 * done) 0) (getD ws (2 * done + 1) 0) in
+          rw (here, wait, s, ← found)
 
       refused-here : (n : ℕ) → n ≡ brokenAt bytes g ws done (a ∷ b ∷ []) → 0 < n → Refused n (done + 1) ≡ wholly bytes g ws
       refused-here n e h =
           sym (refuse-some n (done + 1) after h) ∙ ap (λ n. refuse n (done + 1) after) e ∙ step
 
-      next-here : brokenAt bytes g ws done (a ∷ b ∷ []) ≡ 0 → g .figures .count ≤ 200
-          → (c′ : ℕ) → Citing (floatsOf bytes (g .figures)) (getD ws (2 * done) 0) c′
-          → Run bytes g ws (done + 1) (getD ws (2 * done) 0) (getD ws (2 * done + 1) 0) c′
-          (x + waitingAt g (done + 1) c′ (getD ws (2 * done + 1) 0))
-      unfolding refuse after count waitingAt allowed
-      next-here e few c′ citing =
+      next-here : brokenAt bytes g ws done (a ∷ b ∷ []) ≡ 0
+          → (w′ : ℕ) → w′ ≡ waits (floatsOf bytes (g .figures)) (getD ws (2 * done) 0) (getD ws (2 * done + 1) 0)
+          → Run bytes g ws (done + 1) (getD ws (2 * done) 0) (getD ws (2 * done + 1) 0) w′ (x + waitingAt g (done + 1) w′)
+      unfolding refuse after count allowed
+      next-here e w′ found =
           let goes = forward-at _ _ _ (kept (eq-eqb (brokenAt bytes g ws done (a ∷ b ∷ [])) 0 e) .rule13) in
           let most = run .most in
-          let cited = citing .few in
-          let add = waitingAt-most (ends (sidesOf (g .spec .sides)) (done + 1)) in
+          let i = getD ws (2 * done) 0 in
+          let j = getD ws (2 * done + 1) 0 in
+          let most-wait = waits-few (floatsOf bytes (g .figures)) i j in
+          let few = so .fewFigures in
+          let add = waiting-at-few g (done + 1) w′ in
           let s : suc (done + 1) ≡ done + 1 + 1 = omega arith in
           record {
             within = omega arith;
             lines = goes .top 0 (omega arith);
             figures = goes .top 1 (omega arith);
             most = omega arith;
-            citing = citing;
+            walked = walked-here (so .figures) i j w′ (goes .top 1 (omega arith)) found;
             judging =
                 ap (λ q. judged bytes g ws q (pageAt ws done) (rest ws (length ws / 2) (done + 1))) (sym s)
                 ∙ (rw e at step);
-            waiting = let more-x = step-waiting c′ citing in let x-so-far = run .waiting in omega arith;
+            waiting = let more-x = step-waiting w′ found in let x-so-far = run .waiting in omega arith;
           }
-        where
-          waitingAt-most : (e : Bool) → pick e (c′ - getD ws (2 * done + 1) 0) 0 ≤ c′
-          waitingAt-most true = omega arith
-          waitingAt-most false = omega arith
 
       module _ (i j : ℕ) (ei : i ≡ getD ws (2 * done) 0) (ej : j ≡ getD ws (2 * done + 1) 0) where
         -- A page that breaks a rule ends the run.
@@ -146,9 +149,9 @@ module _ (bytes : List ℕ) (g : Galley) (sane : Sane (modelOf bytes g)) (ws : L
 
         -- A page that breaks none goes on to the next.
         pub run-next : broken (modelOf bytes g) (done + 1) (eqb (done + 1) (length ws / 2)) (a ∷ b ∷ []) (i ∷ j ∷ []) ≡ 0
-            → g .figures .count ≤ 200 → (c′ : ℕ) → Citing (floatsOf bytes (g .figures)) i c′
-            → Run bytes g ws (done + 1) i j c′ (x + waitingAt g (done + 1) c′ j)
-        run-next e few c′ citing = rw (ei, ej) (next-here (rw (ei, ej) at e) few c′ (rw ei at citing))
+            → (w′ : ℕ) → w′ ≡ waits (floatsOf bytes (g .figures)) i j
+            → Run bytes g ws (done + 1) i j w′ (x + waitingAt g (done + 1) w′)
+        run-next e w′ found = rw (ei, ej) (next-here (rw (ei, ej) at e) w′ (rw (ei, ej) at found))
 
     module _ (e : done ≡ length ws / 2) where
       none : rest ws (length ws / 2) done ≡ []

@@ -9,12 +9,12 @@ use lib.Dec.{eqb}
 use lib.ListN.{length, take, drop}
 use lib.Seq.{take-at}
 use borrow.Author.Tests.{eqb-true}
-use Rattle.model.specs.Gather.{each, every}
+use Rattle.model.specs.Gather.{each, every, times}
 use Rattle.model.specs.Answers.{same}
 use Rattle.model.specs.laws.Gather.{and-left, and-right, each-at, every-at}
 use Rattle.model.specs.laws.Valid.{same-true}
 use Rattle.sections.specs.Folding.{sheetsFrom, section, sectionsFrom, allSections, startOf, partOf}
-use Rattle.sections.specs.Standing.{times, leftOf, rightOf, folds, hasPages, addsUp, everySize}
+use Rattle.sections.specs.Standing.{leftOf, rightOf, folds, hasPages, addsUp, everySize}
 use Rattle.sections.specs.Answer.{isSize, Size, numbersAfter}
 use Rattle.sections.specs.Copying.{overwritten}
 use Rattle.sections.specs.laws.Size.{size-facts, size-test}

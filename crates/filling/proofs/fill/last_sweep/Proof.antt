@@ -10,11 +10,11 @@ use Rattle.filling.proofs.fill.last_sweep.Statement.{statement}
 use Rattle.filling.proofs.fill.last_sweep.Tie as tie
 
 abbrev Inv-loop : tie.InvT-loop
-Inv-loop s g work₀ sums words₀ j load cited₀ span₀ queues₀ i₀ work words cited span queues i =
-    LastRun s g work₀ work words₀ words j cited span queues i
+Inv-loop s g work₀ sums words₀ j load waiting₀ span₀ queues₀ i₀ work words waiting span queues i =
+    LastRun s g work₀ work words₀ words j waiting span queues i
 
 abbrev μ-loop : tie.MeasureT-loop
-μ-loop s g work₀ sums words₀ j load cited₀ span₀ queues₀ i₀ work words cited span queues i =
+μ-loop s g work₀ sums words₀ j load waiting₀ span₀ queues₀ i₀ work words waiting span queues i =
     g .text .count + 1 - i
 
 load-of-requires : tie.Need-load-of-requires Inv-loop μ-loop
@@ -23,8 +23,8 @@ load-of-requires c κs = search needs
 loop-holds : tie.Need-loop-holds Inv-loop μ-loop
 loop-holds c = last-first (c .before .before .before .before .before .pre)
 
-cited-through-requires : tie.Need-cited-through-requires Inv-loop μ-loop
-cited-through-requires c κs = search needs
+waiting-floats-requires : tie.Need-waiting-floats-requires Inv-loop μ-loop
+waiting-floats-requires c κs = search needs
 
 slide-requires : tie.Need-slide-requires Inv-loop μ-loop
 slide-requires c κs =
@@ -33,10 +33,10 @@ slide-requires c κs =
 
 fill-place-requires : tie.Need-fill-place-requires Inv-loop μ-loop
 fill-place-requires c κs =
-    let citing = c .before .before .before .cited-through in
+    let found = c .before .before .before .waiting-floats in
     let slid = c .before .before .slide in
     last-place (c .before .before .before .before .before .before .before .before .before .before .before .before .pre) (c .before .before .before .before .before .before .loop .inv) (omega (arith, c .before .before .before .before .if1 .taken))
-    (citing .result) (citing .ensures) (slid .result) (rw (← c .before .before .before .before .before .before .before .load-of .ensures) (slid .ensures))
+    (found .result) (found .ensures) (slid .result) (rw (← c .before .before .before .before .before .before .before .load-of .ensures) (slid .ensures))
 
 add-i : tie.Need-add-i Inv-loop μ-loop
 add-i c = omega (arith, c .before .before .before .before .before .before .before .before .before .if1 .taken, c .before .before .before .before .before .before .before .before .before .before .before .before .before .before .before .before .before .pre .lent .column .sound .fewLines)
@@ -46,11 +46,11 @@ loop-less c = search needs
 
 loop-again : tie.Need-loop-again Inv-loop μ-loop
 loop-again c =
-    let citing = c .before .before .before .before .before .before .before .before .cited-through in
+    let found = c .before .before .before .before .before .before .before .before .waiting-floats in
     let slid = c .before .before .before .before .before .before .before .slide in
     let done = c .before .before .before .before .fill-place in
     last-next (c .before .before .before .before .before .before .before .before .before .before .before .before .before .before .before .before .before .pre) (c .before .before .before .before .before .before .before .before .before .before .before .loop .inv) (omega (arith, c .before .before .before .before .before .before .before .before .before .if1 .taken))
-    (citing .result) (citing .ensures) (slid .result) (rw (← c .before .before .before .before .before .before .before .before .before .before .before .before .load-of .ensures) (slid .ensures)) _ _
+    (found .result) (found .ensures) (slid .result) (rw (← c .before .before .before .before .before .before .before .before .before .before .before .before .load-of .ensures) (slid .ensures)) _ _
     (search (needs, c .slice-known4 .given, c .before .words .given)) (done .result) (done .ensures)
 
 same-length : tie.Need-same-length Inv-loop μ-loop
@@ -63,7 +63,7 @@ returns : tie.Need-returns Inv-loop μ-loop
 returns c =
     let a = c .before .before .before .before .before .before .before .before .args in
     let st = c .before .before .loop in
-    column-end (a .s .now) (a .g) (a .work .now) (a .j) (st .work) (st .cited) (st .i) (st .inv .column)
+    column-end (a .s .now) (a .g) (a .work .now) (a .j) (st .work) (st .waiting) (st .i) (st .inv .column)
     (omega (arith, c .if1 .left))
 
 pub last-sweep-spec : {M : Type 1} → statement M
@@ -74,7 +74,7 @@ last-sweep-spec =
     μ-loop
     load-of-requires
     loop-holds
-    cited-through-requires
+    waiting-floats-requires
     slide-requires
     fill-place-requires
     add-i

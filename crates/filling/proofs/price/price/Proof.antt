@@ -1,7 +1,6 @@
 -- `price` meets its contract: by the tests on the way each answer is the case of the price for them, and the limits on the
 -- weights keep it within a word.
-use mathlib.Core.Path.{_≡_, refl}
-use Prim.Native.Nat.{_-_}
+use mathlib.Core.Path.{refl}
 use borrow.Author.Tests.{not-true, not-false}
 use native.Mathlib.Omega.{arith}
 use Rattle.filling.specs.laws.Price.{price-two, price-small}
@@ -14,10 +13,10 @@ is-full-requires c κs = search needs
 
 returns : tie.Need-returns
 returns c =
-    λ bytes citing.
+    λ bytes sane found.
     let a = c .before .before .args in
     let full = c .before .is-full in
-    let law = price-two bytes (a .g) (a .i) (a .j) (a .cited) citing (a .c) (full .result) _ (full .ensures) refl in
+    let law = price-two bytes (a .g) (a .i) (a .j) (a .c) sane (a .waiting) found (full .result) _ (full .ensures) refl in
     rw (law, c .if1 .taken)
 
 side-ends-requires : tie.Need-side-ends-requires
@@ -25,53 +24,36 @@ side-ends-requires c κs = search needs
 
 returns-2 : tie.Need-returns-2
 returns-2 c =
-    λ bytes citing.
+    λ bytes sane found.
     let a = c .before .before .before .before .args in
     let full = c .before .before .before .is-full in
     let side = c .before .side-ends in
-    let law = price-two bytes (a .g) (a .i) (a .j) (a .cited) citing (a .c) (full .result) (side .result) (full .ensures) (side .ensures) in
+    let law = price-two bytes (a .g) (a .i) (a .j) (a .c) sane (a .waiting) found (full .result) (side .result) (full .ensures) (side .ensures) in
     rw (law, c .before .before .if1 .left, not-true (side .result) (c .if2 .taken))
-
-returns-3 : tie.Need-returns-3
-returns-3 c =
-    λ bytes citing.
-    let a = c .before .before .before .before .before .args in
-    let full = c .before .before .before .before .is-full in
-    let side = c .before .before .side-ends in
-    let law = price-two bytes (a .g) (a .i) (a .j) (a .cited) citing (a .c) (full .result) (side .result) (full .ensures) (side .ensures) in
-    let none : a .cited - a .j ≡ 0 = omega (arith, c .if3 .taken) in
-    rw (law, c .before .before .before .if1 .left, not-false (side .result) (c .before .if2 .left), none) (omega arith)
-
-sub-result : tie.Need-sub-result
-sub-result c = search needs
 
 cast-result : tie.Need-cast-result
 cast-result c = search needs
 
 mul-result : tie.Need-mul-result
 mul-result c =
-    let start = c .before .before .before .before .before .before in
-    let a = start .args in
-    let few = start .pre .few in
-    let small = price-small (a .g .spec .alpha) (a .cited - a .j) (start .pre .alphas) (omega arith) in
+    let start = c .before .before .before .before .before in
+    let small = price-small (start .args .g .spec .alpha) (start .args .waiting) (start .pre .alphas) (start .pre .few) in
     omega arith
 
 add-result : tie.Need-add-result
 add-result c =
-    let start = c .before .before .before .before .before .before .before in
-    let a = start .args in
-    let few = start .pre .few in
-    let small = price-small (a .g .spec .alpha) (a .cited - a .j) (start .pre .alphas) (omega arith) in
+    let start = c .before .before .before .before .before .before in
+    let small = price-small (start .args .g .spec .alpha) (start .args .waiting) (start .pre .alphas) (start .pre .few) in
     omega (arith, start .pre .betas)
 
-returns-4 : tie.Need-returns-4
-returns-4 c =
-    λ bytes citing.
-    let a = c .before .before .before .before .before .before .before .args in
-    let full = c .before .before .before .before .before .before .is-full in
-    let side = c .before .before .before .before .side-ends in
-    let law = price-two bytes (a .g) (a .i) (a .j) (a .cited) citing (a .c) (full .result) (side .result) (full .ensures) (side .ensures) in
-    rw (law, c .before .before .before .before .before .if1 .left, not-false (side .result) (c .before .before .before .if2 .left))
+returns-3 : tie.Need-returns-3
+returns-3 c =
+    λ bytes sane found.
+    let a = c .before .before .before .before .before .before .args in
+    let full = c .before .before .before .before .before .is-full in
+    let side = c .before .before .before .side-ends in
+    let law = price-two bytes (a .g) (a .i) (a .j) (a .c) sane (a .waiting) found (full .result) (side .result) (full .ensures) (side .ensures) in
+    rw (law, c .before .before .before .before .if1 .left, not-false (side .result) (c .before .before .if2 .left))
 
 pub price-spec : {M : Type 1} → statement M
 price-spec =
@@ -81,9 +63,7 @@ price-spec =
     returns
     side-ends-requires
     returns-2
-    returns-3
-    sub-result
     cast-result
     mul-result
     add-result
-    returns-4)
+    returns-3)

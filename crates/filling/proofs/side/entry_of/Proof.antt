@@ -4,7 +4,9 @@ use mathlib.Core.Path.{sym, _∙_}
 use Prim.Native.Nat.{suc}
 use native.Mathlib.Omega.{arith}
 use borrow.Author.Tests.{not-true, not-false}
-use Rattle.galley.specs.Model.{modelOf}
+use Rattle.galley.specs.Model.{floatsOf, modelOf}
+use Rattle.rules.specs.laws.Sane.{sound-sane}
+use Rattle.rules.specs.laws.Waiting.{waits-few}
 use Rattle.places.specs.Table.{tableOf}
 use Rattle.filling.specs.laws.Filling.{entry-nothing, entry-forbidden, entry-unreached, entry-least, cost-low}
 use borrow.Author.Needs.{needs}
@@ -62,11 +64,13 @@ price-requires : tie.Need-price-requires
 price-requires c κs =
     let asked = c .before .before .before .before .before .before .before .before .before .before .before .before .pre .asked in
     let sound = asked .placed .sound in
+    let a = c .before .before .before .before .before .before .before .before .before .before .before .before .args in
+    let most = waits-few (floatsOf (a .s .now) (a .g .figures)) (a .end .line) (a .end .column) in
     record {
       alphas = sound .specRanged .alphas;
       betas = sound .specRanged .betas;
       either = omega (arith, asked .side);
-      few = omega (arith, asked .citing .few, sound .fewFigures);
+      few = omega (arith, asked .found, most, sound .fewFigures);
     }
 
 add-t16 : tie.Need-add-t16
@@ -76,9 +80,9 @@ add-t16 c =
     let a = start .args in
     let e = a .end in
     let best = sym (found .start-of .ensures) ∙ c .before .before .start .given .1 in
-    let low = cost-low (a .s .now) (a .g) (a .work .now) (e .line) (e .column) (e .side) (e .cited) (start .pre .asked) _ _
+    let low = cost-low (a .s .now) (a .g) (a .work .now) (e .line) (e .column) (e .side) (e .waiting) (start .pre .asked) _ _
     best in
-    let price = c .price .ensures (a .s .now) (start .pre .asked .citing) in
+    let price = c .price .ensures (a .s .now) (sound-sane (a .s .now) (a .g) (start .pre .asked .placed .sound)) (start .pre .asked .found) in
     omega (arith, low, price)
 
 returns-4 : tie.Need-returns-4
@@ -90,7 +94,7 @@ returns-4 c =
     let e = a .end in
     let allowed = sym (may .may-stop .ensures) ∙ not-false (may .may-stop .result) (found .before .if2 .left) in
     let best = sym (found .start-of .ensures) ∙ c .before .before .start .given .1 in
-    rw (c .price .ensures (a .s .now) (start .pre .asked .citing))
+    rw (c .price .ensures (a .s .now) (sound-sane (a .s .now) (a .g) (start .pre .asked .placed .sound)) (start .pre .asked .found))
     (sym (entry-least (modelOf (a .s .now) (a .g)) (tableOf (suc (a .g .text .count)) (a .work .now)) (e .line) (e .column) (e .side)
     (may .before .if1 .left) allowed _ _ best))
 

@@ -1,44 +1,45 @@
 -- `judge_pages` meets its contract. The outer invariant is the run over the pages so far (laws/Run), the inner one the page under
 -- way with its heights so far (laws/Page); each way of leaving a page is one law of laws/Page.
-use Prim.Native.Nat.{_+_, _-_}
+use Prim.Native.Nat.{_+_, _-_, _≤_}
 use borrow.Author.Needs.{needs}
 use denote.Ref.{now}
 use mathlib.Core.Path.{_∙_}
 use native.Mathlib.Omega.{arith}
-use Rattle.rules.specs.laws.Citing.{waits-few}
-use Rattle.rules.specs.laws.Sane.{sound-sane}
-use Rattle.marking.specs.laws.Page.{Begun, begun, begun-refused, Underway, underway-start, underway-line-room, underway-line, underway-figure-room, underway-figure, underway-over, underway-ended, underway-next, underway-cites}
+use Rattle.galley.specs.Model.{floatsOf}
+use Rattle.rules.specs.laws.Waiting.{waits-few}
+use Rattle.rules.specs.laws.Walked.{waiting-at-few}
+use Rattle.marking.specs.laws.Page.{Begun, begun, begun-refused, Underway, underway-start, underway-line-room, underway-line, underway-figure-room, underway-figure, underway-over, underway-ended, underway-next, underway-walked}
 use Rattle.marking.specs.laws.Run.{Run, run-start, run-finish}
 use Rattle.marking.proofs.pages.judge_pages.Statement.{statement}
 use Rattle.marking.proofs.pages.judge_pages.Tie as tie
 
 abbrev Inv-loop : tie.InvT-loop
-Inv-loop s g list pages done a b cited x number i j start heights₀ k₀ f₀ heights k f = Underway s g list done a b cited x i j start k f heights
+Inv-loop s g list pages done a b waiting x number i j start heights₀ k₀ f₀ heights k f = Underway s g list done a b waiting x i j start k f heights
 
 abbrev μ-loop : tie.MeasureT-loop
-μ-loop s g list pages done a b cited x number i j start heights₀ k₀ f₀ heights k f = (i - k) + (j - f)
+μ-loop s g list pages done a b waiting x number i j start heights₀ k₀ f₀ heights k f = (i - k) + (j - f)
 
 abbrev Inv-pages : tie.InvT-pages
-Inv-pages s g list pages done₀ a₀ b₀ cited₀ x₀ done a b cited x = Run s g list done a b cited x
+Inv-pages s g list pages done₀ a₀ b₀ waiting₀ x₀ done a b waiting x = Run s g list done a b waiting x
 
 abbrev μ-pages : tie.MeasureT-pages
-μ-pages s g list pages done₀ a₀ b₀ cited₀ x₀ done a b cited x = pages - done
+μ-pages s g list pages done₀ a₀ b₀ waiting₀ x₀ done a b waiting x = pages - done
 
 -- Once 13 and 14 are tested, this is what is known of the page.
 page : (c : tie.After-start-fault Inv-loop μ-loop Inv-pages μ-pages)
     → Begun (now (c .before .before .before .before .before .before .before .before .before .args .s)) (c .before .before .before .before .before .before .before .before .before .args .g) (now (c .before .before .before .before .before .before .before .before .before .args .list)) (c .before .before .before .before .before .before .pages .done) (c .before .before .before .before .before .before .pages .a) (c .before .before .before .before .before .before .pages .b)
-    (c .before .before .before .before .before .before .pages .cited) (c .before .before .before .before .before .before .pages .x) (c .before .before .before .size .result) (c .before .size2 .result) (c .start-fault .result)
+    (c .before .before .before .before .before .before .pages .waiting) (c .before .before .before .before .before .before .pages .x) (c .before .before .before .size .result) (c .before .size2 .result) (c .start-fault .result)
 page c =
     let st = c .before .before .before .before .before .before .before .before .before in
     let pg = c .before .before .before .before .before .before .pages in
-    begun (now (st .args .s)) (st .args .g) (now (st .args .list)) (pg .done) (pg .a) (pg .b) (pg .cited) (pg .x)
+    begun (now (st .args .s)) (st .args .g) (now (st .args .list)) (pg .done) (pg .a) (pg .b) (pg .waiting) (pg .x)
     (c .before .before .before .size .result) (c .before .size2 .result) (c .start-fault .result) (st .pre) (pg .inv) (c .before .before .before .before .before .if1 .left) (c .before .before .before .size .ensures)
     (c .before .size2 .ensures) (c .start-fault .ensures)
 
 pages-holds : tie.Need-pages-holds Inv-loop μ-loop Inv-pages μ-pages
 pages-holds c =
     let st = c .before .before in
-    run-start (now (st .args .s)) (st .args .g) (sound-sane (now (st .args .s)) (st .args .g) (st .pre .sound)) (now (st .args .list))
+    run-start (now (st .args .s)) (st .args .g) (st .pre .sound) (now (st .args .list))
 
 cast-finish : tie.Need-cast-finish Inv-loop μ-loop Inv-pages μ-pages
 cast-finish c = search needs
@@ -118,38 +119,52 @@ add-end-fault c = omega (arith, c .before .before .before .before .before .befor
 end-fault-requires : tie.Need-end-fault-requires Inv-loop μ-loop Inv-pages μ-pages
 end-fault-requires c κs = search needs
 
-cited-through-requires : tie.Need-cited-through-requires Inv-loop μ-loop Inv-pages μ-pages
-cited-through-requires c κs = underway-cites (c .before .before .before .before .before .before .before .loop .inv)
+sub-still-waiting : tie.Need-sub-still-waiting Inv-loop μ-loop Inv-pages μ-pages
+sub-still-waiting c = c .before .before .before .before .before .before .before .loop .inv .onward .figures
+
+still-waiting-requires : tie.Need-still-waiting-requires Inv-loop μ-loop Inv-pages μ-pages
+still-waiting-requires c κs = search needs
+
+waiting-floats-requires : tie.Need-waiting-floats-requires Inv-loop μ-loop Inv-pages μ-pages
+waiting-floats-requires c κs = underway-walked (c .before .before .before .before .before .before .before .before .loop .inv) (c .still-waiting .result) (c .still-waiting .ensures)
+
+-- No more figures wait than there are.
+few : (c : tie.After-waiting-floats Inv-loop μ-loop Inv-pages μ-pages) → c .waiting-floats .result ≤ 200
+few c =
+    let a = c .before .before .before .before .before .before .before .before .before .before .before .before .before .before .before .before .before .before .before .before .before .args in
+    let waits = waits-few (floatsOf (now (a .s)) (a .g .figures)) (c .before .before .before .before .before .before .before .before .before .before .before .before .before .before .before .size .result) (c .before .before .before .before .before .before .before .before .before .before .before .before .before .size2 .result) in
+    omega (arith, waits, c .waiting-floats .ensures, c .before .before .before .before .before .before .before .before .before .before .before .before .before .before .before .before .before .before .before .before .before .pre .sound .fewFigures)
 
 waiting-at-requires : tie.Need-waiting-at-requires Inv-loop μ-loop Inv-pages μ-pages
-waiting-at-requires c κs = search needs
+waiting-at-requires c κs = few c
 
 add-x : tie.Need-add-x Inv-loop μ-loop Inv-pages μ-pages
 add-x c =
-    let st = c .before .before .before .before .before .before .before .before .before .before .before .before .before .before .before .before .before .before .before .before .before in
-    let pg = c .before .before .before .before .before .before .before .before .before .before .before .before .before .before .before .before .before .before .pages in
-    let waits = waits-few (st .args .g) (pg .done + 1) (c .before .cited-through .result) (c .before .before .before .before .before .before .before .before .before .before .before .before .before .size2 .result) in
-    omega (arith, waits, c .waiting-at .ensures, c .before .cited-through .ensures .few, pg .inv .most, pg .inv .within, st .pre)
+    let st = c .before .before .before .before .before .before .before .before .before .before .before .before .before .before .before .before .before .before .before .before .before .before in
+    let pg = c .before .before .before .before .before .before .before .before .before .before .before .before .before .before .before .before .before .before .before .pages in
+    let counted = waiting-at-few (st .args .g) (pg .done + 1) (c .before .waiting-floats .result) in
+    omega (arith, counted, c .waiting-at .ensures, few (c .before), pg .inv .most, pg .inv .within, st .pre .few)
 
 add-done : tie.Need-add-done Inv-loop μ-loop Inv-pages μ-pages
 add-done c = search needs
 
 pages-less : tie.Need-pages-less Inv-loop μ-loop Inv-pages μ-pages
-pages-less c = search needs
+pages-less c = let more = c .before .before .before .before .before .before .before .before .before .before .loop .inv .begun .more in omega arith
 
 pages-again : tie.Need-pages-again Inv-loop μ-loop Inv-pages μ-pages
 pages-again c =
-    let end = c .before .before .before .end-fault in
+    let end = c .before .before .before .before .end-fault in
+    let found = c .before .waiting-floats in
     rw (c .waiting-at .ensures)
-    (underway-next (c .before .before .before .before .before .before .before .before .before .loop .inv) (c .before .before .before .before .before .before .if3 .left) (c .before .before .before .before .before .if4 .left) (c .before .before .before .before .if5 .left) (end .result) (end .ensures)
-    (c .before .before .if6 .left) (c .before .cited-through .result) (c .before .cited-through .ensures))
+    (underway-next (c .before .before .before .before .before .before .before .before .before .before .loop .inv) (c .before .before .before .before .before .before .before .if3 .left) (c .before .before .before .before .before .before .if4 .left) (c .before .before .before .before .before .if5 .left) (end .result) (end .ensures)
+    (c .before .before .before .if6 .left) (found .result) (found .ensures))
 
 returns : tie.Need-returns Inv-loop μ-loop Inv-pages μ-pages
 returns c =
     let st = c .before .before .before .before .before in
     let pg = c .before .before .pages in
     c .finish .ensures
-    ∙ run-finish (now (st .args .s)) (st .args .g) (sound-sane (now (st .args .s)) (st .args .g) (st .pre .sound)) (now (st .args .list))
+    ∙ run-finish (now (st .args .s)) (st .args .g) (st .pre .sound) (now (st .args .list))
     (st .pre .whole) (pg .inv) (c .before .if1 .taken) _ (search needs)
 
 returns-2 : tie.Need-returns-2 Inv-loop μ-loop Inv-pages μ-pages
@@ -198,7 +213,9 @@ judge-pages-spec =
     loop-again-2
     add-end-fault
     end-fault-requires
-    cited-through-requires
+    sub-still-waiting
+    still-waiting-requires
+    waiting-floats-requires
     waiting-at-requires
     add-x
     add-done

@@ -1,0 +1,45 @@
+// The floats of a stream that wait at a place: cited by a line that is placed, and not placed themselves.
+ghost use mathlib.Core.Path.{_≡_};
+ghost use Prim.Native.Nat.{_-_, _≤_};
+ghost use Rattle.galley.specs.Model.{floatsOf};
+ghost use Rattle.rules.specs.Waiting.{waits, Walked, waitingAt};
+use galley::Galley;
+use galley::Stream;
+use model::page::Page;
+
+// How many floats wait with i lines and j floats placed: from float j + 1 on, up to the first that a line after i cites. The first
+// `known` of them were found for an earlier line, and the walk goes on after them.
+pub fn waiting_floats(s: &[u8], floats: Stream, i: usize, j: usize, known: usize) -> usize
+    requires { ⌜ Walked (now s) floats i j known ⌝ }
+    ensures { λ r. ⌜ r ≡ waits (floatsOf (now (s .entry)) floats) i j ⌝ }
+{
+    let mut found = known;
+    while j + found < floats.count {
+        if i < galley::word::size(blocks::field(s, floats, j + found + 1, galley::CITE)) {
+            return found;
+        }
+        found += 1;
+    }
+    found
+}
+
+// Of the floats that waited, how many still do once so many more are placed.
+pub fn still_waiting(waiting: usize, placed: usize) -> usize
+    ensures { λ r. ⌜ r ≡ waiting - placed ⌝ }
+{
+    if placed < waiting {
+        return waiting - placed;
+    }
+    0
+}
+
+// What a page adds to X with so many figures waiting at its end: all of them where it ends its leaf, else 0.
+pub fn waiting_at(g: Galley, page: Page, waiting: usize) -> u32
+    requires { ⌜ waiting ≤ 200 ⌝ }
+    ensures { λ r. ⌜ r ≡ waitingAt g (page .0) waiting ⌝ }
+{
+    if model::page::ends_spread(g.spec.sides, page) {
+        return waiting as u32;
+    }
+    0
+}
