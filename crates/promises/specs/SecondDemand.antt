@@ -117,7 +117,7 @@ module _ {bytes words : List ℕ} {g : Galley} {p : ℕ} {P : Map} (m : Paginate
 
   -- No subtraction in X is cut off at 0: no figure is on a leaf before that of the line that cites it. Nor is that in Y, since
   -- there is a page.
-  pub nothing-cut : ((f : ℕ) → 1 ≤ f → f ≤ g .figures
+  pub nothing-cut : ((f : ℕ) → 1 ≤ f → f ≤ g .figures .count
       → leaf (sidesOf (g .spec .sides)) (P 0 (citation bytes g f)) ≤ leaf (sidesOf (g .spec .sides)) (P 1 f))
       × (leaf (sidesOf (g .spec .sides)) 1 ≤ leaf (sidesOf (g .spec .sides)) p)
   nothing-cut =
