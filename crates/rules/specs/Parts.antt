@@ -51,7 +51,7 @@ pub record Citations (bytes : List ℕ) (floats : Stream) (i before : ℕ) : Typ
   pub upto : (k : ℕ) → 1 ≤ k → k ≤ before → floatsOf bytes floats .cite k ≤ i
 
 -- Numbers of pages and of X, and weights, that keep T within 32 bits.
-pub record Few (g : Galley) (pages x : ℕ) : Type 0 where
+pub record CountLimits (g : Galley) (pages x : ℕ) : Type 0 where
   pub some : 1 ≤ pages
   pub few : pages ≤ 4200
   pub most : x ≤ 200 * pages
