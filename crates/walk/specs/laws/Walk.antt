@@ -14,11 +14,11 @@ use Rattle.places.specs.declared.Entry.the-variants.{Unreached, Least}
 use Rattle.starts.specs.Search.{Table, before}
 use Rattle.filling.specs.Filled.{Side}
 use Rattle.walk.specs.Trace.{startOf, countBack, writeBack}
-use Rattle.walk.specs.Traceable.{sidesIn, tableIn, Placed, Traceable, Visits, Counting, Writing}
+use Rattle.walk.specs.Traceable.{sidesIn, tableIn, SidedPlace, Traceable, Visits, Counting, Writing}
 use Rattle.filling.specs.laws.Entered.{side-low, side-before}
 
 -- Where the walk is, an entry can be read.
-pub visits-placed : {g : Galley} {i j c : ℕ} → Visits g i j c → Placed g i j c
+pub visits-placed : {g : Galley} {i j c : ℕ} → Visits g i j c → SidedPlace g i j c
 visits-placed {g} {i} {j} {c} v =
     record { line = v .line; figure = v .figure; side = side-low (sidesIn g) c (v .side) }
 
