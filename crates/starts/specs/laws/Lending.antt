@@ -6,6 +6,8 @@ use mathlib.Core.Path.{_≡_}
 use mathlib.Core.Bool.{Bool}
 use mathlib.Core.List.{List}
 use lib.ListN.{length}
+use Rattle.model.specs.Galley.{Sides, single, double}
+use Rattle.model.specs.Leaf.{sidesOf}
 use Rattle.galley.specs.declared.Galley.{Galley}
 use Rattle.galley.specs.Model.{textOf, floatsOf}
 use Rattle.places.specs.laws.Address.{address-in}
@@ -17,8 +19,17 @@ use Rattle.window.specs.laws.Sums.{sums-small}
 use Rattle.blocks.specs.declared.heights.Heights.{Heights}
 use Rattle.blocks.specs.Heights.{noHeights, Addable, Stacked}
 use Rattle.blocks.specs.laws.Heights.{separation-most, Low, stacked-small}
+use Rattle.starts.specs.Search.{before}
 use Rattle.starts.specs.Sweep.{sideOf, loadOf, Lent, Summed, AloneAsked}
-use Rattle.starts.specs.laws.Queues.{side-either}
+
+-- The page before is on side 0 or 1.
+pub side-either : (g : Galley) (c : ℕ) → sideOf g c ≤ 1
+unfolding before
+side-either g c = go (sidesOf (g .spec .sides))
+  where
+    go : (sides : Sides) → before sides c ≤ 1
+    go single = omega arith
+    go double = omega arith
 
 -- What is lent for a column is the same while the lengths are.
 pub lent-sized : {bytes : List ℕ} {g : Galley} {w words : List ℕ} {j : ℕ} (w′ words′ : List ℕ) → length w′ ≡ length w
@@ -78,7 +89,7 @@ module _ {bytes : List ℕ} {g : Galley} {w words : List ℕ} {j : ℕ} (lent : 
 
   -- A queue of starts with b figures can be moved on to a window that ends by line i.
   pub can-feed : (b : ℕ) → b ≤ g .figures .count → (queue : Queue) (c from to i : ℕ) → i ≤ g .text .count → from ≤ to → to ≤ i
-      → queue .base ≤ g .text .count → queue .base ≤ queue .head → queue .head ≤ queue .tail → queue .tail ≤ queue .base + from
+      → queue .base ≤ 4000 → queue .base ≤ queue .head → queue .head ≤ queue .tail → queue .tail ≤ queue .base + from
       → FeedAsked w (g .text .count + 1) b (sideOf g c) words queue from to
   can-feed b k queue c from to i h rises inside low based order short =
       record {
@@ -93,14 +104,18 @@ module _ {bytes : List ℕ} {g : Galley} {w words : List ℕ} {j : ℕ} (lent : 
         order = order;
         short = short;
         start = rises;
-        room = omega (arith, lent .wordsRoom);
+        room = omega (arith, lent .wordsRoom, lent .sound .fewLines);
       }
 
   -- The first entry of the queue of such a window can be read.
-  pub can-front : (b : ℕ) → b ≤ g .figures .count → (queue : Queue) (high : ℕ) → high ≤ g .text .count → queue .base ≤ g .text .count
+  pub can-front : (b : ℕ) → b ≤ g .figures .count → (queue : Queue) (high : ℕ) → high ≤ g .text .count → queue .base ≤ 4000
       → queue .head ≤ queue .tail → queue .tail ≤ queue .base + high → FrontAsked words queue b
   can-front b k queue high l low order short =
-      record { order = order; room = omega (arith, lent .wordsRoom); column = omega (arith, lent .sound .fewFigures) }
+      record {
+        order = order;
+        room = omega (arith, lent .wordsRoom, lent .sound .fewLines);
+        column = omega (arith, lent .sound .fewFigures);
+      }
 
   -- (i, b) is a place.
   pub can-alone : (i b c : ℕ) → i ≤ g .text .count → b ≤ g .figures .count → AloneAsked g w i b (sideOf g c)
