@@ -3,5 +3,6 @@ pub mod Entered
 pub mod Fill
 pub mod Price
 pub mod Over
+pub mod Queues
 pub mod Filling
 pub mod Column

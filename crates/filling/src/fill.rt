@@ -6,10 +6,9 @@ ghost use Rattle.filling.specs.Fill.{fillColumn, filled};
 ghost use Rattle.filling.specs.Asked.{FillAsked};
 ghost use Rattle.filling.specs.Column.{LastAsked, ColumnLent, TableLent};
 use crate::side::End;
+use crate::side::Windows;
 use galley::Galley;
 use starts::heights::Heights;
-use starts::sweep::Windows;
-use window::queue::Queue;
 use window::slide::Window;
 
 // The places of column j, from no line to all lines, each of which holds its best start with fewer than j figures. A start with j
@@ -21,18 +20,7 @@ fn last_sweep(s: &[u8], g: Galley, work: &mut [u32], sums: &[u32], words: &mut [
     let load = starts::sweep::load_of(g, false, Heights { tight: 0, loose: 0 });
     let mut cited = 0;
     let mut span = Window { low: 0, high: 0 };
-    let mut queues = [
-        Queue {
-            base: 0,
-            head: 0,
-            tail: 0,
-        },
-        Queue {
-            base: g.lines,
-            head: g.lines,
-            tail: g.lines,
-        },
-    ];
+    let mut ends = [0, 0, 4000, 4000];
     let mut i = 0;
     while i <= g.lines {
         cited = rules::cites::cited_through(s, g, i, cited);
@@ -44,16 +32,15 @@ fn last_sweep(s: &[u8], g: Galley, work: &mut [u32], sums: &[u32], words: &mut [
             side: 0,
             cited,
         };
-        let moved = crate::side::fill_place(
+        crate::side::fill_place(
             s,
             g,
             work,
             words,
-            queues,
+            &mut ends,
             Windows { from, to: span },
             end,
         );
-        queues = moved;
         i += 1;
     }
 }
@@ -84,9 +71,9 @@ pub fn fill(s: &[u8], g: Galley, work: &mut [u32])
     requires { ⌜ FillAsked (now s) g (now work) ⌝ }
     ensures { λ _. ⌜ now (work .exit) ≡ filled (modelOf (now (s .entry)) g) (now (work .entry)) ⌝ }
 {
-    // For 4,000 lines: four sums to a line, and for each side a queue of two words to a line.
+    // For 4,000 lines: four sums to a line, and two words to a line for each side's queue, or for one queue and the windows.
     let mut sums = [0u32; 16004];
-    let mut words = [0u32; 16000];
+    let mut words = [0u32; 16002];
     window::sums::gather(s, g, &mut sums);
     fill_columns(s, g, work, &sums, &mut words);
 }

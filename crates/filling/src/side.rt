@@ -8,8 +8,14 @@ ghost use Rattle.filling.specs.Column.{EntryAsked, SideMoved, SideFilled
 use galley::Galley;
 use places::Entry;
 use places::Start;
-use starts::sweep::Windows;
 use window::queue::Queue;
+use window::slide::Window;
+
+// The windows of a line: that of the line above it, and its own.
+pub struct Windows {
+    pub from: Window,
+    pub to: Window,
+}
 
 // Where a page ends: the line and the column, its side, and how many figures are cited by that line or earlier.
 pub struct End {
@@ -70,20 +76,19 @@ fn fill_side(
     moved
 }
 
-// Every side that occurs, from side 0 on.
+// Every side that occurs, from side 0 on, each with its queue, whose head and tail stand in `ends`.
 pub fn fill_place(
     s: &[u8],
     g: Galley,
     work: &mut [u32],
     words: &mut [u32],
-    queues: [Queue; 2],
+    ends: &mut [u32],
     windows: Windows,
     end: End,
-) -> [Queue; 2]
-    requires { ⌜ PlaceMoved (now s) g (now work) (now words) queues windows end ⌝ }
-    ensures { λ r. ⌜ PlaceFilled (now (s .entry)) g (now (work .entry)) (now (work .exit)) (now (words .exit)) r windows end ⌝ }
+)
+    requires { ⌜ PlaceMoved (now s) g (now work) (now words) (now ends) windows end ⌝ }
+    ensures { λ _. ⌜ PlaceFilled (now (s .entry)) g (now (work .entry)) (now (work .exit)) (now (words .exit)) (now (ends .exit)) windows end ⌝ }
 {
-    let mut all = queues;
     let mut c = 0;
     while c < g.spec.sides as usize {
         let here = End {
@@ -92,9 +97,9 @@ pub fn fill_place(
             side: c,
             cited: end.cited,
         };
-        let moved = fill_side(s, g, work, words, all[c], windows, here);
-        all[c] = moved;
+        let queue = window::queue::queue_of(ends, c);
+        let moved = fill_side(s, g, work, words, queue, windows, here);
+        window::queue::push(ends, c, moved.head as u32, moved.tail as u32);
         c += 1;
     }
-    all
 }

@@ -4,6 +4,7 @@ use Prim.Native.Nat.{ℕ, _≤_, _<_}
 use mathlib.Core.Path.{_≡_}
 use mathlib.Core.Logic.{_⊎_}
 use mathlib.Core.Bool.{Bool, true, _&&_, _||_}
+use mathlib.Core.List.{List}
 use lib.Dec.{eqb, leb, ltb}
 use Rattle.model.specs.Gather.{pick}
 use Rattle.model.specs.Rules.{fits, fills}
@@ -11,6 +12,7 @@ use Rattle.theorems.specs.PageGraph.{full}
 use Rattle.places.specs.declared.Start.{Start}
 use Rattle.places.specs.declared.Entry.{Entry}
 use Rattle.places.specs.declared.Entry.the-variants.{Unreached, Least}
+use Rattle.places.specs.Entry.{entryAt, stored}
 use Rattle.starts.specs.Search.{place, Search}
 
 -- The second start is no later than the first.
@@ -21,11 +23,20 @@ noLater r s = ltb (s .line) (r .line) || (eqb (s .line) (r .line) && leb (s .fig
 abbrev pub beats : ℕ → Start → ℕ → Start → Bool
 beats y r x s = ltb y x || (eqb y x && noLater r s)
 
+-- It is better than an entry, or is its start.
+unfoldable pub wins : ℕ → Start → Entry → Bool
+wins y r Unreached = true
+wins y r (Least x s) = beats y r x s
+
 -- The better of two entries: the second where it costs less, or the same and the first starts no later.
 unfoldable pub chosen : Entry → Entry → Entry
 chosen e Unreached = e
-chosen Unreached (Least y r) = Least y r
-chosen (Least x s) (Least y r) = pick (beats y r x s) (Least y r) (Least x s)
+chosen e (Least y r) = pick (wins y r e) (Least y r) e
+
+-- The work area with the entry at `at` replaced where another is better.
+unfoldable pub taken : List ℕ → ℕ → Entry → List ℕ
+taken w at Unreached = w
+taken w at (Least y r) = pick (wins y r (entryAt w at)) (stored w at (Least y r)) w
 
 -- (a, b) is no later than (a′, b′).
 abbrev pub NoLater : ℕ → ℕ → ℕ → ℕ → Type 0

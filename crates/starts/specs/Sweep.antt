@@ -1,9 +1,10 @@
 -- The best starts of a column's places, gathered figure by figure: what the sweeps ask for and what they leave.
 use Prim.Native.Nat.{ℕ, suc, _+_, _*_, _≤_, _<_}
 use mathlib.Core.Path.{_≡_}
+use mathlib.Core.Logic.{_⊎_}
 use mathlib.Core.Bool.{Bool, true, false}
 use mathlib.Core.List.{List}
-use lib.ListN.{length, getD}
+use lib.ListN.{length}
 use lib.Dec.{ltb}
 use Rattle.model.specs.Gather.{pick}
 use Rattle.model.specs.Leaf.{sidesOf}
@@ -19,13 +20,13 @@ use Rattle.window.specs.declared.slide.Load.{Load}
 use Rattle.window.specs.declared.slide.Window.{Window}
 use Rattle.window.specs.declared.queue.Queue.{Queue}
 use Rattle.window.specs.Sums.{Sums}
-use Rattle.window.specs.Slide.{Ends, Open}
+use Rattle.window.specs.Slide.{Ends}
 use Rattle.window.specs.Queue.{columnOf, Held, frontOf, FrontAsked}
+use Rattle.window.specs.Windows.{Kept}
 use Rattle.starts.specs.declared.heights.Heights.{Heights}
 use Rattle.starts.specs.declared.sweep.Pass.{Pass}
-use Rattle.starts.specs.declared.sweep.Windows.{Windows}
 use Rattle.starts.specs.Search.{before, better}
-use Rattle.starts.specs.Choice.{chosen, Best, Between}
+use Rattle.starts.specs.Choice.{chosen, taken, Best, Between}
 use Rattle.starts.specs.Heights.{Stacked}
 use Rattle.starts.specs.Asked.{searchOf, allPlaced, Searched}
 
@@ -51,9 +52,8 @@ aloneOf g w i b side loose =
 -- The work area with the starts of a pass weighed at line i on side c: the first of the queue, and figures alone.
 abbrev pub weighed : Galley → List ℕ → List ℕ → Queue → ℕ → ℕ → Pass → List ℕ
 weighed g w words queue i c pass =
-    stored w (address (suc (g .lines)) i (pass .to) c)
-    (chosen (chosen (tableOf (suc (g .lines)) w i (pass .to) c) (frontOf words queue (pass .from)))
-    (aloneOf g w i (pass .from) (sideOf g c) (pass .heights .loose)))
+    taken w (address (suc (g .lines)) i (pass .to) c)
+    (chosen (frontOf words queue (pass .from)) (aloneOf g w i (pass .from) (sideOf g c) (pass .heights .loose)))
 
 -- The words of place (k, j) on side c hold the best of the starts of P for a page that ends there; the last page is left aside.
 abbrev pub Knows : List ℕ → Galley → List ℕ → ℕ → ℕ → ℕ → (ℕ → ℕ → Type 0) → Type 0
@@ -64,11 +64,14 @@ Knows bytes g w k j c P =
 abbrev pub Known : List ℕ → Galley → List ℕ → ℕ → ℕ → Type 0
 Known bytes g w j b = (k c : ℕ) → k ≤ g .lines → c < g .spec .sides → Knows bytes g w k j c (Between b j)
 
--- The places of a column come line by line and side by side, place (k, c) being number 2k + c. Those before n know the starts
--- with b figures or more, the others those with more than b.
+-- The places of a column come side by side and line by line: the number of line k on side c.
+abbrev pub number : ℕ → ℕ → ℕ
+number c k = 4001 * c + k
+
+-- The places before number n know the starts with b figures or more, the others those with more than b.
 pub record Swept (bytes : List ℕ) (g : Galley) (w : List ℕ) (j b n : ℕ) : Type 0 where
-  pub done : (k c : ℕ) → k ≤ g .lines → c < g .spec .sides → 2 * k + c < n → Knows bytes g w k j c (Between b j)
-  pub left : (k c : ℕ) → k ≤ g .lines → c < g .spec .sides → n ≤ 2 * k + c → Knows bytes g w k j c (Between (suc b) j)
+  pub done : (k c : ℕ) → k ≤ g .lines → c < g .spec .sides → number c k < n → Knows bytes g w k j c (Between b j)
+  pub left : (k c : ℕ) → k ≤ g .lines → c < g .spec .sides → n ≤ number c k → Knows bytes g w k j c (Between (suc b) j)
 
 -- v is w after stores in column j, on sides that occur.
 pub data Scratched (g : Galley) (j : ℕ) (w : List ℕ) : List ℕ → Type 0 where
@@ -76,29 +79,20 @@ pub data Scratched (g : Galley) (j : ℕ) (w : List ℕ) : List ℕ → Type 0 w
   more : (v u : List ℕ) (i c : ℕ) (e : Entry) → Scratched g j w v → i ≤ g .lines → c < g .spec .sides
       → u ≡ stored v (address (suc (g .lines)) i j c) e → Scratched g j w u
 
--- The queue of side c.
-abbrev pub queueAt : List Queue → ℕ → Queue
-queueAt queues c = getD queues c (record { base = 0; head = 0; tail = 0 })
+-- At most place (i, j) on side c has changed, and it holds e.
+pub record Changed (g : Galley) (w v : List ℕ) (i j c : ℕ) (e : Entry) : Type 0 where
+  pub sized : length v ≡ length w
+  pub own : tableOf (suc (g .lines)) v i j c ≡ e
+  pub others : (a b d : ℕ) → a ≤ g .lines → d ≤ 1 → ((i ≡ a) × (j ≡ b) × (c ≡ d) → ⊥)
+      → tableOf (suc (g .lines)) v a b d ≡ tableOf (suc (g .lines)) w a b d
+  pub kept : Scratched g j w v
 
--- The queue of side c holds the starts with b figures in a window.
-abbrev pub Holds : Galley → List ℕ → List ℕ → List Queue → ℕ → Window → ℕ → Type 0
-Holds g w words queues b window c =
-    Held (columnOf w (g .lines + 1) b (sideOf g c)) words (queueAt queues c) (window .low) (window .high)
-
--- The queues of the sides before n are those of the window `new`, the others those of `old`; each has room for all lines.
-pub record Queues (g : Galley) (w words : List ℕ) (queues : List Queue) (b : ℕ) (old new : Window) (n : ℕ) : Type 0 where
-  pub pair : length queues ≡ 2
-  pub first : queueAt queues 0 .base ≡ 0
-  pub second : queueAt queues 1 .base ≡ g .lines
-  pub moved : (c : ℕ) → c < n → c < g .spec .sides → Holds g w words queues b new c
-  pub still : (c : ℕ) → n ≤ c → c < g .spec .sides → Holds g w words queues b old c
-
--- A galley that was read, a column of a work area that is long enough, and room for two queues.
+-- A galley that was read, a column of a work area that is long enough, and room for two queues, or for one and the windows.
 pub record Lent (bytes : List ℕ) (g : Galley) (w words : List ℕ) (j : ℕ) : Type 0 where
   pub sound : Sound bytes g
   pub column : j ≤ g .figures
   pub room : wordsNeeded (g .lines) (g .figures) ≤ length w
-  pub wordsRoom : 4 * g .lines ≤ length words
+  pub wordsRoom : 16002 ≤ length words
 
 -- The sums of all lines.
 pub record Summed (bytes : List ℕ) (g : Galley) (sums : List ℕ) : Type 0 where
@@ -133,44 +127,53 @@ pub record SweepDone (bytes : List ℕ) (g : Galley) (w v : List ℕ) (pass : Pa
   pub known : Known bytes g v (pass .to) (pass .from)
   pub kept : Scratched g (pass .to) w v
 
--- A sweep has come to line i: the places above it know the starts of the pass too.
-pub record SweepRun (bytes : List ℕ) (g : Galley) (w₀ w words₀ words : List ℕ) (pass : Pass) (window : Window)
-    (queues : List Queue) (i : ℕ) : Type 0 where
-  pub within : i ≤ suc (g .lines)
-  pub sized : length w ≡ length w₀
-  pub wordsSized : length words ≡ length words₀
-  pub ends : Ends (textOf bytes g) (loadOf g true (pass .heights)) window i
-  pub queued : Queues g w words queues (pass .from) window window 0
-  pub swept : Swept bytes g w (pass .to) (pass .from) (2 * i)
-  pub kept : Scratched g (pass .to) w₀ w
+-- What a page of the pass has beside its lines.
+abbrev pub passLoad : Galley → Pass → Load
+passLoad g pass = loadOf g true (pass .heights)
 
--- The sides of line i come next, with the windows of the line above and of line i.
-pub record TurnAsked (bytes : List ℕ) (g : Galley) (w words : List ℕ) (queues : List Queue) (windows : Windows) (i : ℕ)
-    (pass : Pass) : Type 0 where
-  pub lent : Lent bytes g w words (pass .to)
-  pub passing : Passing bytes g pass
-  pub line : i ≤ g .lines
-  pub low : windows .from .low ≤ windows .to .low
-  pub high : windows .from .high ≤ windows .to .high
-  pub opened : Open (textOf bytes g) (loadOf g true (pass .heights)) (windows .to) i
-  pub queued : Queues g w words queues (pass .from) (windows .from) (windows .to) 0
-  pub swept : Swept bytes g w (pass .to) (pass .from) (2 * i)
+-- The windows of the pass are kept for the lines of P.
+abbrev pub Windowed : List ℕ → Galley → List ℕ → Pass → (ℕ → Type 0) → Type 0
+Windowed bytes g words pass P = Kept (textOf bytes g) (passLoad g pass) words P
 
--- The sides of line i before c are done.
-pub record TurnRun (bytes : List ℕ) (g : Galley) (w₀ w words₀ words : List ℕ) (queues : List Queue) (windows : Windows) (i : ℕ)
-    (pass : Pass) (c : ℕ) : Type 0 where
+-- Line k is one of the galley's.
+abbrev pub Line : Galley → ℕ → Type 0
+Line g k = k ≤ g .lines
+
+-- The sides before c are swept, and the windows are kept if there is one.
+pub record SweepRun (bytes : List ℕ) (g : Galley) (w₀ w words₀ words : List ℕ) (pass : Pass) (c : ℕ) : Type 0 where
   pub within : c ≤ g .spec .sides
   pub sized : length w ≡ length w₀
   pub wordsSized : length words ≡ length words₀
-  pub queued : Queues g w words queues (pass .from) (windows .from) (windows .to) c
-  pub swept : Swept bytes g w (pass .to) (pass .from) (2 * i + c)
+  pub windows : 0 < c → Windowed bytes g words pass (Line g)
+  pub swept : Swept bytes g w (pass .to) (pass .from) (number c 0)
   pub kept : Scratched g (pass .to) w₀ w
 
--- All sides of line i are done.
-pub record TurnDone (bytes : List ℕ) (g : Galley) (w v words : List ℕ) (queues : List Queue) (windows : Windows) (i : ℕ)
-    (pass : Pass) : Type 0 where
-  pub queued : Queues g v words queues (pass .from) (windows .to) (windows .to) 0
-  pub swept : Swept bytes g v (pass .to) (pass .from) (2 * i + 2)
+-- Side c comes next.
+pub record PassAsked (bytes : List ℕ) (g : Galley) (w sums words : List ℕ) (c : ℕ) (pass : Pass) : Type 0 where
+  pub lent : Lent bytes g w words (pass .to)
+  pub summed : Summed bytes g sums
+  pub passing : Passing bytes g pass
+  pub occurs : c < g .spec .sides
+  pub windows : 0 < c → Windowed bytes g words pass (Line g)
+  pub swept : Swept bytes g w (pass .to) (pass .from) (number c 0)
+
+-- Side c has come to line i.
+pub record PassRun (bytes : List ℕ) (g : Galley) (w₀ w words₀ words : List ℕ) (c : ℕ) (pass : Pass) (queue : Queue)
+    (window : Window) (i : ℕ) : Type 0 where
+  pub within : i ≤ suc (g .lines)
+  pub sized : length w ≡ length w₀
+  pub wordsSized : length words ≡ length words₀
+  pub ends : Ends (textOf bytes g) (passLoad g pass) window i
+  pub windows : Windowed bytes g words pass (λ k. Line g k × ((0 < c) ⊎ (k < i)))
+  pub based : queue .base ≡ 0
+  pub held : Held (columnOf w (g .lines + 1) (pass .from) (sideOf g c)) words queue (window .low) (window .high)
+  pub swept : Swept bytes g w (pass .to) (pass .from) (number c i)
+  pub kept : Scratched g (pass .to) w₀ w
+
+-- Side c is swept.
+pub record PassDone (bytes : List ℕ) (g : Galley) (w v words : List ℕ) (c : ℕ) (pass : Pass) : Type 0 where
+  pub windows : Windowed bytes g words pass (Line g)
+  pub swept : Swept bytes g v (pass .to) (pass .from) (number (c + 1) 0)
   pub kept : Scratched g (pass .to) w v
 
 -- The starts with b figures or more placed before them are known.
@@ -183,10 +186,9 @@ pub record FewerRun (bytes : List ℕ) (g : Galley) (w₀ w words₀ words : Lis
   pub known : Known bytes g w j b
   pub kept : Scratched g j w₀ w
 
--- (i, j) is a place of the work area.
-pub record ClearAsked (g : Galley) (w : List ℕ) (i j : ℕ) : Type 0 where
+-- Column j stands in the work area.
+pub record ClearAsked (g : Galley) (w : List ℕ) (j : ℕ) : Type 0 where
   pub few : g .lines ≤ 4000
-  pub line : i ≤ g .lines
   pub figure : j ≤ 200
   pub within : j ≤ g .figures
   pub two : g .spec .sides ≤ 2
@@ -195,29 +197,12 @@ pub record ClearAsked (g : Galley) (w : List ℕ) (i j : ℕ) : Type 0 where
 -- The places of column j before number n are unreached.
 abbrev pub Blank : Galley → List ℕ → ℕ → ℕ → Type 0
 Blank g w j n =
-    (k c : ℕ) → k ≤ g .lines → c < g .spec .sides → 2 * k + c < n → tableOf (suc (g .lines)) w k j c ≡ Unreached
+    (k c : ℕ) → k ≤ g .lines → c < g .spec .sides → number c k < n → tableOf (suc (g .lines)) w k j c ≡ Unreached
 
--- They are, and nothing else has changed.
-pub record ColumnCleared (g : Galley) (w v : List ℕ) (j n : ℕ) : Type 0 where
+-- The places of column j from number n on and before m are unreached too, and nothing else has changed.
+pub record Cleared (g : Galley) (w v : List ℕ) (j n m : ℕ) : Type 0 where
   pub sized : length v ≡ length w
-  pub blank : Blank g v j n
-  pub kept : Scratched g j w v
-
--- The lines before i are cleared.
-pub record ClearRun (g : Galley) (w v : List ℕ) (j i : ℕ) : Type 0 where
-  pub within : i ≤ suc (g .lines)
-  pub cleared : ColumnCleared g w v j (2 * i)
-
--- One place more is unreached, if those before it were.
-pub record PlaceRun (g : Galley) (w v : List ℕ) (i j c : ℕ) : Type 0 where
-  pub within : c ≤ g .spec .sides
-  pub sized : length v ≡ length w
-  pub blank : Blank g w j (2 * i) → Blank g v j (2 * i + c)
-  pub kept : Scratched g j w v
-
-pub record PlaceCleared (g : Galley) (w v : List ℕ) (i j : ℕ) : Type 0 where
-  pub sized : length v ≡ length w
-  pub blank : Blank g w j (2 * i) → Blank g v j (2 * i + 2)
+  pub blank : Blank g w j n → Blank g v j m
   pub kept : Scratched g j w v
 
 -- What is known of the starts of a page on side c that ends at (i, j): those with fewer figures, and those with j.

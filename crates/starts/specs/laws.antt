@@ -4,7 +4,6 @@ pub mod Search
 pub mod Choice
 pub mod Found
 pub mod Sweep
-pub mod Queues
 pub mod Cells
 pub mod Lending
 pub mod Sweeping

@@ -1,9 +1,9 @@
-// The best starts of pages that end in a column with fewer figures placed before them, for all places of the column at once: one
-// sweep down the column for each number of figures, with a queue of starting lines for each side. The best start so far of a place
-// stands in the place's own words.
+// The best starts of pages that end in a column with fewer figures placed before them, for all places of the column at once: for
+// each number of figures one sweep down the column on each side that occurs, with a queue of starting lines. The best start so far
+// of a place stands in the place's own words.
 ghost use mathlib.Core.Path.{_≡_};
-ghost use Prim.Native.Nat.{_+_, _*_};
-ghost use Rattle.starts.specs.Sweep.{loadOf, aloneOf, weighed, Addable, AloneAsked, ImproveAsked, ClearAsked, PlaceCleared, ColumnCleared, TurnAsked, TurnDone, SweepAsked, SweepDone, FewerAsked, FewerDone};
+ghost use Prim.Native.Nat.{_+_, _<_};
+ghost use Rattle.starts.specs.Sweep.{loadOf, aloneOf, weighed, Addable, AloneAsked, ImproveAsked, number, ClearAsked, Cleared, PassAsked, PassDone, SweepAsked, SweepDone, FewerAsked, FewerDone};
 use crate::heights::Heights;
 use galley::Galley;
 use places::Entry;
@@ -17,12 +17,6 @@ pub struct Pass {
     pub from: usize,
     pub to: usize,
     pub heights: Heights,
-}
-
-// The windows of a line: that of the line above it, and its own.
-pub struct Windows {
-    pub from: Window,
-    pub to: Window,
 }
 
 // What a page of lines and these figures has beside its lines, and the heights that it must keep to: with figures comes the
@@ -60,116 +54,94 @@ fn alone(g: Galley, work: &[u32], i: usize, b: usize, side: usize, loose: u32) -
     Entry::Least(x, start)
 }
 
-// The best start known for place (i, c) of the column, with the starts of the pass weighed too: the first of the queue, and the
+// The best start known for line i of the column on side c, with the starts of the pass weighed too: the first of the queue, and the
 // page of figures alone.
 fn improve(g: Galley, work: &mut [u32], words: &[u32], queue: Queue, i: usize, c: usize, pass: Pass)
     requires { ⌜ ImproveAsked g (now work) (now words) queue i c pass ⌝ }
     ensures { λ _. ⌜ now (work .exit) ≡ weighed g (now (work .entry)) (now (words .entry)) queue i c pass ⌝ }
 {
-    let at = places::address_of(g.lines + 1, i, pass.to, c);
-    let held = places::entry_at(work, at);
     let front = window::queue::front(words, queue, pass.from);
     let side = crate::search::side_before(g, c);
     let figures = alone(g, work, i, pass.from, side, pass.heights.loose);
-    let found = crate::choice::choose(crate::choice::choose(held, front), figures);
-    places::store(work, at, found);
+    let found = crate::choice::choose(front, figures);
+    let at = places::address_of(g.lines + 1, i, pass.to, c);
+    crate::choice::offer(work, at, found);
 }
 
-// Line i of the column on every side that occurs: its queue moved on, and the best start so far improved.
-fn sweep_place(
+// The starts of a pass weighed for every line of the column on side c.
+fn sweep_side(
     s: &[u8],
     g: Galley,
     work: &mut [u32],
+    sums: &[u32],
     words: &mut [u32],
-    queues: [Queue; 2],
-    windows: Windows,
-    i: usize,
+    c: usize,
     pass: Pass,
-) -> [Queue; 2]
-    requires { ⌜ TurnAsked (now s) g (now work) (now words) queues windows i pass ⌝ }
-    ensures { λ r. ⌜ TurnDone (now (s .entry)) g (now (work .entry)) (now (work .exit)) (now (words .exit)) r windows i pass ⌝ }
+)
+    requires { ⌜ PassAsked (now s) g (now work) (now sums) (now words) c pass ⌝ }
+    ensures { λ _. ⌜ PassDone (now (s .entry)) g (now (work .entry)) (now (work .exit)) (now (words .exit)) c pass ⌝ }
 {
-    let mut all = queues;
-    let mut c = 0;
-    while c < g.spec.sides as usize {
-        let side = crate::search::side_before(g, c);
-        let queue = window::queue::advance(
+    let load = load_of(g, true, pass.heights);
+    let side = crate::search::side_before(g, c);
+    let mut queue = Queue {
+        base: 0,
+        head: 0,
+        tail: 0,
+    };
+    let mut starts = Window { low: 0, high: 0 };
+    let mut i = 0;
+    while i <= g.lines {
+        let from = starts.high;
+        starts = window::windows::window_of(sums, load, words, starts, i, c);
+        queue = window::queue::advance(
             work,
             g.lines + 1,
             pass.from,
             side,
             words,
-            all[c],
-            windows.from.high,
-            windows.to,
+            queue,
+            from,
+            starts,
         );
         improve(g, work, words, queue, i, c, pass);
-        all[c] = queue;
-        c += 1;
+        i += 1;
     }
-    all
 }
 
-// The starts of a pass weighed for every place of the column where its pages end.
+// The same on every side that occurs.
 fn sweep(s: &[u8], g: Galley, work: &mut [u32], sums: &[u32], words: &mut [u32], pass: Pass)
     requires { ⌜ SweepAsked (now s) g (now work) (now sums) (now words) pass ⌝ }
     ensures { λ _. ⌜ SweepDone (now (s .entry)) g (now (work .entry)) (now (work .exit)) pass ⌝ }
 {
-    let load = load_of(g, true, pass.heights);
-    let mut span = Window { low: 0, high: 0 };
-    let mut queues = [
-        Queue {
-            base: 0,
-            head: 0,
-            tail: 0,
-        },
-        Queue {
-            base: g.lines,
-            head: g.lines,
-            tail: g.lines,
-        },
-    ];
-    let mut i = 0;
-    while i <= g.lines {
-        let from = span;
-        span = window::slide::slide(sums, load, from, i);
-        let moved = sweep_place(
-            s,
-            g,
-            work,
-            words,
-            queues,
-            Windows { from, to: span },
-            i,
-            pass,
-        );
-        queues = moved;
-        i += 1;
-    }
-}
-
-// Place (i, j) made unreached on every side that occurs.
-fn clear_place(g: Galley, work: &mut [u32], i: usize, j: usize)
-    requires { ⌜ ClearAsked g (now work) i j ⌝ }
-    ensures { λ _. ⌜ PlaceCleared g (now (work .entry)) (now (work .exit)) i j ⌝ }
-{
     let mut c = 0;
     while c < g.spec.sides as usize {
-        let at = places::address_of(g.lines + 1, i, j, c);
-        places::store(work, at, Entry::Unreached);
+        sweep_side(s, g, work, sums, words, c, pass);
         c += 1;
     }
 }
 
-// Every place of column j.
-fn clear_column(g: Galley, work: &mut [u32], j: usize)
-    requires { ⌜ ClearAsked g (now work) 0 j ⌝ }
-    ensures { λ _. ⌜ ColumnCleared g (now (work .entry)) (now (work .exit)) j (2 * g .lines + 2) ⌝ }
+// Every line of column j made unreached on side c.
+fn clear_side(g: Galley, work: &mut [u32], j: usize, c: usize)
+    requires { ⌜ ClearAsked g (now work) j × (c < g .spec .sides) ⌝ }
+    ensures { λ _. ⌜ Cleared g (now (work .entry)) (now (work .exit)) j (number c 0) (number (c + 1) 0) ⌝ }
 {
     let mut i = 0;
     while i <= g.lines {
-        clear_place(g, work, i, j);
+        let at = places::address_of(g.lines + 1, i, j, c);
+        places::store(work, at, Entry::Unreached);
         i += 1;
+    }
+}
+
+// The same on every side that occurs.
+fn clear_column(g: Galley, work: &mut [u32], j: usize)
+    requires { ⌜ ClearAsked g (now work) j ⌝ }
+    ensures { λ _. ⌜ Cleared g (now (work .entry)) (now (work .exit)) j 0 (number 2 0) ⌝ }
+{
+    let mut c = 0;
+    while c < g.spec.sides as usize {
+        clear_side(g, work, j, c);
+        c += 1;
     }
 }
 

@@ -2,5 +2,6 @@
 pub mod Sums
 pub mod Slide
 pub mod Queue
+pub mod Windows
 pub mod Run
 pub mod laws

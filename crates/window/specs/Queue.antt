@@ -33,6 +33,10 @@ frontOf words queue b =
     (Least (costAt words (queue .head)) (record { line = lineAt words (queue .head); figure = b }))
     Unreached
 
+-- The queue of side c: it has the room of 4,000 entries, and its head and tail stand as entry c of `ends`.
+abbrev pub queueOf : List ℕ → ℕ → Queue
+queueOf ends c = record { base = 4000 * c; head = lineAt ends c; tail = costAt ends c }
+
 -- The lines of a column on a side, as starts: the entry of each.
 abbrev pub columnOf : List ℕ → ℕ → ℕ → ℕ → ℕ → Entry
 columnOf work tall b side a = tableOf tall work a b side

@@ -60,8 +60,9 @@ pub record Open (st : Stream) (load : Load) (window : Window) (i : ℕ) : Type 0
   pub short : (a : ℕ) → window .high ≤ a → a < i → Enough st load a i → ⊥
 
 -- From what the ends were before line i comes the window of line i, and neither end falls.
-pub record Slid (sums : List ℕ) (st : Stream) (m : ℕ) (load : Load) (old : Window) (i : ℕ) (new : Window) : Type 0 where
+pub record Slid (sums : List ℕ) (load : Load) (old : Window) (i : ℕ) (new : Window) : Type 0 where
   pub low : old .low ≤ new .low
   pub high : old .high ≤ new .high
+  pub within : new .low ≤ i
   pub inside : new .high ≤ i
-  pub opens : Sums st m sums → i ≤ m → Ends st load old i → Open st load new i
+  pub opens : (st : Stream) (m : ℕ) → Sums st m sums → i ≤ m → Ends st load old i → Open st load new i

@@ -4,4 +4,5 @@ pub mod Sums
 pub mod Slide
 pub mod Held
 pub mod Pushed
+pub mod Windows
 pub mod Front

@@ -3,3 +3,4 @@
 pub mod queue; // queue.rt: the candidates of a window, from the least cost on
 pub mod slide; // slide.rt: the two ends of the window, moved on
 pub mod sums; // sums.rt: the heights of the text from its first line on
+pub mod windows; // windows.rt: the windows of all lines, kept from side to side

@@ -3,7 +3,7 @@
 ghost use mathlib.Core.Path.{_≡_};
 ghost use Prim.Native.Nat.{_+_, _*_, _≤_};
 ghost use lib.ListN.{length};
-ghost use Rattle.window.specs.Queue.{pushed, frontOf, Entries, Dropped, Passed, FeedAsked, Fed, AdvanceAsked, Advanced, FrontAsked};
+ghost use Rattle.window.specs.Queue.{pushed, frontOf, queueOf, Entries, Dropped, Passed, FeedAsked, Fed, AdvanceAsked, Advanced, FrontAsked};
 use crate::slide::Window;
 use places::Entry;
 use places::Start;
@@ -13,6 +13,19 @@ pub struct Queue {
     pub base: usize,
     pub head: usize,
     pub tail: usize,
+}
+
+// The queue of side c, which has the room of 4,000 entries: its head and tail stand as entry c of `ends`.
+pub fn queue_of(ends: &[u32], c: usize) -> Queue
+    requires { ⌜ 2 * c + 2 ≤ length (now ends) × (c ≤ 1) ⌝ }
+    ensures { λ r. ⌜ r ≡ queueOf (now (ends .entry)) c ⌝ }
+{
+    let at = 2 * c;
+    Queue {
+        base: 4000 * c,
+        head: galley::word::size(ends[at]),
+        tail: galley::word::size(ends[at + 1]),
+    }
 }
 
 // The tail after entries that cost x or more are dropped from the back: of equal costs the later line is kept.
@@ -45,8 +58,8 @@ fn drop_passed(words: &[u32], head: usize, tail: usize, low: usize) -> usize
     h
 }
 
-// A line and its cost written as entry `at`.
-fn push(words: &mut [u32], at: usize, line: u32, cost: u32)
+// A line and its cost, or the two ends of a window or of a queue, written as entry `at`.
+pub fn push(words: &mut [u32], at: usize, line: u32, cost: u32)
     requires { ⌜ 2 * at + 2 ≤ length (now words) ⌝ }
     ensures { λ _. ⌜ now (words .exit) ≡ pushed (now (words .entry)) at line cost ⌝ }
 {

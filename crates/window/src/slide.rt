@@ -1,7 +1,5 @@
 // The two ends of a window of starting lines, moved on as the page's last line moves on. Heights are compared as sums, never
 // as differences.
-ghost use Prim.Native.Nat.{ℕ};
-ghost use Rattle.model.specs.Galley.{Stream};
 ghost use Rattle.window.specs.Slide.{Reachable, Slidable, FirstFitting, FirstShort, Slid};
 
 // What a page has beside its lines, and the heights that it must keep to.
@@ -51,7 +49,7 @@ fn first_short(sums: &[u32], load: Load, from: usize, i: usize) -> usize
 // The window of a page that ends with line i, from that of the line before.
 pub fn slide(sums: &[u32], load: Load, window: Window, i: usize) -> Window
     requires { ⌜ Slidable (now sums) load window i ⌝ }
-    ensures { λ r. ⌜ ((st : Stream) (m : ℕ) → Slid (now (sums .entry)) st m load window i r) ⌝ }
+    ensures { λ r. ⌜ Slid (now (sums .entry)) load window i r ⌝ }
 {
     Window {
         low: first_fitting(sums, load, window.low, i),

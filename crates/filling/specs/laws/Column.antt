@@ -21,20 +21,20 @@ use Rattle.places.specs.Table.{tableOf}
 use Rattle.window.specs.declared.slide.Window.{Window}
 use Rattle.window.specs.declared.queue.Queue.{Queue}
 use Rattle.window.specs.Slide.{Slidable, Ends, Open, Slid}
-use Rattle.window.specs.Queue.{columnOf, frontOf, Held, FeedAsked, Advanced}
+use Rattle.window.specs.Queue.{columnOf, frontOf, queueOf, pushed, Held, FeedAsked, Advanced}
 use Rattle.window.specs.laws.Slide.{ends-first, ends-next}
 use Rattle.window.specs.laws.Front.{front-cheapest}
-use Rattle.starts.specs.declared.sweep.Windows.{Windows}
+use Rattle.window.specs.laws.Pushed.{pushed-length}
 use Rattle.starts.specs.Search.{entryOf}
 use Rattle.starts.specs.Choice.{Between}
 use Rattle.starts.specs.Heights.{Stacked}
-use Rattle.starts.specs.Sweep.{sideOf, Known, Scratched, queueAt, Queues, Lent, Addable, FewerAsked, FewerDone}
+use Rattle.starts.specs.Sweep.{sideOf, Known, Scratched, Changed, Lent, Addable, FewerAsked, FewerDone}
 use Rattle.starts.specs.laws.Heights.{stacked-nothing}
 use Rattle.starts.specs.laws.Sweep.{window-best}
-use Rattle.starts.specs.laws.Queues.{side-either, queues-none, base-low, queues-round, queues-same, queues-next}
-use Rattle.starts.specs.laws.Cells.{scratched-length, cell-other, knows-other}
-use Rattle.starts.specs.laws.Lending.{lent-sized, can-slide, can-feed, can-front, column-named}
+use Rattle.starts.specs.laws.Cells.{scratched-length, stored-changes, knows-other}
+use Rattle.starts.specs.laws.Lending.{side-either, lent-sized, can-slide, can-feed, can-front, column-named}
 use Rattle.filling.specs.declared.side.End.{End}
+use Rattle.filling.specs.declared.side.Windows.{Windows}
 use Rattle.filling.specs.Filled.{Side, Filled}
 use Rattle.filling.specs.Fill.{tall, fillSide, fillPlace, fillColumn}
 use Rattle.filling.specs.Asked.{SideAsked, PlaceAsked, ColumnAsked}
@@ -42,6 +42,7 @@ use Rattle.filling.specs.Column.{plain, EntryAsked, Turned, SideMoved, S
 use Rattle.filling.specs.laws.Entered.{side-low}
 use Rattle.filling.specs.laws.Fill.{Room, length-side, filled-keeps}
 use Rattle.filling.specs.laws.Price.{dearest-light}
+use Rattle.filling.specs.laws.Queues.{queues-none, queues-round, queues-same, queues-next}
 use Rattle.filling.specs.laws.Over.{column-scratched, scratched-other}
 use Rattle.filling.specs.laws.Filling.{side-one, place-single, place-double, column-start, column-place, column-next, table-column}
 
@@ -105,8 +106,8 @@ module _ {bytes : List ℕ} {g : Galley} {w words : List ℕ} {queue : Queue} {w
       }
 
 -- One side after another.
-module _ {bytes : List ℕ} {g : Galley} {w₀ words₀ : List ℕ} {queues₀ : List Queue} {windows : Windows} {end : End}
-    (asked : PlaceMoved bytes g w₀ words₀ queues₀ windows end) where
+module _ {bytes : List ℕ} {g : Galley} {w₀ words₀ ends₀ : List ℕ} {windows : Windows} {end : End}
+    (asked : PlaceMoved bytes g w₀ words₀ ends₀ windows end) where
   two : g .spec .sides ≤ 2
   two = asked .lent .sound .specRanged .sidesTwo
 
@@ -116,7 +117,7 @@ module _ {bytes : List ℕ} {g : Galley} {w₀ words₀ : List ℕ} {queues₀ :
   here : end .line ≤ g .lines
   here = asked .asked .placed .line
 
-  pub sides-first : SidesRun bytes g w₀ w₀ words₀ words₀ queues₀ windows end 0
+  pub sides-first : SidesRun bytes g w₀ w₀ words₀ words₀ ends₀ ends₀ windows end 0
   unfolding fillSides
   sides-first =
       let z : 2 * end .line + 0 ≡ 2 * end .line = omega arith in
@@ -124,16 +125,17 @@ module _ {bytes : List ℕ} {g : Galley} {w₀ words₀ : List ℕ} {queues₀ :
         within = omega arith;
         sized = refl;
         wordsSized = refl;
+        endsSized = refl;
         filled = refl;
         entries = asked .asked .filled;
         queued = asked .queued;
         waits = rw z (asked .waits);
       }
 
-  module _ {w words : List ℕ} {queues : List Queue} {c : ℕ} (run : SidesRun bytes g w₀ w words₀ words queues windows end c)
+  module _ {w words ends : List ℕ} {c : ℕ} (run : SidesRun bytes g w₀ w words₀ words ends₀ ends windows end c)
     where
       -- The place is filled once all sides are.
-      pub sides-last : g .spec .sides ≤ c → PlaceFilled bytes g w₀ w words queues windows end
+      pub sides-last : g .spec .sides ≤ c → PlaceFilled bytes g w₀ w words ends windows end
       unfolding fillSides
       sides-last l =
           record {
@@ -159,7 +161,7 @@ module _ {bytes : List ℕ} {g : Galley} {w₀ words₀ : List ℕ} {queues₀ :
         room = omega (arith, asked .lent .room, run .sized)
 
         -- The next side can be filled.
-        pub sides-asked : SideMoved bytes g w words (queueAt queues c) windows (record {
+        pub sides-asked : SideMoved bytes g w words (queueOf ends c) windows (record {
           line = end .line;
           column = end .column;
           side = c;
@@ -178,20 +180,33 @@ module _ {bytes : List ℕ} {g : Galley} {w₀ words₀ : List ℕ} {queues₀ :
               occurs = occurs;
               lent = lent-sized w words (run .sized) (run .wordsSized) (asked .lent);
               turned = asked .turned;
-              based = base-low (run .queued) c (omega arith);
+              based = omega arith;
               held = run .queued .still c (le-refl c) occurs;
               known = run .waits (end .line) c here occurs (le-refl (2 * end .line + c));
             }
 
+        -- The ends of its queue are words.
+        pub sides-small : (words′ : List ℕ) (r : Queue)
+            → Advanced w (g .lines + 1) (end .column) (sideOf g c) words (queueOf ends c) (windows .from .high) (windows .to) r
+            words′
+            → (r .head ≤ 8000) × (r .tail ≤ 8000)
+        sides-small words′ r advanced =
+            let few = asked .lent .sound .fewLines in
+            let i = inside in
+            let l = here in (
+              omega (arith, advanced .order, advanced .short, advanced .base, low),
+              omega (arith, advanced .short, advanced .base, low),
+            )
+
         -- With it filled, one side more is.
         pub sides-next : (v words′ : List ℕ) → length words′ ≡ length words → (r : Queue)
-            → SideFilled bytes g w v words words′ (queueAt queues c) windows (record {
+            → SideFilled bytes g w v words words′ (queueOf ends c) windows (record {
               line = end .line;
               column = end .column;
               side = c;
               cited = end .cited;
             }) r
-            → SidesRun bytes g w₀ v words₀ words′ (set queues c r) windows end (c + 1)
+            → SidesRun bytes g w₀ v words₀ words′ ends₀ (pushed ends c (r .head) (r .tail)) windows end (c + 1)
         unfolding fillSides fillSide tall Room
         sides-next v words′ sized r done =
             let n : c + 1 ≡ suc c = omega arith in
@@ -200,6 +215,7 @@ module _ {bytes : List ℕ} {g : Galley} {w₀ words₀ : List ℕ} {queues₀ :
               within = omega arith;
               sized = long ∙ run .sized;
               wordsSized = sized ∙ run .wordsSized;
+              endsSized = pushed-length ends c (r .head) (r .tail) ∙ run .endsSized;
               filled =
                   rw n (done .filled ∙ ap (fillSide (modelOf bytes g) (end .line) (end .column) c) (run .filled));
               entries =
@@ -208,7 +224,7 @@ module _ {bytes : List ℕ} {g : Galley} {w₀ words₀ : List ℕ} {queues₀ :
                   (asked .lent .column) c w room low (run .entries));
               queued =
                   queues-same
-                  (queues-next (run .queued) two occurs (asked .turned .low) (omega (
+                  (queues-next (run .queued) (asked .lent .sound .fewLines) two occurs (asked .turned .low) (omega (
                     arith,
                     inside,
                     here,
@@ -217,14 +233,18 @@ module _ {bytes : List ℕ} {g : Galley} {w₀ words₀ : List ℕ} {queues₀ :
                   (omega (arith, inside, asked .turned .high)) inside
                   (λ a d l.
                   rw add-one
-                  (cell-other g w (end .line) (end .column) c (entryOf (modelOf bytes g) (tableOf (suc (g .lines)) w)
-                  (end .line) (end .column) c) v (done .filled) here low a (end .column) (sideOf g d) (omega (arith, here))
-                  (side-either g d) (λ q. omega (arith, q .0))));
+                  (changed .others a (end .column) (sideOf g d) (omega (arith, here)) (side-either g d) (λ q.
+                  omega (arith, q .0))));
               waits = λ k d l m p.
-                  knows-other g w (end .line) (end .column) c (entryOf (modelOf bytes g) (tableOf (suc (g .lines)) w)
-                  (end .line) (end .column) c) v (done .filled) here low (asked .lent .column) room bytes k d 0 l
-                  (omega (arith, two)) (λ q. omega (arith, q .0, q .1)) (run .waits k d l m (omega arith));
+                  knows-other changed (asked .lent .sound .fewLines) here low two bytes k d 0 l (omega (arith, two)) (λ q.
+                  omega (arith, q .0, q .1)) (run .waits k d l m (omega arith));
             }
+          where
+            changed : Changed g w v (end .line) (end .column) c (entryOf (modelOf bytes g) (tableOf (suc (g .lines)) w)
+                (end .line) (end .column) c)
+            changed =
+                stored-changes g w (end .line) (end .column) c here (asked .lent .column) occurs two room
+                (entryOf (modelOf bytes g) (tableOf (suc (g .lines)) w) (end .line) (end .column) c) v (done .filled)
 
 -- One line after another.
 module _ {bytes : List ℕ} {g : Galley} {w₀ sums words₀ : List ℕ} {j : ℕ} (asked : LastAsked bytes g w₀ sums words₀ j) where
@@ -245,18 +265,18 @@ module _ {bytes : List ℕ} {g : Galley} {w₀ sums words₀ : List ℕ} {j : �
 
   -- Before the first line the queues are empty.
   pub last-first : LastRun bytes g w₀ w₀ words₀ words₀ j 0 (record { low = 0; high = 0 })
-      (record { base = 0; head = 0; tail = 0 } ∷ record { base = g .lines; head = g .lines; tail = g .lines } ∷ []) 0
+      (0 ∷ 0 ∷ 4000 ∷ 4000 ∷ []) 0
   last-first =
       record {
         column = column-start bytes g w₀ j (asked .lent .column);
         wordsSized = refl;
-        ends = ends-first (textOf bytes g) (plain g);
+        slid = ends-first (textOf bytes g) (plain g);
         queued = queues-none g w₀ words₀ j (lent-first .sound .specRanged .sidesTwo);
         waits = λ k c l m n. asked .known k c l m;
       }
 
-  module _ {w words : List ℕ} {cited : ℕ} {window : Window} {queues : List Queue} {i : ℕ}
-      (run : LastRun bytes g w₀ w words₀ words j cited window queues i) (at : i ≤ g .lines) where
+  module _ {w words ends : List ℕ} {cited : ℕ} {window : Window} {i : ℕ}
+      (run : LastRun bytes g w₀ w words₀ words j cited window ends i) (at : i ≤ g .lines) where
     lent-now : Lent bytes g w words j
     lent-now = lent-sized w words (run .column .sized) (run .wordsSized) lent-first
 
@@ -264,15 +284,15 @@ module _ {bytes : List ℕ} {g : Galley} {w₀ sums words₀ : List ℕ} {j : �
     pub last-slides : Slidable sums (plain g) window i
     last-slides =
         can-slide lent-now (asked .lent .summed) false j (record { tight = 0; loose = 0 }) (no-figures bytes g j) window i at
-        (run .ends)
+        (run .slid)
 
     module _ (cited′ : ℕ) (citing : Citing (figuresOf bytes g) i cited′) (new : Window)
-        (slid : (st : Stream) (m : ℕ) → Slid sums st m (plain g) window i new) where
+        (slid : Slid sums (plain g) window i new) where
       opened : Open (textOf bytes g) (plain g) new i
-      opened = slid (textOf bytes g) (g .lines) .opens (asked .lent .summed .rows) at (run .ends)
+      opened = slid .opens (textOf bytes g) (g .lines) (asked .lent .summed .rows) at (run .slid)
 
       -- the place can be filled,
-      pub last-place : PlaceMoved bytes g w words queues (record { from = window; to = new }) (record {
+      pub last-place : PlaceMoved bytes g w words ends (record { from = window; to = new }) (record {
         line = i;
         column = j;
         side = 0;
@@ -284,15 +304,13 @@ module _ {bytes : List ℕ} {g : Galley} {w₀ sums words₀ : List ℕ} {j : �
             lent = lent-now;
             turned =
                 record {
-                  low = slid (textOf bytes g) (g .lines) .low;
-                  high = slid (textOf bytes g) (g .lines) .high;
+                  low = slid .low;
+                  high = slid .high;
                   opened = opened;
                 };
             queued =
                 record {
                   pair = run .queued .pair;
-                  first = run .queued .first;
-                  second = run .queued .second;
                   moved = λ c l. absurd (omega arith);
                   still = run .queued .still;
                 };
@@ -300,7 +318,7 @@ module _ {bytes : List ℕ} {g : Galley} {w₀ sums words₀ : List ℕ} {j : �
           }
 
       -- and is.
-      pub last-next : (v words′ : List ℕ) → length words′ ≡ length words → (next : List Queue)
+      pub last-next : (v words′ : List ℕ) → length words′ ≡ length words → (next : List ℕ)
           → PlaceFilled bytes g w v words′ next (record { from = window; to = new }) (record {
             line = i;
             column = j;
@@ -313,7 +331,7 @@ module _ {bytes : List ℕ} {g : Galley} {w₀ sums words₀ : List ℕ} {j : �
           record {
             column = column-next bytes g w₀ j (asked .lent .column) w cited i cited′ (run .column) at citing v (done .filled);
             wordsSized = sized ∙ run .wordsSized;
-            ends = rw add-one (ends-next (textOf bytes g) (plain g) new i opened);
+            slid = rw add-one (ends-next (textOf bytes g) (plain g) new i opened);
             queued = done .queued;
             waits = rw n at (done .waits);
           }

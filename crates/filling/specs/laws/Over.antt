@@ -33,7 +33,7 @@ use Rattle.starts.specs.Sweep.{sideOf, Scratched, fresh, more}
 use Rattle.starts.specs.laws.Choice.{best-as, best-unique}
 use Rattle.starts.specs.laws.Found.{best-start}
 use Rattle.starts.specs.laws.Sweep.{best-same}
-use Rattle.starts.specs.laws.Queues.{side-either}
+use Rattle.starts.specs.laws.Lending.{side-either}
 use Rattle.starts.specs.laws.Cells.{scratched-length}
 use Rattle.filling.specs.Fill.{tall, fillSide, fillPlace, fillColumn}
 use Rattle.filling.specs.laws.Fill.{length-side, length-place}

@@ -1,27 +1,28 @@
 -- Stores in one column: what they leave, and what the places of the column know after each.
-use Prim.Native.Nat.{ℕ, suc, _+_, _*_, _≤_, _<_}
+use Prim.Native.Nat.{ℕ, suc, _+_, _≤_, _<_}
 use native.Mathlib.Numerals.{add-one}
 use native.Mathlib.Decide.{ℕ-discrete}
 use native.Mathlib.Omega.{arith}
-use mathlib.Core.Path.{_≡_, refl, sym, ap, _∙_}
-use mathlib.Core.Bool.{false}
+use mathlib.Core.Path.{_≡_, refl, ap, _∙_}
+use mathlib.Core.Bool.{Bool, true, false}
 use mathlib.Core.List.{List}
 use lib.ListN.{length}
+use Rattle.model.specs.Gather.{pick}
 use Rattle.galley.specs.declared.Galley.{Galley}
 use Rattle.places.specs.declared.Entry.{Entry}
-use Rattle.places.specs.declared.Entry.the-variants.{Unreached}
-use Rattle.places.specs.Entry.{stored}
+use Rattle.places.specs.declared.Entry.the-variants.{Unreached, Least}
+use Rattle.places.specs.Entry.{entryAt, stored}
 use Rattle.places.specs.Address.{address, wordsNeeded}
 use Rattle.places.specs.Table.{tableOf}
 use Rattle.places.specs.laws.Address.{address-in}
 use Rattle.places.specs.laws.Stored.{stored-length}
 use Rattle.places.specs.laws.Table.{table-same, table-other}
-use Rattle.starts.specs.Choice.{Best, Between}
+use Rattle.starts.specs.Choice.{wins, chosen, taken, Best, Between}
 use Rattle.starts.specs.Asked.{searchOf, allPlaced}
-use Rattle.starts.specs.Sweep.{sideOf, Knows, Known, Swept, Scratched, fresh, more, Blank, ClearAsked, ColumnCleared, ClearRun, PlaceRun, PlaceCleared}
+use Rattle.starts.specs.Sweep.{sideOf, Knows, Known, number, Swept, Scratched, fresh, more, Changed, Blank, ClearAsked, Cleared}
 use Rattle.starts.specs.laws.Choice.{best-none}
 use Rattle.starts.specs.laws.Sweep.{best-same}
-use Rattle.starts.specs.laws.Queues.{side-either}
+use Rattle.starts.specs.laws.Lending.{side-either}
 
 -- Stores after stores.
 pub scratched-then : (g : Galley) (j : ℕ) (w v u : List ℕ) → Scratched g j w v → Scratched g j v u → Scratched g j w u
@@ -34,142 +35,151 @@ scratched-length g j w v fresh = refl
 scratched-length g j w v (more x y i c e b l m p) =
     ap length p ∙ stored-length x (address (suc (g .lines)) i j c) e ∙ scratched-length g j w x b
 
--- One store.
-module _ (g : Galley) (w : List ℕ) (i j c : ℕ) (e : Entry) (v : List ℕ) (p : v ≡ stored w (address (suc (g .lines)) i j c) e)
-    (line : i ≤ g .lines) (side : c ≤ 1) where
-  pub cell-length : length v ≡ length w
-  cell-length = ap length p ∙ stored-length w (address (suc (g .lines)) i j c) e
+-- One store, of an entry or of the better of two, at a place of the work area.
+module _ (g : Galley) (w : List ℕ) (i j c : ℕ) (line : i ≤ g .lines) (column : j ≤ g .figures) (occurs : c < g .spec .sides)
+    (two : g .spec .sides ≤ 2) (room : wordsNeeded (g .lines) (g .figures) ≤ length w) where
+  pub stored-changes : (e : Entry) (v : List ℕ) → v ≡ stored w (address (suc (g .lines)) i j c) e → Changed g w v i j c e
+  stored-changes e v p =
+      let side : c ≤ 1 = omega arith in
+      let a = address-in (g .lines) (g .figures) i j c line column side in
+      let s = ap (λ h. address h i j c) (add-one (g .lines)) in
+      record {
+        sized = ap length p ∙ stored-length w (address (suc (g .lines)) i j c) e;
+        own =
+            ap (λ u. tableOf (suc (g .lines)) u i j c) p ∙ table-same (suc (g .lines)) i j c w e (omega arith);
+        others = λ a b d l m n.
+            ap (λ u. tableOf (suc (g .lines)) u a b d) p
+            ∙ table-other (suc (g .lines)) i j c a b d w e (omega arith) (omega arith) side m n;
+        kept = more w v i c e fresh line occurs p;
+      }
 
-  pub cell-other : (a b d : ℕ) → a ≤ g .lines → d ≤ 1 → ((i ≡ a) × (j ≡ b) × (c ≡ d) → ⊥)
-      → tableOf (suc (g .lines)) v a b d ≡ tableOf (suc (g .lines)) w a b d
-  cell-other a b d l m n =
-      ap (λ u. tableOf (suc (g .lines)) u a b d) p
-      ∙ table-other (suc (g .lines)) i j c a b d w e (omega arith) (omega arith) side m n
+  unchanged : (v : List ℕ) → v ≡ w → Changed g w v i j c (tableOf (suc (g .lines)) w i j c)
+  unchanged v p = rw p (record { sized = refl; own = refl; others = λ a b d l m n. refl; kept = fresh })
 
-  module _ (column : j ≤ g .figures) (room : wordsNeeded (g .lines) (g .figures) ≤ length w) where
-    pub cell-own : tableOf (suc (g .lines)) v i j c ≡ e
-    cell-own =
-        let a = address-in (g .lines) (g .figures) i j c line column side in
-        let s = ap (λ h. address h i j c) (add-one (g .lines)) in
-        ap (λ u. tableOf (suc (g .lines)) u i j c) p ∙ table-same (suc (g .lines)) i j c w e (omega arith)
+  pub taken-changes : (e : Entry) (v : List ℕ) → v ≡ taken w (address (suc (g .lines)) i j c) e
+      → Changed g w v i j c (chosen (tableOf (suc (g .lines)) w i j c) e)
+  unfolding taken chosen tableOf
+  taken-changes Unreached v p = unchanged v p
+  taken-changes (Least y r) v p = go (wins y r (entryAt w (address (suc (g .lines)) i j c))) p
+    where
+      go : (t : Bool) → v ≡ pick t (stored w (address (suc (g .lines)) i j c) (Least y r)) w
+          → Changed g w v i j c (pick t (Least y r) (tableOf (suc (g .lines)) w i j c))
+      go true q = stored-changes (Least y r) v q
+      go false q = unchanged v q
 
-    -- Every other place of the column knows of earlier columns what it knew.
-    pub knows-other : (bytes : List ℕ) (k d b : ℕ) → k ≤ g .lines → d ≤ 1 → ((i ≡ k) × (c ≡ d) → ⊥)
-        → Knows bytes g w k j d (Between b j) → Knows bytes g v k j d (Between b j)
-    knows-other bytes k d b l m n known inner =
-        rw (cell-other k j d l m (λ q. n (q .0, q .2)))
-        (best-same bytes g w v k j (sideOf g d) (Between b j) (tableOf (suc (g .lines)) w k j d)
-        (λ a b′ r h h′. cell-other a b′ (sideOf g d) (omega arith) (side-either g d) (λ q. omega (arith, q .1, r .1)))
-        (known inner))
+-- What the places of a column know when one of them has changed.
+module _ {g : Galley} {w v : List ℕ} {i j c : ℕ} {e : Entry} (changed : Changed g w v i j c e) (few : g .lines ≤ 4000)
+    (line : i ≤ g .lines) (side : c ≤ 1) (two : g .spec .sides ≤ 2) where
+  -- Every other place of the column knows of earlier columns what it knew.
+  pub knows-other : (bytes : List ℕ) (k d b : ℕ) → k ≤ g .lines → d ≤ 1 → ((i ≡ k) × (c ≡ d) → ⊥)
+      → Knows bytes g w k j d (Between b j) → Knows bytes g v k j d (Between b j)
+  knows-other bytes k d b l m n known inner =
+      rw (changed .others k j d l m (λ q. n (q .0, q .2)))
+      (best-same bytes g w v k j (sideOf g d) (Between b j) (tableOf (suc (g .lines)) w k j d)
+      (λ a b′ r h h′. changed .others a b′ (sideOf g d) (omega arith) (side-either g d) (λ q. omega (arith, q .1, r .1)))
+      (known inner))
 
-    -- The place itself knows what was stored.
-    pub knows-own : (bytes : List ℕ) (b : ℕ)
-        → (allPlaced g i j ≡ false → Best (searchOf bytes g w i j (sideOf g c)) (Between b j) e)
-        → Knows bytes g v i j c (Between b j)
-    knows-own bytes b best inner =
-        rw cell-own
-        (best-same bytes g w v i j (sideOf g c) (Between b j) e
-        (λ a b′ r h h′. cell-other a b′ (sideOf g c) (omega arith) (side-either g c) (λ q. omega (arith, q .1, r .1)))
-        (best inner))
+  -- The place itself knows what it holds.
+  pub knows-own : (bytes : List ℕ) (b : ℕ)
+      → (allPlaced g i j ≡ false → Best (searchOf bytes g w i j (sideOf g c)) (Between b j) e)
+      → Knows bytes g v i j c (Between b j)
+  knows-own bytes b best inner =
+      rw (changed .own)
+      (best-same bytes g w v i j (sideOf g c) (Between b j) e
+      (λ a b′ r h h′. changed .others a b′ (sideOf g c) (omega arith) (side-either g c) (λ q. omega (arith, q .1, r .1)))
+      (best inner))
 
-    -- One place more is swept.
-    pub swept-next : (bytes : List ℕ) (b : ℕ) → g .spec .sides ≤ 2 → Swept bytes g w j b (2 * i + c)
-        → (allPlaced g i j ≡ false → Best (searchOf bytes g w i j (sideOf g c)) (Between b j) e)
-        → Swept bytes g v j b (2 * i + (c + 1))
-    swept-next bytes b two s best =
-        record {
-          done = λ k d l m n. go k d l m n (ℕ-discrete (2 * k + d) (2 * i + c));
-          left = λ k d l m n.
-              knows-other bytes k d (suc b) l (omega arith) (λ q. omega (arith, q .0, q .1)) (s .left k d l m (omega arith));
-        }
-      where
-        go : (k d : ℕ) → k ≤ g .lines → d < g .spec .sides → 2 * k + d < 2 * i + (c + 1) → Dec (2 * k + d ≡ 2 * i + c)
-            → Knows bytes g v k j d (Between b j)
-        go k d l m n (yes q) =
-            let x : k ≡ i = omega arith in
-            let y : d ≡ c = omega arith in
-            rw (x, y) (knows-own bytes b best)
-        go k d l m n (no q) =
-            knows-other bytes k d b l (omega arith) (λ r. q (omega (arith, r .0, r .1))) (s .done k d l m (omega arith))
+  -- One place more is swept.
+  pub swept-next : (bytes : List ℕ) (b : ℕ) → Swept bytes g w j b (number c i)
+      → (allPlaced g i j ≡ false → Best (searchOf bytes g w i j (sideOf g c)) (Between b j) e)
+      → Swept bytes g v j b (number c (i + 1))
+  swept-next bytes b s best =
+      record {
+        done = λ k d l m n. go k d l m n (ℕ-discrete (number d k) (number c i));
+        left = λ k d l m n.
+            knows-other bytes k d (suc b) l (omega arith) (λ q. omega (arith, q .0, q .1)) (s .left k d l m (omega arith));
+      }
+    where
+      go : (k d : ℕ) → k ≤ g .lines → d < g .spec .sides → number d k < number c (i + 1) → Dec (number d k ≡ number c i)
+          → Knows bytes g v k j d (Between b j)
+      go k d l m n (yes q) =
+          let x : k ≡ i = omega arith in
+          let y : d ≡ c = omega arith in
+          rw (x, y) (knows-own bytes b best)
+      go k d l m n (no q) =
+          knows-other bytes k d b l (omega arith) (λ r. q (omega (arith, r .0, r .1))) (s .done k d l m (omega arith))
 
-    -- One place more is unreached.
-    pub blank-next : g .spec .sides ≤ 2 → e ≡ Unreached → Blank g w j (2 * i + c) → Blank g v j (2 * i + (c + 1))
-    blank-next two none s k d l m n = go (ℕ-discrete (2 * k + d) (2 * i + c))
-      where
-        go : Dec (2 * k + d ≡ 2 * i + c) → tableOf (suc (g .lines)) v k j d ≡ Unreached
-        go (yes q) =
-            let x : k ≡ i = omega arith in
-            let y : d ≡ c = omega arith in
-            rw (x, y) (cell-own ∙ none)
-        go (no q) =
-            cell-other k j d l (omega arith) (λ r. q (omega (arith, r .0, r .2))) ∙ s k d l m (omega arith)
+  -- One place more is unreached.
+  pub blank-next : e ≡ Unreached → Blank g w j (number c i) → Blank g v j (number c (i + 1))
+  blank-next none s k d l m n = go (ℕ-discrete (number d k) (number c i))
+    where
+      go : Dec (number d k ≡ number c i) → tableOf (suc (g .lines)) v k j d ≡ Unreached
+      go (yes q) =
+          let x : k ≡ i = omega arith in
+          let y : d ≡ c = omega arith in
+          rw (x, y) (changed .own ∙ none)
+      go (no q) =
+          changed .others k j d l (omega arith) (λ r. q (omega (arith, r .0, r .2))) ∙ s k d l m (omega arith)
 
--- The sides of a line are over: the next line begins.
-pub swept-line : {bytes : List ℕ} {g : Galley} {w : List ℕ} {j b : ℕ} (i c : ℕ) → g .spec .sides ≤ 2 → g .spec .sides ≤ c
-    → c ≤ 2 → Swept bytes g w j b (2 * i + c) → Swept bytes g w j b (2 * i + 2)
-swept-line i c two l m s =
+-- The lines of a side are over: the next side begins.
+pub swept-side : {bytes : List ℕ} {g : Galley} {w : List ℕ} {j b : ℕ} (c i : ℕ) → g .lines ≤ 4000 → g .lines < i
+    → i ≤ suc (g .lines) → Swept bytes g w j b (number c i) → Swept bytes g w j b (number (c + 1) 0)
+swept-side c i few l m s =
     record {
       done = λ k d h h′ n. s .done k d h h′ (omega arith);
       left = λ k d h h′ n. s .left k d h h′ (omega arith);
     }
 
 -- In an unreached column no start is known, and there is none with j figures or more and fewer than j.
-pub blank-known : (bytes : List ℕ) (g : Galley) (w : List ℕ) (j : ℕ) → g .spec .sides ≤ 2 → Blank g w j (2 * g .lines + 2)
-    → Known bytes g w j j
-blank-known bytes g w j two blank k c l m inner =
+pub blank-known : (bytes : List ℕ) (g : Galley) (w : List ℕ) (j : ℕ) → g .lines ≤ 4000 → g .spec .sides ≤ 2
+    → Blank g w j (number 2 0) → Known bytes g w j j
+blank-known bytes g w j few two blank k c l m inner =
     rw (blank k c l m (omega arith))
     (best-none (searchOf bytes g w k j (sideOf g c)) (Between j j) (λ a b x p q. omega (arith, p .0, p .1)))
 
--- One side more of a place is cleared,
-pub clear-next : {g : Galley} {w₀ w : List ℕ} {i j c : ℕ} → ClearAsked g w₀ i j → PlaceRun g w₀ w i j c → c < g .spec .sides
-    → (v : List ℕ) → v ≡ stored w (address (suc (g .lines)) i j c) Unreached → PlaceRun g w₀ v i j (c + 1)
-clear-next {g} {w₀} {w} {i} {j} {c} asked run l v e =
-    let side : c ≤ 1 = omega (arith, asked .two) in
-    let room : wordsNeeded (g .lines) (g .figures) ≤ length w = omega (arith, asked .room, run .sized) in
+-- Nothing is cleared at first,
+pub cleared-none : (g : Galley) (w : List ℕ) (j n : ℕ) → Cleared g w w j n n
+cleared-none g w j n = record { sized = refl; blank = λ b. b; kept = fresh }
+
+-- then one part after another,
+pub cleared-then : {g : Galley} {w v u : List ℕ} {j n m o : ℕ} → Cleared g w v j n m → Cleared g v u j m o → Cleared g w u j n o
+cleared-then {g} {w} {v} {u} {j} a b =
     record {
-      within = omega arith;
-      sized = cell-length g w i j c Unreached v e (asked .line) side ∙ run .sized;
-      blank = λ b. blank-next g w i j c Unreached v e (asked .line) side (asked .within) room (asked .two) refl (run .blank b);
-      kept = more w v i c Unreached (run .kept) (asked .line) l e;
+      sized = b .sized ∙ a .sized;
+      blank = λ h. b .blank (a .blank h);
+      kept = scratched-then g j w v u (a .kept) (b .kept);
     }
 
--- then all of them,
-pub clear-sides : {g : Galley} {w₀ w : List ℕ} {i j c : ℕ} → ClearAsked g w₀ i j → PlaceRun g w₀ w i j c
-    → g .spec .sides ≤ c → PlaceCleared g w₀ w i j
-clear-sides asked run l =
+-- each part one place,
+pub clear-next : {g : Galley} {w : List ℕ} {j : ℕ} (i c : ℕ) → ClearAsked g w j → i ≤ g .lines → c < g .spec .sides
+    → (v : List ℕ) → v ≡ stored w (address (suc (g .lines)) i j c) Unreached → Cleared g w v j (number c i) (number c (i + 1))
+clear-next {g} {w} {j} i c asked line occurs v e =
+    let changed = stored-changes g w i j c line (asked .within) occurs (asked .two) (asked .room) Unreached v e in
     record {
-      sized = run .sized;
-      blank = λ b k d h m n. run .blank b k d h m (omega (arith, asked .two));
-      kept = run .kept;
+      sized = changed .sized;
+      blank = blank-next changed (asked .few) line (omega (arith, asked .two)) (asked .two) refl;
+      kept = changed .kept;
     }
 
--- and so one line after another.
-pub clear-first : (g : Galley) (w : List ℕ) (j : ℕ) → ClearRun g w w j 0
-clear-first g w j =
-    record {
-      within = omega arith;
-      cleared = record { sized = refl; blank = λ k d l m n. absurd (omega arith); kept = fresh };
-    }
+-- until a side is over.
+pub clear-side : {g : Galley} {w v : List ℕ} {j : ℕ} (n c i : ℕ) → g .lines ≤ 4000 → g .lines < i → i ≤ suc (g .lines)
+    → Cleared g w v j n (number c i) → Cleared g w v j n (number (c + 1) 0)
+clear-side n c i few l m a =
+    record { sized = a .sized; blank = λ b k d h h′ o. a .blank b k d h h′ (omega arith); kept = a .kept }
 
-pub clear-line : {g : Galley} {w₀ w : List ℕ} {i j : ℕ} → ClearRun g w₀ w j i → i ≤ g .lines → (v : List ℕ)
-    → PlaceCleared g w v i j → ClearRun g w₀ v j (i + 1)
-clear-line {g} {w₀} {w} {i} {j} run l v done =
-    let n : 2 * i + 2 ≡ 2 * (i + 1) = omega arith in
-    record {
-      within = omega arith;
-      cleared =
-          record {
-            sized = done .sized ∙ run .cleared .sized;
-            blank = rw (← n) (done .blank (run .cleared .blank));
-            kept = scratched-then g j w₀ w v (run .cleared .kept) (done .kept);
-          };
-    }
+-- After the last side that occurs the column is over.
+pub cleared-all : {g : Galley} {w v : List ℕ} {j n : ℕ} (c : ℕ) → g .lines ≤ 4000 → g .spec .sides ≤ c
+    → Cleared g w v j n (number c 0) → Cleared g w v j n (number 2 0)
+cleared-all c few l a =
+    record { sized = a .sized; blank = λ b k d h h′ o. a .blank b k d h h′ (omega arith); kept = a .kept }
 
-pub clear-last : {g : Galley} {w₀ w : List ℕ} {i j : ℕ} → ClearRun g w₀ w j i → g .lines < i
-    → ColumnCleared g w₀ w j (2 * g .lines + 2)
-clear-last run l =
+-- The column can be cleared further.
+pub clear-sized : {g : Galley} {w v : List ℕ} {j n m : ℕ} → Cleared g w v j n m → ClearAsked g w j → ClearAsked g v j
+clear-sized cleared asked =
     record {
-      sized = run .cleared .sized;
-      blank = λ k d h m n. run .cleared .blank k d h m (omega (arith, run .within));
-      kept = run .cleared .kept;
+      few = asked .few;
+      figure = asked .figure;
+      within = asked .within;
+      two = asked .two;
+      room = omega (arith, asked .room, cleared .sized);
     }

@@ -12,7 +12,7 @@ use Rattle.places.specs.declared.Start.{Start}
 use Rattle.places.specs.declared.Entry.{Entry}
 use Rattle.places.specs.declared.Entry.the-variants.{Unreached, Least}
 use Rattle.starts.specs.Search.{Search}
-use Rattle.starts.specs.Choice.{noLater, chosen, NoLater, Candidate, Leads, Best}
+use Rattle.starts.specs.Choice.{noLater, wins, chosen, NoLater, Candidate, Leads, Best}
 
 -- Being no later is transitive and antisymmetric.
 no-later-trans : (a b c d e f : ℕ) → NoLater a b c d → NoLater c d e f → NoLater a b e f
@@ -149,7 +149,7 @@ module _ (s : Search) where
   pub best-chosen : (P Q R : ℕ → ℕ → Type 0) → ((a b : ℕ) → P a b → R a b) → ((a b : ℕ) → Q a b → R a b)
       → ((a b x : ℕ) → Candidate s a b x → R a b → P a b ⊎ Q a b) → (e f : Entry) → Best s P e → Best s Q f → Best s R (chosen
       e f)
-  unfolding chosen Leads
+  unfolding chosen wins Leads
   best-chosen P Q R left right split e Unreached h k =
       best-as P R e (λ a b x c. left a b) (λ a b x c r. go a b x c (split a b x c r)) h
     where

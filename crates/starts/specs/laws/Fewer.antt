@@ -19,7 +19,7 @@ use Rattle.starts.specs.Search.{place}
 use Rattle.starts.specs.Choice.{Candidate, Between}
 use Rattle.starts.specs.Heights.{Stacked, FiguresAfter}
 use Rattle.starts.specs.Asked.{searchOf}
-use Rattle.starts.specs.Sweep.{sideOf, Known, Lent, Summed, ColumnCleared, fresh, SweepAsked, SweepDone, FewerRun, FewerDone}
+use Rattle.starts.specs.Sweep.{sideOf, Known, number, Lent, Summed, Cleared, fresh, SweepAsked, SweepDone, FewerRun, FewerDone}
 use Rattle.starts.specs.declared.sweep.Pass.{Pass}
 use Rattle.starts.specs.laws.Heights.{stacked-nothing}
 use Rattle.starts.specs.laws.Choice.{best-as}
@@ -28,7 +28,7 @@ use Rattle.starts.specs.laws.Cells.{scratched-then, blank-known}
 
 module _ {bytes : List ℕ} {g : Galley} {w₀ words₀ : List ℕ} {j : ℕ} (lent : Lent bytes g w₀ words₀ j) where
   -- Before the first sweep no start is known, and every place is unreached. The loop starts with the cleared column.
-  pub fewer-first : (w : List ℕ) → ColumnCleared g w₀ w j (2 * g .lines + 2)
+  pub fewer-first : (w : List ℕ) → Cleared g w₀ w j 0 (number 2 0)
       → FewerRun bytes g w w words₀ words₀ j (record { tight = 0; loose = 0 }) j
   fewer-first w cleared =
       record {
@@ -37,12 +37,14 @@ module _ {bytes : List ℕ} {g : Galley} {w₀ words₀ : List ℕ} {j : ℕ} (l
         sized = refl;
         wordsSized = refl;
         floats = stacked-nothing (figuresOf bytes g) j j (le-refl j);
-        known = blank-known bytes g w j (lent .sound .specRanged .sidesTwo) (cleared .blank);
+        known =
+            blank-known bytes g w j (lent .sound .fewLines) (lent .sound .specRanged .sidesTwo) (cleared .blank (λ k c l m n.
+            absurd (omega arith)));
         kept = fresh;
       }
 
   -- What is known after the sweeps, from before the column was cleared.
-  pub fewer-since : (w v : List ℕ) → ColumnCleared g w₀ w j (2 * g .lines + 2) → FewerDone bytes g w v j
+  pub fewer-since : (w v : List ℕ) → Cleared g w₀ w j 0 (number 2 0) → FewerDone bytes g w v j
       → FewerDone bytes g w₀ v j
   fewer-since w v cleared done =
       record { known = done .known; kept = scratched-then g j w₀ w v (cleared .kept) (done .kept) }

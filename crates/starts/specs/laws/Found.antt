@@ -19,7 +19,7 @@ use Rattle.places.specs.declared.Start.{Start}
 use Rattle.places.specs.declared.Entry.{Entry}
 use Rattle.places.specs.declared.Entry.the-variants.{Unreached, Least}
 use Rattle.starts.specs.Search.{place, better, Search, offered, row, rows, bestStart}
-use Rattle.starts.specs.Choice.{noLater, chosen, NoLater, Candidate, Best, Any}
+use Rattle.starts.specs.Choice.{noLater, wins, chosen, NoLater, Candidate, Best, Any}
 use Rattle.starts.specs.laws.Choice.{no-reach, best-as, best-none, best-one, best-chosen}
 use Rattle.starts.specs.laws.Search.{and-false}
 
@@ -87,7 +87,7 @@ module _ (s : Search) where
   -- A candidate that comes before all tried is weighed by its cost alone.
   better-best : (a b x : ℕ) (e : Entry) (q : Start) → Candidate s a b x → Best s (Tried a (suc b)) e
       → Best s (Tried a b) (better (Least x q) a b e)
-  unfolding better chosen
+  unfolding better chosen wins
   better-best a b x e q c h = go e h (best-chosen s (Tried a (suc b)) (Only a b) (Tried a b) (tried-more a b) (only-tried a b)
       (λ a′ b′ y d. split-tried a b a′ b′) e (Least x (record { line = a; figure = b })) h one)
     where

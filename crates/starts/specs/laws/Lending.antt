@@ -7,6 +7,8 @@ use mathlib.Core.Bool.{Bool, true, false}
 use mathlib.Core.List.{List}
 use lib.ListN.{length}
 use Rattle.model.specs.Gather.{pick}
+use Rattle.model.specs.Galley.{Sides, single, double}
+use Rattle.model.specs.Leaf.{sidesOf}
 use Rattle.galley.specs.declared.Galley.{Galley}
 use Rattle.galley.specs.Model.{textOf, figuresOf}
 use Rattle.places.specs.laws.Address.{address-in}
@@ -16,10 +18,19 @@ use Rattle.window.specs.Slide.{Reachable, Slidable, Ends}
 use Rattle.window.specs.Queue.{columnOf, FeedAsked, FrontAsked}
 use Rattle.window.specs.laws.Sums.{sums-small}
 use Rattle.starts.specs.declared.heights.Heights.{Heights}
+use Rattle.starts.specs.Search.{before}
 use Rattle.starts.specs.Heights.{Stacked}
 use Rattle.starts.specs.Sweep.{sideOf, loadOf, Lent, Summed, Addable, AloneAsked}
 use Rattle.starts.specs.laws.Heights.{figures-low}
-use Rattle.starts.specs.laws.Queues.{side-either}
+
+-- The page before is on side 0 or 1.
+pub side-either : (g : Galley) (c : ℕ) → sideOf g c ≤ 1
+unfolding before
+side-either g c = go (sidesOf (g .spec .sides))
+  where
+    go : (sides : Sides) → before sides c ≤ 1
+    go single = omega arith
+    go double = omega arith
 
 -- What is lent for a column is the same while the lengths are.
 pub lent-sized : {bytes : List ℕ} {g : Galley} {w words : List ℕ} {j : ℕ} (w′ words′ : List ℕ) → length w′ ≡ length w
@@ -77,7 +88,7 @@ module _ {bytes : List ℕ} {g : Galley} {w words : List ℕ} {j : ℕ} (lent : 
 
   -- A queue of starts with b figures can be moved on to a window that ends by line i.
   pub can-feed : (b : ℕ) → b ≤ g .figures → (queue : Queue) (c from to i : ℕ) → i ≤ g .lines → from ≤ to → to ≤ i
-      → queue .base ≤ g .lines → queue .base ≤ queue .head → queue .head ≤ queue .tail → queue .tail ≤ queue .base + from
+      → queue .base ≤ 4000 → queue .base ≤ queue .head → queue .head ≤ queue .tail → queue .tail ≤ queue .base + from
       → FeedAsked w (g .lines + 1) b (sideOf g c) words queue from to
   can-feed b k queue c from to i h rises inside low based order short =
       record {
@@ -92,14 +103,18 @@ module _ {bytes : List ℕ} {g : Galley} {w words : List ℕ} {j : ℕ} (lent : 
         order = order;
         short = short;
         start = rises;
-        room = omega (arith, lent .wordsRoom);
+        room = omega (arith, lent .wordsRoom, lent .sound .fewLines);
       }
 
   -- The first entry of the queue of such a window can be read.
-  pub can-front : (b : ℕ) → b ≤ g .figures → (queue : Queue) (high : ℕ) → high ≤ g .lines → queue .base ≤ g .lines
+  pub can-front : (b : ℕ) → b ≤ g .figures → (queue : Queue) (high : ℕ) → high ≤ g .lines → queue .base ≤ 4000
       → queue .head ≤ queue .tail → queue .tail ≤ queue .base + high → FrontAsked words queue b
   can-front b k queue high l low order short =
-      record { order = order; room = omega (arith, lent .wordsRoom); column = omega (arith, lent .sound .fewFigures) }
+      record {
+        order = order;
+        room = omega (arith, lent .wordsRoom, lent .sound .fewLines);
+        column = omega (arith, lent .sound .fewFigures);
+      }
 
   -- (i, b) is a place.
   pub can-alone : (i b c : ℕ) → i ≤ g .lines → b ≤ g .figures → AloneAsked g w i b (sideOf g c)

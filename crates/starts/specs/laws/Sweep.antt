@@ -236,27 +236,27 @@ module _ (bytes : List ℕ) (g : Galley) (w : List ℕ) (i j side b : ℕ) (figu
 
     -- With the starts of b figures, those with more being known, the starts of b or more are known.
     pub improved : b < j → (held front alone : Entry) → Best search (Between (suc b) j) held → Best search (Above b i) front
-        → Best search (Level b i) alone → Best search (Between b j) (chosen (chosen held front) alone)
+        → Best search (Level b i) alone → Best search (Between b j) (chosen held (chosen front alone))
     improved k held front alone h f l =
-        best-chosen search Most (Level b i) (Between b j) into (λ a′ b′ p. (omega (arith, p .0), omega (arith, p .0)))
-        (λ a′ b′ x c r. part a′ b′ (c .line) r) (chosen held front) alone
-        (best-chosen search (Between (suc b) j) (Above b i) Most (λ a′ b′ p. inl p) (λ a′ b′ p. inr p) (λ a′ b′ x c r. r) held
-        front h f) l
+        best-chosen search (Between (suc b) j) Same (Between b j) (λ a′ b′ p. (omega (arith, p .0), p .1)) into
+        (λ a′ b′ x c r. part a′ b′ (c .line) r) held (chosen front alone) h
+        (best-chosen search (Above b i) (Level b i) Same (λ a′ b′ p. inl p) (λ a′ b′ p. inr p) (λ a′ b′ x c r. r) front alone
+        f l)
       where
-        Most : ℕ → ℕ → Type 0
-        Most a′ b′ = Between (suc b) j a′ b′ ⊎ Above b i a′ b′
+        Same : ℕ → ℕ → Type 0
+        Same a′ b′ = Above b i a′ b′ ⊎ Level b i a′ b′
 
-        into : (a′ b′ : ℕ) → Most a′ b′ → Between b j a′ b′
-        into a′ b′ (inl (p, q)) = (omega arith, q)
+        into : (a′ b′ : ℕ) → Same a′ b′ → Between b j a′ b′
+        into a′ b′ (inl (p, q)) = (omega arith, omega arith)
         into a′ b′ (inr (p, q)) = (omega arith, omega arith)
 
-        part : (a′ b′ : ℕ) → a′ ≤ i → Between b j a′ b′ → Most a′ b′ ⊎ Level b i a′ b′
+        part : (a′ b′ : ℕ) → a′ ≤ i → Between b j a′ b′ → Between (suc b) j a′ b′ ⊎ Same a′ b′
         part a′ b′ m (p, q) = go (decLt b b′) (decLt a′ i)
           where
-            go : Dec (b < b′) → Dec (a′ < i) → Most a′ b′ ⊎ Level b i a′ b′
-            go (yes n) d = inl (inl (n, q))
-            go (no n) (yes o) = inl (inr (omega arith, o))
-            go (no n) (no o) = inr (omega arith, omega arith)
+            go : Dec (b < b′) → Dec (a′ < i) → Between (suc b) j a′ b′ ⊎ Same a′ b′
+            go (yes n) d = inl (n, q)
+            go (no n) (yes o) = inr (inl (omega arith, o))
+            go (no n) (no o) = inr (inr (omega arith, omega arith))
 
 -- The starts with fewer figures and those with as many are all that there are, so that the better is what the search finds.
 pub start-chosen : (bytes : List ℕ) (g : Galley) (w : List ℕ) (i j side : ℕ) (held front : Entry)

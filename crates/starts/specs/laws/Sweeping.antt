@@ -1,14 +1,14 @@
--- The turns of one sweep: what holds when it starts, at each line, and at its end.
-use Prim.Native.Nat.{ℕ, suc, _+_, _*_, _-_, _≤_, _<_}
+-- The turns of one sweep: what holds when it starts, at each line of a side, and at its end.
+use Prim.Native.Nat.{ℕ, suc, _+_, _≤_, _<_}
 use native.Mathlib.Nat.{le-refl}
 use native.Mathlib.Numerals.{add-one}
 use native.Mathlib.Decide.{decLt, ℕ-discrete}
 use native.Mathlib.Omega.{arith}
-use mathlib.Core.Path.{_≡_, refl, sym, _∙_, ap}
-use mathlib.Core.Logic.{inl, inr}
+use mathlib.Core.Path.{_≡_, refl, sym, _∙_, subst}
+use mathlib.Core.Logic.{_⊎_, inl, inr}
 use mathlib.Core.Bool.{true, false}
-use mathlib.Core.List.{List, [], _∷_}
-use lib.ListN.{length, set}
+use mathlib.Core.List.{List}
+use lib.ListN.{length}
 use borrow.Author.Tests.{lt-ltb}
 use Rattle.model.specs.Galley.{Stream}
 use Rattle.galley.specs.declared.Galley.{Galley}
@@ -17,205 +17,245 @@ use Rattle.places.specs.declared.Entry.{Entry}
 use Rattle.places.specs.Table.{tableOf}
 use Rattle.window.specs.declared.slide.Window.{Window}
 use Rattle.window.specs.declared.queue.Queue.{Queue}
-use Rattle.window.specs.Slide.{Open, Slid}
+use Rattle.window.specs.Slide.{Open}
 use Rattle.window.specs.Queue.{columnOf, frontOf, Held, FeedAsked, Advanced}
+use Rattle.window.specs.Windows.{windowAt, WindowAsked, WindowFound}
 use Rattle.window.specs.laws.Slide.{ends-first, ends-next}
+use Rattle.window.specs.laws.Held.{held-none, held-same, held-beside}
 use Rattle.window.specs.laws.Front.{front-cheapest}
+use Rattle.window.specs.laws.Windows.{window-beside, kept-beside, ends-rise}
 use Rattle.starts.specs.declared.sweep.Pass.{Pass}
-use Rattle.starts.specs.declared.sweep.Windows.{Windows}
-use Rattle.starts.specs.Search.{place}
 use Rattle.starts.specs.Choice.{chosen, Best, Between}
 use Rattle.starts.specs.Asked.{searchOf, allPlaced}
-use Rattle.starts.specs.Sweep.{sideOf, loadOf, aloneOf, weighed, Knows, Known, Lent, Swept, Scratched, fresh, more, queueAt, Holds, Queues, Passing, SweepAsked, SweepDone, SweepRun, TurnAsked, TurnRun, TurnDone, ImproveAsked}
+use Rattle.starts.specs.Sweep.{sideOf, aloneOf, weighed, Lent, fresh, Changed, SweepAsked, SweepRun, SweepDone, passLoad, Windowed, Line, PassAsked, PassRun, PassDone, ImproveAsked}
 use Rattle.starts.specs.laws.Sweep.{window-best, alone-best, improved}
-use Rattle.starts.specs.laws.Lending.{lent-sized, can-feed, can-front, can-alone, column-named}
-use Rattle.starts.specs.laws.Queues.{side-either, queues-none, base-low, queues-round, queues-same, queues-next}
-use Rattle.starts.specs.laws.Cells.{scratched-then, cell-length, cell-other, swept-next, swept-line}
+use Rattle.starts.specs.laws.Lending.{side-either, lent-sized, can-slide, can-feed, can-front, can-alone, column-named}
+use Rattle.starts.specs.laws.Cells.{scratched-then, taken-changes, swept-next, swept-side}
 
--- One side of a line.
-module _ {bytes : List ℕ} {g : Galley} {w₀ words₀ : List ℕ} {queues₀ : List Queue} {windows : Windows} {i : ℕ} {pass : Pass}
-    (asked : TurnAsked bytes g w₀ words₀ queues₀ windows i pass) where
+-- The lines of a side.
+module _ {bytes : List ℕ} {g : Galley} {w₀ sums words₀ : List ℕ} {c : ℕ} {pass : Pass}
+    (asked : PassAsked bytes g w₀ sums words₀ c pass) where
   two : g .spec .sides ≤ 2
   two = asked .lent .sound .specRanged .sidesTwo
+
+  few : g .lines ≤ 4000
+  few = asked .lent .sound .fewLines
+
+  side : c ≤ 1
+  side = omega (arith, asked .occurs, two)
 
   figure : pass .from ≤ g .figures
   figure = omega (arith, asked .passing .before, asked .lent .column)
 
-  -- Before the first side nothing has changed.
-  pub turn-first : TurnRun bytes g w₀ w₀ words₀ words₀ queues₀ windows i pass 0
-  turn-first =
-      let z : 2 * i + 0 ≡ 2 * i = omega arith in
+  abbrev text : Stream
+  text = textOf bytes g
+
+  abbrev column : List ℕ → ℕ → Entry
+  column w = columnOf w (g .lines + 1) (pass .from) (sideOf g c)
+
+  -- A side starts with nothing in its queue.
+  pub pass-first : PassRun bytes g w₀ w₀ words₀ words₀ c pass (record { base = 0; head = 0; tail = 0 })
+      (record { low = 0; high = 0 }) 0
+  pass-first =
       record {
         within = omega arith;
         sized = refl;
         wordsSized = refl;
-        queued = asked .queued;
-        swept = rw z (asked .swept);
+        ends = ends-first text (passLoad g pass);
+        windows = λ k p. kept k (p .0) (p .1);
+        based = refl;
+        held = held-none (column w₀) words₀ 0;
+        swept = asked .swept;
         kept = fresh;
       }
-
-  module _ {w words : List ℕ} {queues : List Queue} {c : ℕ} (run : TurnRun bytes g w₀ w words₀ words queues windows i pass c)
     where
-      lent-now : Lent bytes g w words (pass .to)
-      lent-now = lent-sized w words (run .sized) (run .wordsSized) (asked .lent)
+      kept : (k : ℕ) → Line g k → (0 < c) ⊎ (k < 0) → Open text (passLoad g pass) (windowAt words₀ k) k
+      kept k l (inl p) = asked .windows p k l
+      kept k l (inr p) = absurd (omega arith)
 
-      -- After the last side the line is done.
-      pub turn-last : g .spec .sides ≤ c → TurnDone bytes g w₀ w words queues windows i pass
-      turn-last l =
+  module _ {w words : List ℕ} {queue : Queue} {window : Window} {i : ℕ}
+      (run : PassRun bytes g w₀ w words₀ words c pass queue window i) where
+    lent-now : Lent bytes g w words (pass .to)
+    lent-now = lent-sized w words (run .sized) (run .wordsSized) (asked .lent)
+
+    -- It ends below the last line.
+    pub pass-last : g .lines < i → PassDone bytes g w₀ w words c pass
+    pass-last l =
+        record {
+          windows = λ k m. run .windows k (m, inr (omega arith));
+          swept = swept-side c i few l (run .within) (run .swept);
+          kept = run .kept;
+        }
+
+    module _ (line : i ≤ g .lines) where
+      pub pass-slides : WindowAsked sums (passLoad g pass) words window i
+      pass-slides =
           record {
-            queued = queues-round (run .queued) l;
-            swept = swept-line i c two l (omega (arith, run .within, two)) (run .swept);
-            kept = run .kept;
+            slides =
+                can-slide lent-now (asked .summed) true (pass .from) (pass .heights) (asked .passing .floats) window i line
+                (run .ends);
+            few = omega (arith, few);
+            room = lent-now .wordsRoom;
           }
 
-      module _ (more-sides : c < g .spec .sides) where
-        held : Holds g w words queues (pass .from) (windows .from) c
-        held = run .queued .still c (omega arith) more-sides
+      -- The window of the line is known.
+      module _ (words′ : List ℕ) (sized : length words′ ≡ length words) (new : Window)
+          (found : WindowFound sums (passLoad g pass) words window i c new words′) where
+        opened : Open text (passLoad g pass) new i
+        opened =
+            found .opens text (g .lines) (asked .summed .rows) line (run .ends) (λ p. run .windows i (line, inl p))
 
-        pub turn-feeds : FeedAsked w (g .lines + 1) (pass .from) (sideOf g c) words (queueAt queues c) (windows .from .high)
-            (windows .to .high)
-        turn-feeds =
-            can-feed lent-now (pass .from) figure (queueAt queues c) c (windows .from .high) (windows .to .high) i (asked .line)
-            (asked .high) (asked .opened .ends .high) (base-low (run .queued) c (omega (arith, two))) (held .based)
-            (held .order) (held .short)
+        rise : (window .low ≤ new .low) × (window .high ≤ new .high)
+        rise = ends-rise text (passLoad g pass) window new i (run .ends) opened
 
-        module _ (words′ : List ℕ) (sized : length words′ ≡ length words) (next : Queue)
-            (advanced : Advanced w (g .lines + 1) (pass .from) (sideOf g c) words (queueAt queues c) (windows .from .high)
-            (windows .to) next words′) where
-          inside : windows .to .high ≤ g .lines
-          inside = omega (arith, asked .opened .ends .high, asked .line)
+        held-found : Held (column w) words′ queue (window .low) (window .high)
+        held-found =
+            held-beside (column w) words words′ queue (window .low) (window .high) (i + 4000) (i + 4001) (found .beside)
+            (inl (omega (arith, run .based, run .ends .high))) (run .held)
 
-          pub turn-improves : ImproveAsked g w words′ next i c pass
-          turn-improves =
-              let lent = lent-sized w words′ refl sized lent-now in
-              let base = base-low (run .queued) c (omega (arith, two)) in
+        windows-found : Windowed bytes g words′ pass (λ k. Line g k × ((0 < c) ⊎ (k < i + 1)))
+        windows-found k (l, p) = go (ℕ-discrete k i)
+          where
+            before : ¬ (k ≡ i) → (0 < c) ⊎ (k < i + 1) → (0 < c) ⊎ (k < i)
+            before n (inl h) = inl h
+            before n (inr h) = inr (omega arith)
+
+            apart : ¬ (k ≡ i) → Dec (k < i) → (k + 4000 < i + 4000) ⊎ (i + 4001 ≤ k + 4000)
+            apart n (yes m) = inl (omega arith)
+            apart n (no m) = inr (omega arith)
+
+            go : Dec (k ≡ i) → Open text (passLoad g pass) (windowAt words′ k) k
+            go (yes e) =
+                rw e
+                (subst (λ (window : Window). Open text (passLoad g pass) window i) (sym (found .kept)) opened)
+            go (no n) =
+                subst (λ (window : Window). Open text (passLoad g pass) window k)
+                (sym (window-beside (found .beside) k (apart n (decLt k i)))) (run .windows k (l, before n p))
+
+        pub pass-feeds : FeedAsked w (g .lines + 1) (pass .from) (sideOf g c) words′ queue (window .high) (new .high)
+        pass-feeds =
+            can-feed (lent-sized w words′ refl sized lent-now) (pass .from) figure queue c (window .high) (new .high) i line
+            (rise .1) (opened .ends .high) (omega (arith, run .based)) (run .held .based) (run .held .order)
+            (run .held .short)
+
+        -- The queue has moved on.
+        module _ (words″ : List ℕ) (sized″ : length words″ ≡ length words′) (next : Queue)
+            (advanced : Advanced w (g .lines + 1) (pass .from) (sideOf g c) words′ queue (window .high) new next words″) where
+          inside : new .high ≤ g .lines
+          inside = omega (arith, opened .ends .high)
+
+          pub pass-improves : ImproveAsked g w words″ next i c pass
+          pass-improves =
+              let lent = lent-sized w words″ refl (sized″ ∙ sized) lent-now in
               record {
-                place = can-alone lent i (pass .from) c (asked .line) figure;
-                front = can-front lent (pass .from) figure next (windows .to .high) inside (omega (arith, advanced .base))
-                    (advanced .order) (advanced .short);
-                side = omega (arith, two);
+                place = can-alone lent i (pass .from) c line figure;
+                front = can-front lent (pass .from) figure next (new .high) inside (omega (
+                  arith,
+                  advanced .base,
+                  run .based,
+                )) (advanced .order) (advanced .short);
+                side = side;
                 figure = omega (arith, asked .lent .column, asked .lent .sound .fewFigures);
                 within = asked .lent .column;
               }
 
-          held-next : Held (columnOf w (g .lines + 1) (pass .from) (sideOf g c)) words′ next (windows .to .low)
-              (windows .to .high)
-          held-next = advanced .held (windows .from .low) (asked .low) held
+          held-next : Held (column w) words″ next (new .low) (new .high)
+          held-next = advanced .held (window .low) (rise .0) held-found
 
-          abbrev found : Entry
-          found =
-              chosen
-              (chosen (tableOf (suc (g .lines)) w i (pass .to) c) (frontOf words′ next (pass .from)))
-              (aloneOf g w i (pass .from) (sideOf g c) (pass .heights .loose))
+          abbrev front : Entry
+          front = frontOf words″ next (pass .from)
+
+          abbrev alone : Entry
+          alone = aloneOf g w i (pass .from) (sideOf g c) (pass .heights .loose)
+
+          abbrev held : Entry
+          held = tableOf (suc (g .lines)) w i (pass .to) c
 
           best : allPlaced g i (pass .to) ≡ false → Best (searchOf bytes g w i (pass .to) (sideOf g c)) (Between (pass .from)
-              (pass .to)) found
+              (pass .to)) (chosen held (chosen front alone))
           best inner =
               let mixed = lt-ltb (pass .from) (pass .to) (asked .passing .before) in
-              let cheapest = front-cheapest (columnOf w (g .lines + 1) (pass .from) (sideOf g c)) words′ next
-              (windows .to .low) (windows .to .high) (pass .from) held-next (advanced .fresh) in
+              let cheapest = front-cheapest (column w) words″ next (new .low) (new .high) (pass .from) held-next
+              (advanced .fresh) in
               improved bytes g w i (pass .to) (sideOf g c) (pass .from) (pass .heights) (asked .passing .floats) inner
-              (asked .passing .before) (tableOf (suc (g .lines)) w i (pass .to) c) (frontOf words′ next (pass .from))
-              (aloneOf g w i (pass .from) (sideOf g c) (pass .heights .loose))
-              (run .swept .left i c (asked .line) more-sides (le-refl (2 * i + c)) inner)
+              (asked .passing .before) held front alone
+              (run .swept .left i c line (asked .occurs) (omega arith) inner)
               (window-best bytes g w i (pass .to) (sideOf g c) (pass .from) (pass .heights) (asked .passing .floats) inner
-              (omega (arith, asked .passing .before)) (windows .to) (rw mixed (asked .opened)) (frontOf words′ next
-              (pass .from)) (rw (← column-named w g (pass .from) (sideOf g c)) cheapest))
+              (omega (arith, asked .passing .before)) new (rw mixed opened) front
+              (rw (← column-named w g (pass .from) (sideOf g c)) cheapest))
               (alone-best bytes g w i (pass .to) (sideOf g c) (pass .from) (pass .heights) (asked .passing .floats) inner
               (asked .passing .before) (asked .passing .short))
 
-          -- One side more is done.
-          pub turn-next : (v : List ℕ) → v ≡ weighed g w words′ next i c pass
-              → TurnRun bytes g w₀ v words₀ words′ (set queues c next) windows i pass (c + 1)
-          turn-next v e =
+          -- One line more is swept.
+          pub pass-next : (v : List ℕ) → v ≡ weighed g w words″ next i c pass
+              → PassRun bytes g w₀ v words₀ words″ c pass next new (i + 1)
+          pass-next v e =
               record {
                 within = omega arith;
-                sized = cell-length g w i (pass .to) c found v e (asked .line) side ∙ run .sized;
-                wordsSized = sized ∙ run .wordsSized;
-                queued =
-                    queues-same
-                    (queues-next (run .queued) two more-sides (asked .low) (omega (arith, inside, asked .high)) inside words′
-                    next advanced) v i (omega (arith, asked .high, asked .opened .ends .high)) (asked .opened .ends .high)
-                    (λ a d l.
+                sized = changed .sized ∙ run .sized;
+                wordsSized = sized″ ∙ sized ∙ run .wordsSized;
+                ends = rw add-one (ends-next text (passLoad g pass) new i opened);
+                windows =
+                    kept-beside (advanced .beside)
+                    (λ k p. inr (omega (arith, run .based, inside, few)))
+                    windows-found;
+                based = advanced .base ∙ run .based;
+                held =
+                    held-same (column w) (column v) words″ next (new .low) (new .high)
+                    (λ a l.
                     rw add-one
-                    (cell-other g w i (pass .to) c found v e (asked .line) side a (pass .from) (sideOf g d) (omega (
-                      arith,
-                      asked .line,
-                    )) (side-either g d) (λ q. omega (arith, q .0))));
-                swept =
-                    swept-next g w i (pass .to) c found v e (asked .line) side (lent-now .column) (lent-now .room) bytes
-                    (pass .from) two (run .swept) best;
-                kept = more w v i c found (run .kept) (asked .line) more-sides e;
+                    (changed .others a (pass .from) (sideOf g c) (omega (arith, inside)) (side-either g c) (λ q.
+                    omega (arith, q .1, asked .passing .before))))
+                    held-next;
+                swept = swept-next changed few line side two bytes (pass .from) (run .swept) best;
+                kept = scratched-then g (pass .to) w₀ w v (run .kept) (changed .kept);
               }
             where
-              side : c ≤ 1
-              side = omega (arith, two)
+              changed : Changed g w v i (pass .to) c (chosen held (chosen front alone))
+              changed =
+                  taken-changes g w i (pass .to) c line (asked .lent .column) (asked .occurs) two (lent-now .room)
+                  (chosen front alone) v e
 
--- The lines one after another.
+-- The sides one after another.
 module _ {bytes : List ℕ} {g : Galley} {w₀ sums words₀ : List ℕ} {pass : Pass} (asked : SweepAsked bytes g w₀ sums words₀ pass)
   where
-    -- A sweep starts with nothing in its queues.
-    pub sweep-first : SweepRun bytes g w₀ w₀ words₀ words₀ pass (record { low = 0; high = 0 })
-        (record { base = 0; head = 0; tail = 0 } ∷ record { base = g .lines; head = g .lines; tail = g .lines } ∷ []) 0
+    pub sweep-first : SweepRun bytes g w₀ w₀ words₀ words₀ pass 0
     sweep-first =
         record {
           within = omega arith;
           sized = refl;
           wordsSized = refl;
-          ends = ends-first (textOf bytes g) (loadOf g true (pass .heights));
-          queued = queues-none g w₀ words₀ (pass .from) (asked .lent .sound .specRanged .sidesTwo);
+          windows = λ p. absurd (omega arith);
           swept =
               record { done = λ k c l m n. absurd (omega arith); left = λ k c l m n. asked .known k c l m };
           kept = fresh;
         }
 
-    module _ {w words : List ℕ} {window : Window} {queues : List Queue} {i : ℕ}
-        (run : SweepRun bytes g w₀ w words₀ words pass window queues i) where
-      -- A sweep ends below the last line.
-      pub sweep-last : g .lines < i → SweepDone bytes g w₀ w pass
+    module _ {w words : List ℕ} {c : ℕ} (run : SweepRun bytes g w₀ w words₀ words pass c) where
+      -- After the last side all places know the starts of the pass.
+      pub sweep-last : g .spec .sides ≤ c → SweepDone bytes g w₀ w pass
       sweep-last l =
+          record { known = λ k d h m. run .swept .done k d h m (omega (arith, asked .lent .sound .fewLines)); kept = run .kept }
+
+      pub sweep-passes : c < g .spec .sides → PassAsked bytes g w sums words c pass
+      sweep-passes l =
           record {
-            known = λ k c h m. run .swept .done k c h m (omega (arith, asked .lent .sound .specRanged .sidesTwo));
-            kept = run .kept;
+            lent = lent-sized w words (run .sized) (run .wordsSized) (asked .lent);
+            summed = asked .summed;
+            passing = asked .passing;
+            occurs = l;
+            windows = run .windows;
+            swept = run .swept;
           }
 
-      module _ (line : i ≤ g .lines) (new : Window)
-          (slid : (st : Stream) (m : ℕ) → Slid sums st m (loadOf g true (pass .heights)) window i new) where
-        opened : Open (textOf bytes g) (loadOf g true (pass .heights)) new i
-        opened = slid (textOf bytes g) (g .lines) .opens (asked .summed .rows) line (run .ends)
-
-        pub sweep-turns : TurnAsked bytes g w words queues (record { from = window; to = new }) i pass
-        sweep-turns =
-            record {
-              lent = lent-sized w words (run .sized) (run .wordsSized) (asked .lent);
-              passing = asked .passing;
-              line = line;
-              low = slid (textOf bytes g) (g .lines) .low;
-              high = slid (textOf bytes g) (g .lines) .high;
-              opened = opened;
-              queued =
-                  record {
-                    pair = run .queued .pair;
-                    first = run .queued .first;
-                    second = run .queued .second;
-                    moved = λ c l. absurd (omega arith);
-                    still = run .queued .still;
-                  };
-              swept = run .swept;
-            }
-
-        -- The places down to line i know the starts of the pass.
-        pub sweep-next : (v words′ : List ℕ) → length v ≡ length w → length words′ ≡ length words → (next : List Queue)
-            → TurnDone bytes g w v words′ next (record { from = window; to = new }) i pass
-            → SweepRun bytes g w₀ v words₀ words′ pass new next (i + 1)
-        sweep-next v words′ p q next done =
-            let n : 2 * i + 2 ≡ 2 * (i + 1) = omega arith in
-            record {
-              within = omega arith;
-              sized = p ∙ run .sized;
-              wordsSized = q ∙ run .wordsSized;
-              ends = rw add-one (ends-next (textOf bytes g) (loadOf g true (pass .heights)) new i opened);
-              queued = done .queued;
-              swept = rw n at (done .swept);
-              kept = scratched-then g (pass .to) w₀ w v (run .kept) (done .kept);
-            }
+      pub sweep-next : c < g .spec .sides → (v words′ : List ℕ) → length v ≡ length w → length words′ ≡ length words
+          → PassDone bytes g w v words′ c pass → SweepRun bytes g w₀ v words₀ words′ pass (c + 1)
+      sweep-next l v words′ p q done =
+          record {
+            within = omega arith;
+            sized = p ∙ run .sized;
+            wordsSized = q ∙ run .wordsSized;
+            windows = λ _. done .windows;
+            swept = done .swept;
+            kept = scratched-then g (pass .to) w₀ w v (run .kept) (done .kept);
+          }

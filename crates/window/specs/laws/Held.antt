@@ -2,7 +2,7 @@
 use Prim.Native.Nat.{ℕ, suc, _+_, _-_, _≤_, _<_}
 use native.Mathlib.Decide.{decLe}
 use native.Mathlib.Omega.{arith}
-use mathlib.Core.Path.{_≡_, sym, ap, _∙_}
+use mathlib.Core.Path.{_≡_, refl, sym, ap, _∙_}
 use mathlib.Core.Logic.{_⊎_, inl, inr}
 use mathlib.Core.List.{List}
 use Rattle.places.specs.declared.Start.{Start}
@@ -13,6 +13,10 @@ use Rattle.places.specs.Address.{address}
 use Rattle.places.specs.Table.{tableOf}
 use Rattle.window.specs.declared.queue.Queue.{Queue}
 use Rattle.window.specs.Queue.{lineAt, costAt, columnOf, Cover, Held, Passed, Beside}
+
+-- Nothing stored leaves all as it was.
+pub beside-none : (words : List ℕ) (from to : ℕ) → Beside words words from to
+beside-none words from to = record { lines = λ k p. refl; costs = λ k p. refl }
 
 -- A line's entry is what is read at its address.
 pub column-read : (work : List ℕ) (tall b side a at : ℕ) (e : Entry) → at ≡ address tall a b side → e ≡ entryAt work at

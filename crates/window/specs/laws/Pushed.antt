@@ -19,13 +19,13 @@ module _ (words : List ℕ) (t line cost : ℕ) where
   unfolding pushed
   pushed-length = simp length-set
 
-  other-line : (k : ℕ) → ¬ (k ≡ t) → lineAt (pushed words t line cost) k ≡ lineAt words k
+  pub other-line : (k : ℕ) → ¬ (k ≡ t) → lineAt (pushed words t line cost) k ≡ lineAt words k
   unfolding pushed
   other-line k h =
       getD-set-other (set words (2 * t) line) (2 * t + 1) (2 * k) cost 0 (λ e. h (omega arith))
       ∙ getD-set-other words (2 * t) (2 * k) line 0 (λ e. h (omega arith))
 
-  other-cost : (k : ℕ) → ¬ (k ≡ t) → costAt (pushed words t line cost) k ≡ costAt words k
+  pub other-cost : (k : ℕ) → ¬ (k ≡ t) → costAt (pushed words t line cost) k ≡ costAt words k
   unfolding pushed
   other-cost k h =
       getD-set-other (set words (2 * t) line) (2 * t + 1) (2 * k + 1) cost 0 (λ e. h (omega arith))
@@ -56,13 +56,13 @@ module _ (words : List ℕ) (t line cost : ℕ) where
       apart k (inl p) e = omega arith
       apart k (inr p) e = omega arith
 
-  pushed-own-line : 2 * t + 2 ≤ length words → lineAt (pushed words t line cost) t ≡ line
+  pub pushed-own-line : 2 * t + 2 ≤ length words → lineAt (pushed words t line cost) t ≡ line
   unfolding pushed
   pushed-own-line h =
       getD-set-other (set words (2 * t) line) (2 * t + 1) (2 * t) cost 0 (omega arith)
       ∙ getD-set-same words (2 * t) line 0 (omega arith)
 
-  pushed-own-cost : 2 * t + 2 ≤ length words → costAt (pushed words t line cost) t ≡ cost
+  pub pushed-own-cost : 2 * t + 2 ≤ length words → costAt (pushed words t line cost) t ≡ cost
   unfolding pushed
   pushed-own-cost h =
       let n : length (set words (2 * t) line) ≡ length words = simp length-set in

@@ -10,12 +10,10 @@ use Rattle.filling.proofs.fill.last_sweep.Statement.{statement}
 use Rattle.filling.proofs.fill.last_sweep.Tie as tie
 
 abbrev Inv-loop : tie.InvT-loop
-Inv-loop s g work₀ sums words₀ j load cited₀ span₀ queues₀ i₀ work words cited span queues i =
-    LastRun s g work₀ work words₀ words j cited span queues i
+Inv-loop s g work₀ sums words₀ j load cited₀ span₀ ends₀ i₀ work words cited span ends i = LastRun s g work₀ work words₀ words j cited span ends i
 
 abbrev μ-loop : tie.MeasureT-loop
-μ-loop s g work₀ sums words₀ j load cited₀ span₀ queues₀ i₀ work words cited span queues i =
-    g .lines + 1 - i
+μ-loop s g work₀ sums words₀ j load cited₀ span₀ ends₀ i₀ work words cited span ends i = g .lines + 1 - i
 
 load-of-requires : tie.Need-load-of-requires Inv-loop μ-loop
 load-of-requires c κs = search needs
@@ -31,12 +29,15 @@ slide-requires c κs =
     rw (c .before .before .before .before .load-of .ensures)
     (last-slides (c .before .before .before .before .before .before .before .before .before .pre) (c .before .before .before .loop .inv) (omega (arith, c .before .if1 .taken)))
 
+slice-aggregate-fill-place : tie.Need-slice-aggregate-fill-place Inv-loop μ-loop
+slice-aggregate-fill-place c = search needs
+
 fill-place-requires : tie.Need-fill-place-requires Inv-loop μ-loop
 fill-place-requires c κs =
-    let citing = c .before .before .before .cited-through in
-    let slid = c .before .before .slide in
-    last-place (c .before .before .before .before .before .before .before .before .before .before .before .before .pre) (c .before .before .before .before .before .before .loop .inv) (omega (arith, c .before .before .before .before .if1 .taken))
-    (citing .result) (citing .ensures) (slid .result) (rw (← c .before .before .before .before .before .before .before .load-of .ensures) (slid .ensures))
+    let citing = c .before .before .before .before .cited-through in
+    let slid = c .before .before .before .slide in
+    last-place (c .before .before .before .before .before .before .before .before .before .before .before .before .before .pre) (c .before .before .before .before .before .before .before .loop .inv) (omega (arith, c .before .before .before .before .before .if1 .taken))
+    (citing .result) (citing .ensures) (slid .result) (rw (← c .before .before .before .before .before .before .before .before .load-of .ensures) (slid .ensures))
 
 add-i : tie.Need-add-i Inv-loop μ-loop
 add-i c = search needs
@@ -46,12 +47,11 @@ loop-less c = search needs
 
 loop-again : tie.Need-loop-again Inv-loop μ-loop
 loop-again c =
-    let citing = c .before .before .before .before .before .before .before .before .cited-through in
-    let slid = c .before .before .before .before .before .before .before .slide in
-    let done = c .before .before .before .before .fill-place in
-    last-next (c .before .before .before .before .before .before .before .before .before .before .before .before .before .before .before .before .before .pre) (c .before .before .before .before .before .before .before .before .before .before .before .loop .inv) (omega (arith, c .before .before .before .before .before .before .before .before .before .if1 .taken))
-    (citing .result) (citing .ensures) (slid .result) (rw (← c .before .before .before .before .before .before .before .before .before .before .before .before .load-of .ensures) (slid .ensures)) _ _
-    (search (needs, c .slice-known4 .given, c .before .words .given)) (done .result) (done .ensures)
+    let citing = c .before .before .before .before .before .before .before .before .before .before .cited-through in
+    let slid = c .before .before .before .before .before .before .before .before .before .slide in
+    last-next (c .before .before .before .before .before .before .before .before .before .before .before .before .before .before .before .before .before .before .before .pre) (c .before .before .before .before .before .before .before .before .before .before .before .before .before .loop .inv) (omega (arith, c .before .before .before .before .before .before .before .before .before .before .before .if1 .taken))
+    (citing .result) (citing .ensures) (slid .result) (rw (← c .before .before .before .before .before .before .before .before .before .before .before .before .before .before .load-of .ensures) (slid .ensures)) _ _
+    (search (needs, c .before .slice-known4 .given, c .before .before .words .given)) _ (c .before .before .before .before .before .fill-place .ensures)
 
 same-length : tie.Need-same-length Inv-loop μ-loop
 same-length c = search needs
@@ -76,6 +76,7 @@ last-sweep-spec =
     loop-holds
     cited-through-requires
     slide-requires
+    slice-aggregate-fill-place
     fill-place-requires
     add-i
     loop-less

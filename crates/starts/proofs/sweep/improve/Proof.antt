@@ -1,30 +1,15 @@
--- `improve` meets its contract: it stores what it has chosen, each choice by its own contract.
+-- `improve` meets its contract: it offers what it has chosen, each choice by its own contract.
 use Prim.Native.Nat.{ℕ, suc}
 use native.Mathlib.Numerals.{add-one}
 use native.Mathlib.Omega.{arith}
-use mathlib.Core.Path.{_≡_, sym, ap, _∙_}
-use Rattle.places.specs.Entry.{stored}
+use mathlib.Core.Path.{_≡_, ap, _∙_}
 use Rattle.places.specs.Address.{address}
 use Rattle.places.specs.laws.Address.{address-in}
-use Rattle.starts.specs.Sweep.{sideOf, aloneOf}
-use Rattle.starts.specs.laws.Search.{table-read}
+use Rattle.starts.specs.Choice.{taken}
+use Rattle.starts.specs.Sweep.{aloneOf}
 use borrow.Author.Needs.{needs}
 use Rattle.starts.proofs.sweep.improve.Statement.{statement}
 use Rattle.starts.proofs.sweep.improve.Tie as tie
-
-add-address-of : tie.Need-add-address-of
-add-address-of c = search needs
-
-address-of-requires : tie.Need-address-of-requires
-address-of-requires c κs = search needs
-
-entry-at-requires : tie.Need-entry-at-requires
-entry-at-requires c κs =
-    let start = c .before .before .before .before .before in
-    let a = start .args in
-    let within = address-in (a .g .lines) (a .g .figures) (a .i) (a .pass .to) (a .c) (start .pre .place .line)
-    (start .pre .within) (start .pre .side) in
-    omega (arith, within, c .before .address-of .ensures, start .pre .place .room)
 
 front-requires : tie.Need-front-requires
 front-requires c κs = search needs
@@ -38,51 +23,46 @@ alone-requires c κs = search needs
 choose-requires : tie.Need-choose-requires
 choose-requires c κs = search needs
 
-choose-requires-2 : tie.Need-choose-requires-2
-choose-requires-2 c κs = search needs
+add-address-of : tie.Need-add-address-of
+add-address-of c = search needs
 
-store-requires : tie.Need-store-requires
-store-requires c κs =
-    let start = c .before .before .before .before .before .before .before .before .before .before .before .before .before in
+address-of-requires : tie.Need-address-of-requires
+address-of-requires c κs = search needs
+
+offer-requires : tie.Need-offer-requires
+offer-requires c κs =
+    let start = c .before .before .before .before .before .before .before .before .before .before in
     let a = start .args in
     let within = address-in (a .g .lines) (a .g .figures) (a .i) (a .pass .to) (a .c) (start .pre .place .line)
     (start .pre .within) (start .pre .side) in
-    omega (arith, within, c .before .before .before .before .before .before .before .before .before .address-of .ensures, start .pre .place .room)
+    omega (arith, within, c .before .address-of .ensures, start .pre .place .room)
 
 same-length : tie.Need-same-length
 same-length c = search needs
 
 returns : tie.Need-returns
 returns c =
-    let start = c .before .before .before .before .before .before .before .before .before .before .before .before .before .before .before .before in
+    let start = c .before .before .before .before .before .before .before .before .before .before .before .before .before in
     let a = start .args in
     let w = a .work .now in
-    let reading = c .before .before .before .before .before .before .before .before .before .before in
-    let address-of = reading .before .before .address-of in
-    let at = address-of .ensures ∙ ap (λ (n : ℕ). address n (a .i) (a .pass .to) (a .c)) (add-one (a .g .lines)) in
-    let held = reading .entry-at .ensures ∙ sym (table-read (a .g) w (a .i) (a .pass .to) (a .c) _ (address-of .ensures)) in
-    let front = c .before .before .before .before .before .before .before .before .before .front .ensures in
-    let alone = c .before .before .before .before .before .before .alone .ensures
-    ∙ ap (λ (n : ℕ). aloneOf (a .g) w (a .i) (a .pass .from) n (a .pass .heights .loose))
-    (c .before .before .before .before .before .before .before .before .side-before .ensures) in
-    let first = c .before .before .before .before .before .choose .ensures in
-    let second = c .before .before .before .before .choose2 .ensures in
-    c .before .before .store .ensures
-    ∙ ap (λ (n : ℕ). stored w n (c .before .before .before .before .choose2 .result)) at
-    ∙ ap (stored w (address (suc (a .g .lines)) (a .i) (a .pass .to) (a .c))) (second ∙ rw (first, held, front, alone))
+    let at = c .before .before .before .before .address-of .ensures ∙ ap (λ (n : ℕ). address n (a .i) (a .pass .to) (a .c)) (add-one (a .g .lines)) in
+    let front = c .before .before .before .before .before .before .before .before .before .before .front .ensures in
+    let alone = c .before .before .before .before .before .before .before .alone .ensures
+    ∙ ap (λ (n : ℕ). aloneOf (a .g) w (a .i) (a .pass .from) n (a .pass .heights .loose)) (c .before .before .before .before .before .before .before .before .before .side-before .ensures) in
+    c .before .before .offer .ensures
+    ∙ ap (λ (n : ℕ). taken w n (c .before .before .before .before .before .before .choose .result)) at
+    ∙ ap (taken w (address (suc (a .g .lines)) (a .i) (a .pass .to) (a .c))) (c .before .before .before .before .before .before .choose .ensures ∙ rw (front, alone))
 
 pub improve-spec : {M : Type 1} → statement M
 improve-spec =
     tie.close
     (tie.spec
-    add-address-of
-    address-of-requires
-    entry-at-requires
     front-requires
     side-before-requires
     alone-requires
     choose-requires
-    choose-requires-2
-    store-requires
+    add-address-of
+    address-of-requires
+    offer-requires
     same-length
     returns)

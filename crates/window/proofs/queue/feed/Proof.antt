@@ -7,7 +7,7 @@ use mathlib.Core.List.{List}
 use lib.ListN.{length}
 use Rattle.window.specs.Queue.{columnOf, tailed, Held, Beside}
 use Rattle.window.specs.Run.{FeedRun}
-use Rattle.window.specs.laws.Held.{column-read, held-passed}
+use Rattle.window.specs.laws.Held.{beside-none, column-read, held-passed}
 use Rattle.window.specs.laws.Pushed.{pushed-length, pushed-beside, held-pushed}
 use borrow.Author.Needs.{needs}
 use Rattle.window.proofs.queue.feed.Statement.{statement}
@@ -28,7 +28,7 @@ loop-holds c =
       within = start .pre .start;
       order = start .pre .order;
       short = start .pre .short;
-      beside = record { lines = λ k p. refl; costs = λ k p. refl };
+      beside = beside-none _ _ _;
       sized = refl;
       held = λ low h. h;
     }

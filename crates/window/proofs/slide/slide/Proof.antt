@@ -11,15 +11,16 @@ first-short-requires : tie.Need-first-short-requires
 first-short-requires c κs = search needs
 
 returns : tie.Need-returns
-returns c st m =
+returns c =
     let a = c .before .before .before .args in
     let fitting = c .before .first-fitting .ensures in
     let short = c .first-short .ensures in
     record {
       low = fitting .after;
       high = short .after;
+      within = fitting .within;
       inside = short .within;
-      opens = slide-opens (a .sums .now) st m (a .load) (a .window) _ (a .i) fitting short;
+      opens = λ st m. slide-opens (a .sums .now) st m (a .load) (a .window) _ (a .i) fitting short;
     }
 
 pub slide-spec : {M : Type 1} → statement M

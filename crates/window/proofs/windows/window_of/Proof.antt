@@ -1,0 +1,108 @@
+-- `window_of` meets its contract: on a further side it reads what is kept, and on side 0 it stores what `slide` finds.
+use Prim.Native.Nat.{_+_, _*_, _≤_}
+use Rattle.window.specs.declared.slide.Window.{Window}
+use native.Mathlib.Nat.{le-refl}
+use native.Mathlib.Omega.{arith}
+use mathlib.Core.Path.{_≡_, sym, subst}
+use lib.ListN.{length}
+use Rattle.window.specs.Slide.{Open}
+use Rattle.window.specs.Windows.{windowAt, WindowFound}
+use Rattle.window.specs.laws.Held.{beside-none}
+use Rattle.window.specs.laws.Pushed.{pushed-beside}
+use Rattle.window.specs.laws.Windows.{window-stored}
+use borrow.Author.Needs.{needs}
+use Rattle.window.proofs.windows.window_of.Statement.{statement}
+use Rattle.window.proofs.windows.window_of.Tie as tie
+
+add-at : tie.Need-add-at
+add-at c = search needs
+
+mul-at : tie.Need-mul-at
+mul-at c = search needs
+
+mul-size : tie.Need-mul-size
+mul-size c = search needs
+
+slice-read-size : tie.Need-slice-read-size
+slice-read-size c = search needs
+
+size-requires : tie.Need-size-requires
+size-requires c κs = search needs
+
+add-size : tie.Need-add-size
+add-size c = search needs
+
+mul-size-2 : tie.Need-mul-size-2
+mul-size-2 c = search needs
+
+slice-read-size-2 : tie.Need-slice-read-size-2
+slice-read-size-2 c = search needs
+
+size-requires-2 : tie.Need-size-requires-2
+size-requires-2 c κs = search needs
+
+returns : tie.Need-returns
+returns c =
+    let start = c .before .before .before .before .before .before .before in
+    let a = start .args in
+    let same : windowAt (a .words .now) (a .i) ≡ record { low = c .before .before .size .result; high = c .size2 .result } = cc in
+    record {
+      kept = same;
+      beside = beside-none _ _ _;
+      opens = λ st m sums within ends kept.
+          subst (λ (window : Window). Open st (a .load) window (a .i)) same (kept (c .before .before .before .before .if1 .taken));
+    }
+
+slide-requires : tie.Need-slide-requires
+slide-requires c κs = search needs
+
+add-push : tie.Need-add-push
+add-push c = search needs
+
+cast-push : tie.Need-cast-push
+cast-push c = omega (arith, c .before .before .slide .ensures .within)
+
+cast-push-2 : tie.Need-cast-push-2
+cast-push-2 c = omega (arith, c .before .before .before .slide .ensures .inside)
+
+push-requires : tie.Need-push-requires
+push-requires c κs = search needs
+
+same-length : tie.Need-same-length
+same-length c = search needs
+
+returns-2 : tie.Need-returns-2
+returns-2 c =
+    let start = c .before .before .before .before .before .before .before .before .before .before in
+    let a = start .args in
+    let slid = c .before .before .before .before .before .before .slide in
+    let first = c .before .before .before .before .before .before .before .if1 .left in
+    let room : 2 * (a .i + 4000) + 2 ≤ length (a .words .now) = omega (arith, start .pre .few, start .pre .room) in
+    rw (c .before .before .push .ensures)
+    (record {
+      kept = window-stored (a .words .now) (a .i) (slid .result) room;
+      beside = pushed-beside (a .words .now) (a .i + 4000) _ _ (le-refl (a .i + 4000)) (omega arith) (beside-none _ _ _);
+      opens = λ st m sums within ends kept. slid .ensures .opens st m sums within ends;
+    })
+
+pub window-of-spec : {M : Type 1} → statement M
+window-of-spec =
+    tie.close
+    (tie.spec
+    add-at
+    mul-at
+    mul-size
+    slice-read-size
+    size-requires
+    add-size
+    mul-size-2
+    slice-read-size-2
+    size-requires-2
+    returns
+    slide-requires
+    add-push
+    cast-push
+    cast-push-2
+    push-requires
+    same-length
+    returns-2)

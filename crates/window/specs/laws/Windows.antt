@@ -1,0 +1,57 @@
+-- The windows of the lines: kept by what is stored elsewhere, and never falling.
+use Prim.Native.Nat.{ℕ, suc, _+_, _*_, _≤_, _<_}
+use native.Mathlib.Nat.{le-refl}
+use native.Mathlib.Decide.{decLe}
+use native.Mathlib.Omega.{arith}
+use mathlib.Core.Path.{_≡_, refl, sym, subst}
+use mathlib.Core.Logic.{_⊎_}
+use mathlib.Core.List.{List}
+use lib.ListN.{length}
+use Rattle.model.specs.Galley.{Stream}
+use Rattle.window.specs.declared.slide.Load.{Load}
+use Rattle.window.specs.declared.slide.Window.{Window}
+use Rattle.window.specs.Slide.{Ends, Open}
+use Rattle.window.specs.Queue.{lineAt, costAt, pushed, Beside}
+use Rattle.window.specs.Windows.{windowAt, Kept}
+use Rattle.window.specs.laws.Pushed.{pushed-own-line, pushed-own-cost}
+
+-- A window that is stored as its line's entry is kept.
+pub window-stored : (words : List ℕ) (i : ℕ) (window : Window) → 2 * (i + 4000) + 2 ≤ length words
+    → windowAt (pushed words (i + 4000) (window .low) (window .high)) i ≡ window
+window-stored words i window room =
+    let low = pushed-own-line words (i + 4000) (window .low) (window .high) room in
+    let high = pushed-own-cost words (i + 4000) (window .low) (window .high) room in
+    rw (low, high)
+
+-- A window whose entry is not among those stored is as it was.
+pub window-beside : {old new : List ℕ} {from to : ℕ} → Beside old new from to → (i : ℕ) → (i + 4000 < from) ⊎ (to ≤ i + 4000)
+    → windowAt new i ≡ windowAt old i
+window-beside beside i apart =
+    let low = beside .lines (i + 4000) apart in
+    let high = beside .costs (i + 4000) apart in
+    cc
+
+-- So are the windows of the lines of P.
+pub kept-beside : {st : Stream} {load : Load} {P : ℕ → Type 0} {old new : List ℕ} {from to : ℕ} → Beside old new from to
+    → ((i : ℕ) → P i → (i + 4000 < from) ⊎ (to ≤ i + 4000)) → Kept st load old P → Kept st load new P
+kept-beside {st} {load} beside apart kept i p =
+    subst (λ (window : Window). Open st load window i) (sym (window-beside beside i (apart i p))) (kept i p)
+
+-- The ends of a line's window are not before those that the line started from.
+pub ends-rise : (st : Stream) (load : Load) (old new : Window) (i : ℕ) → Ends st load old i → Open st load new i
+    → (old .low ≤ new .low) × (old .high ≤ new .high)
+ends-rise st load old new i ends opened = (low (decLe (old .low) (new .low)), high (decLe (old .high) (new .high)))
+  where
+    low : Dec (old .low ≤ new .low) → old .low ≤ new .low
+    low (yes l) = l
+    low (no l) =
+        absurd
+        (opened .fits (new .low) (le-refl (new .low)) (omega (arith, ends .low)) (ends .passed (new .low) i (omega arith)
+        (le-refl i)))
+
+    high : Dec (old .high ≤ new .high) → old .high ≤ new .high
+    high (yes l) = l
+    high (no l) =
+        absurd
+        (opened .short (new .high) (le-refl (new .high)) (omega (arith, ends .high)) (ends .filled (new .high) i (omega arith)
+        (le-refl i)))
