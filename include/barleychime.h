@@ -69,7 +69,7 @@
  * archive's machine code takes, rounded up; the tests compare them. Making needs 4,096 bytes more where the dynamic linker
  * binds memset at its first call, as in a program that is linked without -z now. Signal handlers are not counted.
  */
-#define BARLEYCHIME_STACK_BYTES ((size_t)258048)
+#define BARLEYCHIME_STACK_BYTES ((size_t)131072)
 #define BARLEYCHIME_MARK_STACK_BYTES ((size_t)1024)
 
 /* What the six words of an answer are. */

@@ -5,40 +5,37 @@ use native.Mathlib.Numerals.{add-one}
 use native.Mathlib.Decide.{ℕ-discrete}
 use native.Mathlib.Omega.{arith}
 use mathlib.Core.Path.{_≡_, refl, sym, _∙_, ap}
-use mathlib.Core.Logic.{_⊎_, inl, inr}
+use mathlib.Core.Logic.{inl, inr}
 use mathlib.Core.Bool.{false}
 use mathlib.Core.List.{List, [], _∷_}
-use lib.ListN.{length, set}
+use lib.ListN.{length}
 use borrow.Author.Tests.{le-ltb}
-use Rattle.model.specs.Galley.{Stream}
 use Rattle.model.specs.Leaf.{sidesOf}
 use Rattle.theorems.specs.pages.Sides.{side-zero}
 use Rattle.galley.specs.declared.Galley.{Galley}
 use Rattle.galley.specs.Model.{textOf, floatsOf, modelOf}
 use Rattle.rules.specs.Waiting.{waits}
-use Rattle.places.specs.Address.{address, wordsNeeded, Earlier}
+use Rattle.places.specs.Address.{wordsNeeded, Earlier}
 use Rattle.places.specs.Table.{tableOf}
 use Rattle.window.specs.declared.slide.Window.{Window}
 use Rattle.window.specs.declared.queue.Queue.{Queue}
-use Rattle.window.specs.Slide.{Slidable, Ends, Open, Slid}
-use Rattle.window.specs.Queue.{columnOf, frontOf, queueOf, pushed, Held, FeedAsked, Advanced}
+use Rattle.window.specs.Slide.{Slidable, Open, Slid}
+use Rattle.window.specs.Queue.{columnOf, frontOf, queueOf, pushed, FeedAsked, Advanced}
 use Rattle.window.specs.laws.Slide.{ends-first, ends-next}
 use Rattle.window.specs.laws.Front.{front-cheapest}
 use Rattle.window.specs.laws.Pushed.{pushed-length}
 use Rattle.starts.specs.Search.{entryOf}
-use Rattle.starts.specs.Choice.{Between}
-use Rattle.blocks.specs.Heights.{noHeights, Addable, Stacked}
+use Rattle.blocks.specs.Heights.{noHeights, Stacked}
 use Rattle.blocks.specs.laws.Heights.{stacked-nothing}
-use Rattle.starts.specs.Sweep.{sideOf, Known, Scratched, Changed, Lent, FewerAsked, FewerDone}
+use Rattle.starts.specs.Sweep.{sideOf, Changed, Lent, FewerDone}
 use Rattle.starts.specs.laws.Sweep.{window-best}
 use Rattle.starts.specs.laws.Cells.{scratched-length, stored-changes, knows-other}
 use Rattle.starts.specs.laws.Lending.{side-either, lent-sized, can-slide, can-feed, can-front, column-named}
 use Rattle.filling.specs.declared.side.End.{End}
 use Rattle.filling.specs.declared.side.Windows.{Windows}
-use Rattle.filling.specs.Filled.{Side, Filled}
+use Rattle.filling.specs.Filled.{Side}
 use Rattle.filling.specs.Fill.{tall, fillSide, fillPlace, fillColumn}
-use Rattle.filling.specs.Asked.{SideAsked, PlaceAsked, ColumnAsked}
-use Rattle.filling.specs.Column.{plain, EntryAsked, Turned, SideMoved, SideFilled, Waits, fillSides, PlaceMoved, SidesRun, PlaceFilled, ColumnLent, LastAsked, LastRun, TableLent, ColumnsRun}
+use Rattle.filling.specs.Column.{plain, EntryAsked, SideMoved, SideFilled, fillSides, PlaceMoved, SidesRun, PlaceFilled, ColumnLent, LastAsked, LastRun, TableLent, ColumnsRun}
 use Rattle.filling.specs.laws.Entered.{side-low}
 use Rattle.filling.specs.laws.Fill.{Room, length-side, filled-keeps}
 use Rattle.filling.specs.laws.Price.{dearest-light}
@@ -248,19 +245,6 @@ module _ {bytes : List ℕ} {g : Galley} {w₀ words₀ ends₀ : List ℕ} {win
 
 -- One line after another.
 module _ {bytes : List ℕ} {g : Galley} {w₀ sums words₀ : List ℕ} {j : ℕ} (asked : LastAsked bytes g w₀ sums words₀ j) where
-  -- Nothing beside the lines is small.
-  pub plain-add : Addable (g .spec) noHeights noHeights
-  plain-add =
-      let spec = asked .lent .column .sound .specRanged in
-      record {
-        smin = omega (arith, spec .smins, spec .smaxs);
-        smax = spec .smaxs;
-        lineTight = omega arith;
-        lineLoose = omega arith;
-        figureTight = omega arith;
-        figureLoose = omega arith;
-      }
-
   lent-first : Lent bytes g w₀ words₀ j
   lent-first =
       record {
@@ -344,20 +328,6 @@ module _ {bytes : List ℕ} {g : Galley} {w₀ sums words₀ : List ℕ} {j : �
           }
 
 module _ {bytes : List ℕ} {g : Galley} {w sums words : List ℕ} {j : ℕ} (asked : ColumnLent bytes g w sums words j) where
-  -- The starts with fewer figures can be gathered,
-  pub column-fewer : FewerAsked bytes g w sums words j
-  column-fewer =
-      record {
-        lent =
-            record {
-              sound = asked .column .sound;
-              column = asked .column .column;
-              room = asked .column .room;
-              wordsRoom = asked .wordsRoom;
-            };
-        summed = asked .summed;
-      }
-
   module _ (v words′ : List ℕ) (sized : length words′ ≡ length words) (done : FewerDone bytes g w v j) where
     -- with them the column can be filled,
     pub column-last : LastAsked bytes g v sums words′ j

@@ -11,7 +11,6 @@ use Rattle.model.specs.Leaf.{sidesOf}
 use Rattle.model.specs.Order.{oddly}
 use Rattle.theorems.specs.turns.Waiting.{pageCost}
 use Rattle.theorems.specs.pages.Graph.{full}
-use Rattle.theorems.specs.pages.Sides.{side-zero}
 use Rattle.theorems.specs.turns.Bounds.{cost-le}
 use Rattle.galley.specs.declared.Galley.{Galley}
 use Rattle.galley.specs.Model.{floatsOf, modelOf}
@@ -27,7 +26,7 @@ use Rattle.starts.specs.Asked.{searchOf}
 use Rattle.filling.specs.Asked.{SideAsked, PlaceAsked, ColumnAsked, FillAsked}
 use Rattle.filling.specs.Run.{ColumnRun, TableRun}
 use Rattle.filling.specs.laws.Entered.{best-entered, side-before}
-use Rattle.filling.specs.laws.Fill.{Room, length-side, length-place, length-column, filled-keeps, filled-place, filled-column, filled-start, filled-to}
+use Rattle.filling.specs.laws.Fill.{Room, length-place, length-column, filled-place, filled-column, filled-start, filled-to}
 use Rattle.filling.specs.laws.Price.{dearest-light}
 
 -- Nothing is placed at the cost of nothing.

@@ -21,13 +21,13 @@ use Rattle.places.specs.declared.Start.{Start}
 use Rattle.places.specs.declared.Entry.{Entry}
 use Rattle.places.specs.declared.Entry.the-variants.{Unreached, Least}
 use Rattle.places.specs.Entry.{put, nowhere, stored}
-use Rattle.places.specs.Address.{address, wordsNeeded, Apart, Earlier}
+use Rattle.places.specs.Address.{address, wordsNeeded, Apart}
 use Rattle.places.specs.Table.{tableOf}
 use Rattle.places.specs.laws.Address.{address-in, address-apart}
 use Rattle.places.specs.laws.Stored.{stored-length}
 use Rattle.places.specs.laws.Table.{table-other}
-use Rattle.starts.specs.Search.{before, bestStart, entryOf}
-use Rattle.starts.specs.Choice.{Candidate, Best, Any}
+use Rattle.starts.specs.Search.{bestStart, entryOf}
+use Rattle.starts.specs.Choice.{Candidate, Any}
 use Rattle.starts.specs.Asked.{searchOf}
 use Rattle.starts.specs.Sweep.{sideOf, Scratched, fresh, more}
 use Rattle.starts.specs.laws.Choice.{best-as, best-unique}

@@ -9,7 +9,7 @@ use lib.ListN.{length}
 use Rattle.galley.specs.declared.Galley.{Galley}
 use Rattle.window.specs.declared.slide.Window.{Window}
 use Rattle.window.specs.declared.queue.Queue.{Queue}
-use Rattle.window.specs.Queue.{columnOf, queueOf, pushed, Held, Advanced}
+use Rattle.window.specs.Queue.{columnOf, queueOf, pushed, Advanced}
 use Rattle.window.specs.laws.Held.{held-none, held-same, held-beside}
 use Rattle.window.specs.laws.Pushed.{pushed-length, pushed-own-line, pushed-own-cost, other-line, other-cost}
 use Rattle.starts.specs.Sweep.{sideOf}

@@ -60,10 +60,10 @@ pub record Onward (g : Galley) (a b i j : ℕ) : Type 0 where
   pub figures : b ≤ j
   pub topFigure : j ≤ g .figures .count
 
-pub onward : (bytes : List ℕ) (g : Galley) (a b i j : ℕ) → forward (modelOf bytes g) (a ∷ b ∷ []) (i ∷ j ∷ []) ≡ true
+pub goes-onward : (bytes : List ℕ) (g : Galley) (a b i j : ℕ) → forward (modelOf bytes g) (a ∷ b ∷ []) (i ∷ j ∷ []) ≡ true
     → Onward g a b i j
 unfolding count
-onward bytes g a b i j h =
+goes-onward bytes g a b i j h =
     let f = forward-at (modelOf bytes g) (a ∷ b ∷ []) (i ∷ j ∷ []) h in
     record {
       lines = f .up 0 (omega arith);

@@ -17,7 +17,7 @@ use Rattle.rules.specs.Waiting.{waits, Walked, waitingAt}
 use Rattle.marking.specs.Parts.{WholePages}
 use Rattle.rules.specs.laws.Walked.{walked-on}
 use Rattle.marking.specs.laws.Heights.{PageSoFar, page-start, page-line-room, page-line, page-figure-room, page-figure, page-over, page-fits, page-fills}
-use Rattle.marking.specs.laws.Faults.{Onward, onward, broken-start, goes-forward, broken-over, broken-end}
+use Rattle.marking.specs.laws.Faults.{Onward, goes-onward, broken-start, goes-forward, broken-over, broken-end}
 use Rattle.marking.specs.laws.Run.{Run, wholly, run-refused, run-next}
 
 -- Page `done` + 1 goes from (a, b) to (i, j), and `start` is the first of 13 and 14 that it breaks, or 0.
@@ -28,13 +28,6 @@ pub record Begun (bytes : List ℕ) (g : Galley) (ws : List ℕ) (done a b w x i
   pub line : i ≡ getD ws (2 * done) 0
   pub figure : j ≡ getD ws (2 * done + 1) 0
   pub fault : start ≡ startFault (modelOf bytes g) (a ∷ b ∷ []) (i ∷ j ∷ [])
-
-pub begun : (bytes : List ℕ) (g : Galley) (ws : List ℕ) (done a b w x i j start : ℕ) → WholePages bytes g ws
-    → Run bytes g ws done a b w x → (done ≡ length ws / 2 → ⊥) → i ≡ getD ws (2 * done) 0 → j ≡ getD ws (2 * done + 1) 0
-    → start ≡ startFault (modelOf bytes g) (a ∷ b ∷ []) (i ∷ j ∷ []) → Begun bytes g ws done a b w x i j start
-begun bytes g ws done a b w x i j start listed run left line figure fault =
-    let within = run .within in
-    record { listed = listed; run = run; more = omega arith; line = line; figure = figure; fault = fault }
 
 module _ {bytes : List ℕ} {g : Galley} {ws : List ℕ} {done a b w x i j start : ℕ} (p : Begun bytes g ws done a b w x i j start) where
   -- A rule that is broken on the page ends the run.
@@ -52,7 +45,7 @@ module _ {bytes : List ℕ} {g : Galley} {ws : List ℕ} {done a b w x i j start
   -- Otherwise the page goes forward.
   pub begun-onward : start ≤ 0 → Onward g a b i j
   begun-onward fine =
-      onward bytes g a b i j
+      goes-onward bytes g a b i j
       (goes-forward (modelOf bytes g) (done + 1) (eqb (done + 1) (length ws / 2)) (a ∷ b ∷ []) (i ∷ j ∷ []) start (p .fault) fine)
 
 -- The same page, which breaks neither 13 nor 14, with its heights so far.

@@ -1,9 +1,9 @@
 -- One sweep after another: what is known of the starts with fewer figures.
-use Prim.Native.Nat.{ℕ, suc, _+_, _*_, _-_, _≤_, _<_}
+use Prim.Native.Nat.{ℕ, suc, _-_, _≤_, _<_}
 use native.Mathlib.Nat.{le-refl}
 use native.Mathlib.Decide.{decLe}
 use native.Mathlib.Omega.{arith}
-use mathlib.Core.Path.{_≡_, refl, _∙_, ap}
+use mathlib.Core.Path.{_≡_, refl, _∙_}
 use mathlib.Core.List.{List}
 use lib.ListN.{length}
 use borrow.Author.Tests.{leb-true}
@@ -21,7 +21,6 @@ use Rattle.blocks.specs.Heights.{noHeights, Room, Stacked, blockBefore}
 use Rattle.blocks.specs.laws.Heights.{stacked-nothing, stacked-room, back-stacked}
 use Rattle.starts.specs.Asked.{searchOf}
 use Rattle.starts.specs.Sweep.{sideOf, Known, number, Lent, Summed, Cleared, fresh, SweepAsked, SweepDone, FewerRun, FewerDone}
-use Rattle.starts.specs.declared.sweep.Pass.{Pass}
 use Rattle.starts.specs.laws.Choice.{best-as}
 use Rattle.starts.specs.laws.Lending.{lent-sized}
 use Rattle.starts.specs.laws.Cells.{scratched-then, blank-known}

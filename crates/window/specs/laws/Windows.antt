@@ -1,9 +1,9 @@
 -- The windows of the lines: kept by what is stored elsewhere, and never falling.
-use Prim.Native.Nat.{ℕ, suc, _+_, _*_, _≤_, _<_}
+use Prim.Native.Nat.{ℕ, _+_, _*_, _≤_, _<_}
 use native.Mathlib.Nat.{le-refl}
 use native.Mathlib.Decide.{decLe}
 use native.Mathlib.Omega.{arith}
-use mathlib.Core.Path.{_≡_, refl, sym, subst}
+use mathlib.Core.Path.{_≡_, sym, subst}
 use mathlib.Core.Logic.{_⊎_}
 use mathlib.Core.List.{List}
 use lib.ListN.{length}
@@ -11,7 +11,7 @@ use Rattle.model.specs.Galley.{Stream}
 use Rattle.window.specs.declared.slide.Load.{Load}
 use Rattle.window.specs.declared.slide.Window.{Window}
 use Rattle.window.specs.Slide.{Ends, Open}
-use Rattle.window.specs.Queue.{lineAt, costAt, pushed, Beside}
+use Rattle.window.specs.Queue.{pushed, Beside}
 use Rattle.window.specs.Windows.{windowAt, Kept}
 use Rattle.window.specs.laws.Pushed.{pushed-own-line, pushed-own-cost}
 

@@ -1,7 +1,7 @@
 -- `start_of` meets its contract: the last page by the plain search, every other by the better of what is known.
 use Prim.Native.Nat.{ℕ, suc}
 use native.Mathlib.Omega.{arith}
-use mathlib.Core.Path.{_≡_, sym, ap, _∙_}
+use mathlib.Core.Path.{sym, ap, _∙_}
 use Rattle.places.specs.Table.{tableOf}
 use Rattle.places.specs.laws.Address.{address-in}
 use Rattle.window.specs.Queue.{frontOf}

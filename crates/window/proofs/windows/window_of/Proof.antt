@@ -3,10 +3,10 @@ use Prim.Native.Nat.{_+_, _*_, _≤_}
 use Rattle.window.specs.declared.slide.Window.{Window}
 use native.Mathlib.Nat.{le-refl}
 use native.Mathlib.Omega.{arith}
-use mathlib.Core.Path.{_≡_, sym, subst}
+use mathlib.Core.Path.{_≡_, subst}
 use lib.ListN.{length}
 use Rattle.window.specs.Slide.{Open}
-use Rattle.window.specs.Windows.{windowAt, WindowFound}
+use Rattle.window.specs.Windows.{windowAt}
 use Rattle.window.specs.laws.Held.{beside-none}
 use Rattle.window.specs.laws.Pushed.{pushed-beside}
 use Rattle.window.specs.laws.Windows.{window-stored}
