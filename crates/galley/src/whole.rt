@@ -77,7 +77,7 @@ pub fn record_in(
     }
 }
 
-// The lines and figures from the offset of line 1 on, to the end.
+// The lines and figures from the offset of line 1 on, to the end: the next record stands at `at`, the lines end at `after`.
 fn read_blocks(s: &[u8], spec: Spec, first: usize) -> Reading
     requires { ⌜ first ≤ 1000 ⌝ }
     ensures { λ r. ⌜ r ≡ blocks (now (s .entry)) spec first 4201 0 0 0 ⌝ }
@@ -85,15 +85,19 @@ fn read_blocks(s: &[u8], spec: Spec, first: usize) -> Reading
     let mut lines: usize = 0;
     let mut figures: usize = 0;
     let mut last: u32 = 0;
+    let mut at = first;
+    let mut after = first;
     loop {
-        let at = first + lines * 18 + figures * 18;
         let found = record_in(s, at, true, lines, figures, last);
         match found {
             Record::Line(_l) => {
                 lines += 1;
+                at += 18;
+                after = at;
             }
             Record::Figure(f) => {
                 figures += 1;
+                at += 18;
                 last = f.cite;
             }
             Record::End => {
@@ -104,7 +108,7 @@ fn read_blocks(s: &[u8], spec: Spec, first: usize) -> Reading
                         count: lines,
                     },
                     figures: Stream {
-                        first: first + lines * 18,
+                        first: after,
                         count: figures,
                     },
                 });

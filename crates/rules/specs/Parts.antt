@@ -30,7 +30,7 @@ unfoldable pub finished : Galley → ℕ → ℕ → ℕ → ℕ → Answer
 finished g p a b x = pick (eqb a (g .text .count) && eqb b (g .figures .count)) (counts g p x) (Refused 18 p)
 
 -- Numbers of pages and of X, and weights, that keep T within 32 bits.
-pub record Few (g : Galley) (pages x : ℕ) : Type 0 where
+pub record CountLimits (g : Galley) (pages x : ℕ) : Type 0 where
   pub some : 1 ≤ pages
   pub few : pages ≤ 4200
   pub most : x ≤ 200 * pages

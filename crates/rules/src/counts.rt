@@ -1,14 +1,14 @@
 // The counts of a list whose pages were judged.
 ghost use mathlib.Core.Path.{_≡_};
 ghost use Prim.Native.Nat.{_*_};
-ghost use Rattle.rules.specs.Parts.{Few, finished};
+ghost use Rattle.rules.specs.Parts.{CountLimits, finished};
 use galley::Galley;
 use model::answer::Answer;
 use model::page::Page;
 
 // 18 where the last page does not end at the full place, else p, X, Y, T.
 pub fn finish(g: Galley, pages: u32, a: usize, b: usize, x: u32) -> Answer
-    requires { ⌜ Few g pages x ⌝ }
+    requires { ⌜ CountLimits g pages x ⌝ }
     ensures { λ r. ⌜ r ≡ finished g pages a b x ⌝ }
 {
     if (a == g.text.count) & (b == g.figures.count) {

@@ -30,20 +30,20 @@ isReached Unreached = false
 isReached (Least x s) = true
 
 -- The work area has all words of a galley within document 01's limits.
-pub record Lent (g : Galley) (w : List ℕ) : Type 0 where
+pub record WorkArea (g : Galley) (w : List ℕ) : Type 0 where
   pub lines : g .text .count ≤ 4000
   pub figures : g .figures .count ≤ 200
   pub words : wordsNeeded (g .text .count) (g .figures .count) ≤ length w
 
 -- A place of the galley, on one of its two sides.
-pub record Placed (g : Galley) (i j c : ℕ) : Type 0 where
+pub record SidedPlace (g : Galley) (i j c : ℕ) : Type 0 where
   pub line : i ≤ g .text .count
   pub figure : j ≤ g .figures .count
   pub side : c ≤ 1
 
 -- Every entry is one that filling enters.
 pub record Traceable (g : Galley) (w : List ℕ) : Type 0 where
-  pub lent : Lent g w
+  pub lent : WorkArea g w
   pub entered :
       (a b c x : ℕ) (s : Start) → a ≤ g .text .count → b ≤ g .figures .count → Side (sidesIn g) c → tableIn g w a b c ≡ Least x s → Entered
       a b x s

@@ -2,14 +2,14 @@
 ghost use mathlib.Core.Path.{_≡_};
 ghost use Prim.Native.Nat.{_+_, _≤_};
 ghost use Rattle.walk.specs.Trace.{startOf, better-side, lastSide, countBack, writeBack};
-ghost use Rattle.walk.specs.Traceable.{sidesIn, tableIn, isReached, Lent, Placed, Walkable, Writable};
+ghost use Rattle.walk.specs.Traceable.{sidesIn, tableIn, isReached, WorkArea, SidedPlace, Walkable, Writable};
 use galley::Galley;
 use places::Entry;
 use places::Start;
 
 // The entry of place (i, j) on a side.
 fn entry_of(g: Galley, work: &[u32], i: usize, j: usize, side: usize) -> Entry
-    requires { ⌜ Lent g (now work) × Placed g i j side ⌝ }
+    requires { ⌜ WorkArea g (now work) × SidedPlace g i j side ⌝ }
     ensures { λ r. ⌜ r ≡ tableIn g (now (work .entry)) i j side ⌝ }
 {
     places::entry_at(work, places::address_of(g.text.count + 1, i, j, side))
@@ -43,7 +43,7 @@ fn better_side(even: Entry, odd: Entry) -> usize
 
 // The side of the last page of the best list.
 pub fn last_side(g: Galley, work: &[u32]) -> usize
-    requires { ⌜ Lent g (now work) ⌝ }
+    requires { ⌜ WorkArea g (now work) ⌝ }
     ensures { λ r. ⌜ r ≡ lastSide (sidesIn g) (tableIn g (now (work .entry))) (g .text .count) (g .figures .count) ⌝ }
 {
     if g.spec.sides == 2 {
@@ -57,7 +57,7 @@ pub fn last_side(g: Galley, work: &[u32]) -> usize
 
 // Whether the full place is reached on a side: if not on the last side, no valid list exists.
 pub fn reached(g: Galley, work: &[u32], side: usize) -> bool
-    requires { ⌜ Lent g (now work) × (side ≤ 1) ⌝ }
+    requires { ⌜ WorkArea g (now work) × (side ≤ 1) ⌝ }
     ensures { λ r. ⌜ r ≡ isReached (tableIn g (now (work .entry)) (g .text .count) (g .figures .count) side) ⌝ }
 {
     let entry = entry_of(g, work, g.text.count, g.figures.count, side);

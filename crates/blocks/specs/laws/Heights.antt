@@ -41,7 +41,7 @@ module _ (bytes : List ℕ) (stream : Stream) (sound : SoundStream bytes stream)
   added-low at low k gap false some within space = let here = sound .ranged k some within .heights in omega arith
 
   -- The heights with a block more are at most that much higher.
-  pub put-low : (h : Heights) (k gap : ℕ) (spaced : Bool) → 1 ≤ k → k ≤ stream .count
+  put-low : (h : Heights) (k gap : ℕ) (spaced : Bool) → 1 ≤ k → k ≤ stream .count
       → (spaced ≡ true → (1 ≤ gap) × (gap ≤ stream .count))
       → (putOn bytes stream h k gap spaced .tight ≤ h .tight + 200000) × (putOn bytes stream h k gap spaced .loose ≤ h .loose + 200000)
   unfolding putOn

@@ -37,7 +37,7 @@ use Rattle.filling.specs.Fill.{tall}
 use Rattle.making.specs.Shown.{AllRight}
 use Rattle.making.specs.Make.{workNeeded}
 use Rattle.making.specs.Back.{lastOf, pagesBack, wordsBack, Found}
-use Rattle.walk.specs.Traceable.{sidesIn, tableIn, isReached, Lent, Traceable, Walkable, Writable}
+use Rattle.walk.specs.Traceable.{sidesIn, tableIn, isReached, WorkArea, Traceable, Walkable, Writable}
 use Rattle.making.specs.Solved.{Solved, Written}
 use Rattle.filling.specs.laws.Entered.{side-low}
 use Rattle.making.specs.laws.Shown.{last-side}
@@ -96,7 +96,7 @@ module _ (bytes : List ℕ) (g : Galley) (work list : List ℕ) (solved : Solved
   long = let e = length-filled (modelOf bytes g) (solved .before) in let h = solved .enough in let q = ap length (solved .is) in omega arith
 
   -- The work area is long enough for a walk over it,
-  pub solved-lent : Lent g work
+  pub solved-lent : WorkArea g work
   solved-lent =
       let so = sound bytes g (solved .reads) in
       record { lines = so .fewLines; figures = so .fewFigures; words = long }

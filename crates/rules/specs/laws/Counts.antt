@@ -6,7 +6,7 @@ use Rattle.model.specs.Galley.{Sides, single, double}
 use Rattle.model.specs.Leaf.{leaf, sidesOf}
 use Rattle.model.specs.laws.Leaf.{leaf-mono}
 use Rattle.galley.specs.declared.Galley.{Galley}
-use Rattle.rules.specs.Parts.{Few}
+use Rattle.rules.specs.Parts.{CountLimits}
 
 -- Y is at most the number of pages.
 leaves-few : (sides : Sides) (p : ℕ) → leaf sides p - leaf sides 1 ≤ p
@@ -20,7 +20,7 @@ pub record Bounded (g : Galley) (p x : ℕ) : Type 0 where
   pub waits : g .spec .alpha * x ≤ 840000000
   pub leaves : g .spec .beta * (leaf (sidesOf (g .spec .sides)) p - leaf (sidesOf (g .spec .sides)) 1) ≤ 4200000
 
-pub few-bounded : (g : Galley) (p x : ℕ) → Few g p x → Bounded g p x
+pub few-bounded : (g : Galley) (p x : ℕ) → CountLimits g p x → Bounded g p x
 few-bounded g p x few =
     let sides = sidesOf (g .spec .sides) in
     let number = few .few in

@@ -20,7 +20,7 @@ use Rattle.places.specs.Address.{Earlier}
 use Rattle.starts.specs.Search.{Table, before}
 use Rattle.filling.specs.Filled.{Side, Filled}
 use Rattle.walk.specs.Trace.{startOf, countBack, writeBack}
-use Rattle.walk.specs.Traceable.{sidesIn, tableIn, isReached, Lent, Placed, Traceable, Visits, Counting, Writing}
+use Rattle.walk.specs.Traceable.{sidesIn, tableIn, isReached, WorkArea, SidedPlace, Traceable, Visits, Counting, Writing}
 use Rattle.filling.specs.laws.Entered.{side-before}
 
 -- A reached entry holds a cost and a start,
@@ -40,7 +40,7 @@ side-small single c h = omega arith
 side-small double c h = omega arith
 
 -- Where the walk is, an entry can be read.
-pub visits-placed : {g : Galley} {i j c : ℕ} → Visits g i j c → Placed g i j c
+pub visits-placed : {g : Galley} {i j c : ℕ} → Visits g i j c → SidedPlace g i j c
 visits-placed {g} {i} {j} {c} v =
     record { line = v .line; figure = v .figure; side = side-small (sidesIn g) c (v .side) }
 
@@ -178,7 +178,7 @@ module _ (g : Galley) (w : List ℕ) (tr : Traceable g w) where
 
 -- A work area that was filled to the full place may be walked.
 pub filled-traceable :
-    (bytes : List ℕ) (g : Galley) (w : List ℕ) → Lent g w → Filled (modelOf bytes g) (tableIn g w) (suc (g .text .count)) (g .figures .count)
+    (bytes : List ℕ) (g : Galley) (w : List ℕ) → WorkArea g w → Filled (modelOf bytes g) (tableIn g w) (suc (g .text .count)) (g .figures .count)
     → Traceable g w
 filled-traceable bytes g w l f =
     record {

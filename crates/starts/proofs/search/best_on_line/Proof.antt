@@ -87,13 +87,10 @@ returns c =
     let st = inside .before .loop in
     let start = inside .before .before .before .before in
     let a = start .args in
-    let some = inside .loop-test .taken in
-    let next : st .b ≡ suc (st .b - 1) = omega arith in
     let floats = figures (page .before) in
-    let whole = page .page-heights .ensures in
     sym
     (row-high (a .s .now) (a .g) (a .work .now) (a .i) (a .j) (a .side) (a .lines .from) (a .lines .heights) (start .pre .text) (st .b) (st .b - 1)
-    next _ floats _ whole (st .best) (c .if1 .taken))
+    (omega (arith, inside .loop-test .taken)) _ floats _ (page .page-heights .ensures) (st .best) (c .if1 .taken))
     ∙ st .inv .2
 
 counts-requires : tie.Need-counts-requires Inv-loop μ-loop
@@ -111,15 +108,11 @@ loop-again c =
     let st = inside .before .loop in
     let start = inside .before .before .before .before in
     let a = start .args in
-    let some = inside .loop-test .taken in
-    let next : st .b ≡ suc (st .b - 1) = omega arith in
     let floats = figures (page .before) in
-    let whole = page .page-heights .ensures in
     let passed = sym (counts .counts .ensures) ∙ not-true _ (c .if2 .taken) in
     let turn =
-    row-passed (a .s .now) (a .g) (a .work .now) (a .i) (a .j) (a .side) (a .lines .from) (a .lines .heights) (start .pre .text) (st .b)
-    (st .b - 1)
-    next _ floats _ whole (st .best) (low .if1 .left) passed in
+    row-passed (a .s .now) (a .g) (a .work .now) (a .i) (a .j) (a .side) (a .lines .from) (a .lines .heights) (start .pre .text) (st .b) (st .b - 1)
+    (omega (arith, inside .loop-test .taken)) _ floats _ (page .page-heights .ensures) (st .best) (low .if1 .left) passed in
     (omega arith, floats, sym turn ∙ st .inv .2)
 
 add-address-of : tie.Need-add-address-of Inv-loop μ-loop
@@ -170,19 +163,15 @@ loop-again-2 c =
     let st = inside .before .loop in
     let start = inside .before .before .before .before in
     let a = start .args in
-    let some = inside .loop-test .taken in
-    let next : st .b ≡ suc (st .b - 1) = omega arith in
     let floats = figures (page .before) in
-    let whole = page .page-heights .ensures in
     let worthy = sym (counts .counts .ensures) ∙ not-false _ (weighed .if2 .left) in
     let read =
     table-read (a .g) (a .work .now) (a .lines .from) (st .b - 1) (a .side) (at .address-of .result) (at .address-of .ensures)
     ∙ sym (c .before .before .entry-at .ensures)
     ∙ c .enum-told .given .1 in
     let turn =
-    row-unreached (a .s .now) (a .g) (a .work .now) (a .i) (a .j) (a .side) (a .lines .from) (a .lines .heights) (start .pre .text) (st .b)
-    (st .b - 1)
-    next _ floats _ whole (st .best) (low .if1 .left) worthy read in
+    row-unreached (a .s .now) (a .g) (a .work .now) (a .i) (a .j) (a .side) (a .lines .from) (a .lines .heights) (start .pre .text) (st .b) (st .b - 1)
+    (omega (arith, inside .loop-test .taken)) _ floats _ (page .page-heights .ensures) (st .best) (low .if1 .left) worthy read in
     (omega arith, floats, sym turn ∙ st .inv .2)
 
 cheaper-requires : tie.Need-cheaper-requires Inv-loop μ-loop
@@ -212,19 +201,15 @@ loop-again-3 c =
     let st = inside .before .loop in
     let start = inside .before .before .before .before in
     let a = start .args in
-    let some = inside .loop-test .taken in
-    let next : st .b ≡ suc (st .b - 1) = omega arith in
     let floats = figures (page .before) in
-    let whole = page .page-heights .ensures in
     let worthy = sym (counts .counts .ensures) ∙ not-false _ (weighed .if2 .left) in
     let read =
     table-read (a .g) (a .work .now) (a .lines .from) (st .b - 1) (a .side) (at .address-of .result) (at .address-of .ensures)
     ∙ sym (reached .before .before .entry-at .ensures)
     ∙ reached .entry .given .1 in
     let turn =
-    row-weighed (a .s .now) (a .g) (a .work .now) (a .i) (a .j) (a .side) (a .lines .from) (a .lines .heights) (start .pre .text) (st .b)
-    (st .b - 1)
-    next _ floats _ whole (st .best) (low .if1 .left) worthy _ _ read in
+    row-weighed (a .s .now) (a .g) (a .work .now) (a .i) (a .j) (a .side) (a .lines .from) (a .lines .heights) (start .pre .text) (st .b) (st .b - 1)
+    (omega (arith, inside .loop-test .taken)) _ floats _ (page .page-heights .ensures) (st .best) (low .if1 .left) worthy _ _ read in
     let best =
     ap (row (searchOf (a .s .now) (a .g) (a .work .now) (a .i) (a .j) (a .side)) (a .lines .from) (st .b - 1)) (c .cheaper .ensures _) in
     (omega arith, floats, best ∙ sym turn ∙ st .inv .2)
