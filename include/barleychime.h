@@ -39,10 +39,14 @@
  *   16  the page is lower than htMin even at its loosest, and it is not the last
  *   17  a figure stands on a spread that ends before the line that cites it
  *   18  the list ends before everything is placed
+ * Whoever handed in the marks can mend these, which only the report answers. Place: for 31, 0; for 32, the paper, counted
+ * from 1.
+ *   31  there are more marks than a report takes (10,000 is the most)
+ *   32  the paper has fewer turns than the engine
  * Whoever asked for the section can mend this, which only barleychime_section answers. Place: the size.
  *   33  no section has so many pages: their number is a multiple of 4 from 4 to 64
  *
- * Both calls read the galley first and answer 1 to 8 in the same way. Making then looks at the lengths, 9 before 10, and
+ * Making and marking read the galley first and answer 1 to 8 alike. Making then looks at the lengths, 9 before 10, and
  * searches only where both suffice. Of several broken rules marking answers the one on the earliest page, and there the
  * lowest number.
  */
@@ -78,6 +82,30 @@ enum {
     BARLEYCHIME_TURNS = 5   /* T = alpha * X + beta * Y */
 };
 
+/* The mark of one paper: what marking answered for its list, and the engine's T for the same galley. */
+struct barleychime_paper {
+    uint32_t pages, x, y, turns, engine;
+};
+
+/* Papers that a report takes, and its words. */
+#define BARLEYCHIME_MOST_PAPERS 10000
+#define BARLEYCHIME_REPORT_WORDS 11
+
+/* What the eleven words of a report are. */
+enum {
+    BARLEYCHIME_REPORT_NUMBER = 0, /* 0, or the number of the refusal */
+    BARLEYCHIME_REPORT_PLACE = 1,  /* 0, or the refusal's place */
+    BARLEYCHIME_REPORT_PAPERS = 2, /* how many papers there are */
+    BARLEYCHIME_REPORT_PAGES = 3,  /* the sum of p, and those of X, Y and T */
+    BARLEYCHIME_REPORT_X = 4,
+    BARLEYCHIME_REPORT_Y = 5,
+    BARLEYCHIME_REPORT_TURNS = 6,
+    BARLEYCHIME_REPORT_LEAST = 7, /* the least T of a paper, and the greatest */
+    BARLEYCHIME_REPORT_GREATEST = 8,
+    BARLEYCHIME_REPORT_EXCESS = 9, /* the mean excess over the engine: this sum, divided by this count */
+    BARLEYCHIME_REPORT_COUNT = 10
+};
+
 #ifdef __cplusplus
 extern "C" {
 #endif
@@ -107,6 +135,14 @@ uint32_t barleychime_make(const uint8_t *galley, size_t galley_len, uint32_t *wo
 uint32_t barleychime_mark(const uint8_t *galley, size_t galley_len, const uint32_t *pages, size_t pages_len,
                           uint32_t answer[6]);
 
+/* Reports on marks_len papers, in exact sums, under the same terms as the others and with under 1,000 bytes of stack.
+ *   marks       marks_len papers, only read; not null even where there are none
+ *   report      11 words of 64 bits, always written: number, place, papers, sums of p, X, Y, T, least T, greatest T,
+ *               excess, count
+ * Returns 0 for success; no papers give 0 in every word. More than BARLEYCHIME_MOST_PAPERS papers are 31, whatever they
+ * are; then the first paper with fewer turns than the engine is 32. A refusal has zeros after its number and its place.
+ */
+uint32_t barleychime_report(const struct barleychime_paper *marks, size_t marks_len, uint64_t report[11]);
 /* Gives the folding order of a stitched section of size pages, a multiple of 4 from 4 to 64: its pages as they stand on the
  * nested sheets, the outermost first, four a sheet: front left, front right, back left, back right. The areas must not
  * overlap. Like the other calls it works on lent memory alone; it takes under 1,000 bytes of stack.

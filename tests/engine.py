@@ -53,6 +53,7 @@ class Engine:
         self.c_make = self.declared(library, making, *bytes_lent, *words_lent, *words_lent, ctypes.c_void_p)
         self.c_mark = self.declared(library, 'barleychime_mark', *bytes_lent, *words_lent, ctypes.c_void_p)
         self.c_section = self.declared(library, 'barleychime_section', WORD, ctypes.c_void_p, ctypes.c_void_p)
+        self.c_report = self.declared(library, 'barleychime_report', *words_lent, ctypes.c_void_p)
 
     @staticmethod
     def declared(library, name, *types):
@@ -77,6 +78,13 @@ class Engine:
         lent_numbers, lent_answer = lent(numbers), lent(answer)
         returned = self.c_section(size, lent_numbers, lent_answer)
         return returned, held(lent_numbers, numbers), held(lent_answer, answer)
+
+    def report(self, marks, report):
+        """The number that is returned, and the words of the report and after it; the marks, five words each, are only read."""
+        words = [word for mark in marks for word in mark]
+        lent_words, lent_report = lent(words), (ctypes.c_uint64 * len(report))(*report)
+        returned = self.c_report(lent_words, len(marks), lent_report)
+        return returned, tuple(lent_report) if held(lent_words, words) == tuple(words) else ('wrote to the marks',)
 
 
 def lengths(galley):

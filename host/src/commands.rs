@@ -1,10 +1,10 @@
 //! The commands on files: files in, an answer out.
 
 use crate::output::{say, Output};
-use barleychime::engine::{self, Desk, Refusal};
+use barleychime::engine::{self, Desk, Mark, Refusal};
 use barleychime::galley::Galley;
 use barleychime::input::title;
-use barleychime::{explain, fill, input, list, refusal, text};
+use barleychime::{explain, fill, input, list, refusal, report, text};
 
 #[derive(Clone, Copy, PartialEq, Eq)]
 pub enum Outcome {
@@ -23,11 +23,22 @@ pub fn make(name: &str, output: &mut Output) -> Result<Outcome, String> {
         }
         Err(refusal) => refusal,
     };
+    refuse_galley(name, &bytes, refusal, &mut desk, output)
+}
+
+/// A galley that cannot be made, with what would help.
+fn refuse_galley(
+    name: &str,
+    bytes: &[u8],
+    refusal: Refusal,
+    desk: &mut Desk,
+    output: &mut Output,
+) -> Result<Outcome, String> {
     output.print(format!("{refusal}\n"))?;
     say_why(name, refusal);
-    hint_at_pack(name, &bytes, refusal);
+    hint_at_pack(name, bytes, refusal);
     if refusal.number == 11 {
-        say(&lower_ht_min(name, &bytes, &mut desk));
+        say(&lower_ht_min(name, bytes, desk));
     }
     Ok(Outcome::Refused)
 }
@@ -130,5 +141,63 @@ pub fn unpack(name: &str, output: &mut Output) -> Result<Outcome, String> {
         say(&format!("{}: from byte {end} on there is no whole record, and nothing is written", title(name)));
     }
     hint_at_pack(name, &bytes, refusal);
+    Ok(Outcome::Refused)
+}
+
+/// Marks each list and reports on those that are accepted. A refused list is no paper; without a list that cannot be read
+/// the sums would be wrong, so there is no report then.
+pub fn report(galley: &str, lists: &[&str], output: &mut Output) -> Result<Outcome, String> {
+    let bytes = input::galley(galley)?;
+    let mut desk = Desk::new();
+    let engine = match desk.make(&bytes) {
+        Ok((measure, _)) => measure.turns,
+        Err(refusal) => return refuse_galley(galley, &bytes, refusal, &mut desk, output),
+    };
+    let (mut marks, mut refused, mut failed) = (Vec::new(), Vec::new(), false);
+    for &name in lists {
+        match read_list(name).map(|words| engine::mark(&bytes, &words)) {
+            Ok(Ok(engine::Measure { pages, x, y, turns })) => marks.push(Mark { pages, x, y, turns, engine }),
+            Ok(Err(refusal)) => {
+                say_why(name, refusal);
+                refused.push(refusal);
+            }
+            Err(message) => {
+                say(&message);
+                failed = true;
+            }
+        }
+    }
+    if failed {
+        return Ok(Outcome::Failed);
+    }
+    match engine::report(&marks) {
+        Ok(told) => {
+            output.print(report::in_words(&told) + &report::refused_in_words(&refused))?;
+            Ok(Outcome::Success)
+        }
+        Err(refusal) => refuse_marks("the lists", refusal, output),
+    }
+}
+
+/// Reports on marks that are handed in as text.
+pub fn report_on_marks(name: &str, output: &mut Output) -> Result<Outcome, String> {
+    let entries = report::parse(&input::text(name)?).map_err(|what| format!("{}: {what}", title(name)))?;
+    let marks: Vec<Mark> = entries.iter().map(|entry| entry.mark).collect();
+    match engine::report(&marks) {
+        Ok(told) => {
+            output.print(report::in_words(&told))?;
+            Ok(Outcome::Success)
+        }
+        Err(refusal) => {
+            let entry = entries.get((refusal.place as usize).wrapping_sub(1));
+            let line = entry.map_or(String::new(), |entry| format!(": line {}", entry.line));
+            refuse_marks(&format!("{}{line}", title(name)), refusal, output)
+        }
+    }
+}
+
+fn refuse_marks(what: &str, refusal: Refusal, output: &mut Output) -> Result<Outcome, String> {
+    output.print(format!("{refusal}\n"))?;
+    say_why(what, refusal);
     Ok(Outcome::Refused)
 }

@@ -19,6 +19,7 @@ mod c {
             pages_len: usize,
             answer: *mut [u32; 6],
         ) -> u32;
+        pub fn barleychime_report(marks: *const super::Mark, marks_len: usize, report: *mut [u64; 11]) -> u32;
         pub fn barleychime_section(size: u32, numbers: *mut [u32; 64], answer: *mut [u32; 2]) -> u32;
     }
 }
@@ -126,5 +127,45 @@ pub fn section(size: u32, numbers: &mut [u32; 64]) -> Result<&[u32], Refusal> {
     match answer {
         [0, _] => Ok(&numbers[..size as usize]),
         [number, place] => Err(Refusal { number, place }),
+    }
+}
+
+/// The mark of one paper: what its list comes to, and the engine's turns for the same galley.
+#[derive(Clone, Copy, Debug, PartialEq, Eq)]
+#[repr(C)]
+pub struct Mark {
+    pub pages: u32,
+    pub x: u32,
+    pub y: u32,
+    pub turns: u32,
+    pub engine: u32,
+}
+
+/// The report on marked papers: four sums, the least and the greatest turns, and the mean excess over the engine as a sum
+/// and a count.
+#[derive(Clone, Copy, Debug, PartialEq, Eq)]
+pub struct Report {
+    pub papers: u64,
+    pub pages: u64,
+    pub x: u64,
+    pub y: u64,
+    pub turns: u64,
+    pub least: u64,
+    pub greatest: u64,
+    pub excess: u64,
+    pub count: u64,
+}
+
+/// Reports on up to 10,000 marked papers.
+#[allow(unsafe_code)]
+pub fn report(marks: &[Mark]) -> Result<Report, Refusal> {
+    let mut words = [0; 11];
+    // The marks are those of a slice, in C's layout, and the engine writes the words alone.
+    let number = unsafe { c::barleychime_report(marks.as_ptr(), marks.len(), &mut words) };
+    let [_, place, papers, pages, x, y, turns, least, greatest, excess, count] = words;
+    match number {
+        0 => Ok(Report { papers, pages, x, y, turns, least, greatest, excess, count }),
+        // A place is 0 or one of 10,000 papers.
+        _ => Err(Refusal { number, place: place as u32 }),
     }
 }

@@ -14,6 +14,7 @@ Makes the pages of a galley with the fewest page turns, and marks page lists.
   barleychime explain GALLEY LIST    a page list in words, page by page
   barleychime pack TEXT              a galley written as text, as a galley file
   barleychime unpack GALLEY          a galley file as text
+  barleychime report GALLEY LIST...  exact sums over marked lists, and the mean excess over the engine
   barleychime fold [SIZE]            the pages of stitched sections, sheet by sheet
   barleychime COMMAND --help         more about a command
   barleychime --version
@@ -70,4 +71,17 @@ barleychime fold [SIZE]
 Prints the section of SIZE pages as its pages stand on the nested sheets, the outermost first: a line for each sheet, with
 the left and the right page of its front, then those of its back. SIZE is a multiple of 4 from 4 to 64; any other is
 refused (33). Without SIZE all sections are printed, smaller ones first, with an empty line between two.
+";
+
+pub const REPORT: &str = "\
+barleychime report GALLEY LIST..., or barleychime report --marks FILE
+
+Makes the galley once, marks every list, and prints a report on the lists that are accepted: how many papers there are, the
+sums of p, X, Y and T, the least and the greatest T, the excess over the engine's T, its mean as a fraction and as a decimal,
+and how many lists were refused and by which rules. A refused list is no paper, and its reason is given in words on standard
+error; the exit status is 0 all the same. There is no report if the galley is refused or has no pagination (status 1), or if
+a list cannot be read (status 2).
+
+With --marks the marks stand in FILE, a line `p X Y T E` for each paper, E being the engine's T for its galley; `#` opens a
+comment. Papers of many galleys make one report. A refusal, 31 or 32, is printed as `R number place`.
 ";

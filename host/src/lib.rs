@@ -13,4 +13,5 @@ pub mod list;
 pub mod page;
 pub mod record;
 pub mod refusal;
+pub mod report;
 pub mod text;

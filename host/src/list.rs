@@ -50,7 +50,8 @@ pub fn parse(text: &str) -> Result<Vec<u32>, String> {
     }
 }
 
-fn numbers(fields: &[&str]) -> Result<Vec<u32>, String> {
+/// Fields as numbers; an error names the field.
+pub fn numbers(fields: &[&str]) -> Result<Vec<u32>, String> {
     let number = |(at, field): (usize, &&str)| {
         whole_number(field).ok_or_else(|| format!("field {}: {} is no whole number of 32 bits", at + 1, shown(field)))
     };

@@ -48,8 +48,14 @@ fn run(arguments: &[String], output: &mut Output) -> Result<Outcome, String> {
         "explain" => help::EXPLAIN,
         "pack" => help::PACK,
         "unpack" => help::UNPACK,
+        "report" => help::REPORT,
         "fold" => help::FOLD,
         _ => return Err(format!("{command}: no such command; `barleychime --help` names them")),
+    };
+    // The one option besides help: what is handed in is marks, and no galley with lists.
+    let (marks, rest) = match rest {
+        [first, rest @ ..] if command == "report" && first == "--marks" => (true, rest),
+        _ => (false, rest),
     };
     let Some(names) = names(rest)? else { return told(output, help) };
     if names.iter().filter(|&&name| name == "-").count() > 1 {
@@ -61,6 +67,8 @@ fn run(arguments: &[String], output: &mut Output) -> Result<Outcome, String> {
         ("explain", [galley, list]) => commands::explain(galley, list, output),
         ("pack", [text]) => commands::pack(text, output),
         ("unpack", [galley]) => commands::unpack(galley, output),
+        ("report", [file]) if marks => commands::report_on_marks(file, output),
+        ("report", [galley, lists @ ..]) if !marks && !lists.is_empty() => commands::report(galley, lists, output),
         ("fold", []) => fold::all(output),
         ("fold", [size]) => fold::one(size, output),
         _ => Err(format!("usage: {}", help.lines().next().unwrap_or(""))),

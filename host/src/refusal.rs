@@ -11,6 +11,7 @@ enum Place {
     Page,
     Pages,
     Bytes,
+    Paper,
     Size,
 }
 
@@ -44,6 +45,8 @@ const MEANINGS: &[Meaning] = &[
     meaning(17, Place::Page, "a figure stands on a spread that ends before the line that cites it"),
     meaning(18, Place::Pages, "the list ends before everything is placed"),
     meaning(19, Place::Bytes, "the input is longer than the small program takes"),
+    meaning(31, Place::Nothing, "there are more marks than a report takes (10,000 is the most)"),
+    meaning(32, Place::Paper, "the paper has fewer turns than the engine"),
     meaning(33, Place::Size, "no section has so many pages: their number is a multiple of 4 from 4 to 64"),
 ];
 
@@ -54,6 +57,7 @@ pub fn mender(number: u32) -> &'static str {
         9 | 10 => "the host program",
         11 => "the designer",
         12..=18 => "whoever handed in the list",
+        31 | 32 => "whoever handed in the marks",
         33 => "whoever asked for the section",
         _ => "the person at the program",
     }
@@ -85,6 +89,7 @@ pub fn sentence(refusal: Refusal) -> String {
         Place::Page => format!("page {count}: "),
         Place::Pages => format!("page {count}, the last: "),
         Place::Bytes => format!("more than {count} bytes: "),
+        Place::Paper => format!("paper {count}: "),
         Place::Size => format!("{count} pages: "),
     };
     format!("{place}{sentence}; {} can mend it", mender(refusal.number))

@@ -1,5 +1,5 @@
 /* Case A through the C interface: makes it, prints what the program prints, marks two lists, and tries too little memory.
- * Then two sections, one of a size that there is none of. */
+ * Then two sections, one of a size that there is none of, and two reports, one with a paper below its engine. */
 #include <barleychime.h>
 #include <stdio.h>
 #include <string.h>
@@ -56,10 +56,23 @@ static void print_section(uint32_t size)
     }
 }
 
+static void print_report(struct barleychime_paper papers[2])
+{
+    uint64_t report[BARLEYCHIME_REPORT_WORDS];
+    uint32_t number = barleychime_report(papers, 2, report);
+
+    printf("%u:", (unsigned)number);
+    for (int k = BARLEYCHIME_REPORT_NUMBER; k <= BARLEYCHIME_REPORT_COUNT; k++) {
+        printf(" %lu", (unsigned long)report[k]);
+    }
+    printf("\n");
+}
+
 int main(void)
 {
     static uint32_t work[WORK + 1], pages[LIST + 1];
     const uint32_t too_long[4] = {3, 0, 3, 1}, too_high[4] = {2, 1, 3, 1};
+    struct barleychime_paper papers[2] = {{2, 0, 1, 1, 1}, {2, 1, 1, 0xffffffffu, 1}};
     uint32_t answer[6];
 
     write_case_a();
@@ -90,5 +103,8 @@ int main(void)
     print_answer(answer);
     print_section(8);
     print_section(6);
+    print_report(papers);
+    papers[1].turns = 0;
+    print_report(papers);
     return 0;
 }

@@ -6,10 +6,10 @@ import subprocess
 from reference import cases, marking, refusals, sample, search
 from reference.galley import Figure, Galley, Line, Spec, write
 
-COMMANDS = {'make': 1, 'mark': 2, 'explain': 2, 'pack': 1, 'unpack': 1}
+COMMANDS = {'make': 1, 'mark': 2, 'explain': 2, 'pack': 1, 'unpack': 1, 'report': 2}
 MENDERS = [(range(1, 9), "the galley's writer"), (range(9, 11), 'the host program'), (range(11, 12), 'the designer'),
            (range(12, 19), 'whoever handed in the list'), (range(19, 20), 'the person at the program'),
-           (range(33, 34), 'whoever asked for the section')]
+           (range(31, 33), 'whoever handed in the marks'), (range(33, 34), 'whoever asked for the section')]
 
 # Name, bytes of a list for case A, and a part of the remark that must name line and field.
 JUNK = [

@@ -97,4 +97,5 @@ def run(tally, command, root, library, folder):
         marks = what[0]
         seen[marks] = max(seen[marks], threads(tally, lazy, now, what, stated[marks], takes[marks]))
     figures(tally, stated, takes, seen)
+    tally.same('stack of a report, under 1,000 bytes', needed(library, 'barleychime_report') < 1_000, True)
     tally.group('stack', f'; making takes {takes[0]:,} bytes, marking {takes[1]:,}')

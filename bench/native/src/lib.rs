@@ -15,11 +15,13 @@ mod places;
 mod plain;
 mod queue;
 mod read;
+mod report;
 mod sums;
 mod sweep;
 
 pub use make::{make, make_plain};
 pub use mark::mark;
+pub use report::{report, Mark};
 
 /// Success has number and place 0; a refusal has everything else 0.
 #[derive(Clone, Copy, Debug, Default, PartialEq, Eq)]

@@ -1,10 +1,11 @@
-// The C interface: making and marking for programs in other languages. include/barleychime.h documents it.
+// The C interface: making, marking and reports for programs in other languages. include/barleychime.h documents it.
 ghost use mathlib.Core.Path.{_≡_};
 ghost use Rattle.marking.specs.Mark.{markOf};
 ghost use Rattle.barleychime.specs.Six.{numberOf, sixOf, Exported};
 use model::answer::Answer;
 
 pub mod section; // section.rt: the folding order of a section
+pub mod term; // term.rt: the report on marks
 
 // An answer told to the caller: its six numbers in six words, and its number, which is 0 for a success.
 fn tell(answer: Answer, six: &mut [u32; 6]) -> u32

@@ -1,8 +1,7 @@
 // Whether a page may end at a place, and what it then costs: neither depends on where the page starts.
 ghost use mathlib.Core.Path.{_≡_};
 ghost use mathlib.Core.List.{List};
-ghost use Prim.Native.Nat.{ℕ, _≤_};
-ghost use Rattle.model.specs.Leaf.{ends, sidesOf};
+ghost use Prim.Native.Nat.{ℕ};
 ghost use Rattle.theorems.specs.turns.Waiting.{pageCost};
 ghost use Rattle.theorems.specs.pages.Graph.{full};
 ghost use Rattle.model.specs.Galley.{Sane};
@@ -11,23 +10,14 @@ ghost use Rattle.rules.specs.Waiting.{waits};
 ghost use Rattle.starts.specs.Search.{place, mayStop};
 ghost use Rattle.filling.specs.Asked.{Stopping, Priceable};
 use galley::Galley;
-use model::page::Page;
-
-// Whether a page on side c, which is odd where its number is, ends its leaf.
-fn ends_leaf(g: Galley, c: usize) -> bool
-    requires { ⌜ c ≤ 1 ⌝ }
-    ensures { λ r. ⌜ r ≡ ends (sidesOf (g .spec .sides)) c ⌝ }
-{
-    model::page::ends_spread(g.spec.sides, Page(c as u32))
-}
 
 // Whether a page on side c may end at (i, j): where a leaf or the list ends, no figure is placed that is not cited.
 pub fn may_stop(s: &[u8], g: Galley, i: usize, j: usize, c: usize) -> bool
     requires { ⌜ Stopping (now s) g i j c ⌝ }
     ensures { λ r. ⌜ r ≡ mayStop (modelOf (now (s .entry)) g) i j c ⌝ }
 {
-    rules::rules::may_end(s, g.text, i)
-        & rules::rules::is_cited(s, g, Page(c as u32), starts::search::is_full(g, i, j), i, j)
+    let closed = model::page::side_ends(g.spec.sides, c) | starts::search::is_full(g, i, j);
+    rules::rules::may_end(s, g.text, i) & rules::rules::is_cited(s, g.figures, closed, i, j)
 }
 
 // What a page on side c costs that ends at (i, j), with so many figures waiting: where it ends its leaf and is not the last, the
@@ -39,7 +29,7 @@ pub fn price(g: Galley, i: usize, j: usize, c: usize, waiting: usize) -> u32
     if starts::search::is_full(g, i, j) {
         return 0;
     }
-    if !ends_leaf(g, c) {
+    if !model::page::side_ends(g.spec.sides, c) {
         return 0;
     }
     g.spec.alpha * (waiting as u32) + g.spec.beta

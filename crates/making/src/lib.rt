@@ -29,13 +29,13 @@ fn make_read(s: &[u8], g: Galley, work: &mut [u32], pages: &mut [u32]) -> Answer
     ensures { λ r. ⌜ Made (now (s .entry)) (now (work .entry)) (now (pages .entry)) r (now (work .exit)) (now (pages .exit)) ⌝ }
 {
     let needed = places::words_needed(g.text.count, g.figures.count);
+    let room = 2 * (g.text.count + g.figures.count);
     if work.len() < needed {
         return Answer::Refused {
             number: 9,
             place: needed as u32,
         };
     }
-    let room = 2 * (g.text.count + g.figures.count);
     if pages.len() < room {
         return Answer::Refused {
             number: 10,

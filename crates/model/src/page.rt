@@ -18,8 +18,16 @@ pub fn spread_of(sides: u32, page: Page) -> Spread
     }
 }
 
+// Whether a page on this side of the sheet ends its spread: side 1 has the pages of odd number, which are right-hand pages. A
+// side is no page, so it is a plain number and no `Page`.
+pub fn side_ends(sides: u32, side: usize) -> bool
+    ensures { λ r. ⌜ r ≡ ends (sidesOf sides) side ⌝ }
+{
+    if sides == 2 { side % 2 == 1 } else { true }
+}
+
 pub fn ends_spread(sides: u32, page: Page) -> bool
     ensures { λ r. ⌜ r ≡ ends (sidesOf sides) (page .0) ⌝ }
 {
-    if sides == 2 { page.0 % 2 == 1 } else { true }
+    side_ends(sides, (page.0 % 2) as usize)
 }

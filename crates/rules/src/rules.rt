@@ -1,13 +1,14 @@
 // The rules of a list and of a page that ask for no height: 12, 13, 14, 17, and 16 for a height that is known.
 ghost use mathlib.Core.Path.{_≡_};
-ghost use mathlib.Core.Bool.{_||_};
+ghost use mathlib.Core.Bool.{_&&_, _||_};
 ghost use mathlib.Core.List.{List, [], _∷_};
 ghost use Prim.Native.Nat.{ℕ, _≤_};
 ghost use lib.ListN.{length};
-ghost use lib.Dec.{leb};
+ghost use lib.Dec.{leb, ltb};
+ghost use Rattle.model.specs.Gather.{implies};
 ghost use Rattle.model.specs.Rules.{forward, mayEnd, cited};
 ghost use Rattle.model.specs.Answers.{counted};
-ghost use Rattle.galley.specs.Model.{textOf, modelOf};
+ghost use Rattle.galley.specs.Model.{textOf, floatsOf, modelOf};
 ghost use Rattle.galley.specs.Sound.{SoundStream, Sound};
 ghost use Rattle.rules.specs.Parts.{startFault, endFault};
 use galley::Galley;
@@ -40,13 +41,13 @@ pub fn may_end(s: &[u8], text: Stream, i: usize) -> bool
     true
 }
 
-// 17: where a leaf or the list ends, the last figure placed is cited by a line already placed.
-pub fn is_cited(s: &[u8], g: Galley, page: Page, last: bool, i: usize, j: usize) -> bool
-    requires { ⌜ (Sound (now s) g) × (j ≤ g .figures .count) ⌝ }
-    ensures { λ r. ⌜ r ≡ cited (modelOf (now (s .entry)) g) (page .0) last (i ∷ j ∷ []) ⌝ }
+// 17: where a leaf or the list ends, the last float placed is cited by a line already placed.
+pub fn is_cited(s: &[u8], floats: Stream, closed: bool, i: usize, j: usize) -> bool
+    requires { ⌜ (SoundStream (now s) floats) × (j ≤ floats .count) ⌝ }
+    ensures { λ r. ⌜ r ≡ implies (closed && ltb 0 j) (leb (floatsOf (now (s .entry)) floats .cite j) i) ⌝ }
 {
-    if (model::page::ends_spread(g.spec.sides, page) | last) & (0 < j) {
-        return galley::word::size(blocks::field(s, g.figures, j, galley::CITE)) <= i;
+    if closed & (0 < j) {
+        return galley::word::size(blocks::field(s, floats, j, galley::CITE)) <= i;
     }
     true
 }
@@ -56,8 +57,10 @@ pub fn start_fault(s: &[u8], g: Galley, a: usize, b: usize, i: usize, j: usize) 
     requires { ⌜ Sound (now s) g ⌝ }
     ensures { λ r. ⌜ r ≡ startFault (modelOf (now (s .entry)) g) (a ∷ b ∷ []) (i ∷ j ∷ []) ⌝ }
 {
-    if is_forward(g, a, b, i, j) {
-        if may_end(s, g.text, i) {
+    let forward = is_forward(g, a, b, i, j);
+    let closes = may_end(s, g.text, i);
+    if forward {
+        if closes {
             return 0;
         }
         return 14;
@@ -70,8 +73,11 @@ pub fn end_fault(s: &[u8], g: Galley, loose: u32, page: Page, last: bool, i: usi
     requires { ⌜ (Sound (now s) g) × (j ≤ g .figures .count) ⌝ }
     ensures { λ r. ⌜ r ≡ endFault (last || leb (g .spec .htmin) loose) (cited (modelOf (now (s .entry)) g) (page .0) last (i ∷ j ∷ [])) ⌝ }
 {
-    if last | (g.spec.htmin <= loose) {
-        if is_cited(s, g, page, last, i, j) {
+    let fills = last | (g.spec.htmin <= loose);
+    let closed = model::page::ends_spread(g.spec.sides, page) | last;
+    let cited = is_cited(s, g.figures, closed, i, j);
+    if fills {
+        if cited {
             return 0;
         }
         return 17;

@@ -3,12 +3,13 @@ use Prim.Native.Nat.{ℕ, _+_, _*_, _≤_}
 use native.Mathlib.Nat.{mul-le-mul}
 use native.Mathlib.Omega.{arith}
 use mathlib.Core.Path.{_≡_}
-use mathlib.Core.Bool.{_&&_}
+use mathlib.Core.Bool.{Bool, _&&_, _||_}
 use mathlib.Core.List.{List}
-use Rattle.model.specs.Gather.{sum}
+use lib.Dec.{leb, ltb}
+use Rattle.model.specs.Gather.{implies, sum}
 use Rattle.model.specs.Galley.{Sane}
 use Rattle.model.specs.Leaf.{ends, sidesOf}
-use Rattle.model.specs.Rules.{mayEnd, cited}
+use Rattle.model.specs.Rules.{mayEnd}
 use Rattle.theorems.specs.turns.Waiting.{pageCost}
 use Rattle.theorems.specs.pages.Graph.{full}
 use Rattle.theorems.specs.turns.Bounds.{allFloats, dearest}
@@ -16,7 +17,7 @@ use Rattle.galley.specs.declared.Galley.{Galley}
 use Rattle.galley.specs.Model.{textOf, floatsOf, modelOf}
 use Rattle.galley.specs.Sound.{Sound}
 use Rattle.rules.specs.Waiting.{waits}
-use Rattle.rules.specs.laws.Two.{closes-two, full-two}
+use Rattle.rules.specs.laws.Two.{closes-two, cited-two, full-two}
 use Rattle.rules.specs.laws.Walked.{waiting-two}
 use Rattle.starts.specs.Search.{place, mayStop}
 use Rattle.starts.specs.Asked.{allPlaced}
@@ -25,22 +26,21 @@ use Rattle.filling.specs.Asked.{priceOf}
 module _ (bytes : List ℕ) (g : Galley) (i j c : ℕ) where
   -- Rules 14 and 17.
   pub may-stop-two : mayStop (modelOf bytes g) i j c
-      ≡ (mayEnd (textOf bytes (g .text)) i && cited (modelOf bytes g) c (allPlaced g i j) (place i j))
+      ≡ (mayEnd (textOf bytes (g .text)) i
+      && implies ((ends (sidesOf (g .spec .sides)) c || allPlaced g i j) && ltb 0 j) (leb (floatsOf bytes (g .figures) .cite j) i))
   unfolding mayStop full
   may-stop-two =
       let e = closes-two bytes g i j in
       let f = full-two bytes g i j in
-      rw (e, f)
+      let r = cited-two bytes g c (allPlaced g i j) i j in
+      rw (e, f, r)
 
-  -- The price.
-  pub price-two : Sane (modelOf bytes g) → (n : ℕ) → n ≡ waits (floatsOf bytes (g .figures)) i j
-      → pageCost (modelOf bytes g) c (full (modelOf bytes g) (place i j)) (place i j)
-      ≡ priceOf g (allPlaced g i j) (ends (sidesOf (g .spec .sides)) c) n
+  -- The price, by two tests: whether the page is the last, and whether it ends its leaf.
+  pub price-two : Sane (modelOf bytes g) → (n : ℕ) → n ≡ waits (floatsOf bytes (g .figures)) i j → (last turns : Bool)
+      → last ≡ allPlaced g i j → turns ≡ ends (sidesOf (g .spec .sides)) c
+      → pageCost (modelOf bytes g) c (full (modelOf bytes g) (place i j)) (place i j) ≡ priceOf g last turns n
   unfolding pageCost full
-  price-two sane n found =
-      let w = waiting-two bytes g sane i j in
-      let f = full-two bytes g i j in
-      rw (f, w, ← found)
+  price-two sane n found last turns e f = rw (full-two bytes g i j, waiting-two bytes g sane i j, found, e, f)
 
 -- No price passes the limit of α·n + β.
 pub dearest-light : (bytes : List ℕ) (g : Galley) → Sound bytes g → dearest (modelOf bytes g) ≤ 201000

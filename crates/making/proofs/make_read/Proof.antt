@@ -1,6 +1,9 @@
 -- `make_read` meets its contract: each way out leaves what the definition says, and the work area that was filled is cleared of all
 -- that filling wrote.
+use Prim.Native.Nat.{_<_}
 use borrow.Author.Needs.{needs}
+use denote.Ref.{now}
+use lib.ListN.{length}
 use native.Mathlib.Omega.{arith}
 use mathlib.Core.List.{[]}
 use Rattle.making.specs.laws.Made.{read-small, needed-small, list-small, made-nine, made-ten, fill-asked, made-solved, made-best}
@@ -10,20 +13,31 @@ use Rattle.making.proofs.make_read.Tie as tie
 words-needed-requires : tie.Need-words-needed-requires
 words-needed-requires c κs = read-small _ _ (c .before .before .before .pre .reads)
 
-cast-t10 : tie.Need-cast-t10
-cast-t10 c = let h = needed-small _ _ (c .before .before .before .before .before .pre .reads) in omega (arith, c .before .words-needed .ensures)
-
-returns : tie.Need-returns
-returns c = made-nine _ _ (c .before .before .before .before .before .pre .reads) _ _ _ (c .before .words-needed .ensures) (c .if1 .taken)
-
 add-room : tie.Need-add-room
-add-room c = let h = list-small _ _ (c .before .before .before .before .before .before .pre .reads) in omega arith
+add-room c = let h = list-small _ _ (c .before .before .before .before .before .pre .reads) in omega arith
 
 mul-room : tie.Need-mul-room
-mul-room c = let h = list-small _ _ (c .before .before .before .before .before .before .pre .reads) in omega arith
+mul-room c = let h = list-small _ _ (c .before .before .before .before .before .pre .reads) in omega arith
+
+cast-t10 : tie.Need-cast-t10
+cast-t10 c =
+    let reads = c .before .before .before .before .before .before .pre .reads in
+    let needed = needed-small _ _ reads in
+    let room = list-small _ _ reads in
+    omega (arith, c .before .before .words-needed .ensures)
+
+returns : tie.Need-returns
+returns c =
+    let start = c .before .before .before .before .before .before in
+    let short : length (now (start .args .work)) < c .before .before .words-needed .result = omega arith in
+    made-nine _ _ (start .pre .reads) _ _ _ (c .before .before .words-needed .ensures) short _ (omega arith)
 
 cast-t11 : tie.Need-cast-t11
-cast-t11 c = let h = list-small _ _ (c .before .before .before .before .before .before .before .pre .reads) in omega arith
+cast-t11 c =
+    let reads = c .before .before .before .before .before .before .before .pre .reads in
+    let needed = needed-small _ _ reads in
+    let room = list-small _ _ reads in
+    omega (arith, c .before .before .before .words-needed .ensures)
 
 returns-2 : tie.Need-returns-2
 returns-2 c =
@@ -37,7 +51,7 @@ fill-requires c κs =
 best-pages-requires : tie.Need-best-pages-requires
 best-pages-requires c κs =
     made-solved _ _ (c .before .before .before .before .before .before .before .before .before .before .before .before .before .pre .reads) _ _ _
-    (c .before .before .before .before .before .before .before .before .before .words-needed .ensures) (c .before .before .before .before .before .before .before .before .if1 .left)
+    (c .before .before .before .before .before .before .before .before .before .words-needed .ensures) (c .before .before .before .before .before .before .before .if1 .left)
     (c .before .before .before .before .before .before .if2 .left) _ (c .before .before .before .before .fill .ensures)
 
 clear-requires : tie.Need-clear-requires
@@ -53,7 +67,7 @@ returns-3 : tie.Need-returns-3
 returns-3 c =
     made-best _ _ (c .before .before .before .before .before .before .before .before .before .before .before .before .before .before .before .before .before .before .before .before .pre .reads) _ _ _
     (c .before .before .before .before .before .before .before .before .before .before .before .before .before .before .before .before .words-needed .ensures)
-    (c .before .before .before .before .before .before .before .before .before .before .before .before .before .before .before .if1 .left)
+    (c .before .before .before .before .before .before .before .before .before .before .before .before .before .before .if1 .left)
     (c .before .before .before .before .before .before .before .before .before .before .before .before .before .if2 .left) _ _ _ _
     (c .before .before .before .before .before .before .before .before .before .before .before .fill .ensures) (c .before .before .clear .ensures)
     (c .before .before .before .before .before .before .best-pages .ensures)
@@ -63,10 +77,10 @@ make-read-spec =
     tie.close
     (tie.spec
     words-needed-requires
-    cast-t10
-    returns
     add-room
     mul-room
+    cast-t10
+    returns
     cast-t11
     returns-2
     fill-requires

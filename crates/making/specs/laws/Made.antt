@@ -85,13 +85,13 @@ module _ (bytes : List ℕ) (g : Galley) (read : galleyOf bytes ≡ reads.Galley
   list-small = let so = sound bytes g read in let h = so .fewLines in let k = so .fewFigures in omega arith
 
   module _ (work list : List ℕ) (n : ℕ) (is : n ≡ workNeeded g) where
-    -- 9: the work area is too short.
-    pub made-nine : length work < n → Made bytes work list (Refused 9 n) work list
+    -- 9: the work area is too short; its place is the words needed.
+    pub made-nine : length work < n → (at : ℕ) → at ≡ n → Made bytes work list (Refused 9 at) work list
     unfolding makeOf makeRead workAfter workRead listAfter listRead
-    made-nine l =
+    made-nine l at e =
         let t = lt-ltb (length work) (workNeeded g) (omega arith) in
         record {
-          answers = rw read (simp (t, is));
+          answers = rw read (simp (t, e, is));
           clean = rw read (simp t);
           listed = rw read (simp t);
         }

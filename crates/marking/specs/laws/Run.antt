@@ -186,10 +186,10 @@ module _ (bytes : List ℕ) (g : Galley) (so : Sound bytes g) (ws : List ℕ) wh
       unfolding counts countsOf yOf turns streams
       counts-are good = rw (length-pages (modelOf bytes g) ws, ← x-is good)
 
-      -- After the last page comes rule 18, and then the counts.
-      pub run-finish : finished g (length ws / 2) a b x ≡ wholly bytes g ws
+      -- After the last page comes rule 18, and then the counts, for as many pages as the list has.
+      pub run-finish : (pages : ℕ) → pages ≡ length ws / 2 → finished g pages a b x ≡ wholly bytes g ws
       unfolding finished
-      run-finish = go (eqb a (g .text .count) && eqb b (g .figures .count)) refl
+      run-finish pages is = rw is (go (eqb a (g .text .count) && eqb b (g .figures .count)) refl)
         where
           go : (t : Bool) → (eqb a (g .text .count) && eqb b (g .figures .count)) ≡ t
               → pick t (counts g (length ws / 2) x) (Refused 18 (length ws / 2)) ≡ wholly bytes g ws

@@ -1,7 +1,7 @@
 -- Laws of leaves: the next page lies on the same leaf, or on the next where the page ends its own.
 use Prim.Native.Nat.{ℕ, suc, _+_, _-_, _/_, _%_, _≤_, _<_}
 use native.Mathlib.Omega.{arith}
-use mathlib.Core.Path.{_≡_, refl}
+use mathlib.Core.Path.{_≡_, refl, ap}
 use mathlib.Core.Bool.{Bool, true, false}
 use borrow.Author.Tests.{eqb-true, eqb-false}
 use lib.Dec.{eqb}
@@ -18,6 +18,12 @@ leaf-next double q = go (eqb (q % 2) 1) refl
     go : (b : Bool) → eqb (q % 2) 1 ≡ b → suc q / 2 + 1 ≡ q / 2 + 1 + one b
     go true e = let o = eqb-true (q % 2) 1 e in omega arith
     go false e = let o = eqb-false (q % 2) 1 e in omega arith
+
+-- Whether a page ends its leaf follows from the parity of its number, which is its side of the sheet.
+pub ends-parity : (sides : Sides) (q : ℕ) → ends sides (q % 2) ≡ ends sides q
+unfolding ends
+ends-parity single q = refl
+ends-parity double q = let e : q % 2 % 2 ≡ q % 2 = omega arith in ap (λ r. eqb r 1) e
 
 -- A later page lies on no earlier leaf.
 pub leaf-mono : (sides : Sides) (q r : ℕ) → q ≤ r → leaf sides q ≤ leaf sides r

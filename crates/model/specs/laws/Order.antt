@@ -8,14 +8,12 @@ use mathlib.Core.Path.{_≡_, refl, sym, _∙_, ap}
 use mathlib.Core.Logic.{_⊎_, inl, inr}
 use mathlib.Core.Bool.{Bool, true, false, _&&_}
 use mathlib.Core.List.{List, [], _∷_, reverse, reverseAux, reverse-reverse, tail-eq-of-cons-eq}
-use lib.ListN.{length}
 use lib.Dec.{leb}
 use borrow.Author.Tests.{leb-true, le-leb}
 use Rattle.model.specs.Gather.{implies}
 use Rattle.model.specs.Galley.{Galley, Place, zeros, sizes}
-use Rattle.model.specs.Turns.{turns}
 use Rattle.model.specs.Answers.{ended}
-use Rattle.model.specs.Order.{thenBy, by, lex, geb, oddly, startsOf, before}
+use Rattle.model.specs.Order.{thenBy, by, lex, geb, startsOf, before}
 use Rattle.model.specs.Best.{Allowed, allowed}
 use Rattle.model.specs.laws.Gather.{and-left, and-right, and-both, implies-at, implies-of}
 use Rattle.model.specs.laws.Judge.{accepts}
@@ -154,34 +152,21 @@ starts-reverse ok l q u (v ∷ vs) after h =
     starts-reverse ok l (suc q) v vs (u ∷ after) (and-right (ok q (ended vs) u v) (accepts ok l (suc q) v vs) h)
 
 module _ (g : Galley) where
-  turns-order : List Place → List Place → Bool
-  turns-order = by (turns g) leb
-
-  count-order : List Place → List Place → Bool
-  count-order = by (λ ps. oddly (g .spec .sides) (length ps)) leb
-
-  starts-order : List Place → List Place → Bool
-  starts-order = by (λ ps. startsOf (zeros g) ps []) (lex (lex geb))
-
-  -- The order of preference is total and transitive.
+  -- The order of preference is total and transitive, as are the orders that it is put together from.
   pub before-preference : Preference (before g)
-  unfolding before turns-order count-order starts-order
-  before-preference =
-      thenBy-preference turns-order (thenBy count-order starts-order) (by-preference (turns g) leb leb-preference)
-      (thenBy-preference count-order starts-order
-      (by-preference (λ ps. oddly (g .spec .sides) (length ps)) leb leb-preference)
-      (by-preference (λ ps. startsOf (zeros g) ps []) (lex (lex geb)) (lex-preference (lex geb) (lex-preference geb geb-preference))))
+  unfolding before
+  before-preference = search (leb-preference, geb-preference, by-preference, lex-preference, thenBy-preference) depth 8
 
   -- Two accepted lists that each come before the other are the same list.
   pub before-antisymm : (ps qs : List Place) → Accepted g ps → Accepted g qs → before g ps qs ≡ true → before g qs ps ≡ true → ps ≡ qs
-  unfolding before turns-order count-order starts-order by
+  unfolding before by
   before-antisymm ps qs a b h k =
-      let h′ = thenBy-last turns-order (thenBy count-order starts-order) ps qs h k in
-      let k′ = thenBy-last turns-order (thenBy count-order starts-order) qs ps k h in
-      let h″ = thenBy-last count-order starts-order ps qs h′ k′ in
-      let k″ = thenBy-last count-order starts-order qs ps k′ h′ in
+      let h′ = thenBy-last _ _ ps qs h k in
+      let k′ = thenBy-last _ _ qs ps k h in
+      let h″ = thenBy-last _ _ ps qs h′ k′ in
+      let k″ = thenBy-last _ _ qs ps k′ h′ in
       let starts : startsOf (zeros g) ps [] ≡ startsOf (zeros g) qs [] =
-      lex-antisymm (lex geb) (lex-antisymm geb geb-antisymm) (startsOf (zeros g) ps []) (startsOf (zeros g) qs []) h″ k″ in
+      lex-antisymm _ (search (lex-antisymm, geb-antisymm)) (startsOf (zeros g) ps []) (startsOf (zeros g) qs []) h″ k″ in
       let back : reverse (zeros g ∷ ps) ≡ reverse (zeros g ∷ qs) =
       sym (starts-reverse (allowed g) (sizes g) 1 (zeros g) ps [] (a .taken))
       ∙ ap (λ r. sizes g ∷ r) starts

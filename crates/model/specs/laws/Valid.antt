@@ -15,7 +15,7 @@ use Rattle.model.specs.declared.answer.Answer.the-variants.{Refused}
 use Rattle.model.specs.Gather.{pick}
 use Rattle.model.specs.Galley.{Galley, Place, count, streams, zeros, sizes, blocks}
 use Rattle.model.specs.Answers.{accepted, same, ended, judge, counted, countsOf, pagesOf, wordsOf, marked}
-use Rattle.model.specs.Best.{allowed, keep, lists, valid}
+use Rattle.model.specs.Best.{allowed, valid}
 use Rattle.model.specs.laws.Gather.{and-left, and-right, and-both, total-ext, length-row, row-at}
 use Rattle.model.specs.laws.Rules.{kept, Forward, forward-at, placed, placed-grows}
 use Rattle.model.specs.laws.Judge.{accepts, judge-accepts, judge-good}
@@ -116,23 +116,17 @@ module _ (g : Galley) where
   -- A list of places is among every valid list exactly where the rules accept it.
   pub valid-accepted : (ps : List Place) → (ps ∈ valid g) ↔ Accepted ps
   unfolding valid
-  valid-accepted ps = (out, into)
-    where
-      all : List (List Place)
-      all = lists (allowed g) (sizes g) (blocks g) 1 (zeros g)
-
-      out : ps ∈ keep (λ ps. not (ended ps)) all → Accepted ps
-      out m =
-          let k = ∈-kept (λ ps. not (ended ps)) ps all m in
-          let r = unlisted (allowed g) (sizes g) (blocks g) 1 (zeros g) ps (k .0) in
-          record { some = some-ended ps (k .1); shaped = inside-shaped ps (r .inside); taken = r .taken }
-
-      into : Accepted ps → ps ∈ keep (λ ps. not (ended ps)) all
-      into a =
-          ∈-keep (λ ps. not (ended ps)) ps all
-          (listed (allowed g) (sizes g) (blocks g) 1 (zeros g) ps (all-inside 1 (zeros g) ps (a .shaped) (a .taken))
-          (few-pages ps a) (a .taken))
-          (ended-some ps (a .some))
+  valid-accepted ps = (
+    (λ m.
+        let k = ∈-kept (λ ps. not (ended ps)) ps _ m in
+        let r = unlisted (allowed g) (sizes g) _ 1 (zeros g) ps (k .0) in
+        record { some = some-ended ps (k .1); shaped = inside-shaped ps (r .inside); taken = r .taken }),
+    (λ a.
+        let few = few-pages ps a in
+        ∈-keep (λ ps. not (ended ps)) ps _
+        (listed (allowed g) (sizes g) _ 1 (zeros g) ps (all-inside 1 (zeros g) ps (a .shaped) (a .taken)) (omega arith) (a .taken))
+        (ended-some ps (a .some))),
+  )
 
   -- A list of words is accepted exactly where rule 12 holds and the rules accept its pages.
   pub record MarkAccepted (ws : List ℕ) : Type 0 where

@@ -1,11 +1,11 @@
 -- Of a page's number only its side matters.
 use Prim.Native.Nat.{ℕ, suc, _%_}
 use native.Mathlib.Omega.{arith}
-use mathlib.Core.Path.{_≡_, refl, ap}
+use mathlib.Core.Path.{_≡_, refl, sym}
 use mathlib.Core.Bool.{Bool}
-use lib.Dec.{eqb}
 use Rattle.model.specs.Galley.{Sides, single, double, Galley, Place}
 use Rattle.model.specs.Leaf.{ends}
+use Rattle.model.specs.laws.Leaf.{ends-parity}
 use Rattle.model.specs.Rules.{broken, cited}
 use Rattle.model.specs.Order.{oddly}
 use Rattle.model.specs.Best.{allowed}
@@ -40,7 +40,7 @@ side-back double b d h k e = omega arith
 pub ends-side : (sides : Sides) (q : ℕ) → ends sides q ≡ ends sides (oddly sides q)
 unfolding ends oddly
 ends-side single q = refl
-ends-side double q = let e : q % 2 ≡ q % 2 % 2 = omega arith in ap (λ r. eqb r 1) e
+ends-side double q = sym (ends-parity double q)
 
 module _ (g : Galley) (q : ℕ) (last : Bool) where
   -- The rules look only at the side.

@@ -54,3 +54,12 @@ unsafe fn put(answer: *mut u32, made: native::Answer) -> u32 {
     unsafe { from_raw_parts_mut(answer, 6) }.copy_from_slice(&words);
     made.number
 }
+
+/// # Safety
+/// As `include/barleychime.h` says.
+#[no_mangle]
+pub unsafe extern "C" fn barleychime_report(marks: *const native::Mark, marks_len: usize, report: *mut u64) -> u32 {
+    let words = native::report(unsafe { from_raw_parts(marks, marks_len) });
+    unsafe { from_raw_parts_mut(report, words.len()) }.copy_from_slice(&words);
+    words[0] as u32
+}

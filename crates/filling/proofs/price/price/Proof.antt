@@ -1,5 +1,6 @@
 -- `price` meets its contract: by the tests on the way each answer is the case of the price for them, and the limits on the
 -- weights keep it within a word.
+use mathlib.Core.Path.{refl}
 use borrow.Author.Tests.{not-true, not-false}
 use native.Mathlib.Omega.{arith}
 use Rattle.filling.specs.laws.Price.{price-two, price-small}
@@ -14,24 +15,21 @@ returns : tie.Need-returns
 returns c =
     λ bytes sane found.
     let a = c .before .before .args in
-    let law = price-two bytes (a .g) (a .i) (a .j) (a .c) sane (a .waiting) found in
-    rw (law, ← c .before .is-full .ensures, c .if1 .taken)
+    let full = c .before .is-full in
+    let law = price-two bytes (a .g) (a .i) (a .j) (a .c) sane (a .waiting) found (full .result) _ (full .ensures) refl in
+    rw (law, c .if1 .taken)
 
-ends-leaf-requires : tie.Need-ends-leaf-requires
-ends-leaf-requires c κs = search needs
+side-ends-requires : tie.Need-side-ends-requires
+side-ends-requires c κs = search needs
 
 returns-2 : tie.Need-returns-2
 returns-2 c =
     λ bytes sane found.
     let a = c .before .before .before .before .args in
-    let law = price-two bytes (a .g) (a .i) (a .j) (a .c) sane (a .waiting) found in
-    rw (
-      law,
-      ← c .before .before .before .is-full .ensures,
-      c .before .before .if1 .left,
-      ← c .before .ends-leaf .ensures,
-      not-true (c .before .ends-leaf .result) (c .if2 .taken),
-    )
+    let full = c .before .before .before .is-full in
+    let side = c .before .side-ends in
+    let law = price-two bytes (a .g) (a .i) (a .j) (a .c) sane (a .waiting) found (full .result) (side .result) (full .ensures) (side .ensures) in
+    rw (law, c .before .before .if1 .left, not-true (side .result) (c .if2 .taken))
 
 cast-result : tie.Need-cast-result
 cast-result c = search needs
@@ -52,14 +50,10 @@ returns-3 : tie.Need-returns-3
 returns-3 c =
     λ bytes sane found.
     let a = c .before .before .before .before .before .before .args in
-    let law = price-two bytes (a .g) (a .i) (a .j) (a .c) sane (a .waiting) found in
-    rw (
-      law,
-      ← c .before .before .before .before .before .is-full .ensures,
-      c .before .before .before .before .if1 .left,
-      ← c .before .before .before .ends-leaf .ensures,
-      not-false (c .before .before .before .ends-leaf .result) (c .before .before .if2 .left),
-    )
+    let full = c .before .before .before .before .before .is-full in
+    let side = c .before .before .before .side-ends in
+    let law = price-two bytes (a .g) (a .i) (a .j) (a .c) sane (a .waiting) found (full .result) (side .result) (full .ensures) (side .ensures) in
+    rw (law, c .before .before .before .before .if1 .left, not-false (side .result) (c .before .before .if2 .left))
 
 pub price-spec : {M : Type 1} → statement M
 price-spec =
@@ -67,7 +61,7 @@ price-spec =
     (tie.spec
     is-full-requires
     returns
-    ends-leaf-requires
+    side-ends-requires
     returns-2
     cast-result
     mul-result

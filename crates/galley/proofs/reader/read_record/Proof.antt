@@ -21,7 +21,8 @@ use denote.Ref.{RefT, NamedLft, now}
 use denote.Slice.{sliceVal, slice-vals, shr-slice-lawful}
 use denote.Triple.Clauses.{Clauses}
 use Rattle.galley.specs.Record.{recordAt}
-use Rattle.galley.proofs.Walk as walk
+use Rattle.byhand.specs.Walk as walk
+use Rattle.galley.proofs.Walk as reader
 use Rattle.galley.proofs.reader.Reader.new as new
 use Rattle.galley.proofs.reader.Reader.new.Symbol as new-def
 use Rattle.galley.proofs.reader.Reader.new.Met as new-thm
@@ -43,7 +44,7 @@ module _ {M : Type 1} {𝓤 : URA M} {H : Heap 𝓤} (𝓜 : Model 𝓤 H) (𝓖
   abbrev c : Clauses 𝓤 read-record.ended
   c = read-record.clauses 𝓤 H (𝓖 .A) (𝓜 .mem) (𝓡 .run)
 
-  module _ (κ : Lft) (q : Share) (s : RefT (List ℕ)) (p : Is (walk.Bytes κ) s (slice-vals s)) (n : ℕ) (ok : n < 2 ^ 64) where
+  module _ (κ : Lft) (q : Share) (s : RefT (List ℕ)) (p : Is (reader.Bytes κ) s (slice-vals s)) (n : ℕ) (ok : n < 2 ^ 64) where
     abbrev y : walk.Call W read-record.ended c
     y = (((κ, tt), (q, tt), tt, (s, (n, tt)), (slice-vals s, (vint w64 n ∷ [], tt))), tt)
 
@@ -58,27 +59,27 @@ module _ {M : Type 1} {𝓤 : URA M} {H : Heap 𝓤} (𝓜 : Model 𝓤 H) (𝓖
         pass1 ! (init ! 6 refl (shr-slice-lawful 𝓤 H (𝓖 .A) W (named 0) κ u8 .typed s (slice-vals s) p .0)) $
         pass1 ! (init ! 4 refl (tt, record { fits = ok })) $ pass0 ! $ move ! (10 ∷ 11 ∷ 12 ∷ []) $
         -- [what the arguments own; the token; the same again; room for _4; …; room for _3; …; _2; …; _1; …; room for _0; …]
-        walk.first ! $ walk.alone ! (walk.Bytes κ) s (slice-vals s) $
+        walk.first ! $ walk.alone ! (reader.Bytes κ) s (slice-vals s) $
         walk.calls 𝓜 𝓖 𝓡 code.env new.ended (new.clauses 𝓤 H (𝓖 .A) (𝓜 .mem) (𝓡 .run)) !
         new-def.routine code.calls-galley·reader·Reader·new (new-thm.met 𝓤 H 𝓜 𝓖 𝓡)
         (((κ, tt), (q, tt), tt, (s, tt), (slice-vals s, tt)), tt)
         (id⊢ 𝓤 _) (λ d. (d .src ≡ s) × (d .at ≡ 0)) (λ d ws. id⊢ 𝓤 _)
         (and-then ! (load ! (from ! (stop !)) (look ! 8 refl)) (no-more !))
-        (λ u d e is. land ! (from ! (stop !)) (init ! 3 refl (walk.held W α d u is)) $
-        walk.beside ! (walk.Row κ) d (u ∷ []) n ok $
+        (λ u d e is. land ! (from ! (stop !)) (init ! 3 refl (reader.held W α d u is)) $
+        walk.beside ! (reader.Row κ) d (u ∷ []) n ok $
         walk.calls 𝓜 𝓖 𝓡 code.env moved.ended (moved.clauses 𝓤 H (𝓖 .A) (𝓜 .mem) (𝓡 .run)) !
         moved-def.routine code.calls-galley·reader·Reader·moved (moved-thm.met 𝓤 H 𝓜 𝓖 𝓡)
         (((κ, tt), (q, tt), tt, (d, (n, tt)), (u ∷ [], (vint w64 n ∷ [], tt))), tt)
         (id⊢ 𝓤 _) (λ d′. (d′ .src ≡ d .src) × (d′ .at ≡ n)) (λ d′ ws. id⊢ 𝓤 _)
         (and-then ! (load ! (from ! (stop !)) (look ! 2 refl)) (and-then ! (load ! (from ! (stop !)) (look ! 6 refl)) (no-more !)))
-        (λ u′ d′ e′ is′. land ! (from ! (stop !)) (init ! 5 refl (walk.held W α d′ u′ is′)) $
-        walk.alone ! (walk.Row κ) d′ (u′ ∷ []) $
+        (λ u′ d′ e′ is′. land ! (from ! (stop !)) (init ! 5 refl (reader.held W α d′ u′ is′)) $
+        walk.alone ! (reader.Row κ) d′ (u′ ∷ []) $
         walk.calls 𝓜 𝓖 𝓡 code.env next.ended (next.clauses 𝓤 H (𝓖 .A) (𝓜 .mem) (𝓡 .run)) !
         next-def.routine code.calls-galley·reader·Reader·next (next-thm.met 𝓤 H 𝓜 𝓖 𝓡)
         (((κ, tt), (q, tt), tt, (d′, tt), (u′ ∷ [], tt)), tt)
         (id⊢ 𝓤 _) (λ r. r ≡ recordAt (now (d′ .src)) (d′ .at)) (λ r ws. id⊢ 𝓤 _)
         (and-then ! (load ! (from ! (stop !)) (look ! 4 refl)) (no-more !))
-        (λ u″ r e″ is″. land ! (from ! (stop !)) (init ! 11 refl (walk.found W r u″ is″)) $
+        (λ u″ r e″ is″. land ! (from ! (stop !)) (init ! 11 refl (reader.found W r u″ is″)) $
         returns ! (look ! 11 refl) $ forget ! 3 refl $ forget ! 5 refl $ forget ! 7 refl $ forget ! 9 refl $ forget ! 11 refl $
         move ! (11 ∷ 12 ∷ []) $ free1 ! $ move ! (9 ∷ 10 ∷ []) $ free1 ! $ move ! (7 ∷ 8 ∷ []) $ free1 ! $
         move ! (5 ∷ 6 ∷ []) $ free1 ! $ move ! (3 ∷ 4 ∷ []) $ free1 ! $ free0 ! $
@@ -89,5 +90,5 @@ pub read-record-spec : {M : Type 1} → stated.statement M
 unfolding code.routine tablesOf
 read-record-spec 𝓤 H 𝓜 𝓖 𝓡 =
     walk.proved 𝓜 𝓖 𝓡 code.env code.function read-record.ended (c 𝓜 𝓖 𝓡) key.name (code.unfolded 𝓤 H 𝓜 𝓡)
-    (walk.of-slice (W 𝓜 𝓖 𝓡), (walk.of-number (W 𝓜 𝓖 𝓡), tt))
+    (reader.of-slice (W 𝓜 𝓖 𝓡), (reader.of-number (W 𝓜 𝓖 𝓡), tt))
     (λ κs qs bounds a g are. goes 𝓜 𝓖 𝓡 (κs .0) (qs .0) (a .0) (are .0) (a .1 .0) (are .1 .0 .1))

@@ -1,6 +1,9 @@
 -- `galley::whole::last_record` meets its contract. Whether more than the mark is left decides both.
 use borrow.Author.Tests.{lt-ltb, le-ltb}
 use borrow.Author.Needs.{needs}
+use native.Mathlib.Omega.{arith}
+use mathlib.Core.Path.{ap}
+use Rattle.galley.specs.declared.Record.the-variants as found
 use Rattle.galley.specs.Whole.{ended}
 use Rattle.galley.proofs.whole.last_record.Statement.{statement}
 use Rattle.galley.proofs.whole.last_record.Tie as tie
@@ -13,7 +16,7 @@ add-t5 c = search needs
 
 returns : tie.Need-returns
 unfolding ended
-returns c = simp (← c .before .left-from .ensures, lt-ltb _ _ (c .if1 .taken))
+returns c = simp (← c .before .left-from .ensures, lt-ltb _ _ (c .if1 .taken)) (ap (found.Refused 8) (omega arith))
 
 returns-2 : tie.Need-returns-2
 unfolding ended

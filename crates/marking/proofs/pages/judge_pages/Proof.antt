@@ -165,7 +165,7 @@ returns c =
     let pg = c .before .before .pages in
     c .finish .ensures
     ∙ run-finish (now (st .args .s)) (st .args .g) (st .pre .sound) (now (st .args .list))
-    (st .pre .whole) (pg .inv) (c .before .if1 .taken)
+    (st .pre .whole) (pg .inv) (c .before .if1 .taken) _ (search needs)
 
 returns-2 : tie.Need-returns-2 Inv-loop μ-loop Inv-pages μ-pages
 returns-2 c = begun-refused (page (c .before)) (c .if2 .taken)

@@ -1,16 +1,21 @@
--- `ends_spread` meets its contract: by the test on `sides`, each arm is the clause of `ends` for that sidedness.
-use borrow.Author.Tests.{eq-eqb, ne-eqb}
-use Rattle.model.specs.Leaf.{ends, sidesOf}
+-- `ends_spread` meets its contract: whether a page ends its leaf follows from its side, which is its number's parity.
+use borrow.Author.Needs.{needs}
+use mathlib.Core.Path.{_∙_}
+use Rattle.model.specs.Leaf.{sidesOf}
+use Rattle.model.specs.laws.Leaf.{ends-parity}
 use Rattle.model.proofs.page.ends_spread.Statement.{statement}
 use Rattle.model.proofs.page.ends_spread.Tie as tie
 
-returns : tie.Need-returns
-unfolding ends sidesOf
-returns c = simp (eq-eqb _ _ (c .before .if1 .taken))
+cast-side-ends : tie.Need-cast-side-ends
+cast-side-ends c = search needs
 
-returns-2 : tie.Need-returns-2
-unfolding ends sidesOf
-returns-2 c = simp (ne-eqb _ _ (c .if1 .left))
+side-ends-requires : tie.Need-side-ends-requires
+side-ends-requires c κs = search needs
+
+returns : tie.Need-returns
+returns c =
+    let a = c .before .before .args in
+    c .side-ends .ensures ∙ ends-parity (sidesOf (a .sides)) (a .page .0)
 
 pub ends-spread-spec : {M : Type 1} → statement M
-ends-spread-spec = tie.close (tie.spec returns returns-2)
+ends-spread-spec = tie.close (tie.spec cast-side-ends side-ends-requires returns)

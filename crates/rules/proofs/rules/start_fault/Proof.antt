@@ -1,7 +1,6 @@
 -- `start_fault` meets its contract: by its two tests, in the order of `startFault`.
 use borrow.Author.Needs.{needs}
 use denote.Ref.{now}
-use mathlib.Core.Path.{sym, _∙_}
 use Rattle.rules.specs.Parts.{startFault}
 use Rattle.rules.specs.laws.Two.{closes-two}
 use Rattle.rules.proofs.rules.start_fault.Statement.{statement}
@@ -18,9 +17,10 @@ unfolding startFault
 returns c =
     let a = c .before .before .before .before .before .args in
     rw (
-      sym (c .before .before .before .is-forward .ensures (now (a .s))) ∙ c .before .before .if1 .taken,
+      ← c .before .before .before .is-forward .ensures (now (a .s)),
       closes-two (now (a .s)) (a .g) (a .i) (a .j),
-      ← c .before .may-end .ensures,
+      ← c .before .before .may-end .ensures,
+      c .before .if1 .taken,
       c .if2 .taken,
     )
 
@@ -29,15 +29,23 @@ unfolding startFault
 returns-2 c =
     let a = c .before .before .before .before .before .args in
     rw (
-      sym (c .before .before .before .is-forward .ensures (now (a .s))) ∙ c .before .before .if1 .taken,
+      ← c .before .before .before .is-forward .ensures (now (a .s)),
       closes-two (now (a .s)) (a .g) (a .i) (a .j),
-      ← c .before .may-end .ensures,
+      ← c .before .before .may-end .ensures,
+      c .before .if1 .taken,
       c .if2 .left,
     )
 
 returns-3 : tie.Need-returns-3
 unfolding startFault
-returns-3 c = rw (sym (c .before .is-forward .ensures (now (c .before .before .before .args .s))) ∙ c .if1 .left)
+returns-3 c =
+    let a = c .before .before .before .before .args in
+    rw (
+      ← c .before .before .is-forward .ensures (now (a .s)),
+      closes-two (now (a .s)) (a .g) (a .i) (a .j),
+      ← c .before .may-end .ensures,
+      c .if1 .left,
+    )
 
 pub start-fault-spec : {M : Type 1} → statement M
 start-fault-spec =

@@ -20,7 +20,8 @@ use denote.Ref.{RefT}
 use denote.Slice.{slice-vals, shr-slice-lawful}
 use denote.Triple.Clauses.{Clauses}
 use Rattle.galley.specs.declared.reader.Reader.{Reader}
-use Rattle.galley.proofs.Walk as walk
+use Rattle.byhand.specs.Walk as walk
+use Rattle.galley.proofs.Walk as reader
 use Rattle.galley.proofs.reader.Reader.Laws as T′
 use Rattle.galley.proofs.reader.Reader.new as new
 use Rattle.galley.proofs.reader.Reader.new.Key as key
@@ -34,7 +35,7 @@ module _ {M : Type 1} {𝓤 : URA M} {H : Heap 𝓤} (𝓜 : Model 𝓤 H) (𝓖
   abbrev c : Clauses 𝓤 new.ended
   c = new.clauses 𝓤 H (𝓖 .A) (𝓜 .mem) (𝓡 .run)
 
-  module _ (κ : Lft) (q : Share) (s : RefT (List ℕ)) (p : Is (walk.Bytes κ) s (slice-vals s)) where
+  module _ (κ : Lft) (q : Share) (s : RefT (List ℕ)) (p : Is (reader.Bytes κ) s (slice-vals s)) where
     abbrev y : walk.Call W new.ended c
     y = (((κ, tt), (q, tt), tt, (s, tt), (slice-vals s, tt)), tt)
 
@@ -50,11 +51,11 @@ module _ {M : Type 1} {𝓤 : URA M} {H : Heap 𝓤} (𝓜 : Model 𝓤 H) (𝓖
         (from ! (stop !)) (init ! 2 refl (tt, (wt .1, (record { fits = lit< tt }, tt)))) $
         returns ! (look ! 2 refl) $ forget ! 0 refl $ forget ! 2 refl $ move ! (2 ∷ 3 ∷ []) $ free1 ! $ free1 ! $ free0 ! $
         -- [what src owns; the token; the same again]
-        walk.first ! $ use1 W (‵ (walk.of-struct κ made)) (walk.together W κ made (lit< tt)) $
+        walk.first ! $ use1 W (‵ (reader.of-struct κ made)) (reader.together W κ made (lit< tt)) $
         by ! (walk.ends W new.ended c y (T′.lowered made) made (tt, tt) (id⊢ 𝓤 _) (refl, refl))))
 
 pub new-spec : {M : Type 1} → stated.statement M
 unfolding code.routine tablesOf
 new-spec 𝓤 H 𝓜 𝓖 𝓡 =
     walk.proved 𝓜 𝓖 𝓡 code.env code.function new.ended (c 𝓜 𝓖 𝓡) key.name (code.unfolded 𝓤 H 𝓜 𝓡)
-    (walk.of-slice (W 𝓜 𝓖 𝓡), tt) (λ κs qs bounds a g are. goes 𝓜 𝓖 𝓡 (κs .0) (qs .0) (a .0) (are .0))
+    (reader.of-slice (W 𝓜 𝓖 𝓡), tt) (λ κs qs bounds a g are. goes 𝓜 𝓖 𝓡 (κs .0) (qs .0) (a .0) (are .0))

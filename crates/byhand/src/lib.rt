@@ -1,0 +1,1 @@
+// What proofs by hand share. There is no code here: the laws are in specs/.
