@@ -18,14 +18,14 @@ is-cited-requires c κs = search needs
 
 returns : tie.Need-returns
 returns c =
-    let a = c .before .before .before .before .before .before .args in
+    let a = c .before .before .before .before .before .args in
     let law = may-stop-two (a .s .now) (a .g) (a .i) (a .j) (a .c) in
     simp (
       law,
       c .is-cited .ensures,
       c .before .may-end .ensures,
-      c .before .before .before .is-full .ensures,
-      c .before .before .before .before .side-ends .ensures,
+      c .before .before .is-full .ensures,
+      c .before .before .before .side-ends .ensures,
     )
 
 pub may-stop-spec : {M : Type 1} → statement M
