@@ -5,18 +5,6 @@ use Rattle.barleychime.specs.Six.{numberOf, sixOf}
 use Rattle.barleychime.proofs.barleychime_make.Statement.{statement}
 use Rattle.barleychime.proofs.barleychime_make.Tie as tie
 
-make-requires : tie.Need-make-requires
-make-requires c κs = search needs
-
-tell-requires : tie.Need-tell-requires
-tell-requires c κs = search needs
-
-same-length : tie.Need-same-length
-same-length c = search needs
-
-same-length-2 : tie.Need-same-length-2
-same-length-2 c = search needs
-
 returns : tie.Need-returns
 returns c =
     let made = c .before .before .before .before .before .before .make .ensures in
@@ -29,4 +17,4 @@ returns c =
 
 pub barleychime-make-spec : {M : Type 1} → statement M
 barleychime-make-spec =
-    tie.close (tie.spec make-requires tell-requires same-length same-length-2 returns)
+    tie.close (tie.spec (λ c κs. search needs) (λ c κs. search needs) (λ c. search needs) (λ c. search needs) returns)

@@ -5,16 +5,10 @@ use Rattle.barleychime.specs.Six.{numberOf, sixOf}
 use Rattle.barleychime.proofs.barleychime_mark.Statement.{statement}
 use Rattle.barleychime.proofs.barleychime_mark.Tie as tie
 
-mark-requires : tie.Need-mark-requires
-mark-requires c κs = search needs
-
-tell-requires : tie.Need-tell-requires
-tell-requires c κs = search needs
-
 returns : tie.Need-returns
 returns c =
     let e = c .before .before .mark .ensures in
     (c .tell .ensures .0 ∙ ap numberOf e, c .tell .ensures .1 ∙ ap sixOf e)
 
 pub barleychime-mark-spec : {M : Type 1} → statement M
-barleychime-mark-spec = tie.close (tie.spec mark-requires tell-requires returns)
+barleychime-mark-spec = tie.close (tie.spec (λ c κs. search needs) (λ c κs. search needs) returns)

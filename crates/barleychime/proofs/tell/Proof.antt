@@ -5,11 +5,8 @@ use Rattle.barleychime.specs.Six.{wordsOfNumbers}
 use Rattle.barleychime.proofs.tell.Statement.{statement}
 use Rattle.barleychime.proofs.tell.Tie as tie
 
-six-numbers-requires : tie.Need-six-numbers-requires
-six-numbers-requires c κs = search needs
-
 returns : tie.Need-returns
 returns c = (ap (λ n. n .number) (c .before .six-numbers .ensures), ap wordsOfNumbers (c .before .six-numbers .ensures))
 
 pub tell-spec : {M : Type 1} → statement M
-tell-spec = tie.close (tie.spec six-numbers-requires returns)
+tell-spec = tie.close (tie.spec (λ c κs. search needs) returns)

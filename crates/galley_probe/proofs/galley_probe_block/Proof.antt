@@ -28,21 +28,9 @@ stream-within bytes g number so = go (eqb number 0)
     go true = so .text .within
     go false = so .figures .within
 
-read-galley-requires : tie.Need-read-galley-requires
-read-galley-requires c κs = search needs
-
-enum-known-reading : tie.Need-enum-known-reading
-enum-known-reading c = search needs
-
-enum-told : tie.Need-enum-told
-enum-told c = search needs
-
 returns : tie.Need-returns
 unfolding blockWords
 returns c = simp (sym (c .before .before .before .read-galley .ensures) ∙ c .before .enum-told .given .1)
-
-stream-at-requires : tie.Need-stream-at-requires
-stream-at-requires c κs = search needs
 
 returns-2 : tie.Need-returns-2
 unfolding blockWords
@@ -105,11 +93,11 @@ pub galley-probe-block-spec : {M : Type 1} → statement M
 galley-probe-block-spec =
     tie.close
     (tie.spec
-    read-galley-requires
-    enum-known-reading
-    enum-told
+    (λ c κs. search needs)
+    (λ c. search needs)
+    (λ c. search needs)
     returns
-    stream-at-requires
+    (λ c κs. search needs)
     returns-2
     returns-3
     field-requires

@@ -11,15 +11,6 @@ use Rattle.galley_probe.specs.Words.{waitingOf}
 use Rattle.galley_probe.proofs.galley_probe_waiting.Statement.{statement}
 use Rattle.galley_probe.proofs.galley_probe_waiting.Tie as tie
 
-read-galley-requires : tie.Need-read-galley-requires
-read-galley-requires c κs = search needs
-
-enum-known-reading : tie.Need-enum-known-reading
-enum-known-reading c = search needs
-
-enum-told : tie.Need-enum-told
-enum-told c = search needs
-
 returns : tie.Need-returns
 unfolding waitingOf
 returns c = simp (sym (c .before .before .read-galley .ensures) ∙ c .enum-told .given .1)
@@ -60,9 +51,9 @@ pub galley-probe-waiting-spec : {M : Type 1} → statement M
 galley-probe-waiting-spec =
     tie.close
     (tie.spec
-    read-galley-requires
-    enum-known-reading
-    enum-told
+    (λ c κs. search needs)
+    (λ c. search needs)
+    (λ c. search needs)
     returns
     returns-2
     known-from-requires

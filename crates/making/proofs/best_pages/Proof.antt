@@ -63,12 +63,6 @@ slice-aggregate-mark c =
     let long = walk-long _ _ _ _ p _ side _ told _ pages e _ (c .before .before .before .write-pages .ensures) in
     sym (length-take-le _ _ (omega arith))
 
-mark-requires : tie.Need-mark-requires
-mark-requires c κs = search needs
-
-same-length : tie.Need-same-length
-same-length c = search needs
-
 returns-2 : tie.Need-returns-2
 returns-2 c =
     walk-written _ _ _ _ (c .before .before .before .before .before .before .before .before .before .before .before .before .before .pre) _
@@ -90,6 +84,6 @@ best-pages-spec =
     mul-words
     slice-reshare-prefix-mark
     slice-aggregate-mark
-    mark-requires
-    same-length
+    (λ c κs. search needs)
+    (λ c. search needs)
     returns-2)

@@ -5,26 +5,8 @@ use Rattle.making.specs.laws.Made.{made-refused}
 use Rattle.making.proofs.make.Statement.{statement}
 use Rattle.making.proofs.make.Tie as tie
 
-read-galley-requires : tie.Need-read-galley-requires
-read-galley-requires c κs = search needs
-
-enum-known-reading : tie.Need-enum-known-reading
-enum-known-reading c = search needs
-
 make-read-requires : tie.Need-make-read-requires
 make-read-requires c κs = record { reads = sym (c .before .before .before .before .before .read-galley .ensures) ∙ c .before .before .before .reading .given .1 }
-
-enum-known-reading-2 : tie.Need-enum-known-reading-2
-enum-known-reading-2 c = search needs
-
-same-length : tie.Need-same-length
-same-length c = search needs
-
-same-length-2 : tie.Need-same-length-2
-same-length-2 c = search needs
-
-returns : tie.Need-returns
-returns c = search needs
 
 returns-2 : tie.Need-returns-2
 returns-2 c = made-refused _ _ _ _ _ (sym (c .before .before .before .read-galley .ensures) ∙ c .before .reading2 .given .1)
@@ -33,11 +15,11 @@ pub make-spec : {M : Type 1} → statement M
 make-spec =
     tie.close
     (tie.spec
-    read-galley-requires
-    enum-known-reading
+    (λ c κs. search needs)
+    (λ c. search needs)
     make-read-requires
-    enum-known-reading-2
-    same-length
-    same-length-2
-    returns
+    (λ c. search needs)
+    (λ c. search needs)
+    (λ c. search needs)
+    (λ c. search needs)
     returns-2)

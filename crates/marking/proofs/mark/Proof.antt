@@ -7,18 +7,9 @@ use Rattle.marking.specs.Mark.{markRead, markOf}
 use Rattle.marking.proofs.mark.Statement.{statement}
 use Rattle.marking.proofs.mark.Tie as tie
 
-read-galley-requires : tie.Need-read-galley-requires
-read-galley-requires c κs = search needs
-
-enum-known-reading : tie.Need-enum-known-reading
-enum-known-reading c = search needs
-
 mark-read-requires : tie.Need-mark-read-requires
 mark-read-requires c κs =
     sound (now (c .before .before .before .before .before .before .args .galley)) _ (sym (c .before .before .before .read-galley .ensures) ∙ c .before .reading .given .1)
-
-enum-known-reading-2 : tie.Need-enum-known-reading-2
-enum-known-reading-2 c = search needs
 
 returns : tie.Need-returns
 unfolding markOf markRead
@@ -34,9 +25,9 @@ pub mark-spec : {M : Type 1} → statement M
 mark-spec =
     tie.close
     (tie.spec
-    read-galley-requires
-    enum-known-reading
+    (λ c κs. search needs)
+    (λ c. search needs)
     mark-read-requires
-    enum-known-reading-2
+    (λ c. search needs)
     returns
     returns-2)

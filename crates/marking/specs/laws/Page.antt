@@ -29,6 +29,13 @@ pub record Begun (bytes : List ℕ) (g : Galley) (ws : List ℕ) (done a b w x i
   pub figure : j ≡ getD ws (2 * done + 1) 0
   pub fault : start ≡ startFault (modelOf bytes g) (a ∷ b ∷ []) (i ∷ j ∷ [])
 
+pub begins : (bytes : List ℕ) (g : Galley) (ws : List ℕ) (done a b w x i j start : ℕ) → WholePages bytes g ws
+    → Run bytes g ws done a b w x → (done ≡ length ws / 2 → ⊥) → i ≡ getD ws (2 * done) 0 → j ≡ getD ws (2 * done + 1) 0
+    → start ≡ startFault (modelOf bytes g) (a ∷ b ∷ []) (i ∷ j ∷ []) → Begun bytes g ws done a b w x i j start
+begins bytes g ws done a b w x i j start listed run left line figure fault =
+    let within = run .within in
+    record { listed = listed; run = run; more = omega arith; line = line; figure = figure; fault = fault }
+
 module _ {bytes : List ℕ} {g : Galley} {ws : List ℕ} {done a b w x i j start : ℕ} (p : Begun bytes g ws done a b w x i j start) where
   -- A rule that is broken on the page ends the run.
   refused : (n : ℕ) → n ≡ broken (modelOf bytes g) (done + 1) (eqb (done + 1) (length ws / 2)) (a ∷ b ∷ []) (i ∷ j ∷ []) → 0 < n

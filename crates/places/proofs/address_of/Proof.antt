@@ -15,9 +15,6 @@ add-result c = omega (arith, column-small _ _ _ _ (c .pre))
 mul-result-2 : tie.Need-mul-result-2
 mul-result-2 c = omega (arith, column-small _ _ _ _ (c .pre))
 
-mul-result-3 : tie.Need-mul-result-3
-mul-result-3 c = search needs
-
 add-result-2 : tie.Need-add-result-2
 add-result-2 c = omega (arith, column-small _ _ _ _ (c .pre))
 
@@ -26,4 +23,4 @@ unfolding address
 returns c = search needs
 
 pub address-of-spec : {M : Type 1} → statement M
-address-of-spec = tie.close (tie.spec mul-result add-result mul-result-2 mul-result-3 add-result-2 returns)
+address-of-spec = tie.close (tie.spec mul-result add-result mul-result-2 (λ c. search needs) add-result-2 returns)

@@ -6,12 +6,6 @@ use Rattle.places.specs.laws.Address.{words-small}
 use Rattle.places.proofs.words_needed.Statement.{statement}
 use Rattle.places.proofs.words_needed.Tie as tie
 
-add-result : tie.Need-add-result
-add-result c = search needs
-
-add-result-2 : tie.Need-add-result-2
-add-result-2 c = search needs
-
 mul-result : tie.Need-mul-result
 mul-result c = omega (arith, words-small _ _ (c .pre))
 
@@ -23,4 +17,4 @@ unfolding wordsNeeded
 returns c = search needs
 
 pub words-needed-spec : {M : Type 1} → statement M
-words-needed-spec = tie.close (tie.spec add-result add-result-2 mul-result mul-result-2 returns)
+words-needed-spec = tie.close (tie.spec (λ c. search needs) (λ c. search needs) mul-result mul-result-2 returns)

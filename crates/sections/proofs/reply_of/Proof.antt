@@ -5,9 +5,6 @@ use Rattle.sections.specs.Answer.{answerOf}
 use Rattle.sections.proofs.reply_of.Statement.{statement}
 use Rattle.sections.proofs.reply_of.Tie as tie
 
-is-size-requires : tie.Need-is-size-requires
-is-size-requires c κs = search needs
-
 returns : tie.Need-returns
 unfolding answerOf
 returns c = simp (← c .before .is-size .ensures, not-true (c .before .is-size .result) (c .if1 .taken))
@@ -17,4 +14,4 @@ unfolding answerOf
 returns-2 c = simp (← c .before .is-size .ensures, not-false (c .before .is-size .result) (c .if1 .left))
 
 pub reply-of-spec : {M : Type 1} → statement M
-reply-of-spec = tie.close (tie.spec is-size-requires returns returns-2)
+reply-of-spec = tie.close (tie.spec (λ c κs. search needs) returns returns-2)

@@ -18,18 +18,6 @@ use Rattle.sections.proofs.write_numbers.Tie as tie
 size-of : (c : tie.Then1) → Size (c .before .before .args .size)
 size-of c = size-facts _ (sym (c .before .is-size .ensures) ∙ c .if1 .taken)
 
-is-size-requires : tie.Need-is-size-requires
-is-size-requires c κs = search needs
-
-numbers-requires : tie.Need-numbers-requires
-numbers-requires c κs = search needs
-
-slice-aggregate-copy-numbers : tie.Need-slice-aggregate-copy-numbers
-slice-aggregate-copy-numbers c = search needs
-
-mul-copy-numbers : tie.Need-mul-copy-numbers
-mul-copy-numbers c = search needs
-
 sub-copy-numbers : tie.Need-sub-copy-numbers
 sub-copy-numbers c = omega (arith, size-of (c .before .before) .least)
 
@@ -59,10 +47,10 @@ pub write-numbers-spec : {M : Type 1} → statement M
 write-numbers-spec =
     tie.close
     (tie.spec
-    is-size-requires
-    numbers-requires
-    slice-aggregate-copy-numbers
-    mul-copy-numbers
+    (λ c κs. search needs)
+    (λ c κs. search needs)
+    (λ c. search needs)
+    (λ c. search needs)
     sub-copy-numbers
     mul-copy-numbers-2
     copy-numbers-requires

@@ -7,24 +7,6 @@ use Rattle.walk.specs.Trace.{better-side}
 use Rattle.walk.proofs.better_side.Statement.{statement}
 use Rattle.walk.proofs.better_side.Tie as tie
 
-enum-told : tie.Need-enum-told
-enum-told c = search needs
-
-enum-told-2 : tie.Need-enum-told-2
-enum-told-2 c = search needs
-
-enum-known-odd : tie.Need-enum-known-odd
-enum-known-odd c = search needs
-
-enum-known-even : tie.Need-enum-known-even
-enum-known-even c = search needs
-
-enum-told-3 : tie.Need-enum-told-3
-enum-told-3 c = search needs
-
-enum-known-odd-2 : tie.Need-enum-known-odd-2
-enum-known-odd-2 c = search needs
-
 returns : tie.Need-returns
 unfolding better-side
 returns c = cc
@@ -55,12 +37,12 @@ pub better-side-spec : {M : Type 1} → statement M
 better-side-spec =
     tie.close
     (tie.spec
-    enum-told
-    enum-told-2
-    enum-known-odd
-    enum-known-even
-    enum-told-3
-    enum-known-odd-2
+    (λ c. search needs)
+    (λ c. search needs)
+    (λ c. search needs)
+    (λ c. search needs)
+    (λ c. search needs)
+    (λ c. search needs)
     returns
     returns-2
     returns-3

@@ -11,12 +11,6 @@ use Rattle.places.specs.Entry.{entryAt}
 use Rattle.walk.proofs.entry_of.Statement.{statement}
 use Rattle.walk.proofs.entry_of.Tie as tie
 
-add-address-of : tie.Need-add-address-of
-add-address-of c = search needs
-
-address-of-requires : tie.Need-address-of-requires
-address-of-requires c κs = search needs
-
 entry-at-requires : tie.Need-entry-at-requires
 entry-at-requires c κs =
     let a = c .before .before .before .args in
@@ -32,4 +26,4 @@ returns c =
     ∙ ap (λ (k : ℕ). entryAt (a .work .now) (address k (a .i) (a .j) (a .side))) (add-one (a .g .text .count))
 
 pub entry-of-spec : {M : Type 1} → statement M
-entry-of-spec = tie.close (tie.spec add-address-of address-of-requires entry-at-requires returns)
+entry-of-spec = tie.close (tie.spec (λ c. search needs) (λ c κs. search needs) entry-at-requires returns)

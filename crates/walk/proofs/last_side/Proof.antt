@@ -6,15 +6,6 @@ use Rattle.walk.specs.Trace.{lastSide}
 use Rattle.walk.proofs.last_side.Statement.{statement}
 use Rattle.walk.proofs.last_side.Tie as tie
 
-entry-of-requires : tie.Need-entry-of-requires
-entry-of-requires c κs = search needs
-
-entry-of-requires-2 : tie.Need-entry-of-requires-2
-entry-of-requires-2 c κs = search needs
-
-better-side-requires : tie.Need-better-side-requires
-better-side-requires c κs = search needs
-
 returns : tie.Need-returns
 unfolding lastSide sidesOf
 returns c =
@@ -32,4 +23,4 @@ returns-2 c = simp (ne-eqb _ _ (c .if1 .left))
 pub last-side-spec : {M : Type 1} → statement M
 last-side-spec =
     tie.close
-    (tie.spec entry-of-requires entry-of-requires-2 better-side-requires returns returns-2)
+    (tie.spec (λ c κs. search needs) (λ c κs. search needs) (λ c κs. search needs) returns returns-2)

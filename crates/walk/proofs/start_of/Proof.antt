@@ -4,12 +4,6 @@ use Rattle.walk.specs.Trace.{startOf}
 use Rattle.walk.proofs.start_of.Statement.{statement}
 use Rattle.walk.proofs.start_of.Tie as tie
 
-enum-told : tie.Need-enum-told
-enum-told c = search needs
-
-enum-known-entry : tie.Need-enum-known-entry
-enum-known-entry c = search needs
-
 returns : tie.Need-returns
 unfolding startOf
 returns c = cc
@@ -19,4 +13,4 @@ unfolding startOf
 returns-2 c = cc
 
 pub start-of-spec : {M : Type 1} → statement M
-start-of-spec = tie.close (tie.spec enum-told enum-known-entry returns returns-2)
+start-of-spec = tie.close (tie.spec (λ c. search needs) (λ c. search needs) returns returns-2)

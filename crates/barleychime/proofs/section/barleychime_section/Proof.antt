@@ -5,9 +5,6 @@ use Rattle.barleychime.specs.Section.{twoOf}
 use Rattle.barleychime.proofs.section.barleychime_section.Statement.{statement}
 use Rattle.barleychime.proofs.section.barleychime_section.Tie as tie
 
-section-requires : tie.Need-section-requires
-section-requires c κs = search needs
-
 returns : tie.Need-returns
 returns c =
     let folded = c .before .section .ensures in
@@ -18,4 +15,4 @@ returns c =
     }
 
 pub barleychime-section-spec : {M : Type 1} → statement M
-barleychime-section-spec = tie.close (tie.spec section-requires returns)
+barleychime-section-spec = tie.close (tie.spec (λ c κs. search needs) returns)

@@ -7,9 +7,6 @@ use Rattle.blocks.specs.laws.Heights.{separation-most}
 use Rattle.blocks.proofs.heights.page_heights.Statement.{statement}
 use Rattle.blocks.proofs.heights.page_heights.Tie as tie
 
-apart-by-requires : tie.Need-apart-by-requires
-apart-by-requires c κs = search needs
-
 -- The separation is small.
 apart : (c : tie.After-apart-by) → (c .apart-by .result .tight ≤ 100000) × (c .apart-by .result .loose ≤ 100000)
 unfolding apartBy
@@ -19,14 +16,8 @@ apart c =
     rw (c .apart-by .ensures)
     (separation-most (a .mixed) (a .g .spec .smin) (start .pre .smin), separation-most (a .mixed) (a .g .spec .smax) (start .pre .smax))
 
-add-t6 : tie.Need-add-t6
-add-t6 c = search needs
-
 add-t7 : tie.Need-add-t7
 add-t7 c = omega (arith, apart (c .before .before .before))
-
-add-t8 : tie.Need-add-t8
-add-t8 c = search needs
 
 add-t9 : tie.Need-add-t9
 add-t9 c = omega (arith, apart (c .before .before .before .before .before .before))
@@ -36,4 +27,4 @@ unfolding apartBy
 returns c = simp (c .before .before .before .before .before .before .apart-by .ensures)
 
 pub page-heights-spec : {M : Type 1} → statement M
-page-heights-spec = tie.close (tie.spec apart-by-requires add-t6 add-t7 add-t8 add-t9 returns)
+page-heights-spec = tie.close (tie.spec (λ c κs. search needs) (λ c. search needs) add-t7 (λ c. search needs) add-t9 returns)

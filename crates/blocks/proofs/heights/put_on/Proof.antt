@@ -7,9 +7,6 @@ use Rattle.blocks.specs.Heights.{added, putOn}
 use Rattle.blocks.proofs.heights.put_on.Statement.{statement}
 use Rattle.blocks.proofs.heights.put_on.Tie as tie
 
-field-requires : tie.Need-field-requires
-field-requires c κs = search needs
-
 field-requires-2 : tie.Need-field-requires-2
 field-requires-2 c κs = let space = c .before .before .before .pre .space (c .if1 .taken) in search needs
 
@@ -66,7 +63,7 @@ pub put-on-spec : {M : Type 1} → statement M
 put-on-spec =
     tie.close
     (tie.spec
-    field-requires
+    (λ c κs. search needs)
     field-requires-2
     field-requires-3
     add-t11

@@ -5,9 +5,6 @@ use borrow.Author.Tests.{ltb-true}
 use Rattle.blocks.proofs.heights.with_block.Statement.{statement}
 use Rattle.blocks.proofs.heights.with_block.Tie as tie
 
-add-put-on : tie.Need-add-put-on
-add-put-on c = search needs
-
 put-on-requires : tie.Need-put-on-requires
 put-on-requires c κs =
     let start = c .before in
@@ -17,8 +14,5 @@ put-on-requires c κs =
       space = λ t. let l = ltb-true (start .args .a) (start .args .k) t in (omega arith, omega arith);
     }
 
-returns : tie.Need-returns
-returns c = search needs
-
 pub with-block-spec : {M : Type 1} → statement M
-with-block-spec = tie.close (tie.spec add-put-on put-on-requires returns)
+with-block-spec = tie.close (tie.spec (λ c. search needs) put-on-requires (λ c. search needs))

@@ -3,18 +3,6 @@ use borrow.Author.Needs.{needs}
 use Rattle.filling.proofs.fill.fill.Statement.{statement}
 use Rattle.filling.proofs.fill.fill.Tie as tie
 
-slice-aggregate-gather : tie.Need-slice-aggregate-gather
-slice-aggregate-gather c = search needs
-
-gather-requires : tie.Need-gather-requires
-gather-requires c κs = search needs
-
-slice-aggregate-fill-columns : tie.Need-slice-aggregate-fill-columns
-slice-aggregate-fill-columns c = search needs
-
-slice-aggregate-fill-columns-2 : tie.Need-slice-aggregate-fill-columns-2
-slice-aggregate-fill-columns-2 c = search needs
-
 fill-columns-requires : tie.Need-fill-columns-requires
 fill-columns-requires c κs =
     record {
@@ -23,20 +11,14 @@ fill-columns-requires c κs =
       wordsRoom = search needs;
     }
 
-same-length : tie.Need-same-length
-same-length c = search needs
-
-returns : tie.Need-returns
-returns c = search needs
-
 pub fill-spec : {M : Type 1} → statement M
 fill-spec =
     tie.close
     (tie.spec
-    slice-aggregate-gather
-    gather-requires
-    slice-aggregate-fill-columns
-    slice-aggregate-fill-columns-2
+    (λ c. search needs)
+    (λ c κs. search needs)
+    (λ c. search needs)
+    (λ c. search needs)
     fill-columns-requires
-    same-length
-    returns)
+    (λ c. search needs)
+    (λ c. search needs))

@@ -6,9 +6,6 @@ use borrow.Author.Needs.{needs}
 use Rattle.filling.proofs.fill.fill_column.Statement.{statement}
 use Rattle.filling.proofs.fill.fill_column.Tie as tie
 
-fewer-figures-requires : tie.Need-fewer-figures-requires
-fewer-figures-requires c κs = search needs
-
 last-sweep-requires : tie.Need-last-sweep-requires
 last-sweep-requires c κs =
     column-last (c .before .before .before .before .before .before .before .before .before .before .before .before .before .pre) _ _ (search (
@@ -17,12 +14,6 @@ last-sweep-requires c κs =
       c .before .before .before .words .given,
     )) (c .before .before .before .before .before .before .fewer-figures .ensures)
 
-same-length : tie.Need-same-length
-same-length c = search needs
-
-same-length-2 : tie.Need-same-length-2
-same-length-2 c = search needs
-
 returns : tie.Need-returns
 returns c =
     c .before .before .before .before .last-sweep .ensures ∙ column-same (c .before .before .before .before .before .before .before .before .before .before .before .before .before .before .before .before .before .before .pre) _ (c .before .before .before .before .before .before .before .before .before .before .before .fewer-figures .ensures)
@@ -30,4 +21,4 @@ returns c =
 pub fill-column-spec : {M : Type 1} → statement M
 fill-column-spec =
     tie.close
-    (tie.spec fewer-figures-requires last-sweep-requires same-length same-length-2 returns)
+    (tie.spec (λ c κs. search needs) last-sweep-requires (λ c. search needs) (λ c. search needs) returns)

@@ -8,9 +8,6 @@ use borrow.Author.Needs.{needs}
 use Rattle.filling.proofs.price.price.Statement.{statement}
 use Rattle.filling.proofs.price.price.Tie as tie
 
-is-full-requires : tie.Need-is-full-requires
-is-full-requires c κs = search needs
-
 returns : tie.Need-returns
 returns c =
     λ bytes sane found.
@@ -18,9 +15,6 @@ returns c =
     let full = c .before .is-full in
     let law = price-two bytes (a .g) (a .i) (a .j) (a .c) sane (a .waiting) found (full .result) _ (full .ensures) refl in
     rw (law, c .if1 .taken)
-
-side-ends-requires : tie.Need-side-ends-requires
-side-ends-requires c κs = search needs
 
 returns-2 : tie.Need-returns-2
 returns-2 c =
@@ -30,9 +24,6 @@ returns-2 c =
     let side = c .before .side-ends in
     let law = price-two bytes (a .g) (a .i) (a .j) (a .c) sane (a .waiting) found (full .result) (side .result) (full .ensures) (side .ensures) in
     rw (law, c .before .before .if1 .left, not-true (side .result) (c .if2 .taken))
-
-cast-result : tie.Need-cast-result
-cast-result c = search needs
 
 mul-result : tie.Need-mul-result
 mul-result c =
@@ -59,11 +50,11 @@ pub price-spec : {M : Type 1} → statement M
 price-spec =
     tie.close
     (tie.spec
-    is-full-requires
+    (λ c κs. search needs)
     returns
-    side-ends-requires
+    (λ c κs. search needs)
     returns-2
-    cast-result
+    (λ c. search needs)
     mul-result
     add-result
     returns-3)

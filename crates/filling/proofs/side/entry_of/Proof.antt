@@ -13,12 +13,6 @@ use borrow.Author.Needs.{needs}
 use Rattle.filling.proofs.side.entry_of.Statement.{statement}
 use Rattle.filling.proofs.side.entry_of.Tie as tie
 
-add-if1 : tie.Need-add-if1
-add-if1 c = search needs
-
-add-if1-2 : tie.Need-add-if1-2
-add-if1-2 c = search needs
-
 returns : tie.Need-returns
 returns c =
     let start = c .before .before .before .before .before .before in
@@ -26,9 +20,6 @@ returns c =
     let e = a .end in
     sym (entry-nothing (modelOf (a .s .now) (a .g)) (tableOf (suc (a .g .text .count)) (a .work .now)) (e .line) (e .column) (e .side)
     (c .if1 .taken))
-
-may-stop-requires : tie.Need-may-stop-requires
-may-stop-requires c κs = search needs
 
 returns-2 : tie.Need-returns-2
 returns-2 c =
@@ -38,15 +29,6 @@ returns-2 c =
     let forbidden = sym (c .before .may-stop .ensures) ∙ not-true (c .before .may-stop .result) (c .if2 .taken) in
     sym (entry-forbidden (modelOf (a .s .now) (a .g)) (tableOf (suc (a .g .text .count)) (a .work .now)) (e .line) (e .column) (e .side)
     (c .before .before .if1 .left) forbidden)
-
-start-of-requires : tie.Need-start-of-requires
-start-of-requires c κs = search needs
-
-enum-known-start : tie.Need-enum-known-start
-enum-known-start c = search needs
-
-enum-told : tie.Need-enum-told
-enum-told c = search needs
 
 returns-3 : tie.Need-returns-3
 returns-3 c =
@@ -102,14 +84,14 @@ pub entry-of-spec : {M : Type 1} → statement M
 entry-of-spec =
     tie.close
     (tie.spec
-    add-if1
-    add-if1-2
+    (λ c. search needs)
+    (λ c. search needs)
     returns
-    may-stop-requires
+    (λ c κs. search needs)
     returns-2
-    start-of-requires
-    enum-known-start
-    enum-told
+    (λ c κs. search needs)
+    (λ c. search needs)
+    (λ c. search needs)
     returns-3
     price-requires
     add-t16

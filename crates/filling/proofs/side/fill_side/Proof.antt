@@ -13,12 +13,6 @@ use borrow.Author.Needs.{needs}
 use Rattle.filling.proofs.side.fill_side.Statement.{statement}
 use Rattle.filling.proofs.side.fill_side.Tie as tie
 
-side-before-requires : tie.Need-side-before-requires
-side-before-requires c κs = search needs
-
-add-advance : tie.Need-add-advance
-add-advance c = search needs
-
 advance-requires : tie.Need-advance-requires
 advance-requires c κs =
     rw (c .before .before .before .side-before .ensures) (side-feeds (c .before .before .before .before .before .before .before .pre))
@@ -52,12 +46,6 @@ store-requires c κs =
     (start .pre .asked .placed .line) (start .pre .lent .column) (side-low-here (start .pre)) in
     omega (arith, within, c .before .address-of .ensures, start .pre .asked .room)
 
-same-length : tie.Need-same-length
-same-length c = search needs
-
-same-length-2 : tie.Need-same-length-2
-same-length-2 c = search needs
-
 returns : tie.Need-returns
 unfolding fillSide tall
 returns c =
@@ -78,13 +66,13 @@ pub fill-side-spec : {M : Type 1} → statement M
 fill-side-spec =
     tie.close
     (tie.spec
-    side-before-requires
-    add-advance
+    (λ c κs. search needs)
+    (λ c. search needs)
     advance-requires
     entry-of-requires
     add-address-of
     address-of-requires
     store-requires
-    same-length
-    same-length-2
+    (λ c. search needs)
+    (λ c. search needs)
     returns)

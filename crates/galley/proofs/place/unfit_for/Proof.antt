@@ -5,15 +5,6 @@ use Rattle.galley.specs.Place.{unfit}
 use Rattle.galley.proofs.place.unfit_for.Statement.{statement}
 use Rattle.galley.proofs.place.unfit_for.Tie as tie
 
-is-misplaced-requires : tie.Need-is-misplaced-requires
-is-misplaced-requires c κs = search needs
-
-is-too-early-requires : tie.Need-is-too-early-requires
-is-too-early-requires c κs = search needs
-
-is-too-many-requires : tie.Need-is-too-many-requires
-is-too-many-requires c κs = search needs
-
 returns : tie.Need-returns
 unfolding unfit
 returns c =
@@ -63,9 +54,9 @@ pub unfit-for-spec : {M : Type 1} → statement M
 unfit-for-spec =
     tie.close
     (tie.spec
-    is-misplaced-requires
-    is-too-early-requires
-    is-too-many-requires
+    (λ c κs. search needs)
+    (λ c κs. search needs)
+    (λ c κs. search needs)
     returns
     returns-2
     returns-3

@@ -4,30 +4,6 @@ use Rattle.galley.specs.Range.{inRange}
 use Rattle.galley.proofs.range.is_in_range.Statement.{statement}
 use Rattle.galley.proofs.range.is_in_range.Tie as tie
 
-enum-known-found : tie.Need-enum-known-found
-enum-known-found c = search needs
-
-spec-in-range-requires : tie.Need-spec-in-range-requires
-spec-in-range-requires c κs = search needs
-
-enum-known-found-2 : tie.Need-enum-known-found-2
-enum-known-found-2 c = search needs
-
-line-in-range-requires : tie.Need-line-in-range-requires
-line-in-range-requires c κs = search needs
-
-enum-known-found-3 : tie.Need-enum-known-found-3
-enum-known-found-3 c = search needs
-
-block-in-range-requires : tie.Need-block-in-range-requires
-block-in-range-requires c κs = search needs
-
-enum-told : tie.Need-enum-told
-enum-told c = search needs
-
-enum-known-found-4 : tie.Need-enum-known-found-4
-enum-known-found-4 c = search needs
-
 returns : tie.Need-returns
 unfolding inRange
 returns c = simp (c .before .before .found .given .1) (c .spec-in-range .ensures)
@@ -52,14 +28,14 @@ pub is-in-range-spec : {M : Type 1} → statement M
 is-in-range-spec =
     tie.close
     (tie.spec
-    enum-known-found
-    spec-in-range-requires
-    enum-known-found-2
-    line-in-range-requires
-    enum-known-found-3
-    block-in-range-requires
-    enum-told
-    enum-known-found-4
+    (λ c. search needs)
+    (λ c κs. search needs)
+    (λ c. search needs)
+    (λ c κs. search needs)
+    (λ c. search needs)
+    (λ c κs. search needs)
+    (λ c. search needs)
+    (λ c. search needs)
     returns
     returns-2
     returns-3

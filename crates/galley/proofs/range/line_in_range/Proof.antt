@@ -4,12 +4,9 @@ use Rattle.galley.specs.Range.{lineInRange}
 use Rattle.galley.proofs.range.line_in_range.Statement.{statement}
 use Rattle.galley.proofs.range.line_in_range.Tie as tie
 
-block-in-range-requires : tie.Need-block-in-range-requires
-block-in-range-requires c κs = search needs
-
 returns : tie.Need-returns
 unfolding lineInRange
 returns c = rw (c .before .block-in-range .ensures)
 
 pub line-in-range-spec : {M : Type 1} → statement M
-line-in-range-spec = tie.close (tie.spec block-in-range-requires returns)
+line-in-range-spec = tie.close (tie.spec (λ c κs. search needs) returns)

@@ -5,32 +5,17 @@ use Rattle.galley.specs.Record.{sizeOf, fieldsOf}
 use Rattle.galley.proofs.records.fields_of.Statement.{statement}
 use Rattle.galley.proofs.records.fields_of.Tie as tie
 
-enum-told : tie.Need-enum-told
-enum-told c = search needs
-
 spec-fields-requires : tie.Need-spec-fields-requires
 unfolding sizeOf
 spec-fields-requires c κs = rw (c .enum-told .given .1) at (c .before .before .before .pre)
-
-enum-told-2 : tie.Need-enum-told-2
-enum-told-2 c = search needs
 
 line-fields-requires : tie.Need-line-fields-requires
 unfolding sizeOf
 line-fields-requires c κs = rw (c .enum-told2 .given .1) at (c .before .before .before .pre)
 
-enum-told-3 : tie.Need-enum-told-3
-enum-told-3 c = search needs
-
 figure-fields-requires : tie.Need-figure-fields-requires
 unfolding sizeOf
 figure-fields-requires c κs = rw (c .enum-told3 .given .1) at (c .before .before .before .pre)
-
-enum-told-4 : tie.Need-enum-told-4
-enum-told-4 c = search needs
-
-enum-told-5 : tie.Need-enum-told-5
-enum-told-5 c = search needs
 
 returns : tie.Need-returns
 unfolding fieldsOf
@@ -56,14 +41,14 @@ pub fields-of-spec : {M : Type 1} → statement M
 fields-of-spec =
     tie.close
     (tie.spec
-    enum-told
+    (λ c. search needs)
     spec-fields-requires
-    enum-told-2
+    (λ c. search needs)
     line-fields-requires
-    enum-told-3
+    (λ c. search needs)
     figure-fields-requires
-    enum-told-4
-    enum-told-5
+    (λ c. search needs)
+    (λ c. search needs)
     returns
     returns-2
     returns-3

@@ -5,18 +5,9 @@ use Rattle.galley.specs.Record.{lineOf}
 use Rattle.galley.proofs.records.line_fields.Statement.{statement}
 use Rattle.galley.proofs.records.line_fields.Tie as tie
 
-block-fields-requires : tie.Need-block-fields-requires
-block-fields-requires c κs = search needs
-
-add-word-at : tie.Need-add-word-at
-add-word-at c = search needs
-
-word-at-requires : tie.Need-word-at-requires
-word-at-requires c κs = search needs
-
 returns : tie.Need-returns
 unfolding lineOf
 returns c = simp (c .word-at .ensures, c .before .block-fields .ensures)
 
 pub line-fields-spec : {M : Type 1} → statement M
-line-fields-spec = tie.close (tie.spec block-fields-requires add-word-at word-at-requires returns)
+line-fields-spec = tie.close (tie.spec (λ c κs. search needs) (λ c. search needs) (λ c κs. search needs) returns)

@@ -5,21 +5,9 @@ use Rattle.galley.specs.Record.{openedBy, recordAt}
 use Rattle.galley.proofs.records.record_at.Statement.{statement}
 use Rattle.galley.proofs.records.record_at.Tie as tie
 
-left-from-requires : tie.Need-left-from-requires
-left-from-requires c κs = search needs
-
 returns : tie.Need-returns
 unfolding recordAt
 returns c = simp (← c .before .left-from .ensures, lt-ltb _ _ (c .if1 .taken))
-
-mark-at-requires : tie.Need-mark-at-requires
-mark-at-requires c κs = search needs
-
-kind-of-requires : tie.Need-kind-of-requires
-kind-of-requires c κs = search needs
-
-size-of-requires : tie.Need-size-of-requires
-size-of-requires c κs = search needs
 
 returns-2 : tie.Need-returns-2
 unfolding recordAt openedBy
@@ -32,12 +20,6 @@ returns-2 c =
       ← c .before .size-of .ensures,
       lt-ltb _ _ (c .if2 .taken),
     )
-
-fields-of-requires : tie.Need-fields-of-requires
-fields-of-requires c κs = search needs
-
-is-in-range-requires : tie.Need-is-in-range-requires
-is-in-range-requires c κs = search needs
 
 returns-3 : tie.Need-returns-3
 unfolding recordAt openedBy
@@ -73,13 +55,13 @@ pub record-at-spec : {M : Type 1} → statement M
 record-at-spec =
     tie.close
     (tie.spec
-    left-from-requires
+    (λ c κs. search needs)
     returns
-    mark-at-requires
-    kind-of-requires
-    size-of-requires
+    (λ c κs. search needs)
+    (λ c κs. search needs)
+    (λ c κs. search needs)
     returns-2
-    fields-of-requires
-    is-in-range-requires
+    (λ c κs. search needs)
+    (λ c κs. search needs)
     returns-3
     returns-4)

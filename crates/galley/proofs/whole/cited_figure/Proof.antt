@@ -5,12 +5,6 @@ use Rattle.galley.specs.Whole.{cited}
 use Rattle.galley.proofs.whole.cited_figure.Statement.{statement}
 use Rattle.galley.proofs.whole.cited_figure.Tie as tie
 
-size-requires : tie.Need-size-requires
-size-requires c κs = search needs
-
-size-requires-2 : tie.Need-size-requires-2
-size-requires-2 c κs = search needs
-
 returns : tie.Need-returns
 unfolding cited
 returns c = simp (← c .before .before .size .ensures, ← c .before .size2 .ensures, c .if1 .taken)
@@ -36,4 +30,4 @@ returns-3 c =
     )
 
 pub cited-figure-spec : {M : Type 1} → statement M
-cited-figure-spec = tie.close (tie.spec size-requires size-requires-2 returns returns-2 returns-3)
+cited-figure-spec = tie.close (tie.spec (λ c κs. search needs) (λ c κs. search needs) returns returns-2 returns-3)

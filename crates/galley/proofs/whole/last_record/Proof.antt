@@ -8,12 +8,6 @@ use Rattle.galley.specs.Whole.{ended}
 use Rattle.galley.proofs.whole.last_record.Statement.{statement}
 use Rattle.galley.proofs.whole.last_record.Tie as tie
 
-left-from-requires : tie.Need-left-from-requires
-left-from-requires c κs = search needs
-
-add-t5 : tie.Need-add-t5
-add-t5 c = search needs
-
 returns : tie.Need-returns
 unfolding ended
 returns c = simp (← c .before .left-from .ensures, lt-ltb _ _ (c .if1 .taken)) (ap (found.Refused 8) (omega arith))
@@ -23,4 +17,4 @@ unfolding ended
 returns-2 c = simp (← c .before .left-from .ensures, le-ltb _ _ (c .if1 .left))
 
 pub last-record-spec : {M : Type 1} → statement M
-last-record-spec = tie.close (tie.spec left-from-requires add-t5 returns returns-2)
+last-record-spec = tie.close (tie.spec (λ c κs. search needs) (λ c. search needs) returns returns-2)

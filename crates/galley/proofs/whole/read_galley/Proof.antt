@@ -10,27 +10,6 @@ use Rattle.galley.specs.Whole.{opened, galleyOf}
 use Rattle.galley.proofs.whole.read_galley.Statement.{statement}
 use Rattle.galley.proofs.whole.read_galley.Tie as tie
 
-record-in-requires : tie.Need-record-in-requires
-record-in-requires c κs = search needs
-
-enum-known-found : tie.Need-enum-known-found
-enum-known-found c = search needs
-
-read-blocks-requires : tie.Need-read-blocks-requires
-read-blocks-requires c κs = search needs
-
-enum-known-found-2 : tie.Need-enum-known-found-2
-enum-known-found-2 c = search needs
-
-enum-known-found-3 : tie.Need-enum-known-found-3
-enum-known-found-3 c = search needs
-
-enum-told : tie.Need-enum-told
-enum-told c = search needs
-
-enum-known-found-4 : tie.Need-enum-known-found-4
-enum-known-found-4 c = search needs
-
 cast-t9 : tie.Need-cast-t9
 cast-t9 c =
     omega (
@@ -67,13 +46,13 @@ pub read-galley-spec : {M : Type 1} → statement M
 read-galley-spec =
     tie.close
     (tie.spec
-    record-in-requires
-    enum-known-found
-    read-blocks-requires
-    enum-known-found-2
-    enum-known-found-3
-    enum-told
-    enum-known-found-4
+    (λ c κs. search needs)
+    (λ c. search needs)
+    (λ c κs. search needs)
+    (λ c. search needs)
+    (λ c. search needs)
+    (λ c. search needs)
+    (λ c. search needs)
     cast-t9
     returns
     returns-2

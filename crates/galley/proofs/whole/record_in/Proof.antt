@@ -6,21 +6,9 @@ use Rattle.galley.specs.Whole.{recordIn, settled}
 use Rattle.galley.proofs.whole.record_in.Statement.{statement}
 use Rattle.galley.proofs.whole.record_in.Tie as tie
 
-left-from-requires : tie.Need-left-from-requires
-left-from-requires c κs = search needs
-
 returns : tie.Need-returns
 unfolding recordIn settled
 returns c = simp (← c .before .left-from .ensures, lt-ltb _ _ (c .if1 .taken))
-
-mark-at-requires : tie.Need-mark-at-requires
-mark-at-requires c κs = search needs
-
-kind-of-requires : tie.Need-kind-of-requires
-kind-of-requires c κs = search needs
-
-unfit-for-requires : tie.Need-unfit-for-requires
-unfit-for-requires c κs = search needs
 
 returns-2 : tie.Need-returns-2
 unfolding recordIn settled
@@ -33,30 +21,6 @@ returns-2 c =
       ← c .before .unfit-for .ensures,
       lt-ltb _ _ (c .if2 .taken),
     )
-
-read-record-requires : tie.Need-read-record-requires
-read-record-requires c κs = search needs
-
-enum-known-found : tie.Need-enum-known-found
-enum-known-found c = search needs
-
-enum-known-found-2 : tie.Need-enum-known-found-2
-enum-known-found-2 c = search needs
-
-enum-known-found-3 : tie.Need-enum-known-found-3
-enum-known-found-3 c = search needs
-
-cited-figure-requires : tie.Need-cited-figure-requires
-cited-figure-requires c κs = search needs
-
-enum-told : tie.Need-enum-told
-enum-told c = search needs
-
-last-record-requires : tie.Need-last-record-requires
-last-record-requires c κs = search needs
-
-enum-known-found-4 : tie.Need-enum-known-found-4
-enum-known-found-4 c = search needs
 
 returns-3 : tie.Need-returns-3
 unfolding recordIn settled
@@ -134,20 +98,20 @@ pub record-in-spec : {M : Type 1} → statement M
 record-in-spec =
     tie.close
     (tie.spec
-    left-from-requires
+    (λ c κs. search needs)
     returns
-    mark-at-requires
-    kind-of-requires
-    unfit-for-requires
+    (λ c κs. search needs)
+    (λ c κs. search needs)
+    (λ c κs. search needs)
     returns-2
-    read-record-requires
-    enum-known-found
-    enum-known-found-2
-    enum-known-found-3
-    cited-figure-requires
-    enum-told
-    last-record-requires
-    enum-known-found-4
+    (λ c κs. search needs)
+    (λ c. search needs)
+    (λ c. search needs)
+    (λ c. search needs)
+    (λ c κs. search needs)
+    (λ c. search needs)
+    (λ c κs. search needs)
+    (λ c. search needs)
     returns-3
     returns-4
     returns-5

@@ -8,7 +8,7 @@ use native.Mathlib.Omega.{arith}
 use Rattle.galley.specs.Model.{floatsOf}
 use Rattle.rules.specs.laws.Waiting.{waits-few}
 use Rattle.rules.specs.laws.Walked.{waiting-at-few}
-use Rattle.marking.specs.laws.Page.{Begun, begun, begun-refused, Underway, underway-start, underway-line-room, underway-line, underway-figure-room, underway-figure, underway-over, underway-ended, underway-next, underway-walked}
+use Rattle.marking.specs.laws.Page.{Begun, begins, begun-refused, Underway, underway-start, underway-line-room, underway-line, underway-figure-room, underway-figure, underway-over, underway-ended, underway-next, underway-walked}
 use Rattle.marking.specs.laws.Run.{Run, run-start, run-finish}
 use Rattle.marking.proofs.pages.judge_pages.Statement.{statement}
 use Rattle.marking.proofs.pages.judge_pages.Tie as tie
@@ -32,7 +32,7 @@ page : (c : tie.After-start-fault Inv-loop μ-loop Inv-pages μ-pages)
 page c =
     let st = c .before .before .before .before .before .before .before .before .before in
     let pg = c .before .before .before .before .before .before .pages in
-    begun (now (st .args .s)) (st .args .g) (now (st .args .list)) (pg .done) (pg .a) (pg .b) (pg .waiting) (pg .x)
+    begins (now (st .args .s)) (st .args .g) (now (st .args .list)) (pg .done) (pg .a) (pg .b) (pg .waiting) (pg .x)
     (c .before .before .before .size .result) (c .before .size2 .result) (c .start-fault .result) (st .pre) (pg .inv) (c .before .before .before .before .before .if1 .left) (c .before .before .before .size .ensures)
     (c .before .size2 .ensures) (c .start-fault .ensures)
 

@@ -6,9 +6,6 @@ use Rattle.marking.specs.laws.Run.{counted-listed, marked-wholly, marked
 use Rattle.marking.proofs.pages.mark_read.Statement.{statement}
 use Rattle.marking.proofs.pages.mark_read.Tie as tie
 
-is-counted-requires : tie.Need-is-counted-requires
-is-counted-requires c κs = search needs
-
 judge-pages-requires : tie.Need-judge-pages-requires
 judge-pages-requires c κs =
     let st = c .before .before .before .before in
@@ -33,4 +30,4 @@ returns-2 c =
     marked-refused bytes (st .args .g) ws (sym (c .before .is-counted .ensures bytes ws refl) ∙ c .if1 .left)
 
 pub mark-read-spec : {M : Type 1} → statement M
-mark-read-spec = tie.close (tie.spec is-counted-requires judge-pages-requires returns returns-2)
+mark-read-spec = tie.close (tie.spec (λ c κs. search needs) judge-pages-requires returns returns-2)

@@ -6,16 +6,10 @@ use Rattle.model.specs.laws.Leaf.{ends-parity}
 use Rattle.model.proofs.page.ends_spread.Statement.{statement}
 use Rattle.model.proofs.page.ends_spread.Tie as tie
 
-cast-side-ends : tie.Need-cast-side-ends
-cast-side-ends c = search needs
-
-side-ends-requires : tie.Need-side-ends-requires
-side-ends-requires c κs = search needs
-
 returns : tie.Need-returns
 returns c =
     let a = c .before .before .args in
     c .side-ends .ensures ∙ ends-parity (sidesOf (a .sides)) (a .page .0)
 
 pub ends-spread-spec : {M : Type 1} → statement M
-ends-spread-spec = tie.close (tie.spec cast-side-ends side-ends-requires returns)
+ends-spread-spec = tie.close (tie.spec (λ c. search needs) (λ c κs. search needs) returns)

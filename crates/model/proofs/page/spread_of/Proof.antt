@@ -5,9 +5,6 @@ use Rattle.model.specs.Leaf.{leaf, sidesOf}
 use Rattle.model.proofs.page.spread_of.Statement.{statement}
 use Rattle.model.proofs.page.spread_of.Tie as tie
 
-add-t6 : tie.Need-add-t6
-add-t6 c = search needs
-
 returns : tie.Need-returns
 unfolding leaf sidesOf
 returns c = simp (eq-eqb _ _ (c .before .if1 .taken))
@@ -17,4 +14,4 @@ unfolding leaf sidesOf
 returns-2 c = simp (ne-eqb _ _ (c .if1 .left))
 
 pub spread-of-spec : {M : Type 1} → statement M
-spread-of-spec = tie.close (tie.spec add-t6 returns returns-2)
+spread-of-spec = tie.close (tie.spec (λ c. search needs) returns returns-2)

@@ -9,9 +9,6 @@ returns : tie.Need-returns
 unfolding belowWith
 returns c = simp (lt-ltb _ _ (c .if1 .taken))
 
-add-result : tie.Need-add-result
-add-result c = search needs
-
 returns-2 : tie.Need-returns-2
 unfolding belowWith
 returns-2 c = simp (le-ltb _ _ (c .before .before .before .if1 .left), lt-ltb _ _ (c .before .if2 .taken))
@@ -21,4 +18,4 @@ unfolding belowWith
 returns-3 c = simp (le-ltb _ _ (c .before .before .if1 .left), le-ltb _ _ (c .if2 .left))
 
 pub below-with-spec : {M : Type 1} → statement M
-below-with-spec = tie.close (tie.spec returns add-result returns-2 returns-3)
+below-with-spec = tie.close (tie.spec returns (λ c. search needs) returns-2 returns-3)

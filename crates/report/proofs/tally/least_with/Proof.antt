@@ -5,12 +5,6 @@ use Rattle.report.specs.Tally.{leastWith}
 use Rattle.report.proofs.tally.least_with.Statement.{statement}
 use Rattle.report.proofs.tally.least_with.Tie as tie
 
-wide-requires : tie.Need-wide-requires
-wide-requires c κs = search needs
-
-lesser-requires : tie.Need-lesser-requires
-lesser-requires c κs = search needs
-
 returns : tie.Need-returns
 unfolding leastWith
 returns c = simp (eq-eqb _ _ (c .if1 .taken), c .before .before .wide .ensures)
@@ -20,4 +14,4 @@ unfolding leastWith
 returns-2 c = simp (ne-eqb _ _ (c .before .if1 .left), c .lesser .ensures, c .before .before .before .wide .ensures)
 
 pub least-with-spec : {M : Type 1} → statement M
-least-with-spec = tie.close (tie.spec wide-requires lesser-requires returns returns-2)
+least-with-spec = tie.close (tie.spec (λ c κs. search needs) (λ c κs. search needs) returns returns-2)

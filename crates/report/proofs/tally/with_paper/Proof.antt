@@ -5,39 +5,6 @@ use Rattle.report.specs.Tally.{withPaper}
 use Rattle.report.proofs.tally.with_paper.Statement.{statement}
 use Rattle.report.proofs.tally.with_paper.Tie as tie
 
-plus-requires : tie.Need-plus-requires
-plus-requires c κs = search needs
-
-plus-requires-2 : tie.Need-plus-requires-2
-plus-requires-2 c κs = search needs
-
-plus-requires-3 : tie.Need-plus-requires-3
-plus-requires-3 c κs = search needs
-
-plus-requires-4 : tie.Need-plus-requires-4
-plus-requires-4 c κs = search needs
-
-excess-requires : tie.Need-excess-requires
-excess-requires c κs = search needs
-
-plus-requires-5 : tie.Need-plus-requires-5
-plus-requires-5 c κs = search needs
-
-least-with-requires : tie.Need-least-with-requires
-least-with-requires c κs = search needs
-
-wide-requires : tie.Need-wide-requires
-wide-requires c κs = search needs
-
-greater-requires : tie.Need-greater-requires
-greater-requires c κs = search needs
-
-below-with-requires : tie.Need-below-with-requires
-below-with-requires c κs = search needs
-
-add-t12 : tie.Need-add-t12
-add-t12 c = search needs
-
 returns : tie.Need-returns
 unfolding withPaper
 returns c =
@@ -57,15 +24,15 @@ pub with-paper-spec : {M : Type 1} → statement M
 with-paper-spec =
     tie.close
     (tie.spec
-    plus-requires
-    plus-requires-2
-    plus-requires-3
-    plus-requires-4
-    excess-requires
-    plus-requires-5
-    least-with-requires
-    wide-requires
-    greater-requires
-    below-with-requires
-    add-t12
+    (λ c κs. search needs)
+    (λ c κs. search needs)
+    (λ c κs. search needs)
+    (λ c κs. search needs)
+    (λ c κs. search needs)
+    (λ c κs. search needs)
+    (λ c κs. search needs)
+    (λ c κs. search needs)
+    (λ c κs. search needs)
+    (λ c κs. search needs)
+    (λ c. search needs)
     returns)

@@ -9,12 +9,6 @@ use Rattle.model.specs.Leaf.{leaf, sidesOf}
 use Rattle.rules.proofs.counts.finish.Statement.{statement}
 use Rattle.rules.proofs.counts.finish.Tie as tie
 
-spread-of-requires : tie.Need-spread-of-requires
-spread-of-requires c κs = search needs
-
-spread-of-requires-2 : tie.Need-spread-of-requires-2
-spread-of-requires-2 c κs = search needs
-
 sub-y : tie.Need-sub-y
 sub-y c =
     let a = c .before .before .before .before .before .before .before .args in
@@ -62,8 +56,8 @@ pub finish-spec : {M : Type 1} → statement M
 finish-spec =
     tie.close
     (tie.spec
-    spread-of-requires
-    spread-of-requires-2
+    (λ c κs. search needs)
+    (λ c κs. search needs)
     sub-y
     mul-t13
     mul-t14

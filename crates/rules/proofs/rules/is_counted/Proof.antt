@@ -11,12 +11,6 @@ use Rattle.model.specs.Galley.{streams}
 use Rattle.rules.proofs.rules.is_counted.Statement.{statement}
 use Rattle.rules.proofs.rules.is_counted.Tie as tie
 
-add-result : tie.Need-add-result
-add-result c = search needs
-
-mul-result : tie.Need-mul-result
-mul-result c = search needs
-
 returns : tie.Need-returns
 unfolding counted streams
 returns c =
@@ -25,4 +19,4 @@ returns c =
     simp (e, blocks-two bytes (c .before .args .g)) (ap (λ most. ltb 0 words && eqb (words % 2) 0 && leb words most) (omega arith))
 
 pub is-counted-spec : {M : Type 1} → statement M
-is-counted-spec = tie.close (tie.spec add-result mul-result returns)
+is-counted-spec = tie.close (tie.spec (λ c. search needs) (λ c. search needs) returns)

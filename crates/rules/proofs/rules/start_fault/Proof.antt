@@ -6,12 +6,6 @@ use Rattle.rules.specs.laws.Two.{closes-two}
 use Rattle.rules.proofs.rules.start_fault.Statement.{statement}
 use Rattle.rules.proofs.rules.start_fault.Tie as tie
 
-is-forward-requires : tie.Need-is-forward-requires
-is-forward-requires c κs = search needs
-
-may-end-requires : tie.Need-may-end-requires
-may-end-requires c κs = search needs
-
 returns : tie.Need-returns
 unfolding startFault
 returns c =
@@ -49,4 +43,4 @@ returns-3 c =
 
 pub start-fault-spec : {M : Type 1} → statement M
 start-fault-spec =
-    tie.close (tie.spec is-forward-requires may-end-requires returns returns-2 returns-3)
+    tie.close (tie.spec (λ c κs. search needs) (λ c κs. search needs) returns returns-2 returns-3)

@@ -4,12 +4,6 @@ use Rattle.rules.specs.Waiting.{waitingAt}
 use Rattle.rules.proofs.waiting.waiting_at.Statement.{statement}
 use Rattle.rules.proofs.waiting.waiting_at.Tie as tie
 
-ends-spread-requires : tie.Need-ends-spread-requires
-ends-spread-requires c κs = search needs
-
-cast-result : tie.Need-cast-result
-cast-result c = search needs
-
 returns : tie.Need-returns
 unfolding waitingAt
 returns c = rw (← c .before .ends-spread .ensures, c .if1 .taken)
@@ -19,4 +13,4 @@ unfolding waitingAt
 returns-2 c = rw (← c .before .ends-spread .ensures, c .if1 .left)
 
 pub waiting-at-spec : {M : Type 1} → statement M
-waiting-at-spec = tie.close (tie.spec ends-spread-requires cast-result returns returns-2)
+waiting-at-spec = tie.close (tie.spec (λ c κs. search needs) (λ c. search needs) returns returns-2)

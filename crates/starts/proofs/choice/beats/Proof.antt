@@ -3,11 +3,8 @@ use borrow.Author.Needs.{needs}
 use Rattle.starts.proofs.choice.beats.Statement.{statement}
 use Rattle.starts.proofs.choice.beats.Tie as tie
 
-no-later-requires : tie.Need-no-later-requires
-no-later-requires c κs = search needs
-
 returns : tie.Need-returns
 returns c = rw (← c .no-later .ensures)
 
 pub beats-spec : {M : Type 1} → statement M
-beats-spec = tie.close (tie.spec no-later-requires returns)
+beats-spec = tie.close (tie.spec (λ c κs. search needs) returns)

@@ -5,18 +5,9 @@ use borrow.Author.Needs.{needs}
 use Rattle.starts.proofs.choice.choose.Statement.{statement}
 use Rattle.starts.proofs.choice.choose.Tie as tie
 
-enum-known-other : tie.Need-enum-known-other
-enum-known-other c = search needs
-
-enum-told : tie.Need-enum-told
-enum-told c = search needs
-
 returns : tie.Need-returns
 unfolding chosen
 returns c = cc
-
-wins-requires : tie.Need-wins-requires
-wins-requires c κs = search needs
 
 returns-2 : tie.Need-returns-2
 unfolding chosen
@@ -32,4 +23,4 @@ returns-3 c =
 
 pub choose-spec : {M : Type 1} → statement M
 choose-spec =
-    tie.close (tie.spec enum-known-other enum-told returns wins-requires returns-2 returns-3)
+    tie.close (tie.spec (λ c. search needs) (λ c. search needs) returns (λ c κs. search needs) returns-2 returns-3)

@@ -14,15 +14,6 @@ use borrow.Author.Needs.{needs}
 use Rattle.starts.proofs.place.start_of.Statement.{statement}
 use Rattle.starts.proofs.place.start_of.Tie as tie
 
-side-before-requires : tie.Need-side-before-requires
-side-before-requires c κs = search needs
-
-is-full-requires : tie.Need-is-full-requires
-is-full-requires c κs = search needs
-
-best-start-requires : tie.Need-best-start-requires
-best-start-requires c κs = search needs
-
 returns : tie.Need-returns
 returns c =
     let start = c .before .before .before .before .before .before .before in
@@ -30,12 +21,6 @@ returns c =
     c .best-start .ensures
     ∙ ap (λ (n : ℕ). bestStart (searchOf (a .s .now) (a .g) (a .work .now) (a .i) (a .j) n))
     (c .before .before .before .side-before .ensures)
-
-add-address-of : tie.Need-add-address-of
-add-address-of c = search needs
-
-address-of-requires : tie.Need-address-of-requires
-address-of-requires c κs = search needs
 
 entry-at-requires : tie.Need-entry-at-requires
 entry-at-requires c κs =
@@ -45,12 +30,6 @@ entry-at-requires c κs =
     let within = address-in (a .g .text .count) (a .g .figures .count) (a .i) (a .j) (a .c) (placed .line) (placed .figure)
     (start .pre .side) in
     omega (arith, within, c .address-of .ensures, start .pre .searched .room)
-
-front-requires : tie.Need-front-requires
-front-requires c κs = search needs
-
-choose-requires : tie.Need-choose-requires
-choose-requires c κs = search needs
 
 returns-2 : tie.Need-returns-2
 returns-2 c =
@@ -70,13 +49,13 @@ pub start-of-spec : {M : Type 1} → statement M
 start-of-spec =
     tie.close
     (tie.spec
-    side-before-requires
-    is-full-requires
-    best-start-requires
+    (λ c κs. search needs)
+    (λ c κs. search needs)
+    (λ c κs. search needs)
     returns
-    add-address-of
-    address-of-requires
+    (λ c. search needs)
+    (λ c κs. search needs)
     entry-at-requires
-    front-requires
-    choose-requires
+    (λ c κs. search needs)
+    (λ c κs. search needs)
     returns-2)

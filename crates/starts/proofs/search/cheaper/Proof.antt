@@ -5,18 +5,6 @@ use borrow.Author.Needs.{needs}
 use Rattle.starts.proofs.search.cheaper.Statement.{statement}
 use Rattle.starts.proofs.search.cheaper.Tie as tie
 
-cast-t8 : tie.Need-cast-t8
-cast-t8 c = search needs
-
-cast-t9 : tie.Need-cast-t9
-cast-t9 c = search needs
-
-enum-told : tie.Need-enum-told
-enum-told c = search needs
-
-enum-known-best : tie.Need-enum-known-best
-enum-known-best c = search needs
-
 returns : tie.Need-returns
 unfolding better
 returns c = λ s. simp (c .before .before .best .given .1, lt-ltb _ _ (c .if1 .taken))
@@ -31,4 +19,4 @@ returns-3 c = λ s. simp (c .before .before .best .given .1, le-ltb _ _ (c .if1 
 
 pub cheaper-spec : {M : Type 1} → statement M
 cheaper-spec =
-    tie.close (tie.spec cast-t8 cast-t9 enum-told enum-known-best returns returns-2 returns-3)
+    tie.close (tie.spec (λ c. search needs) (λ c. search needs) (λ c. search needs) (λ c. search needs) returns returns-2 returns-3)

@@ -6,9 +6,6 @@ use borrow.Author.Needs.{needs}
 use Rattle.starts.proofs.search.side_before.Statement.{statement}
 use Rattle.starts.proofs.search.side_before.Tie as tie
 
-sub-result : tie.Need-sub-result
-sub-result c = search needs
-
 returns : tie.Need-returns
 unfolding before sidesOf
 returns c = simp (eq-eqb _ _ (c .if1 .taken))
@@ -18,4 +15,4 @@ unfolding before sidesOf
 returns-2 c = simp (ne-eqb _ _ (c .if1 .left))
 
 pub side-before-spec : {M : Type 1} → statement M
-side-before-spec = tie.close (tie.spec sub-result returns returns-2)
+side-before-spec = tie.close (tie.spec (λ c. search needs) returns returns-2)

@@ -12,12 +12,6 @@ use Rattle.starts.proofs.sweep.alone.Tie as tie
 returns : tie.Need-returns
 returns c = rw (lt-ltb _ _ (c .if1 .taken))
 
-add-address-of : tie.Need-add-address-of
-add-address-of c = search needs
-
-address-of-requires : tie.Need-address-of-requires
-address-of-requires c κs = search needs
-
 entry-at-requires : tie.Need-entry-at-requires
 entry-at-requires c κs =
     let start = c .before .before .before .before .before in
@@ -26,12 +20,6 @@ entry-at-requires c κs =
     (start .pre .either) in
     omega (arith, within, c .address-of .ensures, start .pre .room)
 
-enum-known-entry : tie.Need-enum-known-entry
-enum-known-entry c = search needs
-
-enum-told : tie.Need-enum-told
-enum-told c = search needs
-
 returns-2 : tie.Need-returns-2
 unfolding better
 returns-2 c =
@@ -39,12 +27,6 @@ returns-2 c =
     let read = table-read (a .g) (a .work .now) (a .i) (a .b) (a .side) _ (c .before .before .before .address-of .ensures) in
     let entry = read ∙ sym (c .before .before .entry-at .ensures) ∙ c .enum-told .given .1 in
     rw (le-ltb _ _ (c .before .before .before .before .before .if1 .left), entry)
-
-cast-t14 : tie.Need-cast-t14
-cast-t14 c = search needs
-
-cast-t15 : tie.Need-cast-t15
-cast-t15 c = search needs
 
 returns-3 : tie.Need-returns-3
 unfolding better
@@ -60,12 +42,12 @@ alone-spec =
     tie.close
     (tie.spec
     returns
-    add-address-of
-    address-of-requires
+    (λ c. search needs)
+    (λ c κs. search needs)
     entry-at-requires
-    enum-known-entry
-    enum-told
+    (λ c. search needs)
+    (λ c. search needs)
     returns-2
-    cast-t14
-    cast-t15
+    (λ c. search needs)
+    (λ c. search needs)
     returns-3)

@@ -11,24 +11,6 @@ use borrow.Author.Needs.{needs}
 use Rattle.starts.proofs.sweep.improve.Statement.{statement}
 use Rattle.starts.proofs.sweep.improve.Tie as tie
 
-front-requires : tie.Need-front-requires
-front-requires c κs = search needs
-
-side-before-requires : tie.Need-side-before-requires
-side-before-requires c κs = search needs
-
-alone-requires : tie.Need-alone-requires
-alone-requires c κs = search needs
-
-choose-requires : tie.Need-choose-requires
-choose-requires c κs = search needs
-
-add-address-of : tie.Need-add-address-of
-add-address-of c = search needs
-
-address-of-requires : tie.Need-address-of-requires
-address-of-requires c κs = search needs
-
 offer-requires : tie.Need-offer-requires
 offer-requires c κs =
     let start = c .before .before .before .before .before .before .before .before .before .before in
@@ -36,9 +18,6 @@ offer-requires c κs =
     let within = address-in (a .g .text .count) (a .g .figures .count) (a .i) (a .pass .to) (a .c) (start .pre .place .line)
     (start .pre .within) (start .pre .side) in
     omega (arith, within, c .before .address-of .ensures, start .pre .place .room)
-
-same-length : tie.Need-same-length
-same-length c = search needs
 
 returns : tie.Need-returns
 returns c =
@@ -57,12 +36,12 @@ pub improve-spec : {M : Type 1} → statement M
 improve-spec =
     tie.close
     (tie.spec
-    front-requires
-    side-before-requires
-    alone-requires
-    choose-requires
-    add-address-of
-    address-of-requires
+    (λ c κs. search needs)
+    (λ c κs. search needs)
+    (λ c κs. search needs)
+    (λ c κs. search needs)
+    (λ c. search needs)
+    (λ c κs. search needs)
     offer-requires
-    same-length
+    (λ c. search needs)
     returns)

@@ -8,9 +8,6 @@ use borrow.Author.Needs.{needs}
 use Rattle.starts.proofs.sweep.load_of.Statement.{statement}
 use Rattle.starts.proofs.sweep.load_of.Tie as tie
 
-page-heights-requires : tie.Need-page-heights-requires
-page-heights-requires c κs = search needs
-
 returns : tie.Need-returns
 returns c =
     let a = c .before .args in
@@ -22,4 +19,4 @@ returns c =
     rw (t, l)
 
 pub load-of-spec : {M : Type 1} → statement M
-load-of-spec = tie.close (tie.spec page-heights-requires returns)
+load-of-spec = tie.close (tie.spec (λ c κs. search needs) returns)

@@ -8,15 +8,6 @@ use borrow.Author.Needs.{needs}
 use Rattle.window.proofs.queue.advance.Statement.{statement}
 use Rattle.window.proofs.queue.advance.Tie as tie
 
-feed-requires : tie.Need-feed-requires
-feed-requires c κs = search needs
-
-drop-passed-requires : tie.Need-drop-passed-requires
-drop-passed-requires c κs = search needs
-
-same-length : tie.Need-same-length
-same-length c = search needs
-
 returns : tie.Need-returns
 returns c =
     let start = c .before .before .before .before .before .before .before .before in
@@ -37,4 +28,4 @@ returns c =
     }
 
 pub advance-spec : {M : Type 1} → statement M
-advance-spec = tie.close (tie.spec feed-requires drop-passed-requires same-length returns)
+advance-spec = tie.close (tie.spec (λ c κs. search needs) (λ c κs. search needs) (λ c. search needs) returns)

@@ -5,27 +5,6 @@ use borrow.Author.Needs.{needs}
 use Rattle.window.proofs.queue.front.Statement.{statement}
 use Rattle.window.proofs.queue.front.Tie as tie
 
-mul-at : tie.Need-mul-at
-mul-at c = search needs
-
-mul-t7 : tie.Need-mul-t7
-mul-t7 c = search needs
-
-shared-slice-read-t9 : tie.Need-shared-slice-read-t9
-shared-slice-read-t9 c = search needs
-
-cast-t10 : tie.Need-cast-t10
-cast-t10 c = search needs
-
-add-t7 : tie.Need-add-t7
-add-t7 c = search needs
-
-mul-t11 : tie.Need-mul-t11
-mul-t11 c = search needs
-
-shared-slice-read-t10 : tie.Need-shared-slice-read-t10
-shared-slice-read-t10 c = search needs
-
 returns : tie.Need-returns
 unfolding frontOf
 returns c =
@@ -42,12 +21,12 @@ pub front-spec : {M : Type 1} → statement M
 front-spec =
     tie.close
     (tie.spec
-    mul-at
-    mul-t7
-    shared-slice-read-t9
-    cast-t10
-    add-t7
-    mul-t11
-    shared-slice-read-t10
+    (λ c. search needs)
+    (λ c. search needs)
+    (λ c. search needs)
+    (λ c. search needs)
+    (λ c. search needs)
+    (λ c. search needs)
+    (λ c. search needs)
     returns
     returns-2)

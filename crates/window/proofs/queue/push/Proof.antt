@@ -6,29 +6,8 @@ use borrow.Author.Needs.{needs}
 use Rattle.window.proofs.queue.push.Statement.{statement}
 use Rattle.window.proofs.queue.push.Tie as tie
 
-mul-words : tie.Need-mul-words
-mul-words c = search needs
-
-mul-words-2 : tie.Need-mul-words-2
-mul-words-2 c = search needs
-
-slice-write-words : tie.Need-slice-write-words
-slice-write-words c = search needs
-
-mul-words-3 : tie.Need-mul-words-3
-mul-words-3 c = search needs
-
-add-words : tie.Need-add-words
-add-words c = search needs
-
-mul-words-4 : tie.Need-mul-words-4
-mul-words-4 c = search needs
-
 slice-write-words-2 : tie.Need-slice-write-words-2
 slice-write-words-2 c = simp length-set (omega arith)
-
-same-length : tie.Need-same-length
-same-length c = search needs
 
 returns : tie.Need-returns
 unfolding pushed
@@ -38,12 +17,12 @@ pub push-spec : {M : Type 1} → statement M
 push-spec =
     tie.close
     (tie.spec
-    mul-words
-    mul-words-2
-    slice-write-words
-    mul-words-3
-    add-words
-    mul-words-4
+    (λ c. search needs)
+    (λ c. search needs)
+    (λ c. search needs)
+    (λ c. search needs)
+    (λ c. search needs)
+    (λ c. search needs)
     slice-write-words-2
-    same-length
+    (λ c. search needs)
     returns)

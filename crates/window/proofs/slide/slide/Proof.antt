@@ -4,12 +4,6 @@ use borrow.Author.Needs.{needs}
 use Rattle.window.proofs.slide.slide.Statement.{statement}
 use Rattle.window.proofs.slide.slide.Tie as tie
 
-first-fitting-requires : tie.Need-first-fitting-requires
-first-fitting-requires c κs = search needs
-
-first-short-requires : tie.Need-first-short-requires
-first-short-requires c κs = search needs
-
 returns : tie.Need-returns
 returns c =
     let a = c .before .before .before .args in
@@ -24,4 +18,4 @@ returns c =
     }
 
 pub slide-spec : {M : Type 1} → statement M
-slide-spec = tie.close (tie.spec first-fitting-requires first-short-requires returns)
+slide-spec = tie.close (tie.spec (λ c κs. search needs) (λ c κs. search needs) returns)

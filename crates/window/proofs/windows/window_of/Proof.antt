@@ -14,33 +14,6 @@ use borrow.Author.Needs.{needs}
 use Rattle.window.proofs.windows.window_of.Statement.{statement}
 use Rattle.window.proofs.windows.window_of.Tie as tie
 
-add-at : tie.Need-add-at
-add-at c = search needs
-
-mul-at : tie.Need-mul-at
-mul-at c = search needs
-
-mul-size : tie.Need-mul-size
-mul-size c = search needs
-
-slice-read-size : tie.Need-slice-read-size
-slice-read-size c = search needs
-
-size-requires : tie.Need-size-requires
-size-requires c κs = search needs
-
-add-size : tie.Need-add-size
-add-size c = search needs
-
-mul-size-2 : tie.Need-mul-size-2
-mul-size-2 c = search needs
-
-slice-read-size-2 : tie.Need-slice-read-size-2
-slice-read-size-2 c = search needs
-
-size-requires-2 : tie.Need-size-requires-2
-size-requires-2 c κs = search needs
-
 returns : tie.Need-returns
 returns c =
     let start = c .before .before .before .before .before .before .before in
@@ -53,23 +26,11 @@ returns c =
           subst (λ (window : Window). Open st (a .load) window (a .i)) same (kept (c .before .before .before .before .if1 .taken));
     }
 
-slide-requires : tie.Need-slide-requires
-slide-requires c κs = search needs
-
-add-push : tie.Need-add-push
-add-push c = search needs
-
 cast-push : tie.Need-cast-push
 cast-push c = omega (arith, c .before .before .slide .ensures .within)
 
 cast-push-2 : tie.Need-cast-push-2
 cast-push-2 c = omega (arith, c .before .before .before .slide .ensures .inside)
-
-push-requires : tie.Need-push-requires
-push-requires c κs = search needs
-
-same-length : tie.Need-same-length
-same-length c = search needs
 
 returns-2 : tie.Need-returns-2
 returns-2 c =
@@ -89,20 +50,20 @@ pub window-of-spec : {M : Type 1} → statement M
 window-of-spec =
     tie.close
     (tie.spec
-    add-at
-    mul-at
-    mul-size
-    slice-read-size
-    size-requires
-    add-size
-    mul-size-2
-    slice-read-size-2
-    size-requires-2
+    (λ c. search needs)
+    (λ c. search needs)
+    (λ c. search needs)
+    (λ c. search needs)
+    (λ c κs. search needs)
+    (λ c. search needs)
+    (λ c. search needs)
+    (λ c. search needs)
+    (λ c κs. search needs)
     returns
-    slide-requires
-    add-push
+    (λ c κs. search needs)
+    (λ c. search needs)
     cast-push
     cast-push-2
-    push-requires
-    same-length
+    (λ c κs. search needs)
+    (λ c. search needs)
     returns-2)
