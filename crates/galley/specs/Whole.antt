@@ -63,6 +63,7 @@ abbrev pub galleyWith : Spec → ℕ → ℕ → ℕ → Galley
 galleyWith spec first lines figures =
     record {
       spec = spec;
+      folio = 1;
       text = record { first = first; count = lines };
       figures = record { first = first + lines * 18; count = figures };
     }

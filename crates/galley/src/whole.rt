@@ -103,6 +103,7 @@ fn read_blocks(s: &[u8], spec: Spec, first: usize) -> Reading
             Record::End => {
                 return Reading::Galley(Galley {
                     spec,
+                    folio: 1,
                     text: Stream {
                         first,
                         count: lines,

@@ -174,6 +174,8 @@ sofar-end bytes spec first lines figures last read so p =
       fewFigures = so .fewFigures;
       specRanged = spec-read-ranged bytes 0 read;
       specRead = read;
+      someFolio = omega arith;
+      fewFolios = omega arith;
       text = record { within = omega arith; ranged = λ k one h. line k one h .block };
       textRead = so .textRead;
       legals = λ k one h. line k one h .legals;
