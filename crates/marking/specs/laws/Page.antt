@@ -12,7 +12,7 @@ use Rattle.galley.specs.declared.Galley.{Galley}
 use Rattle.galley.specs.Model.{floatsOf, modelOf}
 use Rattle.blocks.specs.declared.heights.Heights.{Heights}
 use Rattle.blocks.specs.Heights.{apartBy, withBlock, Room}
-use Rattle.rules.specs.Parts.{startFault, endFault}
+use Rattle.rules.specs.Parts.{faultFrom, startFault}
 use Rattle.rules.specs.Waiting.{waits, Walked, waitingAt}
 use Rattle.marking.specs.Parts.{WholePages}
 use Rattle.rules.specs.laws.Walked.{walked-on}
@@ -114,7 +114,7 @@ module _ {bytes : List ℕ} {g : Galley} {ws : List ℕ} {done a b w x i j start
 
   module _ (low : h .tight ≤ g .spec .htmax) (lines : i ≤ k) (figures : j ≤ f) (n : ℕ)
       (e : n
-      ≡ endFault (eqb (done + 1) (length ws / 2) || leb (g .spec .htmin) (h .loose))
+      ≡ faultFrom 16 (eqb (done + 1) (length ws / 2) || leb (g .spec .htmin) (h .loose))
       (cited (modelOf bytes g) (done + 1) (eqb (done + 1) (length ws / 2)) (i ∷ j ∷ []))) where
     at-end : n ≡ broken (modelOf bytes g) (done + 1) (eqb (done + 1) (length ws / 2)) (a ∷ b ∷ []) (i ∷ j ∷ [])
     at-end =

@@ -136,7 +136,7 @@ few c =
     omega (arith, waits, c .waiting-floats .ensures, c .before .before .before .before .before .before .before .before .before .before .before .before .before .before .before .before .before .before .before .before .before .pre .sound .fewFigures)
 
 waiting-at-requires : tie.Need-waiting-at-requires Inv-loop μ-loop Inv-pages μ-pages
-waiting-at-requires c κs = few c
+waiting-at-requires c κs = (omega (arith, c .before .before .before .before .before .before .before .before .before .loop .inv .begun .listed), few c)
 
 add-x : tie.Need-add-x Inv-loop μ-loop Inv-pages μ-pages
 add-x c =
