@@ -25,6 +25,7 @@ pub record Priceable (g : Galley) (c waiting : ℕ) : Type 0 where
   pub betas : g .spec .beta ≤ 1000
   pub either : c ≤ 1
   pub few : waiting ≤ 200
+  pub folio : 1 ≤ g .folio
 
 -- What a page costs that ends where `last` and `ends` say, with so many figures waiting.
 abbrev pub priceOf : Galley → Bool → Bool → ℕ → ℕ

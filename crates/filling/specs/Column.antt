@@ -4,10 +4,9 @@ use mathlib.Core.Path.{_≡_}
 use mathlib.Core.Bool.{false}
 use mathlib.Core.List.{List}
 use lib.ListN.{length}
-use Rattle.model.specs.Leaf.{sidesOf}
 use Rattle.model.specs.Galley as model
 use Rattle.galley.specs.declared.Galley.{Galley}
-use Rattle.galley.specs.Model.{textOf, modelOf}
+use Rattle.galley.specs.Model.{textOf, modelOf, sidesIn}
 use Rattle.blocks.specs.Heights.{noHeights}
 use Rattle.places.specs.Table.{tableOf}
 use Rattle.window.specs.declared.slide.Load.{Load}
@@ -100,7 +99,7 @@ pub record SidesRun (bytes : List ℕ) (g : Galley) (w₀ w words₀ words ends�
 -- All are.
 pub record PlaceFilled (bytes : List ℕ) (g : Galley) (w v words ends : List ℕ) (windows : Windows) (end : End)
     : Type 0 where
-  pub filled : v ≡ fillPlace (sidesOf (g .spec .sides)) (modelOf bytes g) (end .line) (end .column) w
+  pub filled : v ≡ fillPlace (sidesIn g) (modelOf bytes g) (end .line) (end .column) w
   pub queued : Queues g v words ends (end .column) (windows .to) (windows .to) 0
   pub waits : Waits bytes g v (end .column) (2 * end .line + 2)
 

@@ -22,7 +22,7 @@ fillSide g i j c w = stored w (address (tall g) i j c) (entryOf g (tableOf (tall
 -- The sides of place (i, j) that occur.
 unfoldable pub fillPlace : Sides → Galley → ℕ → ℕ → Words → Words
 fillPlace single g i j w = fillSide g i j 0 w
-fillPlace double g i j w = fillSide g i j 1 (fillSide g i j 0 w)
+fillPlace (double f) g i j w = fillSide g i j 1 (fillSide g i j 0 w)
 
 -- The k places of column j from line i on.
 unfoldable pub fillColumn : Galley → ℕ → ℕ → ℕ → Words → Words

@@ -2,7 +2,7 @@
 use Prim.Native.Nat.{ℕ, _+_, _*_, _≤_, _<_}
 use mathlib.Core.Path.{_≡_}
 use Rattle.model.specs.Galley.{Sides, Galley}
-use Rattle.model.specs.Order.{oddly}
+use Rattle.theorems.specs.pages.Graph.{side}
 use Rattle.places.specs.declared.Start.{Start}
 use Rattle.places.specs.declared.Entry.the-variants.{Least}
 use Rattle.places.specs.Address.{Earlier}
@@ -18,7 +18,7 @@ pub record Entered (a b x : ℕ) (s : Start) : Type 0 where
 
 -- c is a side that occurs: 0, or 0 and 1 in double-sided work.
 abbrev pub Side : Sides → ℕ → Type 0
-Side sides c = oddly sides c ≡ c
+Side sides c = side sides c ≡ c
 
 -- Every entry filled before place (i, j), column by column, is such a one.
 pub record Filled (g : Galley) (t : Table) (i j : ℕ) : Type 0 where

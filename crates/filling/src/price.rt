@@ -16,7 +16,7 @@ pub fn may_stop(s: &[u8], g: Galley, i: usize, j: usize, c: usize) -> bool
     requires { ⌜ Stopping (now s) g i j c ⌝ }
     ensures { λ r. ⌜ r ≡ mayStop (modelOf (now (s .entry)) g) i j c ⌝ }
 {
-    let asked = model::page::side_ends(g.spec.sides, c) | starts::search::is_full(g, i, j);
+    let asked = model::page::side_ends(g.spec.sides, g.folio, c) | starts::search::is_full(g, i, j);
     rules::rules::may_end(s, g.text, i) & rules::rules::is_cited(s, g.figures, asked, i, j)
 }
 
@@ -29,7 +29,7 @@ pub fn price(g: Galley, i: usize, j: usize, c: usize, waiting: usize) -> u32
     if starts::search::is_full(g, i, j) {
         return 0;
     }
-    if !model::page::side_ends(g.spec.sides, c) {
+    if !model::page::side_ends(g.spec.sides, g.folio, c) {
         return 0;
     }
     g.spec.alpha * (waiting as u32) + g.spec.beta

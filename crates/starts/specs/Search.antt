@@ -23,7 +23,7 @@ Table = ℕ → ℕ → ℕ → Entry
 -- The side of the page before one on side c.
 unfoldable pub before : Sides → ℕ → ℕ
 before single c = 0
-before double c = 1 - c
+before (double f) c = 1 - c
 
 -- A start whose own entry is given, against the best so far: a strictly smaller cost takes its place.
 unfoldable pub better : Entry → ℕ → ℕ → Entry → Entry

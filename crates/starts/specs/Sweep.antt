@@ -7,9 +7,8 @@ use mathlib.Core.List.{List}
 use lib.ListN.{length}
 use lib.Dec.{ltb}
 use Rattle.model.specs.Gather.{pick}
-use Rattle.model.specs.Leaf.{sidesOf}
 use Rattle.galley.specs.declared.Galley.{Galley}
-use Rattle.galley.specs.Model.{textOf, floatsOf}
+use Rattle.galley.specs.Model.{textOf, floatsOf, sidesIn}
 use Rattle.galley.specs.Sound.{Sound}
 use Rattle.places.specs.declared.Entry.{Entry}
 use Rattle.places.specs.declared.Entry.the-variants.{Unreached}
@@ -32,7 +31,7 @@ use Rattle.starts.specs.Asked.{searchOf, allPlaced, Searched}
 
 -- The side of the page before one on side c.
 abbrev pub sideOf : Galley → ℕ → ℕ
-sideOf g c = before (sidesOf (g .spec .sides)) c
+sideOf g c = before (sidesIn g) c
 
 -- What a page with figures b + 1 to j and a line has beside its lines: the figures, and the separation where there are any.
 abbrev pub loadOf : Galley → Bool → Heights → Load

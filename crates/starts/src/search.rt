@@ -2,11 +2,11 @@
 // figures, and a mind changed only for a strictly smaller cost. Document 01, "Making".
 ghost use mathlib.Core.Path.{_≡_};
 ghost use Prim.Native.Nat.{suc, _≤_};
-ghost use Rattle.model.specs.Leaf.{sidesOf};
 ghost use Rattle.places.specs.declared.Start.{Start as StartOf};
 ghost use Rattle.places.specs.declared.Entry.the-variants.{Least as least};
 ghost use Rattle.starts.specs.Search.{before, better, row, bestStart};
 ghost use Rattle.starts.specs.Asked.{searchOf, allPlaced, worth, Searched, RowAsked, Startable};
+ghost use Rattle.galley.specs.Model.{sidesIn};
 use blocks::heights::Heights;
 use galley::Galley;
 use places::Entry;
@@ -15,7 +15,7 @@ use places::Start;
 // The side of the page before one on side c.
 pub fn side_before(g: Galley, c: usize) -> usize
     requires { ⌜ c ≤ 1 ⌝ }
-    ensures { λ r. ⌜ r ≡ before (sidesOf (g .spec .sides)) c ⌝ }
+    ensures { λ r. ⌜ r ≡ before (sidesIn g) c ⌝ }
 {
     if g.spec.sides == 2 {
         return 1 - c;

@@ -1,8 +1,9 @@
 -- From the last page back to the first, by the start that each entry holds.
-use Prim.Native.Nat.{ℕ, zero, suc, _+_, _*_}
+use Prim.Native.Nat.{ℕ, zero, suc, _+_, _-_, _*_, _%_}
+use mathlib.Core.Bool.{Bool, true, false}
 use mathlib.Core.List.{List}
 use lib.ListN.{set}
-use lib.Dec.{eqb, leb}
+use lib.Dec.{eqb, ltb}
 use Rattle.model.specs.Gather.{pick}
 use Rattle.model.specs.Galley.{Sides, single, double}
 use Rattle.places.specs.declared.Start.{Start}
@@ -15,17 +16,23 @@ unfoldable pub startOf : Entry → Start
 startOf Unreached = record { line = 0; figure = 0 }
 startOf (Least x s) = s
 
--- Of the two sides of the full place the better: an even page count, side 0, unless side 1 costs strictly less.
-unfoldable pub better-side : Entry → Entry → ℕ
-better-side Unreached Unreached = 0
-better-side Unreached (Least y r) = 1
-better-side (Least x s) Unreached = 0
-better-side (Least x s) (Least y r) = pick (leb x y) 0 1
+-- The first entry is strictly less dear than the second; an unreached one is not.
+unfoldable pub cheaper : Entry → Entry → Bool
+cheaper Unreached e = false
+cheaper (Least x s) Unreached = true
+cheaper (Least x s) (Least y r) = ltb x y
 
--- The side of the last page of the best list.
+-- The side of the pages with an even folio, from a first folio on.
+abbrev pub evenSide : ℕ → ℕ
+evenSide f = (f - 1) % 2
+
+-- The side of the last page of the best list: in double-sided work that of an even last folio, unless the other costs strictly
+-- less (document 01, "Making"; document 02, S-1).
 unfoldable pub lastSide : Sides → Table → ℕ → ℕ → ℕ
 lastSide single t i j = 0
-lastSide double t i j = better-side (t i j 0) (t i j 1)
+lastSide (double f) t i j =
+    let even = evenSide f in
+    pick (cheaper (t i j (1 - even)) (t i j even)) (1 - even) even
 
 -- The number of pages on the way back from (i, j) on side c, added to p; at most `most` of them are walked.
 unfoldable pub countBack : Sides → Table → ℕ → ℕ → ℕ → ℕ → ℕ → ℕ

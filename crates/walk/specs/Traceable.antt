@@ -5,7 +5,6 @@ use mathlib.Core.Bool.{Bool, true, false}
 use mathlib.Core.List.{List}
 use lib.ListN.{length}
 use Rattle.model.specs.Galley.{Sides}
-use Rattle.model.specs.Leaf.{sidesOf}
 use Rattle.galley.specs.declared.Galley.{Galley}
 use Rattle.places.specs.declared.Start.{Start}
 use Rattle.places.specs.declared.Entry.{Entry}
@@ -15,10 +14,7 @@ use Rattle.places.specs.Table.{tableOf}
 use Rattle.starts.specs.Search.{Table}
 use Rattle.filling.specs.Filled.{Entered, Side}
 use Rattle.walk.specs.Trace.{countBack, writeBack}
-
--- The sidedness of a galley that was read.
-abbrev pub sidesIn : Galley → Sides
-sidesIn g = sidesOf (g .spec .sides)
+use Rattle.galley.specs.Model.{sidesIn}
 
 -- The table that the work area of a galley holds: one row more than there are lines.
 abbrev pub tableIn : Galley → List ℕ → Table

@@ -1,2 +1,3 @@
 -- The laws of the walk back.
+pub mod Last
 pub mod Walk

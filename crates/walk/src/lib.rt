@@ -1,8 +1,9 @@
 // From the last page back to the first, by the start that each entry holds: document 01, "Making".
 ghost use mathlib.Core.Path.{_≡_};
 ghost use Prim.Native.Nat.{_+_, _≤_};
-ghost use Rattle.walk.specs.Trace.{startOf, better-side, lastSide, countBack, writeBack};
-ghost use Rattle.walk.specs.Traceable.{sidesIn, tableIn, isReached, WorkArea, SidedPlace, Walkable, Writable};
+ghost use Rattle.walk.specs.Trace.{startOf, cheaper, lastSide, countBack, writeBack};
+ghost use Rattle.walk.specs.Traceable.{tableIn, isReached, WorkArea, SidedPlace, Walkable, Writable};
+ghost use Rattle.galley.specs.Model.{sidesIn};
 use galley::Galley;
 use places::Entry;
 use places::Start;
@@ -25,34 +26,35 @@ fn start_of(entry: Entry) -> Start
     }
 }
 
-// Of the two sides of the full place the less dear; an even page count, side 0, where they cost the same.
-fn better_side(even: Entry, odd: Entry) -> usize
-    ensures { λ r. ⌜ r ≡ better-side even odd ⌝ }
+// Whether an entry is strictly less dear than another: one that was never reached is not.
+fn cheaper(entry: Entry, other: Entry) -> bool
+    ensures { λ r. ⌜ r ≡ cheaper entry other ⌝ }
 {
-    match even {
-        Entry::Unreached => match odd {
-            Entry::Unreached => 0,
-            Entry::Least(_y, _r) => 1,
-        },
-        Entry::Least(x, _s) => match odd {
-            Entry::Unreached => 0,
-            Entry::Least(y, _r) => { if x <= y { 0 } else { 1 } },
-        },
-    }
+    let Entry::Least(x, _s) = entry else {
+        return false;
+    };
+    let Entry::Least(y, _r) = other else {
+        return true;
+    };
+    x < y
 }
 
-// The side of the last page of the best list.
+// The side of the last page of the best list: that of an even last folio, unless the other is strictly less dear.
 pub fn last_side(g: Galley, work: &[u32]) -> usize
-    requires { ⌜ WorkArea g (now work) ⌝ }
+    requires { ⌜ WorkArea g (now work) × (1 ≤ g .folio) ⌝ }
     ensures { λ r. ⌜ r ≡ lastSide (sidesIn g) (tableIn g (now (work .entry))) (g .text .count) (g .figures .count) ⌝ }
 {
     if g.spec.sides == 2 {
-        let even = entry_of(g, work, g.text.count, g.figures.count, 0);
-        let odd = entry_of(g, work, g.text.count, g.figures.count, 1);
-        better_side(even, odd)
-    } else {
-        0
+        let even = ((g.folio - 1) % 2) as usize;
+        let odd = 1 - even;
+        let first = entry_of(g, work, g.text.count, g.figures.count, even);
+        let second = entry_of(g, work, g.text.count, g.figures.count, odd);
+        if cheaper(second, first) {
+            return odd;
+        }
+        return even;
     }
+    0
 }
 
 // Whether the full place is reached on a side: if not on the last side, no valid list exists.

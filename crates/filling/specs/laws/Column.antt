@@ -13,7 +13,7 @@ use borrow.Author.Tests.{le-ltb}
 use Rattle.model.specs.Leaf.{sidesOf}
 use Rattle.theorems.specs.pages.Sides.{side-zero}
 use Rattle.galley.specs.declared.Galley.{Galley}
-use Rattle.galley.specs.Model.{textOf, floatsOf, modelOf}
+use Rattle.galley.specs.Model.{textOf, floatsOf, modelOf, sidesIn}
 use Rattle.rules.specs.Waiting.{waits}
 use Rattle.places.specs.Address.{wordsNeeded, Earlier}
 use Rattle.places.specs.Table.{tableOf}
@@ -48,10 +48,10 @@ no-figures : (bytes : List ℕ) (g : Galley) (j : ℕ) → Stacked (floatsOf byt
 no-figures bytes g j = stacked-nothing (floatsOf bytes (g .figures)) j j (le-refl j)
 
 -- A side below the number of sides occurs.
-side-occurs : (n c : ℕ) → n ≤ 2 → c < n → Side (sidesOf n) c
-side-occurs n zero two l = side-zero (sidesOf n)
-side-occurs n (suc zero) two l = side-one n (omega arith)
-side-occurs n (suc (suc c)) two l = absurd (omega arith)
+side-occurs : (n f c : ℕ) → n ≤ 2 → c < n → Side (sidesOf n f) c
+side-occurs n f zero two l = side-zero (sidesOf n f)
+side-occurs n f (suc zero) two l = side-one n f (omega arith)
+side-occurs n f (suc (suc c)) two l = absurd (omega arith)
 
 -- One side.
 module _ {bytes : List ℕ} {g : Galley} {w words : List ℕ} {queue : Queue} {windows : Windows} {end : End}
@@ -60,7 +60,7 @@ module _ {bytes : List ℕ} {g : Galley} {w words : List ℕ} {queue : Queue} {w
   line = moved .asked .placed .line
 
   pub side-low-here : end .side ≤ 1
-  side-low-here = side-low (sidesOf (g .spec .sides)) (end .side) (moved .asked .side)
+  side-low-here = side-low (sidesIn g) (end .side) (moved .asked .side)
 
   -- The queue of the column can be moved on.
   pub side-feeds : FeedAsked w (g .text .count + 1) (end .column) (sideOf g (end .side)) words queue (windows .from .high)
@@ -142,13 +142,13 @@ module _ {bytes : List ℕ} {g : Galley} {w₀ words₀ ends₀ : List ℕ} {win
           }
         where
           go : Dec (g .spec .sides ≡ 2) → fillSides (modelOf bytes g) (end .line) (end .column) c w₀
-              ≡ fillPlace (sidesOf (g .spec .sides)) (modelOf bytes g) (end .line) (end .column) w₀
+              ≡ fillPlace (sidesIn g) (modelOf bytes g) (end .line) (end .column) w₀
           go (yes e) =
               let n : c ≡ 2 = omega (arith, run .within) in
-              rw n (sym (place-double (modelOf bytes g) (g .spec .sides) (end .line) (end .column) w₀ e))
+              rw n (sym (place-double (modelOf bytes g) (g .spec .sides) (g .folio) (end .line) (end .column) w₀ e))
           go (no e) =
               let n : c ≡ 1 = omega (arith, run .within, two, asked .lent .sound .specRanged .sidesSome) in
-              rw n (sym (place-single (modelOf bytes g) (g .spec .sides) (end .line) (end .column) w₀ e))
+              rw n (sym (place-single (modelOf bytes g) (g .spec .sides) (g .folio) (end .line) (end .column) w₀ e))
 
       module _ (occurs : c < g .spec .sides) where
         low : c ≤ 1
@@ -171,7 +171,7 @@ module _ {bytes : List ℕ} {g : Galley} {w₀ words₀ ends₀ : List ℕ} {win
                     placed = asked .asked .placed;
                     room = room;
                     found = asked .asked .found;
-                    side = side-occurs (g .spec .sides) c two occurs;
+                    side = side-occurs (g .spec .sides) (g .folio) c two occurs;
                     filled = run .entries;
                   };
               occurs = occurs;
@@ -346,7 +346,7 @@ module _ {bytes : List ℕ} {g : Galley} {w sums words : List ℕ} {j : ℕ} (as
                                 asked .column .filled .entered a b c x s l h k
                                 (sym
                                 (scratched-other bytes g j (asked .column .column) (asked .column .sound .specRanged
-                                .sidesTwo) w v (done .kept) a b c h (before a b l) (side-low (sidesOf (g .spec .sides)) c k))
+                                .sidesTwo) w v (done .kept) a b c h (before a b l) (side-low (sidesIn g) c k))
                                 ∙ e);
                           };
                     };

@@ -10,7 +10,7 @@ use lib.Dec.{ltb, eqb}
 use borrow.Author.Tests.{ltb-true}
 use Rattle.model.specs.Gather.{pick}
 use Rattle.model.specs.Galley.{Sides, single, double, Galley}
-use Rattle.model.specs.Order.{oddly}
+use Rattle.theorems.specs.pages.Graph.{side}
 use Rattle.model.specs.Rules.{fits, fills}
 use Rattle.model.specs.laws.Gather.{and-left, or-cases}
 use Rattle.theorems.specs.turns.Waiting.{pageCost}
@@ -117,14 +117,14 @@ module _ (s : Search) (fill : Filled (s .galley) (s .table) (s .i) (s .j)) (high
 
 -- Sides that occur are 0 and 1, and the side before one that occurs occurs.
 pub side-low : (sides : Sides) (c : ℕ) → Side sides c → c ≤ 1
-unfolding oddly
+unfolding side
 side-low single c h = omega arith
-side-low double c h = omega arith
+side-low (double f) c h = omega arith
 
 pub side-before : (sides : Sides) (c : ℕ) → Side sides c → Side sides (before sides c)
-unfolding oddly before
+unfolding side before
 side-before single c h = refl
-side-before double c h = omega arith
+side-before (double f) c h = omega arith
 
 module _ (g : Galley) (light : dearest g ≤ 201000) (t : Table) (i j c : ℕ) (fill : Filled g t i j) (high : i ≤ g .stream
     0 .size)

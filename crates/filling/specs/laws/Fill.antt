@@ -7,7 +7,7 @@ use mathlib.Core.Path.{_≡_, refl, sym, _∙_, ap}
 use mathlib.Core.Logic.{_⊎_, inl, inr}
 use lib.ListN.{length}
 use Rattle.model.specs.Galley.{Sides, single, double, Galley}
-use Rattle.model.specs.Order.{oddly}
+use Rattle.theorems.specs.pages.Graph.{side}
 use Rattle.theorems.specs.turns.Bounds.{dearest}
 use Rattle.places.specs.declared.Start.{Start}
 use Rattle.places.specs.declared.Entry.the-variants.{Least}
@@ -128,17 +128,17 @@ module _ (g : Galley) (light : dearest g ≤ 201000) where
     -- A place filled, in single-sided work,
     filled-single : (w : Words) → Room g w → g .spec .sides ≡ single → Filled g (held g w) i j
         → Filled g (held g (fillSide g i j 0 w)) (suc i) j
-    unfolding oddly
+    unfolding side
     filled-single w room e f = all-sides (fillSide g i j 0 w) (filled-keeps 0 w room (omega arith) f) own
       where
         own : (c x : ℕ) (s : Start) → Side (g .spec .sides) c → held g (fillSide g i j 0 w) i j c ≡ Least x s → Entered i j x s
         own c x s k q = let z : c ≡ 0 = sym (rw e at k) in filled-here 0 w room (rw z at k) f x s (rw z at q)
 
     -- and in double-sided work.
-    filled-double : (w : Words) → Room g w → g .spec .sides ≡ double → Filled g (held g w) i j
+    filled-double : (w : Words) → Room g w → (first : ℕ) → g .spec .sides ≡ double first → Filled g (held g w) i j
         → Filled g (held g (fillSide g i j 1 (fillSide g i j 0 w))) (suc i) j
-    unfolding oddly
-    filled-double w room e f = all-sides (fillSide g i j 1 left) (filled-keeps 1 left room′ (omega arith) f′) own
+    unfolding side
+    filled-double w room first e f = all-sides (fillSide g i j 1 left) (filled-keeps 1 left room′ (omega arith) f′) own
       where
         left : Words
         left = fillSide g i j 0 w
@@ -169,13 +169,13 @@ module _ (g : Galley) (light : dearest g ≤ 201000) where
       where
         go : (sides : Sides) → g .spec .sides ≡ sides → Filled g (held g (fillPlace sides g i j w)) (suc i) j
         go single e = filled-single w room e f
-        go double e = filled-double w room e f
+        go (double first) e = filled-double w room first e f
 
 -- Filling a place, a column or all columns keeps the length.
 pub length-place : (g : Galley) (sides : Sides) (i j : ℕ) (w : Words) → length (fillPlace sides g i j w) ≡ length w
 unfolding fillPlace
 length-place g single i j w = length-side g i j 0 w
-length-place g double i j w = length-side g i j 1 (fillSide g i j 0 w) ∙ length-side g i j 0 w
+length-place g (double f) i j w = length-side g i j 1 (fillSide g i j 0 w) ∙ length-side g i j 0 w
 
 pub length-column : (g : Galley) (j k i : ℕ) (w : Words) → length (fillColumn g j k i w) ≡ length w
 unfolding fillColumn

@@ -8,12 +8,12 @@ use lib.ListN.{length}
 use borrow.Author.Tests.{eq-eqb, ne-eqb}
 use Rattle.model.specs.Galley as model
 use Rattle.model.specs.Leaf.{sidesOf}
-use Rattle.model.specs.Order.{oddly}
+use Rattle.theorems.specs.pages.Graph.{side}
 use Rattle.theorems.specs.turns.Waiting.{pageCost}
 use Rattle.theorems.specs.pages.Graph.{full}
 use Rattle.theorems.specs.turns.Bounds.{cost-le}
 use Rattle.galley.specs.declared.Galley.{Galley}
-use Rattle.galley.specs.Model.{floatsOf, modelOf}
+use Rattle.galley.specs.Model.{floatsOf, modelOf, sidesIn}
 use Rattle.rules.specs.Waiting.{waits}
 use Rattle.rules.specs.laws.Walked.{walked-none, walked-here, walked-on}
 use Rattle.places.specs.declared.Start.{Start}
@@ -65,7 +65,7 @@ module _ (g : model.Galley) (t : Table) (i j c : ℕ) (some : i + j + c ≡ 0 �
 -- The cost of a start and the price of the page are a word.
 pub cost-low : (bytes : List ℕ) (g : Galley) (w : List ℕ) (i j c waiting : ℕ) → SideAsked bytes g w i j c waiting
     → (x : ℕ) (r : Start)
-    → bestStart (searchOf bytes g w i j (before (sidesOf (g .spec .sides)) c)) ≡ Least x r
+    → bestStart (searchOf bytes g w i j (before (sidesIn g) c)) ≡ Least x r
     → x + pageCost (modelOf bytes g) c (full (modelOf bytes g) (place i j)) (place i j) ≤ 1000000000
 cost-low bytes g w i j c waiting asked x r e =
     let line = asked .placed .line in
@@ -73,27 +73,27 @@ cost-low bytes g w i j c waiting asked x r e =
     let lines = asked .placed .sound .fewLines in
     let figures = asked .placed .sound .fewFigures in
     let start =
-    best-entered (searchOf bytes g w i j (before (sidesOf (g .spec .sides)) c)) (asked .filled) line
-    (side-before (sidesOf (g .spec .sides)) c (asked .side)) x r e in
+    best-entered (searchOf bytes g w i j (before (sidesIn g) c)) (asked .filled) line
+    (side-before (sidesIn g) c (asked .side)) x r e in
     let light = dearest-light bytes g (asked .placed .sound) in
     let cost = cost-le (modelOf bytes g) c (full (modelOf bytes g) (place i j)) (place i j) in
     omega (arith, start .less, start .dear)
 
 -- Side 1 occurs in double-sided work; `side-zero` of theorems says that side 0 always does.
-pub side-one : (n : ℕ) → n ≡ 2 → Side (sidesOf n) 1
-unfolding oddly sidesOf
-side-one n e = rw (eq-eqb n 2 e)
+pub side-one : (n f : ℕ) → n ≡ 2 → Side (sidesOf n f) 1
+unfolding side sidesOf
+side-one n f e = rw (eq-eqb n 2 e)
 
 -- The sides of a place, by the field that says how many there are.
-pub place-single : (g : model.Galley) (n i j : ℕ) (w : List ℕ) → (n ≡ 2 → ⊥) → fillPlace (sidesOf n) g i j w
+pub place-single : (g : model.Galley) (n f i j : ℕ) (w : List ℕ) → (n ≡ 2 → ⊥) → fillPlace (sidesOf n f) g i j w
     ≡ fillSide g i j 0 w
 unfolding sidesOf fillPlace
-place-single g n i j w e = rw (ne-eqb n 2 e)
+place-single g n f i j w e = rw (ne-eqb n 2 e)
 
-pub place-double : (g : model.Galley) (n i j : ℕ) (w : List ℕ) → n ≡ 2
-    → fillPlace (sidesOf n) g i j w ≡ fillSide g i j 1 (fillSide g i j 0 w)
+pub place-double : (g : model.Galley) (n f i j : ℕ) (w : List ℕ) → n ≡ 2
+    → fillPlace (sidesOf n f) g i j w ≡ fillSide g i j 1 (fillSide g i j 0 w)
 unfolding sidesOf fillPlace
-place-double g n i j w e = rw (eq-eqb n 2 e)
+place-double g n f i j w e = rw (eq-eqb n 2 e)
 
 module _ (bytes : List ℕ) (g : Galley) (w₀ : List ℕ) where
   module _ (j : ℕ) where
@@ -124,12 +124,12 @@ module _ (bytes : List ℕ) (g : Galley) (w₀ : List ℕ) where
     -- One place more is filled.
     pub column-next : ColumnAsked bytes g w₀ j → (w : List ℕ) (waiting i waiting′ : ℕ) → ColumnRun bytes g w₀ w j waiting i
         → i ≤ g .text .count
-        → waiting′ ≡ waits (floatsOf bytes (g .figures)) i j → (v : List ℕ) → v ≡ fillPlace (sidesOf (g .spec .sides)) (modelOf bytes g) i j w
+        → waiting′ ≡ waits (floatsOf bytes (g .figures)) i j → (v : List ℕ) → v ≡ fillPlace (sidesIn g) (modelOf bytes g) i j w
         → ColumnRun bytes g w₀ v j waiting′ (i + 1)
     unfolding Room tall fillColumn
     column-next asked w waiting i waiting′ r l found v e =
         let long = r .sized in
-        let kept = ap length e ∙ length-place (modelOf bytes g) (sidesOf (g .spec .sides)) i j w in
+        let kept = ap length e ∙ length-place (modelOf bytes g) (sidesIn g) i j w in
         let s : i + 1 ≡ suc i = omega arith in
         let n : suc (g .text .count) - i ≡ suc (suc (g .text .count) - suc i) = omega arith in
         let next =

@@ -16,7 +16,7 @@ use Rattle.model.specs.laws.Gather.{or-cases}
 use Rattle.model.specs.Galley.{Sides, single, double}
 use Rattle.model.specs.Leaf.{sidesOf}
 use Rattle.galley.specs.declared.Galley.{Galley}
-use Rattle.galley.specs.Model.{modelOf}
+use Rattle.galley.specs.Model.{modelOf, sidesIn}
 use Rattle.places.specs.declared.Start.{Start}
 use Rattle.places.specs.declared.Entry.{Entry}
 use Rattle.places.specs.declared.Entry.the-variants.{Unreached, Least}
@@ -182,18 +182,18 @@ stored-swap w at to e f apart h h′ =
     go k (inr (l, m)) (inr (l′, m′)) = absurd (never k apart l m l′ m′)
 
 -- Single-sided work has one side.
-single-low : {n c : ℕ} → n ≤ 2 → sidesOf n ≡ single → c < n → c ≡ 0
+single-low : {n c : ℕ} (f : ℕ) → n ≤ 2 → sidesOf n f ≡ single → c < n → c ≡ 0
 unfolding sidesOf
-single-low {n} {c} two p l = go (ℕ-discrete n 2)
+single-low {n} {c} f two p l = go (ℕ-discrete n 2)
   where
     go : Dec (n ≡ 2) → c ≡ 0
     go (yes q) = let t = eq-eqb n 2 q in let e = rw t at p in absurd (apart e)
       where
         flag : Sides → ℕ
         flag single = 0
-        flag double = 1
+        flag (double k) = 1
 
-        apart : double ≡ single → ⊥
+        apart : double f ≡ single → ⊥
         apart e = let z : _≡_ {A = ℕ} 1 0 = ap flag e in omega arith
     go (no q) = omega arith
 
@@ -283,22 +283,22 @@ module _ (bytes : List ℕ) (g : Galley) (j : ℕ) (column : j ≤ g .figures .c
         → fillPlace sides (modelOf bytes g) i′ j (stored w at e) ≡ stored (fillPlace sides (modelOf bytes g) i′ j w) at e
     unfolding fillPlace
     place-later single i′ l = side-later w i c e line low room i′ 0 (omega arith) (omega arith) (λ q. omega (arith, q .0))
-    place-later double i′ l =
+    place-later (double f) i′ l =
         ap (fillSide (modelOf bytes g) i′ j 1)
         (side-later w i c e line low room i′ 0 (omega arith) (omega arith) (λ q. omega (arith, q .0)))
         ∙ side-later (fillSide (modelOf bytes g) i′ j 0 w) i c e line low (left-room i′) i′ 1 (omega arith) (omega arith)
         (λ q. omega (arith, q .0))
 
     -- The place of the store.
-    place-over : (sides : Sides) → sidesOf (g .spec .sides) ≡ sides
+    place-over : (sides : Sides) → sidesIn g ≡ sides
         → fillPlace sides (modelOf bytes g) i j (stored w at e) ≡ fillPlace sides (modelOf bytes g) i j w
     unfolding fillPlace
     place-over single p = go c refl
       where
         go : (d : ℕ) → c ≡ d → fillSide (modelOf bytes g) i j 0 (stored w at e) ≡ fillSide (modelOf bytes g) i j 0 w
         go zero q = rw q (side-over w i 0 e line (omega arith) room)
-        go (suc d) q = let z = single-low two p occurs in absurd (omega arith)
-    place-over double p = go c refl low
+        go (suc d) q = let z = single-low (g .folio) two p occurs in absurd (omega arith)
+    place-over (double f) p = go c refl low
       where
         go : (d : ℕ) → c ≡ d → d ≤ 1
             → fillSide (modelOf bytes g) i j 1 (fillSide (modelOf bytes g) i j 0 (stored w at e))
@@ -319,23 +319,23 @@ module _ (bytes : List ℕ) (g : Galley) (j : ℕ) (column : j ≤ g .figures .c
   column-over zero i₀ w i c e n l line occurs room = absurd (omega arith)
   column-over (suc k) i₀ w i c e n l line occurs room =
       go (ℕ-discrete i₀ i)
-      (λ p. column-over k (suc i₀) (fillPlace (sidesOf (g .spec .sides)) (modelOf bytes g) i₀ j w) i c e (omega arith) p line
-      occurs (let m = length-place (modelOf bytes g) (sidesOf (g .spec .sides)) i₀ j w in omega arith))
+      (λ p. column-over k (suc i₀) (fillPlace (sidesIn g) (modelOf bytes g) i₀ j w) i c e (omega arith) p line
+      occurs (let m = length-place (modelOf bytes g) (sidesIn g) i₀ j w in omega arith))
     where
       go : Dec (i₀ ≡ i)
           → (i₀ < i
-          → fillColumn (modelOf bytes g) j k (suc i₀) (stored (fillPlace (sidesOf (g .spec .sides)) (modelOf bytes g) i₀ j w)
+          → fillColumn (modelOf bytes g) j k (suc i₀) (stored (fillPlace (sidesIn g) (modelOf bytes g) i₀ j w)
           (address (suc (g .text .count)) i j c) e)
-          ≡ fillColumn (modelOf bytes g) j k (suc i₀) (fillPlace (sidesOf (g .spec .sides)) (modelOf bytes g) i₀ j w))
-          → fillColumn (modelOf bytes g) j k (suc i₀) (fillPlace (sidesOf (g .spec .sides)) (modelOf bytes g) i₀ j (stored w
+          ≡ fillColumn (modelOf bytes g) j k (suc i₀) (fillPlace (sidesIn g) (modelOf bytes g) i₀ j w))
+          → fillColumn (modelOf bytes g) j k (suc i₀) (fillPlace (sidesIn g) (modelOf bytes g) i₀ j (stored w
           (address (suc (g .text .count)) i j c) e))
-          ≡ fillColumn (modelOf bytes g) j k (suc i₀) (fillPlace (sidesOf (g .spec .sides)) (modelOf bytes g) i₀ j w)
+          ≡ fillColumn (modelOf bytes g) j k (suc i₀) (fillPlace (sidesIn g) (modelOf bytes g) i₀ j w)
       go (yes q) below =
           ap (fillColumn (modelOf bytes g) j k (suc i₀))
-          (rw q (place-over w i c e line occurs room (sidesOf (g .spec .sides)) refl))
+          (rw q (place-over w i c e line occurs room (sidesIn g) refl))
       go (no q) below =
           ap (fillColumn (modelOf bytes g) j k (suc i₀))
-          (place-later w i c e line occurs room (sidesOf (g .spec .sides)) i₀ (omega arith))
+          (place-later w i c e line occurs room (sidesIn g) i₀ (omega arith))
           ∙ below (omega arith)
 
   -- So any stores change nothing,

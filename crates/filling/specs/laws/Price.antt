@@ -7,13 +7,13 @@ use mathlib.Core.Bool.{Bool, _&&_}
 use mathlib.Core.List.{List}
 use Rattle.model.specs.Gather.{sum}
 use Rattle.model.specs.Galley.{Sane}
-use Rattle.model.specs.Leaf.{ends, sidesOf}
+use Rattle.model.specs.Leaf.{ends}
 use Rattle.model.specs.Rules.{mayEnd, cited}
 use Rattle.theorems.specs.turns.Waiting.{pageCost}
 use Rattle.theorems.specs.pages.Graph.{full}
 use Rattle.theorems.specs.turns.Bounds.{allFloats, dearest}
 use Rattle.galley.specs.declared.Galley.{Galley}
-use Rattle.galley.specs.Model.{textOf, floatsOf, modelOf}
+use Rattle.galley.specs.Model.{textOf, floatsOf, modelOf, sidesIn}
 use Rattle.galley.specs.Sound.{Sound}
 use Rattle.rules.specs.Waiting.{waits}
 use Rattle.rules.specs.laws.Two.{closes-two, full-two}
@@ -34,7 +34,7 @@ module _ (bytes : List ℕ) (g : Galley) (i j c : ℕ) where
 
   -- The price, by two tests: whether the page is the last, and whether it ends its leaf.
   pub price-two : Sane (modelOf bytes g) → (n : ℕ) → n ≡ waits (floatsOf bytes (g .figures)) i j → (last turns : Bool)
-      → last ≡ allPlaced g i j → turns ≡ ends (sidesOf (g .spec .sides)) c
+      → last ≡ allPlaced g i j → turns ≡ ends (sidesIn g) c
       → pageCost (modelOf bytes g) c (full (modelOf bytes g) (place i j)) (place i j) ≡ priceOf g last turns n
   unfolding pageCost full
   price-two sane n found last turns e f = rw (full-two bytes g i j, waiting-two bytes g sane i j, ← found, e, f)

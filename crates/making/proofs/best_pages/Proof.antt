@@ -5,12 +5,15 @@ use borrow.Author.Tests.{not-true, not-false}
 use native.Mathlib.Omega.{arith}
 use lib.Seq.{length-take-le}
 use mathlib.Core.Path.{sym}
+use Rattle.galley.specs.laws.Sound.{sound}
 use Rattle.making.specs.laws.Solved.{solved-lent, walk-low, walk-able, walk-none, walk-room, walk-small, walk-writable, walk-long, walk-written}
 use Rattle.making.proofs.best_pages.Statement.{statement}
 use Rattle.making.proofs.best_pages.Tie as tie
 
 last-side-requires : tie.Need-last-side-requires
-last-side-requires c κs = solved-lent _ _ _ _ (c .before .before .before .pre)
+last-side-requires c κs =
+    let p = c .before .before .before .pre in
+    (solved-lent _ _ _ _ p, sound _ _ (p .reads) .someFolio)
 
 reached-requires : tie.Need-reached-requires
 reached-requires c κs =

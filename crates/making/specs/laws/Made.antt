@@ -44,7 +44,7 @@ module _ (g : model.Galley) where
       → drop needed (fillPlace sides g i j w) ≡ drop needed w
   unfolding fillPlace
   place-beyond single i j w h k = side-beyond i j 0 w h k (omega arith)
-  place-beyond double i j w h k =
+  place-beyond (double f) i j w h k =
       side-beyond i j 1 (fillSide g i j 0 w) h k (omega arith) ∙ side-beyond i j 0 w h k (omega arith)
 
   column-beyond : (j : ℕ) → j ≤ g .stream 1 .size → (k i : ℕ) (w : Words) → k + i ≡ suc (g .stream 0 .size)

@@ -6,7 +6,7 @@ use mathlib.Core.Path.{_≡_, refl, sym, _∙_, ap}
 use mathlib.Core.Logic.{_⊎_, inl, inr}
 use lib.ListN.{getD}
 use Rattle.model.specs.Galley.{Sides, single, double, Galley, Place, count, sizes}
-use Rattle.model.specs.Order.{oddly}
+use Rattle.theorems.specs.pages.Graph.{side}
 use Rattle.model.specs.laws.Rules.{kept, forward-at}
 use Rattle.model.specs.laws.Lists.{Inside}
 use Rattle.model.specs.laws.Valid.{count-sizes}
@@ -147,14 +147,14 @@ module _ (g : Galley) (two : g .floats ≡ 1) where
 
     right-place : (w : Words) → Room g w → Right (pageGraph g (beginning g)) (tableAt g (held g w)) (Done g i j 0)
         → Right (pageGraph g (beginning g)) (tableAt g (held g (fillPlace (g .spec .sides) g i j w))) (Done g (suc i) j 0)
-    unfolding fillPlace oddly
+    unfolding fillPlace side
     right-place w room right = go (g .spec .sides) refl
       where
         go : (sides : Sides) → g .spec .sides ≡ sides
             → Right (pageGraph g (beginning g)) (tableAt g (held g (fillPlace sides g i j w))) (Done g (suc i) j 0)
         go single e s d =
             right-side 0 w room (rw e refl) right s (done-next 1 (λ c k. let z : 0 ≡ c = rw e at k in omega arith) s d)
-        go double e s d =
+        go (double f) e s d =
             right-side 1 (fillSide g i j 0 w) (room-side g i j 0 w room) (rw e refl) (right-side 0 w room (rw e refl) right) s
             (done-next 2 (λ c k. let z : c % 2 ≡ c = rw e at k in omega arith) s d)
 

@@ -12,7 +12,7 @@ use lib.Dec.{ltb, eqb}
 use borrow.Author.Tests.{eqb-true, eqb-false, ltb-true, lt-ltb, le-leb, lt-leb}
 use Rattle.model.specs.Gather.{pick}
 use Rattle.model.specs.Galley.{Sides, single, double, Galley, Place, count, sizes}
-use Rattle.model.specs.Order.{lex, geb, oddly}
+use Rattle.model.specs.Order.{lex, geb}
 use Rattle.model.specs.Rules.{closes, fits, fills, cited}
 use Rattle.model.specs.laws.Gather.{and-left, and-right, and-both, or-cases, or-left, or-right}
 use Rattle.model.specs.laws.Rules.{kept, kept-allowed, forward-at, forward-of}
@@ -22,7 +22,7 @@ use Rattle.theorems.specs.turns.Waiting.{pageCost}
 use Rattle.theorems.specs.optimality.Graph as graph
 use Rattle.theorems.specs.optimality.Cell.{Ahead, Offer, Seen, Cell}
 use Rattle.theorems.specs.optimality.Storing.{none-reached}
-use Rattle.theorems.specs.pages.Graph.{State, stop, end, full, beginning, Within, Step, price, Prefers, pageGraph}
+use Rattle.theorems.specs.pages.Graph.{side, State, stop, end, full, beginning, Within, Step, price, Prefers, pageGraph}
 use Rattle.theorems.specs.pages.Sides.{side-zero}
 use Rattle.theorems.specs.pages.Lists.{past-beginning}
 use Rattle.places.specs.declared.Start.{Start}
@@ -55,15 +55,15 @@ later a b c d (inr (e, l)) = go (decLe d b)
     go (no m) = simp (le-leb a c (omega arith), le-leb c a (omega arith), le-leb b d l, lt-leb d b (omega arith))
 
 -- A page on side c follows one on the side before it, and no other.
-side-after : (sides : Sides) (c : ℕ) → Side sides c → c ≡ oddly sides (suc (before sides c))
-unfolding oddly before
+side-after : (sides : Sides) (c : ℕ) → Side sides c → c ≡ side sides (suc (before sides c))
+unfolding side before
 side-after single c h = sym h
-side-after double c h = omega arith
+side-after (double f) c h = omega arith
 
-side-only : (sides : Sides) (c e : ℕ) → oddly sides e ≡ e → c ≡ oddly sides (suc e) → e ≡ before sides c
-unfolding oddly before
+side-only : (sides : Sides) (c e : ℕ) → side sides e ≡ e → c ≡ side sides (suc e) → e ≡ before sides c
+unfolding side before
 side-only single c e h k = sym h
-side-only double c e h k = omega arith
+side-only (double f) c e h k = omega arith
 
 -- What is seen of a place (i, j) on side c, the end of a page.
 module _ (g : Galley) (two : g .floats ≡ 1) (t : Table) (i j c : ℕ) (inside : Inside (sizes g) (place i j))
@@ -196,7 +196,7 @@ module _ (g : Galley) (two : g .floats ≡ 1) (t : Table) (i j c : ℕ) (inside 
     ahead : (e : Entry) (a b y : ℕ) → Leads e a b y → Ahead (pageGraph g (beginning g)) (now e) (graph.least (y + cost) (from a b))
     unfolding now priced shown Leads Ahead Prefers from
     ahead Unreached a b y l = absurd l
-    ahead (Least x r) a b y (l, f) = (omega arith, λ q. (later a b (r .line) (r .figure) (f (omega arith)), λ _. le-refl _))
+    ahead (Least x r) a b y (l, f) = (omega arith, λ q. (later a b (r .line) (r .figure) (f (omega arith)), λ _. (le-refl _, λ _. le-refl _)))
 
     best-ahead : (e : Entry) → Best search Any e → (x : ℕ) (u : State) → Offer (pageGraph g (beginning g)) (tableAt g t) here x u
         → Ahead (pageGraph g (beginning g)) (now e) (graph.least x u)

@@ -1,10 +1,10 @@
 -- What the table of entries shows: places of one float stream, the better side of the full place, and that the end is right.
-use Prim.Native.Nat.{ℕ, zero, suc, _+_, _≤_}
+use Prim.Native.Nat.{ℕ, suc, _+_, _-_, _%_, _≤_, _<_}
 use native.Mathlib.Omega.{arith}
 use mathlib.Core.Path.{_≡_, refl, sym, _∙_, ap}
 use mathlib.Core.Bool.{Bool, true, false}
-use lib.Dec.{leb}
-use borrow.Author.Tests.{leb-true, leb-false}
+use native.Mathlib.Decide.{ℕ-discrete}
+use borrow.Author.Tests.{ltb-true, ltb-false}
 use Rattle.model.specs.Gather.{pick, sum, total, row}
 use Rattle.model.specs.Galley.{Sides, single, double, Galley, Place, count, streams, zeros, sizes}
 use Rattle.model.specs.Order.{oddly}
@@ -12,7 +12,7 @@ use Rattle.model.specs.laws.Rules.{placed}
 use Rattle.model.specs.laws.Lists.{Inside}
 use Rattle.theorems.specs.optimality.Graph as graph
 use Rattle.theorems.specs.optimality.Cell.{Ahead, Offer, Cell, inner}
-use Rattle.theorems.specs.pages.Graph.{State, stop, end, beginning, Within, Step, Prefers, price, pageGraph}
+use Rattle.theorems.specs.pages.Graph.{side, State, stop, end, beginning, Within, Step, Prefers, price, pageGraph}
 use Rattle.theorems.specs.pages.Laws.{page-laws}
 use Rattle.theorems.specs.pages.Lists.{past-beginning}
 use Rattle.places.specs.declared.Start.{Start}
@@ -20,7 +20,7 @@ use Rattle.places.specs.declared.Entry.{Entry}
 use Rattle.places.specs.declared.Entry.the-variants.{Unreached, Least}
 use Rattle.starts.specs.Search.{place, Table, before}
 use Rattle.filling.specs.Filled.{Side}
-use Rattle.walk.specs.Trace.{better-side, lastSide}
+use Rattle.walk.specs.Trace.{cheaper, evenSide, lastSide}
 use Rattle.making.specs.Shown.{shown, finished, tableAt}
 
 -- With one float stream the full place is (m, n),
@@ -62,78 +62,68 @@ finished-least w (Least y s) x u h = (s, cc, cc)
 
 -- The last side is one that occurs.
 pub last-side : (sides : Sides) (t : Table) (i j : ℕ) → Side sides (lastSide sides t i j)
-unfolding lastSide better-side oddly
+unfolding lastSide side
 last-side single t i j = refl
-last-side double t i j = go (t i j 0) (t i j 1)
+last-side (double f) t i j = go (cheaper (t i j (1 - evenSide f)) (t i j (evenSide f)))
   where
-    by-cost : (b : Bool) → oddly double (pick b 0 1) ≡ pick b 0 1
-    by-cost true = refl
-    by-cost false = refl
+    go : (b : Bool) → pick b (1 - evenSide f) (evenSide f) % 2 ≡ pick b (1 - evenSide f) (evenSide f)
+    go true = omega arith
+    go false = omega arith
 
-    go : (e f : Entry) → oddly double (better-side e f) ≡ better-side e f
-    go Unreached Unreached = refl
-    go Unreached (Least y r) = refl
-    go (Least x s) Unreached = refl
-    go (Least x s) (Least y r) = by-cost (leb x y)
-
--- Side c of (i, j) leads a side b that is reached at cost x: it is reached at no higher cost, and at the same cost c is b or 0.
-pub record Leads (t : Table) (i j c b x : ℕ) : Type 0 where
+-- Side c of (i, j) leads a side b that is reached at cost x: it is reached at no higher cost, and at the same cost c is b or the
+-- side of even folios.
+pub record Leads (sides : Sides) (t : Table) (i j c b x : ℕ) : Type 0 where
   pub cost : ℕ
   pub start : Start
   pub reached : t i j c ≡ Least cost start
   pub low : cost ≤ x
-  pub tie : cost ≡ x → c ≤ b
+  pub tie : cost ≡ x → (oddly sides c ≤ oddly sides b) × (oddly sides c ≡ oddly sides b → c ≤ b)
+
+-- What is less dear is reached, and costs less than what is reached.
+cheaper-least : (e f : Entry) → cheaper e f ≡ true
+    → (y : ℕ) × (r : Start) × (e ≡ Least y r) × ((x : ℕ) (s : Start) → f ≡ Least x s → y < x)
+unfolding cheaper
+cheaper-least Unreached f h = let z : _≡_ {A = ℕ} 0 1 = cc in absurd (omega arith)
+cheaper-least (Least y r) Unreached h = (y, r, refl, λ x s p. let z : _≡_ {A = ℕ} 0 1 = cc in absurd (omega arith))
+cheaper-least (Least y r) (Least z k) h =
+    (y, r, refl, λ x s p. let l = ltb-true y z h in let q : z ≡ x = cc in omega arith)
+
+-- Where what is reached is not less dear, the other is reached and costs no more.
+dearer-least : (e f : Entry) (x : ℕ) (s : Start) → e ≡ Least x s → cheaper e f ≡ false
+    → (y : ℕ) × (r : Start) × (f ≡ Least y r) × (y ≤ x)
+unfolding cheaper
+dearer-least Unreached f x s p h = let z : _≡_ {A = ℕ} 0 1 = cc in absurd (omega arith)
+dearer-least (Least w k) Unreached x s p h = let z : _≡_ {A = ℕ} 0 1 = cc in absurd (omega arith)
+dearer-least (Least w k) (Least y r) x s p h = (y, r, refl, let l = ltb-false w y h in let q : w ≡ x = cc in omega arith)
 
 -- The last side leads every side that is reached.
-pub last-leads :
-    (sides : Sides) (t : Table) (i j b x : ℕ) (s : Start) → Side sides b → t i j b ≡ Least x s
-    → Leads t i j (lastSide sides t i j) b x
-unfolding lastSide better-side oddly
-last-leads single t i j b x s side h =
-    record { cost = x; start = s; reached = ap (t i j) side ∙ h; low = omega arith; tie = λ e. omega arith }
-last-leads double t i j b x s side h = go (t i j 0) (t i j 1) refl refl b (omega arith) h
+pub last-leads : (sides : Sides) (t : Table) (i j b x : ℕ) (s : Start) → Side sides b → t i j b ≡ Least x s
+    → Leads sides t i j (lastSide sides t i j) b x
+unfolding lastSide side oddly
+last-leads single t i j b x s occurs h =
+    record { cost = x; start = s; reached = ap (t i j) occurs ∙ h; low = omega arith; tie = λ e. (omega arith, λ d. omega arith) }
+last-leads (double f) t i j b x s occurs h = go (cheaper (t i j odd) (t i j even)) refl (ℕ-discrete b even)
   where
-    absurdly : {P : Type 0} (e : Entry) → e ≡ Unreached → e ≡ Least x s → P
-    absurdly e p q = let z : _≡_ {A = ℕ} 0 1 = cc in absurd (omega arith)
+    even : ℕ
+    even = evenSide f
 
-    cost-is : (e : Entry) (y : ℕ) (r : Start) → e ≡ Least y r → e ≡ Least x s → y ≡ x
-    cost-is e y r p q = cc
+    odd : ℕ
+    odd = 1 - evenSide f
 
-    by-cost :
-        (y z : ℕ) (r k : Start) → t i j 0 ≡ Least y r → t i j 1 ≡ Least z k → (v : Bool) → leb y z ≡ v
-        → (b : ℕ) → b ≤ 1 → t i j b ≡ Least x s → Leads t i j (pick v 0 1) b x
-    by-cost y z r k p q true l zero m h =
-        let e = cost-is _ y r p h in
-        record { cost = y; start = r; reached = p; low = omega arith; tie = λ f. omega arith }
-    by-cost y z r k p q true l (suc zero) m h =
-        let e = cost-is _ z k q h in
-        let d = leb-true y z l in
-        record { cost = y; start = r; reached = p; low = omega arith; tie = λ f. omega arith }
-    by-cost y z r k p q false l zero m h =
-        let e = cost-is _ y r p h in
-        let d = leb-false y z l in
-        record { cost = z; start = k; reached = q; low = omega arith; tie = λ f. omega arith }
-    by-cost y z r k p q false l (suc zero) m h =
-        let e = cost-is _ z k q h in
-        record { cost = z; start = k; reached = q; low = omega arith; tie = λ f. omega arith }
-    by-cost y z r k p q v l (suc (suc b)) m h = absurd (omega arith)
-
-    go :
-        (e f : Entry) → t i j 0 ≡ e → t i j 1 ≡ f → (b : ℕ) → b ≤ 1 → t i j b ≡ Least x s
-        → Leads t i j (better-side e f) b x
-    go Unreached Unreached p q zero m h = absurdly _ p h
-    go Unreached Unreached p q (suc zero) m h = absurdly _ q h
-    go Unreached (Least z k) p q zero m h = absurdly _ p h
-    go Unreached (Least z k) p q (suc zero) m h =
-        let e = cost-is _ z k q h in
-        record { cost = z; start = k; reached = q; low = omega arith; tie = λ f. omega arith }
-    go (Least y r) Unreached p q zero m h =
-        let e = cost-is _ y r p h in
-        record { cost = y; start = r; reached = p; low = omega arith; tie = λ f. omega arith }
-    go (Least y r) Unreached p q (suc zero) m h = absurdly _ q h
-    go (Least y r) (Least z k) p q zero m h = by-cost y z r k p q (leb y z) refl 0 m h
-    go (Least y r) (Least z k) p q (suc zero) m h = by-cost y z r k p q (leb y z) refl 1 m h
-    go e f p q (suc (suc b)) m h = absurd (omega arith)
+    go : (v : Bool) → cheaper (t i j odd) (t i j even) ≡ v → Dec (b ≡ even) → Leads (double f) t i j (pick v odd even) b x
+    go true p (yes e) =
+        let (y, r, q, less) = cheaper-least (t i j odd) (t i j even) p in
+        let l = less x s (ap (t i j) (sym e) ∙ h) in
+        record { cost = y; start = r; reached = q; low = omega arith; tie = λ d. absurd (omega arith) }
+    go true p (no e) =
+        let o : b ≡ odd = omega arith in
+        record { cost = x; start = s; reached = ap (t i j) (sym o) ∙ h; low = omega arith; tie = λ d. (omega arith, λ k. omega arith) }
+    go false p (yes e) =
+        record { cost = x; start = s; reached = ap (t i j) (sym e) ∙ h; low = omega arith; tie = λ d. (omega arith, λ k. omega arith) }
+    go false p (no e) =
+        let o : b ≡ odd = omega arith in
+        let (y, r, q, less) = dearer-least (t i j odd) (t i j even) x s (ap (t i j) (sym o) ∙ h) p in
+        record { cost = y; start = r; reached = q; low = omega arith; tie = λ d. (omega arith, λ k. absurd (omega arith)) }
 
 module _ (g : Galley) (one : g .floats ≡ 1) where
   -- The full place lies in the table, on each side that occurs.
@@ -165,7 +155,7 @@ module _ (g : Galley) (one : g .floats ≡ 1) where
     unfolding tableAt count
     shown-full c = refl
 
-    -- The end is right by the choice of the last side: the less dear of the two, then side 0.
+    -- The end is right by the choice of the last side: the less dear of the two, then that of even folios.
     pub end-right : Cell (pageGraph g (beginning g)) (tableAt g t) end (tableAt g t end)
     unfolding Step Ahead Prefers price shown finished tableAt
     end-right =
@@ -192,7 +182,7 @@ module _ (g : Galley) (one : g .floats ≡ 1) where
               price = omega arith;
             }
 
-        ahead : (b c : ℕ) → Leads t (g .stream 0 .size) (g .stream 1 .size) last b c
+        ahead : (b c : ℕ) → Leads (g .spec .sides) t (g .stream 0 .size) (g .stream 1 .size) last b c
             → Ahead (pageGraph g (beginning g)) (tableAt g t end) (graph.least c (stop whole b))
         ahead b c l =
             rw (l .reached) (l .low, λ e. (page-laws g (beginning g) .tie-refl (stop whole 0) .0, λ f. l .tie e))

@@ -24,7 +24,7 @@ use Rattle.theorems.specs.turns.Bounds.{allFloats, dearest, Limits, rate-limit}
 use Rattle.galley.specs.declared.Galley.{Galley}
 use Rattle.galley.specs.declared.Reading.the-variants as reads
 use Rattle.galley.specs.Whole.{galleyOf}
-use Rattle.galley.specs.Model.{modelOf}
+use Rattle.galley.specs.Model.{modelOf, sidesIn}
 use Rattle.galley.specs.laws.Sound.{sound}
 use Rattle.marking.specs.Mark.{markRead, markOf}
 use Rattle.rules.specs.laws.Sane.{reads-sane}
@@ -37,7 +37,7 @@ use Rattle.filling.specs.Fill.{tall}
 use Rattle.making.specs.Shown.{AllRight}
 use Rattle.making.specs.Make.{workNeeded}
 use Rattle.making.specs.Back.{lastOf, pagesBack, wordsBack, Found}
-use Rattle.walk.specs.Traceable.{sidesIn, tableIn, isReached, WorkArea, Traceable, Walkable, Writable}
+use Rattle.walk.specs.Traceable.{tableIn, isReached, WorkArea, Traceable, Walkable, Writable}
 use Rattle.making.specs.Solved.{Solved, Written}
 use Rattle.filling.specs.laws.Entered.{side-low}
 use Rattle.making.specs.laws.Shown.{last-side}

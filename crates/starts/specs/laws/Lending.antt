@@ -7,9 +7,8 @@ use mathlib.Core.Bool.{Bool}
 use mathlib.Core.List.{List}
 use lib.ListN.{length}
 use Rattle.model.specs.Galley.{Sides, single, double}
-use Rattle.model.specs.Leaf.{sidesOf}
 use Rattle.galley.specs.declared.Galley.{Galley}
-use Rattle.galley.specs.Model.{textOf, floatsOf}
+use Rattle.galley.specs.Model.{textOf, floatsOf, sidesIn}
 use Rattle.places.specs.laws.Address.{address-in}
 use Rattle.window.specs.declared.slide.Window.{Window}
 use Rattle.window.specs.declared.queue.Queue.{Queue}
@@ -25,11 +24,11 @@ use Rattle.starts.specs.Sweep.{sideOf, loadOf, Lent, Summed, AloneAsked}
 -- The page before is on side 0 or 1.
 pub side-either : (g : Galley) (c : ℕ) → sideOf g c ≤ 1
 unfolding before
-side-either g c = go (sidesOf (g .spec .sides))
+side-either g c = go (sidesIn g)
   where
     go : (sides : Sides) → before sides c ≤ 1
     go single = omega arith
-    go double = omega arith
+    go (double f) = omega arith
 
 -- What is lent for a column is the same while the lengths are.
 pub lent-sized : {bytes : List ℕ} {g : Galley} {w words : List ℕ} {j : ℕ} (w′ words′ : List ℕ) → length w′ ≡ length w

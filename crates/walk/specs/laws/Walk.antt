@@ -14,8 +14,9 @@ use Rattle.places.specs.declared.Entry.the-variants.{Unreached, Least}
 use Rattle.starts.specs.Search.{Table, before}
 use Rattle.filling.specs.Filled.{Side}
 use Rattle.walk.specs.Trace.{startOf, countBack, writeBack}
-use Rattle.walk.specs.Traceable.{sidesIn, tableIn, SidedPlace, Traceable, Visits, Counting, Writing}
+use Rattle.walk.specs.Traceable.{tableIn, SidedPlace, Traceable, Visits, Counting, Writing}
 use Rattle.filling.specs.laws.Entered.{side-low, side-before}
+use Rattle.galley.specs.Model.{sidesIn}
 
 -- Where the walk is, an entry can be read.
 pub visits-placed : {g : Galley} {i j c : ℕ} → Visits g i j c → SidedPlace g i j c

@@ -53,6 +53,7 @@ price-requires c κs =
       betas = sound .specRanged .betas;
       either = omega (arith, asked .side);
       few = omega (arith, asked .found, most, sound .fewFigures);
+      folio = sound .someFolio;
     }
 
 add-t16 : tie.Need-add-t16
