@@ -5,16 +5,18 @@ use borrow.Author.Needs.{needs}
 use denote.Ref.{now}
 use mathlib.Core.Path.{_∙_}
 use native.Mathlib.Omega.{arith}
+use mathlib.Core.List.{[], _∷_}
+use Rattle.model.specs.Galley.{count}
 use Rattle.galley.specs.Model.{floatsOf}
 use Rattle.rules.specs.laws.Waiting.{waits-few}
 use Rattle.rules.specs.laws.Walked.{waiting-at-few}
-use Rattle.marking.specs.laws.Page.{Begun, begins, begun-refused, Underway, underway-start, underway-line-room, underway-line, underway-figure-room, underway-figure, underway-over, underway-ended, underway-next, underway-walked}
+use Rattle.marking.specs.laws.Page.{Begun, begins, begun-refused, Underway, past-two, underway-start, underway-room, underway-more, underway-over, underway-ended, underway-next, underway-walked}
 use Rattle.marking.specs.laws.Run.{Run, run-start, run-finish}
 use Rattle.marking.proofs.pages.judge_pages.Statement.{statement}
 use Rattle.marking.proofs.pages.judge_pages.Tie as tie
 
 abbrev Inv-loop : tie.InvT-loop
-Inv-loop s g list pages done a b waiting x number i j start heights₀ k₀ f₀ heights k f = Underway s g list done a b waiting x i j start k f heights
+Inv-loop s g list pages done a b waiting x number i j start heights₀ k₀ f₀ heights k f = Underway s g list done a b waiting x i j start (k ∷ f ∷ []) heights
 
 abbrev μ-loop : tie.MeasureT-loop
 μ-loop s g list pages done a b waiting x number i j start heights₀ k₀ f₀ heights k f = (i - k) + (j - f)
@@ -90,7 +92,8 @@ loop-holds : tie.Need-loop-holds Inv-loop μ-loop Inv-pages μ-pages
 loop-holds c = rw (c .apart-by .ensures) (underway-start (page (c .before .before)) (c .before .if2 .left))
 
 with-block-requires : tie.Need-with-block-requires Inv-loop μ-loop Inv-pages μ-pages
-with-block-requires c κs = underway-line-room (c .before .before .before .before .loop .inv) (c .if4 .taken)
+unfolding count
+with-block-requires c κs = underway-room (c .before .before .before .before .loop .inv) 0 (omega arith) (c .if4 .taken)
 
 add-k : tie.Need-add-k Inv-loop μ-loop Inv-pages μ-pages
 add-k c = search needs
@@ -99,10 +102,14 @@ loop-less : tie.Need-loop-less Inv-loop μ-loop Inv-pages μ-pages
 loop-less c = let more = c .before .if4 .taken in omega arith
 
 loop-again : tie.Need-loop-again Inv-loop μ-loop Inv-pages μ-pages
-loop-again c = rw (c .with-block .ensures) (underway-line (c .before .before .before .before .before .loop .inv) (c .before .if4 .taken))
+unfolding count
+loop-again c =
+    rw (c .with-block .ensures)
+    (underway-more (c .before .before .before .before .before .loop .inv) 0 (omega arith) (c .before .if4 .taken) (omega arith))
 
 with-block-requires-2 : tie.Need-with-block-requires-2 Inv-loop μ-loop Inv-pages μ-pages
-with-block-requires-2 c κs = underway-figure-room (c .before .before .before .before .before .loop .inv) (c .if5 .taken)
+unfolding count
+with-block-requires-2 c κs = underway-room (c .before .before .before .before .before .loop .inv) 1 (omega arith) (c .if5 .taken)
 
 add-f : tie.Need-add-f Inv-loop μ-loop Inv-pages μ-pages
 add-f c = search needs
@@ -111,16 +118,23 @@ loop-less-2 : tie.Need-loop-less-2 Inv-loop μ-loop Inv-pages μ-pages
 loop-less-2 c = let more = c .before .if5 .taken in omega arith
 
 loop-again-2 : tie.Need-loop-again-2 Inv-loop μ-loop Inv-pages μ-pages
-loop-again-2 c = rw (c .with-block2 .ensures) (underway-figure (c .before .before .before .before .before .before .loop .inv) (c .before .if5 .taken))
+unfolding count
+loop-again-2 c =
+    rw (c .with-block2 .ensures)
+    (underway-more (c .before .before .before .before .before .before .loop .inv) 1 (omega arith) (c .before .if5 .taken) (omega arith))
 
 add-end-fault : tie.Need-add-end-fault Inv-loop μ-loop Inv-pages μ-pages
 add-end-fault c = omega (arith, c .before .before .before .before .before .before .before .before .before .before .before .before .before .before .pages .inv .within, c .before .before .before .before .before .before .before .before .before .before .before .before .before .before .before .before .before .pre .few)
 
 end-fault-requires : tie.Need-end-fault-requires Inv-loop μ-loop Inv-pages μ-pages
-end-fault-requires c κs = search needs
+unfolding count
+end-fault-requires c κs =
+    let page = c .before .before .before .before .before .loop .inv in
+    (page .begun .listed .sound, page .onward .top 1 (omega arith))
 
 sub-still-waiting : tie.Need-sub-still-waiting Inv-loop μ-loop Inv-pages μ-pages
-sub-still-waiting c = c .before .before .before .before .before .before .before .loop .inv .onward .figures
+unfolding count
+sub-still-waiting c = c .before .before .before .before .before .before .before .loop .inv .onward .up 1 (omega arith)
 
 still-waiting-requires : tie.Need-still-waiting-requires Inv-loop μ-loop Inv-pages μ-pages
 still-waiting-requires c κs = search needs
@@ -156,7 +170,7 @@ pages-again c =
     let end = c .before .before .before .before .end-fault in
     let found = c .before .waiting-floats in
     rw (c .waiting-at .ensures)
-    (underway-next (c .before .before .before .before .before .before .before .before .before .before .loop .inv) (c .before .before .before .before .before .before .before .if3 .left) (c .before .before .before .before .before .before .if4 .left) (c .before .before .before .before .before .if5 .left) (end .result) (end .ensures)
+    (underway-next (c .before .before .before .before .before .before .before .before .before .before .loop .inv) (c .before .before .before .before .before .before .before .if3 .left) (past-two (c .before .before .before .before .before .before .if4 .left) (c .before .before .before .before .before .if5 .left)) (end .result) (end .ensures)
     (c .before .before .before .if6 .left) (found .result) (found .ensures))
 
 returns : tie.Need-returns Inv-loop μ-loop Inv-pages μ-pages
@@ -176,7 +190,7 @@ returns-3 c = underway-over (c .before .before .before .loop .inv) (c .if3 .take
 returns-4 : tie.Need-returns-4 Inv-loop μ-loop Inv-pages μ-pages
 returns-4 c =
     let end = c .before .end-fault in
-    underway-ended (c .before .before .before .before .before .before .before .loop .inv) (c .before .before .before .before .if3 .left) (c .before .before .before .if4 .left) (c .before .before .if5 .left) (end .result) (end .ensures) (c .if6 .taken)
+    underway-ended (c .before .before .before .before .before .before .before .loop .inv) (c .before .before .before .before .if3 .left) (past-two (c .before .before .before .if4 .left) (c .before .before .if5 .left)) (end .result) (end .ensures) (c .if6 .taken)
 
 pub judge-pages-spec : {M : Type 1} → statement M
 judge-pages-spec =
