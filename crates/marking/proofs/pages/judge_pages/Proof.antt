@@ -3,6 +3,7 @@
 use Prim.Native.Nat.{_+_, _-_, _≤_}
 use borrow.Author.Needs.{needs}
 use denote.Ref.{now}
+use ghost.Mode.{_$_}
 use mathlib.Core.Path.{_∙_}
 use native.Mathlib.Omega.{arith}
 use mathlib.Core.List.{[], _∷_}
@@ -43,50 +44,11 @@ pages-holds c =
     let st = c .before .before in
     run-start (now (st .args .s)) (st .args .g) (st .pre .sound) (now (st .args .list))
 
-cast-finish : tie.Need-cast-finish Inv-loop μ-loop Inv-pages μ-pages
-cast-finish c = search needs
-
 finish-requires : tie.Need-finish-requires Inv-loop μ-loop Inv-pages μ-pages
 finish-requires c κs = search needs
 
-add-number : tie.Need-add-number Inv-loop μ-loop Inv-pages μ-pages
-add-number c = search needs
-
-cast-number : tie.Need-cast-number Inv-loop μ-loop Inv-pages μ-pages
-cast-number c = search needs
-
-mul-size : tie.Need-mul-size Inv-loop μ-loop Inv-pages μ-pages
-mul-size c = search needs
-
-mul-size-2 : tie.Need-mul-size-2 Inv-loop μ-loop Inv-pages μ-pages
-mul-size-2 c = search needs
-
-shared-slice-read-size : tie.Need-shared-slice-read-size Inv-loop μ-loop Inv-pages μ-pages
-shared-slice-read-size c = search needs
-
-size-requires : tie.Need-size-requires Inv-loop μ-loop Inv-pages μ-pages
-size-requires c κs = search needs
-
-mul-size-3 : tie.Need-mul-size-3 Inv-loop μ-loop Inv-pages μ-pages
-mul-size-3 c = search needs
-
-add-size : tie.Need-add-size Inv-loop μ-loop Inv-pages μ-pages
-add-size c = search needs
-
-mul-size-4 : tie.Need-mul-size-4 Inv-loop μ-loop Inv-pages μ-pages
-mul-size-4 c = search needs
-
-shared-slice-read-size-2 : tie.Need-shared-slice-read-size-2 Inv-loop μ-loop Inv-pages μ-pages
-shared-slice-read-size-2 c = search needs
-
-size-requires-2 : tie.Need-size-requires-2 Inv-loop μ-loop Inv-pages μ-pages
-size-requires-2 c κs = search needs
-
 start-fault-requires : tie.Need-start-fault-requires Inv-loop μ-loop Inv-pages μ-pages
 start-fault-requires c κs = search needs
-
-apart-by-requires : tie.Need-apart-by-requires Inv-loop μ-loop Inv-pages μ-pages
-apart-by-requires c κs = search needs
 
 loop-holds : tie.Need-loop-holds Inv-loop μ-loop Inv-pages μ-pages
 loop-holds c = rw (c .apart-by .ensures) (underway-start (page (c .before .before)) (c .before .if2 .left))
@@ -94,9 +56,6 @@ loop-holds c = rw (c .apart-by .ensures) (underway-start (page (c .before .befor
 with-block-requires : tie.Need-with-block-requires Inv-loop μ-loop Inv-pages μ-pages
 unfolding count
 with-block-requires c κs = underway-room (c .before .before .before .before .loop .inv) 0 (omega arith) (c .if4 .taken)
-
-add-k : tie.Need-add-k Inv-loop μ-loop Inv-pages μ-pages
-add-k c = search needs
 
 loop-less : tie.Need-loop-less Inv-loop μ-loop Inv-pages μ-pages
 loop-less c = let more = c .before .if4 .taken in omega arith
@@ -110,9 +69,6 @@ loop-again c =
 with-block-requires-2 : tie.Need-with-block-requires-2 Inv-loop μ-loop Inv-pages μ-pages
 unfolding count
 with-block-requires-2 c κs = underway-room (c .before .before .before .before .before .loop .inv) 1 (omega arith) (c .if5 .taken)
-
-add-f : tie.Need-add-f Inv-loop μ-loop Inv-pages μ-pages
-add-f c = search needs
 
 loop-less-2 : tie.Need-loop-less-2 Inv-loop μ-loop Inv-pages μ-pages
 loop-less-2 c = let more = c .before .if5 .taken in omega arith
@@ -136,9 +92,6 @@ sub-still-waiting : tie.Need-sub-still-waiting Inv-loop μ-loop Inv-pages μ-pag
 unfolding count
 sub-still-waiting c = c .before .before .before .before .before .before .before .loop .inv .onward .up 1 (omega arith)
 
-still-waiting-requires : tie.Need-still-waiting-requires Inv-loop μ-loop Inv-pages μ-pages
-still-waiting-requires c κs = search needs
-
 waiting-floats-requires : tie.Need-waiting-floats-requires Inv-loop μ-loop Inv-pages μ-pages
 waiting-floats-requires c κs = underway-walked (c .before .before .before .before .before .before .before .before .loop .inv) (c .still-waiting .result) (c .still-waiting .ensures)
 
@@ -158,9 +111,6 @@ add-x c =
     let pg = c .before .before .before .before .before .before .before .before .before .before .before .before .before .before .before .before .before .before .before .pages in
     let counted = waiting-at-few (st .args .g) (pg .done + 1) (c .before .waiting-floats .result) in
     omega (arith, counted, c .waiting-at .ensures, few (c .before), pg .inv .most, pg .inv .within, st .pre .few)
-
-add-done : tie.Need-add-done Inv-loop μ-loop Inv-pages μ-pages
-add-done c = search needs
 
 pages-less : tie.Need-pages-less Inv-loop μ-loop Inv-pages μ-pages
 pages-less c = let more = c .before .before .before .before .before .before .before .before .before .before .loop .inv .begun .more in omega arith
@@ -195,47 +145,5 @@ returns-4 c =
 pub judge-pages-spec : {M : Type 1} → statement M
 judge-pages-spec =
     tie.close
-    (tie.spec
-    Inv-loop
-    μ-loop
-    Inv-pages
-    μ-pages
-    pages-holds
-    cast-finish
-    finish-requires
-    add-number
-    cast-number
-    mul-size
-    mul-size-2
-    shared-slice-read-size
-    size-requires
-    mul-size-3
-    add-size
-    mul-size-4
-    shared-slice-read-size-2
-    size-requires-2
-    start-fault-requires
-    apart-by-requires
-    loop-holds
-    with-block-requires
-    add-k
-    loop-less
-    loop-again
-    with-block-requires-2
-    add-f
-    loop-less-2
-    loop-again-2
-    add-end-fault
-    end-fault-requires
-    sub-still-waiting
-    still-waiting-requires
-    waiting-floats-requires
-    waiting-at-requires
-    add-x
-    add-done
-    pages-less
-    pages-again
-    returns
-    returns-2
-    returns-3
-    returns-4)
+    ((λ (a, b, c, d, e, f, g, h, i, j, k, l, m, n, o, p, q).
+    tie.spec Inv-loop μ-loop Inv-pages μ-pages pages-holds a finish-requires b c d e f g h i j k l start-fault-requires m loop-holds with-block-requires n loop-less loop-again with-block-requires-2 o loop-less-2 loop-again-2 add-end-fault end-fault-requires sub-still-waiting p waiting-floats-requires waiting-at-requires add-x q pages-less pages-again returns returns-2 returns-3 returns-4) $ omega arith)
