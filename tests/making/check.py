@@ -56,7 +56,7 @@ def largest(make, sides):
 
 
 def main():
-    make = engine.Engine(engine.load(engine.proved('barleychime'))).make
+    make = engine.Engine(engine.load(engine.archive())).make
     tally, refilled, rng = Tally(), 0, random.Random(SEED)
 
     def try_all(name, g, best):

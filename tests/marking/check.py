@@ -26,7 +26,7 @@ def lists_for(rng, g):
 
 
 def main():
-    mark = engine.Engine(engine.load(engine.proved('barleychime'))).mark
+    mark = engine.Engine(engine.load(engine.archive())).mark
     tally = Tally()
     for name, g, words, expected in cases.MARKED + cases.MARKED_LONG:
         tally.same(name, mark(galley.write(g), words), expected)

@@ -1,5 +1,6 @@
 """The program of document 01 against the reference: what it prints for galleys of every kind, its limits and its refusals.
-The last line is 'N passed, M failed'."""
+BARLEYCHIME_PROGRAM names another program than the proved one. The last line is 'N passed, M failed'."""
+import os
 import pathlib
 import random
 import subprocess
@@ -11,7 +12,7 @@ import engine  # noqa: E402
 from reference import cases, galley, marking, sample, search  # noqa: E402
 from tally import Tally  # noqa: E402
 
-PROGRAM = ROOT / 'target' / 'bin' / 'paginate'
+PROGRAM = os.environ.get('BARLEYCHIME_PROGRAM') or ROOT / 'target' / 'bin' / 'paginate'
 SEED = 20261117
 WORK, LIST, INPUT = 10_248, 400, 8_192
 
