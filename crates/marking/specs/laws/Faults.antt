@@ -3,13 +3,8 @@ use Prim.Native.Nat.{ℕ, _≤_, _<_}
 use native.Mathlib.Omega.{arith}
 use mathlib.Core.Path.{_≡_, refl, sym}
 use mathlib.Core.Bool.{Bool, true, false}
-use mathlib.Core.List.{List, [], _∷_}
-use Rattle.model.specs.Galley.{count}
 use Rattle.model.specs.Galley as model
 use Rattle.model.specs.Rules.{forward, closes, fits, fills, cited, firstBroken, broken}
-use Rattle.model.specs.laws.Rules.{forward-at}
-use Rattle.galley.specs.declared.Galley.{Galley}
-use Rattle.galley.specs.Model.{modelOf}
 use Rattle.rules.specs.Parts.{faultFrom, startFault}
 
 start-first : (a b c d e : Bool) (n : ℕ) → n ≡ faultFrom 13 a b → 0 < n → n ≡ firstBroken a b c d e
@@ -51,22 +46,3 @@ module _ (M : model.Galley) (q : ℕ) (last : Bool) (u v : model.Place) (n : ℕ
   broken-end h fit d full =
       let both = none-first (forward M u v) (closes M v) n e h in
       rw (both .0, both .1, fit, full) (sym (end-first d (cited M q last v)))
-
--- What rule 13 says of the two counts.
-pub record Onward (g : Galley) (a b i j : ℕ) : Type 0 where
-  pub lines : a ≤ i
-  pub topLine : i ≤ g .text .count
-  pub figures : b ≤ j
-  pub topFigure : j ≤ g .figures .count
-
-pub goes-onward : (bytes : List ℕ) (g : Galley) (a b i j : ℕ) → forward (modelOf bytes g) (a ∷ b ∷ []) (i ∷ j ∷ []) ≡ true
-    → Onward g a b i j
-unfolding count
-goes-onward bytes g a b i j h =
-    let f = forward-at (modelOf bytes g) (a ∷ b ∷ []) (i ∷ j ∷ []) h in
-    record {
-      lines = f .up 0 (omega arith);
-      topLine = f .top 0 (omega arith);
-      figures = f .up 1 (omega arith);
-      topFigure = f .top 1 (omega arith);
-    }
