@@ -32,7 +32,7 @@ def block(height, least, most, legal, cite):
 def galley_text(g):
     s = g.spec
     spec = (f'record {{ htmin = {s.htmin}; htmax = {s.htmax}; smin = {s.smin}; smax = {s.smax}; '
-            f'sides = {f"double {g.folio}" if s.sides == 2 else "single"}; alpha = {s.alpha}; beta = {s.beta} }}')
+            f'sides = {f"double {g.folio}" if s.sides == 2 else "single"}; alpha = {s.alpha}; beta = {s.beta}; lastmin = 0 }}')
     lines = listed(block(*line[:3], line.legal, 0) for line in g.lines)
     figures = listed(block(*figure[:3], True, figure.cite) for figure in g.figures)
     return f'galleyOf ({spec}) {lines} {figures}'

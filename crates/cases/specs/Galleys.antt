@@ -7,8 +7,9 @@ use lib.ListN.{replicate}
 use Rattle.model.specs.Galley.{Sides, single, double, Spec, Galley}
 use Rattle.cases.specs.Case.{Block, galleyOf}
 
+-- A specification of the first edition.
 unfoldable pub spec : ℕ → ℕ → ℕ → ℕ → Sides → ℕ → ℕ → Spec
-spec a b c d sides α β = record { htmin = a; htmax = b; smin = c; smax = d; sides = sides; alpha = α; beta = β }
+spec a b c d sides α β = record { htmin = a; htmax = b; smin = c; smax = d; sides = sides; alpha = α; beta = β; lastmin = 0 }
 
 -- A line with no space after it, and a page end allowed or not.
 unfoldable pub line : ℕ → Bool → Block
@@ -79,3 +80,21 @@ galleyH =
 -- Galley I: a line that cites a figure of 25 and one of 10, which do not fit on one page, double-sided from a folio on.
 unfoldable pub galleyI : ℕ → Galley
 galleyI folio = galleyOf (spec 0 30 0 0 (double folio) 1 1) (line 20 true ∷ []) (figure 25 1 ∷ figure 10 1 ∷ [])
+
+-- A galley under the second edition, which holds its last page to a height.
+unfoldable pub closing : ℕ → Galley → Galley
+closing least g =
+    record {
+      spec = record {
+        htmin = g .spec .htmin;
+        htmax = g .spec .htmax;
+        smin = g .spec .smin;
+        smax = g .spec .smax;
+        sides = g .spec .sides;
+        alpha = g .spec .alpha;
+        beta = g .spec .beta;
+        lastmin = least;
+      };
+      floats = g .floats;
+      stream = g .stream;
+    }

@@ -2,12 +2,12 @@
 use Prim.Native.Nat.{ℕ, _≤_, _<_}
 use native.Mathlib.Omega.{arith}
 use mathlib.Core.Path.{_≡_, refl}
-use mathlib.Core.Bool.{Bool, true, false, _&&_}
+use mathlib.Core.Bool.{Bool, true, false, _&&_, _||_}
 use lib.Dec.{leb, ltb}
 use borrow.Author.Tests.{eqb-true, leb-true, le-leb, ltb-true, lt-ltb}
 use Rattle.model.specs.Gather.{one, total, every}
 use Rattle.model.specs.Galley.{Galley, Place, count}
-use Rattle.model.specs.Height.{has, kinds}
+use Rattle.model.specs.Height.{has, kinds, loosest}
 use Rattle.model.specs.Rules.{forward, closes, fits, fills, cited, firstBroken, broken}
 use Rattle.model.specs.Best.{allowed}
 use Rattle.model.specs.laws.Gather.{and-left, and-right, and-both, every-at, every-of, total-some, total-has, total-lt}
@@ -41,6 +41,13 @@ kept {g} {q} {last} {u} {v} h =
 pub kept-allowed : {g : Galley} {q : ℕ} {last : Bool} {u v : Place} → Kept g q last u v → allowed g q last u v ≡ true
 unfolding allowed broken firstBroken
 kept-allowed k = simp (k .rule13, k .rule14, k .rule15, k .rule16, k .rule17)
+
+-- In the first edition rule 16 asks nothing of the last page, and of every other htMin.
+pub fills-first : (g : Galley) (last : Bool) (u v : Place) → g .spec .lastmin ≡ 0
+    → fills g last u v ≡ (last || leb (g .spec .htmin) (loosest g u v))
+unfolding fills
+fills-first g true u v first = le-leb (g .spec .lastmin) (loosest g u v) (omega arith)
+fills-first g false u v first = refl
 
 -- What rule 13 says: no count falls, none passes its stream, and some count grows.
 pub record Forward (g : Galley) (u v : Place) : Type 0 where
