@@ -2,7 +2,7 @@
 use mathlib.Core.List.{List, [], _∷_}
 use Rattle.model.specs.Galley.{single, double}
 use Rattle.cases.specs.Case.{Case, making, marking, makes, marks, refuses, asks}
-use Rattle.cases.specs.Galleys.{galleyA, galleyC, galleyD, galleyI, closing}
+use Rattle.cases.specs.Galleys.{galleyA, galleyC, galleyD, galleyI, galleyJ, keeping, closing}
 
 -- S-1: double-sided work from another folio than 1.
 unfoldable pub folios : List Case
@@ -24,6 +24,21 @@ folios =
     ∷ asks (galleyI 2) making (makes 2 0 0 0 (0 ∷ 1 ∷ 1 ∷ 2 ∷ []))
     ∷ asks (galleyI 3) (marking (0 ∷ 1 ∷ 1 ∷ 2 ∷ [])) (refuses 17 1)
     ∷ asks (galleyI 3) making (makes 3 2 1 3 (1 ∷ 0 ∷ 1 ∷ 1 ∷ 1 ∷ 2 ∷ []))
+    ∷ []
+
+-- S-3: figures that are kept with the one after them.
+unfoldable pub keepings : List Case
+keepings =
+    -- figure 1 stands with the lines, and the others follow on a page each; kept with figure 2 it goes with it, which costs a turn
+    asks galleyJ making (makes 3 3 2 5 (2 ∷ 1 ∷ 2 ∷ 2 ∷ 2 ∷ 3 ∷ []))
+    ∷ asks (keeping 1 galleyJ) making (makes 3 4 2 6 (2 ∷ 0 ∷ 2 ∷ 2 ∷ 2 ∷ 3 ∷ []))
+    ∷ asks (keeping 1 galleyJ) (marking (2 ∷ 1 ∷ 2 ∷ 2 ∷ 2 ∷ 3 ∷ [])) (refuses 14 1)
+    ∷ asks (keeping 2 galleyJ) (marking (2 ∷ 1 ∷ 2 ∷ 2 ∷ 2 ∷ 3 ∷ [])) (refuses 14 2)
+    -- all three kept together fit on no page
+    ∷ asks (keeping 2 (keeping 1 galleyJ)) making (refuses 11 0)
+    -- after the last figure there is nothing to keep it with
+    ∷ asks (keeping 3 galleyJ) making (makes 3 3 2 5 (2 ∷ 1 ∷ 2 ∷ 2 ∷ 2 ∷ 3 ∷ []))
+    ∷ asks (keeping 1 (galleyA 0 20 1 1)) making (makes 2 0 1 1 (1 ∷ 1 ∷ 3 ∷ 1 ∷ []))
     ∷ []
 
 -- S-11: the second edition, whose last page is held to lastMin.

@@ -14,7 +14,7 @@ forward g u v =
     every (g .floats) (λ s. leb (count u s) (count v s) && leb (count v s) (g .stream s .size)) && ltb 0 (kinds g u v)
 
 -- A page may end after block k of a stream: before its first block, after its last, or in a legal space (document 01, rule 14;
--- every space between figures is legal).
+-- document 02, S-3, by which the space after a kept figure is not).
 unfoldable pub mayEnd : Stream → ℕ → Bool
 mayEnd st k = implies (ltb 0 k && ltb k (st .size)) (st .legal k)
 
