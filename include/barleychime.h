@@ -20,6 +20,7 @@
  *   FO   6 bytes  the folio of the first page, 1 to 9,999; the record may be absent, and the folio is then 1
  *   TL  18 bytes  a line: height, least and greatest space after it, 1 if a page may end in that space, else 0
  *   FG  18 bytes  a figure: height, least and greatest space after it, the number of the line that cites it, from 1
+ *   FK  18 bytes  a figure, too, with the same fields; no page may end between it and the next figure
  *   ED   2 bytes  the end
  * Double-sided (sides 2), an even folio and the next one face each other on a spread, so the first folio decides on spreads and
  * turns. Pages are counted from 1 all the same, in page lists, answers and places.
@@ -44,7 +45,7 @@
  * number of pages.
  *   12  the list is empty, ends in half a page, or is longer than any of this galley can be
  *   13  the page goes backwards, goes past what the galley has, or is empty
- *   14  the page ends after a line that must not end a page
+ *   14  the page ends after a line that must not end a page, or between figures that are kept together
  *   15  the page is higher than htMax even at its tightest
  *   16  the page is lower than htMin even at its loosest, and it is not the last
  *   17  a figure stands on a spread that ends before the line that cites it

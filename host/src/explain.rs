@@ -2,7 +2,7 @@
 
 use crate::engine::{Desk, Measure, Refusal};
 use crate::galley::Galley;
-use crate::page::{folio, spread, Page};
+use crate::page::{folio, spread, Page, Place};
 use crate::record::Record;
 use crate::refusal::{mender, sentence};
 use crate::text::field_at_fault;
@@ -119,13 +119,27 @@ fn range(kind: &str, before: usize, last: usize) -> Option<String> {
     }
 }
 
+/// What forbids a page end after line i and figure j: either or both.
+fn forbidden_end(galley: &Galley, (i, j): Place) -> String {
+    let line = (0 < i && i < galley.lines.len() && !galley.lines[i - 1].page_end)
+        .then(|| format!("    line {i} forbids a page end in the space after it"));
+    let figure = kept_with(galley, j).map(|next| format!("    figure {j} is kept with figure {next}"));
+    line.into_iter().chain(figure).collect::<Vec<_>>().join("\n")
+}
+
+/// The figure that figure j is kept with, if it is, and there is one.
+fn kept_with(galley: &Galley, j: usize) -> Option<usize> {
+    (0 < j && j < galley.figures.len() && galley.figures[j - 1].kept).then_some(j + 1)
+}
+
 /// The turns that a figure costs: from the spread of its citation to its own.
 fn figure_in_words(galley: &Galley, pages: &[Page], page: &Page, figure: usize) -> String {
     let citation = galley.figures[figure - 1].citation;
     let cited_on = pages.iter().find(|page| page.end.0 >= citation).map(|page| page.number);
     let opening = format!("    figure {figure}, cited by line {citation}");
+    let kept = kept_with(galley, figure).map_or(String::new(), |next| format!("; kept with figure {next}"));
     let Some(cited_on) = cited_on else {
-        return format!("{opening}, which no page places\n");
+        return format!("{opening}, which no page places{kept}\n");
     };
     let (there, here) = (spread(galley, cited_on), spread(galley, page.number));
     let cost = match here.checked_sub(there) {
@@ -137,7 +151,7 @@ fn figure_in_words(galley: &Galley, pages: &[Page], page: &Page, figure: usize) 
             format!("{}, costs {alpha}·{turns} = {}", counted(turns, "turn"), alpha * turns as u64)
         }
     };
-    format!("{opening} on {}: {cost}\n", numbered(galley, cited_on))
+    format!("{opening} on {}: {cost}{kept}\n", numbered(galley, cited_on))
 }
 
 /// The numbers by which the page breaks the rule.
@@ -151,7 +165,7 @@ fn broken_in_numbers(galley: &Galley, page: &Page, rule: u32) -> String {
         13 if i > m => format!("    it claims {i} lines, but the galley has {m}"),
         13 if j > n => format!("    it claims {j} figures, but the galley has {n}"),
         13 => format!("    it ends where it starts, after {} and {}", counted(i, "line"), counted(j, "figure")),
-        14 => format!("    line {i} forbids a page end in the space after it"),
+        14 => forbidden_end(galley, page.end),
         15 => {
             let (tight, _) = page.heights(galley);
             format!("    {tight} is above htMax {} by {}", spec.ht_max, tight.saturating_sub(spec.ht_max.into()))

@@ -27,6 +27,8 @@ pub struct Line {
 pub struct Figure {
     pub block: Block,
     pub citation: usize,
+    /// Whether no page may end between it and the next one.
+    pub kept: bool,
 }
 
 pub struct Galley {
@@ -50,8 +52,9 @@ impl Galley {
                 ("TL", &[height, least, most, end]) => {
                     lines.push(Line { block: Block { height, least, most }, page_end: end == 1 })
                 }
-                ("FG", &[height, least, most, citation]) => {
-                    figures.push(Figure { block: Block { height, least, most }, citation: citation as usize })
+                (mark @ ("FG" | "FK"), &[height, least, most, citation]) => {
+                    let block = Block { height, least, most };
+                    figures.push(Figure { block, citation: citation as usize, kept: mark == "FK" })
                 }
                 ("ED", _) => break,
                 _ => return None,

@@ -55,6 +55,7 @@ Writes a galley file from a text with one record a line; `#` opens a comment. Le
   FO folio                                     the folio of the first page, 1 to 9,999; without this record it is 1
   TL height least most end                     a line, the space after it, 1 if a page may end there (else 0)
   FG height least most line                    a figure, the space after it, the line that cites it (from 1)
+  FK height least most line                    the same, and no page may end between it and the next figure
   ED                                           the end
 
 First GS, then FO if there is one, then all lines, then all figures. Nothing is written if the galley would be refused.

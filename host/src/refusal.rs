@@ -39,7 +39,11 @@ const MEANINGS: &[Meaning] = &[
     meaning(11, Place::Nothing, "no pagination of this galley meets its page specification"),
     meaning(12, Place::Nothing, "the list is empty, ends in half a page, or is longer than any of this galley can be"),
     meaning(13, Place::Page, "the page goes backwards, goes past what the galley has, or is empty"),
-    meaning(14, Place::Page, "the page ends after a line that must not end a page"),
+    meaning(
+        14,
+        Place::Page,
+        "the page ends after a line that must not end a page, or between figures that are kept together",
+    ),
     meaning(15, Place::Page, "the page is higher than htMax even at its tightest"),
     meaning(16, Place::Page, "the page is lower than htMin even at its loosest, and it is not the last"),
     meaning(17, Place::Page, "a figure stands on a spread that ends before the line that cites it"),

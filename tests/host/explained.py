@@ -3,13 +3,14 @@
 import random
 import re
 
+import kinds
 from reference import marking, sample, search
 from reference.galley import write
 
 PAGE = re.compile(r'^page (\d+)(?:, folio (\d+))?, (?:spread (\d+), (left|right)|a spread by itself): ', re.M)
 HEIGHT = re.compile(r'    height (\d+) to (\d+); ')
 FIGURE = re.compile(r'    figure (\d+), cited by line (\d+) on page (\d+)(?:, folio (\d+))?: '
-                    r'(?:(\d+) turns?, costs (\d+)·\d+ = (\d+)|the same )')
+                    r'(?:(\d+) turns?, costs (\d+)·\d+ = (\d+)|the same [^;\n]*)(?:; kept with figure (\d+))?\n')
 
 
 def listed(galley, words):
@@ -28,6 +29,18 @@ def heading(galley, page):
     return (str(page), folio(galley, page), *spread)
 
 
+def kept_with(galley, number):
+    """The figure that a figure is told to be kept with."""
+    return str(number + 1) if 0 < number < len(galley.figures) and galley.figures[number - 1].kept else ''
+
+
+def forbidden(galley, i, j):
+    """What is told of a page end that is forbidden after line i and figure j: the line, the figure, or both."""
+    line = 0 < i < len(galley.lines) and not galley.lines[i - 1].legal
+    told = [f'    line {i} forbids a page end in the space after it'] if line else []
+    return told + ([f'    figure {j} is kept with figure {j + 1}'] if kept_with(galley, j) else [])
+
+
 def accepted(galley, words, text):
     """Whether every number in the text is the reference's."""
     ends, spec = marking.places(galley, words), galley.spec
@@ -37,7 +50,8 @@ def accepted(galley, words, text):
     _, p, x, y, t = marking.mark(galley, words)
     return (pages == [heading(galley, q) for q in range(1, len(ends) + 1)]
             and ('the first folio is' in text) == (galley.folio != 1)
-            and all(figure[3] == folio(galley, int(figure[2])) for figure in figures)
+            and [figure[3] for figure in figures] == [folio(galley, int(figure[2])) for figure in figures]
+            and [figure[7] for figure in figures] == [kept_with(galley, int(figure[0])) for figure in figures]
             and heights == [(str(marking.tightest(galley, *page)), str(marking.loosest(galley, *page)))
                             for page in zip(starts, ends)]
             and [int(figure[0]) for figure in figures] == list(range(1, len(galley.figures) + 1))
@@ -59,7 +73,8 @@ def refused(galley, words, number, page, text):
                 or 'claims' in said and numbers in ([i, m], [j, n]) and numbers[0] > numbers[1]
                 or 'ends where it starts' in said and (a, b) == (i, j) and numbers == [i, j])
     if number == 14:
-        return numbers == [i] and galley.lines[i - 1].legal == 0
+        told = forbidden(galley, i, j)
+        return told != [] and text.splitlines()[-len(told):] == told
     if number == 15:
         height = marking.tightest(galley, (a, b), (i, j))
         return numbers == [height, galley.spec.htmax, height - galley.spec.htmax] and numbers[2] > 0
@@ -83,7 +98,7 @@ def run(tally, command, folder):
                 continue
             status, text, remarks = command.text('explain', path, '-', given=listed(galley, words))
             marked = marking.mark(galley, words)
-            met.add(marked[1] if marked[0] == 'refused' else 0)
+            met.update([marked[1], *kinds.of_refusal(galley, words, *marked[1:])] if marked[0] == 'refused' else [0])
             if marked[0] == 'accepted':
                 fewest = marking.mark(galley, best)[4]
                 more = ('no list has fewer turns' if fewest == marked[4]
@@ -94,5 +109,5 @@ def run(tally, command, folder):
                 told = (f'refused, R {marked[1]} {marked[2]}: ' in text and refused(galley, words, *marked[1:], text)
                         and 'whoever handed in the list can mend it' in text)
                 tally.same(f'{words} for {galley}: {text}', (status, told, remarks), (1, True, ''))
-    tally.same('rules explained', met, {0, *range(12, 19)})
+    tally.same('rules explained', met, {0, *range(12, 19), *kinds.OF_REFUSALS})
     tally.group('lists explained')

@@ -92,7 +92,7 @@ def all_lists(tally):
         tally.same(f'accepted lists of {galley}', found, due)
         tally.same(f'every list of {galley}', sorted(search.every(galley)), sorted(due))
     tally.group('all lists of words against all maps', f' ({several} galleys have several paginations)')
-    for galley in sample.galleys(12, 100, 2, 1):
+    for galley in [*sample.galleys(12, 100, 2, 1), *sample.galleys(14, 40, 1, 2)]:
         wrong = [words for words in lists_of_words(galley) if marking.mark(galley, words) != by_paper(galley, words)]
         tally.same(f'lists marked differently for {galley}', wrong, [])
     tally.group('all lists of words, refusals included, against the paper')
@@ -143,9 +143,11 @@ def searches(tally):
         lists = list(search.every(galley))
         ranks = sorted(search.rank(galley, words) for words in lists)
         solved += bool(ranks)
-        met.update(kinds.of_galley(galley), kinds.of_choice(galley, lists), *(kinds.of_list(galley, words) for words in lists))
+        best = search.first(galley, lists)
+        met.update(kinds.of_galley(galley), kinds.of_choice(galley, lists, best))
+        met.update(*(kinds.of_list(galley, words) for words in lists))
         tied += len(ranks) > 1 and ranks[0][0] == ranks[1][0]
-        tally.same(f'best of {galley}', search.best_by_table(galley), search.first(galley, lists))
+        tally.same(f'best of {galley}', search.best_by_table(galley), best)
     tally.same('every kind of galley, list and choice', met, {*kinds.OF_GALLEYS, *kinds.OF_LISTS, *kinds.OF_CHOICES})
     tally.group('table against search of all lists', f' ({solved} galleys have a valid list, {tied} a tie)')
 

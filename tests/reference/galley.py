@@ -2,7 +2,7 @@
 
 import struct
 from dataclasses import dataclass
-from typing import NamedTuple, Optional
+from typing import Callable, NamedTuple, Optional
 
 LONGEST = 100_000  # any length, in hundredths of a point
 HEAVIEST = 1_000  # either weight
@@ -29,24 +29,44 @@ class Line(NamedTuple):
     most: int
     legal: int  # 1 if a page may end in that space
 
+    @property
+    def mark(self):
+        return b'TL'
+
 
 class Figure(NamedTuple):
     height: int
     least: int
     most: int
     cite: int  # the citing line, counted from 1
+    kept: int = 0  # 1 if it is kept with the next one
+
+    @property
+    def mark(self):
+        return b'FK' if self.kept else b'FG'
+
+    @property
+    def legal(self):
+        return 1 - self.kept
+
+
+class Kind(NamedTuple):
+    """What a mark opens: so many fields, and the record that they make."""
+    fields: int
+    record: Callable
+
+
+KINDS = {b'GS': Kind(7, Spec), b'FO': Kind(1, Folio), b'TL': Kind(4, Line), b'FG': Kind(4, Figure),
+         b'FK': Kind(4, lambda *fields: Figure(*fields, kept=1))}
 
 
 class Stream(NamedTuple):
-    """A kind of record that makes up a stream of its own."""
-    mark: bytes
-    kind: type
+    marks: tuple
     most: int  # of its blocks in a galley
 
 
 # In the order in which they follow one another in a file; the first is the text, the others are cited by its lines.
-STREAMS = (Stream(b'TL', Line, 4_000), Stream(b'FG', Figure, 200))
-KINDS = {b'GS': Spec, b'FO': Folio, **{stream.mark: stream.kind for stream in STREAMS}}
+STREAMS = (Stream((b'TL',), 4_000), Stream((b'FG', b'FK'), 200))
 
 
 @dataclass(frozen=True)
@@ -99,10 +119,10 @@ def read(data):
         if mark == b'ED':
             break
         kind, number = KINDS[mark], stream_of(mark)
-        after = at + 2 + 4 * len(kind._fields)
+        after = at + 2 + 4 * kind.fields
         if after > len(data):
             return ('refused', 1, at)
-        record = kind(*struct.unpack(f'>{len(kind._fields)}I', data[at + 2:after]))
+        record = kind.record(*struct.unpack(f'>{kind.fields}I', data[at + 2:after]))
         fault = record_fault(record, number, streams)
         if fault:
             return ('refused', fault, at)
@@ -116,7 +136,7 @@ def read(data):
 
 def stream_of(mark):
     """The number of the stream that a record belongs to; None for those that stand alone, before all streams."""
-    return next((number for number, stream in enumerate(STREAMS) if stream.mark == mark), None)
+    return next((number for number, stream in enumerate(STREAMS) if mark in stream.marks), None)
 
 
 def mark_fault(mark, alone, streams):
@@ -169,8 +189,7 @@ def spec_in_range(spec):
 
 def write(galley):
     """The bytes of a galley. Ranges are not tested, so that refused files can be written too."""
-    blocks = (record(stream.mark, *block) for stream, held in zip(STREAMS, galley.streams) for block in held)
-    return opening(galley) + b''.join(blocks) + b'ED'
+    return opening(galley) + b''.join(record(block.mark, *block[:4]) for held in galley.streams for block in held) + b'ED'
 
 
 def opening(galley):

@@ -28,15 +28,16 @@ def of_page(galley, words, last):
     if found is None or set().union(*found[0]) != {*range(1, page + 1)}:
         return 13
     maps = found[0]
-    # Lines still to come go to the next page at the earliest, and to no page that could be seen if there is none.
-    text = maps[0] + [page + 2 if last else page + 1] * (len(galley.lines) - end[0])
-    if not marking.ends_are_legal(galley, text):
+    # What is still to come goes to the next page at the earliest, and to no page that could be seen if there is none.
+    later = page + 2 if last else page + 1
+    ahead = [page_of + [later] * (size - len(page_of)) for page_of, size in zip(maps, galley.sizes)]
+    if not marking.ends_are_legal(galley, ahead):
         return 14
     if not marking.not_overfull(so_far, maps, page):
         return 15
     if not last and not marking.not_underfull(so_far, maps, page):
         return 16
-    if not marking.citations_come_first(galley, (text, *maps[1:])):
+    if not marking.citations_come_first(galley, ahead):
         return 17
     return None
 
@@ -78,6 +79,7 @@ def files():
     yield 'a byte after the end', opened + b'EDx', 8, 50
     yield 'a second end', opened + figure + b'EDED', 8, 68
     yield from folios(spec, line, figure)
+    yield from kept(opened, line, figure)
     yield from out_of_range(opened)
 
 
@@ -110,6 +112,27 @@ def folios(spec, line, figure):
         yield f'folio {first}', spec + record(b'FO', first) + line + b'ED', 3, 30
 
 
+def kept(opened, line, figure):
+    """`FK` is turned away where `FG` is; both count as figures, in one order of citations."""
+    spec, keeps = opened[:30], record(b'FK', 20, 0, 0, 1)
+    mixed = opened + 100 * figure + 100 * keeps
+    yield 'kept figure first', keeps, 2, 0
+    yield 'kept figure before any line', spec + keeps, 5, 30
+    yield 'kept figure before any line, cut short', spec + b'FK', 5, 30
+    yield 'line after a kept figure', opened + keeps + line, 2, 66
+    yield 'folio after a kept figure', opened + keeps + record(b'FO', 38), 2, 66
+    yield 'figure 201, after 100 kept ones', mixed + figure, 4, 48 + 200 * 18
+    yield 'kept figure 201', mixed + keeps, 4, 48 + 200 * 18
+    yield 'kept figure 201, cut short', mixed + b'FK', 4, 48 + 200 * 18
+    yield 'half a kept figure', opened + keeps[:17], 1, 48
+    yield 'no end after a kept figure', opened + keeps, 1, 66
+    yield 'kept figure, citation 0', opened + record(b'FK', 1, 0, 0, 0) + b'ED', 6, 48
+    yield 'kept figure, citation above m', opened + record(b'FK', 1, 0, 0, 2) + b'ED', 6, 48
+    for one, two in ((b'FK', b'FG'), (b'FG', b'FK'), (b'FK', b'FK')):
+        yield f'citations fall from {one} to {two}', opened + line + record(one, 1, 0, 0, 2) + record(two, 1, 0, 0, 1), 7, 84
+    yield 'a byte after the end, after a kept figure', opened + keeps + b'ED?', 8, 68
+
+
 def out_of_range(opened):
     """One field at a time just outside its range, the others inside."""
     for fields in [(2, 1, 0, 0, 1, 1, 1), (0, 0, 0, 0, 1, 1, 1), (0, 100_001, 0, 0, 1, 1, 1), (0, 1, 2, 1, 1, 1, 1),
@@ -119,5 +142,6 @@ def out_of_range(opened):
     for sizes in [(100_001, 0, 0), (0, 1, 0), (0, 0, 100_001), (0, 100_001, 100_001), (2**32 - 1, 0, 0)]:
         yield f'line {sizes}', opened + record(b'TL', *sizes, 1) + b'ED', 3, 48
         yield f'figure {sizes}', opened + record(b'FG', *sizes, 1) + b'ED', 3, 48
+        yield f'kept figure {sizes}', opened + record(b'FK', *sizes, 1) + b'ED', 3, 48
     for legal in (2, 256, 2**32 - 1):
         yield f'page end {legal}', opened + record(b'TL', 1, 0, 0, legal) + b'ED', 3, 48

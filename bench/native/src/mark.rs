@@ -1,6 +1,7 @@
 //! The marking: rules 12 to 18, then the turns.
 
 use crate::page::{ends_leaf, height_of, leaf};
+use crate::places::{may_end, may_part};
 use crate::read::{read, Galley};
 use crate::Answer;
 
@@ -42,7 +43,7 @@ fn broken_rule(galley: &Galley, start: (usize, usize), end: (usize, usize), page
     if i < start.0 || j < start.1 || i > galley.m || j > galley.n || start == end {
         return 13;
     }
-    if 0 < i && i < galley.m && galley.line(i).last == 0 {
+    if !may_end(galley, i) || !may_part(galley, j) {
         return 14;
     }
     let height = height_of(galley, start, end);

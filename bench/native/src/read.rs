@@ -23,12 +23,14 @@ pub struct Spec {
 }
 
 /// A line or a figure. `last` is the fourth field: whether a page may end after the line, or the line citing the figure.
+/// `kept` is for a figure that no page may end after.
 #[derive(Clone, Copy)]
 pub struct Block {
     pub height: u32,
     pub least: u32,
     pub most: u32,
     pub last: u32,
+    pub kept: bool,
 }
 
 /// A galley that reads without refusal; its lines and figures stay where they are in the lent bytes.
@@ -61,7 +63,8 @@ fn field(record: &[u8], number: usize) -> u32 {
 
 fn block(record: &[u8]) -> Block {
     let record = &record[..BLOCK_BYTES];
-    Block { height: field(record, 0), least: field(record, 1), most: field(record, 2), last: field(record, 3) }
+    let kept = record.starts_with(b"FK");
+    Block { height: field(record, 0), least: field(record, 1), most: field(record, 2), last: field(record, 3), kept }
 }
 
 pub fn read(bytes: &[u8]) -> Result<Galley<'_>, Answer> {
@@ -127,10 +130,10 @@ fn read_blocks(bytes: &[u8], lines_at: usize) -> Result<Counts, Answer> {
         match &mark {
             b"TL" if counts.n > 0 => return refused(2),
             b"TL" if counts.m == MOST_LINES => return refused(4),
-            b"FG" | b"ED" if counts.m == 0 => return refused(5),
-            b"FG" if counts.n == MOST_FIGURES => return refused(4),
-            b"TL" | b"FG" if rest.len() < BLOCK_BYTES => return refused(1),
-            b"TL" | b"FG" => {}
+            b"FG" | b"FK" | b"ED" if counts.m == 0 => return refused(5),
+            b"FG" | b"FK" if counts.n == MOST_FIGURES => return refused(4),
+            b"TL" | b"FG" | b"FK" if rest.len() < BLOCK_BYTES => return refused(1),
+            b"TL" | b"FG" | b"FK" => {}
             b"ED" => return Ok(counts),
             _ => return refused(2),
         }

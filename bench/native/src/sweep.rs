@@ -6,8 +6,8 @@
 
 use crate::page::Height;
 use crate::places::{
-    cited_through, clear_column, first_side, least, may_end, origin_side, price, side_before, store, Least, ENDS,
-    OPENS, ORIGIN,
+    cited_through, clear_column, first_side, least, may_end, may_part, origin_side, price, side_before, store, Least,
+    ENDS, OPENS, ORIGIN,
 };
 use crate::plain::best_starts;
 use crate::queue::Queue;
@@ -27,6 +27,9 @@ pub fn fill(galley: &Galley, work: &mut [u32]) {
         clear_column(galley, work, j);
         while figures.between(earliest, j).tight > galley.spec.ht_max {
             earliest += 1;
+        }
+        if !may_part(galley, j) {
+            continue;
         }
         if j == 0 {
             store(galley, work, (0, 0), origin_side(galley), Some(ORIGIN));
