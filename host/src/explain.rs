@@ -40,7 +40,7 @@ pub fn refused(galley: &Galley, list: &[u32], refusal: Refusal) -> String {
         text += &page_in_words(galley, &pages, page);
     }
     let numbers = match pages.get((refusal.place as usize).wrapping_sub(1)) {
-        Some(page) => broken_in_numbers(galley, page, refusal.number),
+        Some(page) => broken_in_numbers(galley, page, page.number == pages.len(), refusal.number),
         None => broken_length(galley, list),
     };
     text + &format!("refused, {refusal}: {}\n{numbers}\n", sentence(refusal))
@@ -56,12 +56,13 @@ pub fn refused_galley(bytes: &[u8], refusal: Refusal) -> String {
 fn opening(galley: &Galley) -> String {
     let spec = &galley.spec;
     format!(
-        "galley: {}, {}{}; height {} to {}, separation {} to {}; {}; alpha {}, beta {}\n",
+        "galley: {}, {}{}; height {} to {}{}, separation {} to {}; {}; alpha {}, beta {}\n",
         counted(galley.lines.len(), "line"),
         counted(galley.figures.len(), "figure"),
         if galley.folio == 1 { String::new() } else { format!("; the first folio is {}", galley.folio) },
         spec.ht_min,
         spec.ht_max,
+        spec.last_min.map_or(String::new(), |last_min| format!(", of the last page {last_min} to {}", spec.ht_max)),
         spec.s_min,
         spec.s_max,
         if spec.double_sided { "double-sided" } else { "single-sided" },
@@ -78,10 +79,11 @@ fn page_in_words(galley: &Galley, pages: &[Page], page: &Page) -> String {
     text += &holdings(page);
     let (tight, loose) = page.heights(galley);
     let spec = &galley.spec;
-    let last = page.number == pages.len();
-    text += &match last {
-        true => format!("\n    height {tight} to {loose}; at most {} is asked of the last page\n", spec.ht_max),
-        false => format!("\n    height {tight} to {loose}; {} to {} is asked\n", spec.ht_min, spec.ht_max),
+    text += &format!("\n    height {tight} to {loose}; ");
+    text += &match (page.number == pages.len(), spec.last_min) {
+        (false, _) => format!("{} to {} is asked\n", spec.ht_min, spec.ht_max),
+        (true, None) => format!("at most {} is asked of the last page\n", spec.ht_max),
+        (true, Some(last_min)) => format!("{last_min} to {} is asked of the last page\n", spec.ht_max),
     };
     for figure in page.start.1 + 1..=page.end.1 {
         text += &figure_in_words(galley, pages, page, figure);
@@ -155,7 +157,7 @@ fn figure_in_words(galley: &Galley, pages: &[Page], page: &Page, figure: usize) 
 }
 
 /// The numbers by which the page breaks the rule.
-fn broken_in_numbers(galley: &Galley, page: &Page, rule: u32) -> String {
+fn broken_in_numbers(galley: &Galley, page: &Page, last: bool, rule: u32) -> String {
     let ((a, b), (i, j)) = (page.start, page.end);
     let (m, n) = (galley.lines.len(), galley.figures.len());
     let spec = &galley.spec;
@@ -172,7 +174,8 @@ fn broken_in_numbers(galley: &Galley, page: &Page, rule: u32) -> String {
         }
         16 => {
             let (_, loose) = page.heights(galley);
-            format!("    {loose} is below htMin {} by {}", spec.ht_min, u64::from(spec.ht_min).saturating_sub(loose))
+            let (name, least) = if last { ("lastMin", spec.last_min.unwrap_or(0)) } else { ("htMin", spec.ht_min) };
+            format!("    {loose} is below {name} {least} by {}", u64::from(least).saturating_sub(loose))
         }
         17 => {
             let citation = galley.figures[j - 1].citation;

@@ -45,7 +45,7 @@ const MEANINGS: &[Meaning] = &[
         "the page ends after a line that must not end a page, or between figures that are kept together",
     ),
     meaning(15, Place::Page, "the page is higher than htMax even at its tightest"),
-    meaning(16, Place::Page, "the page is lower than htMin even at its loosest, and it is not the last"),
+    meaning(16, Place::Page, "the page is lower than htMin, or the last page lower than lastMin, even at its loosest"),
     meaning(17, Place::Page, "a figure stands on a spread that ends before the line that cites it"),
     meaning(18, Place::Pages, "the list ends before everything is placed"),
     meaning(19, Place::Bytes, "the input is longer than the small program takes"),

@@ -8,7 +8,7 @@ from reference import marking, sample, search
 from reference.galley import write
 
 PAGE = re.compile(r'^page (\d+)(?:, folio (\d+))?, (?:spread (\d+), (left|right)|a spread by itself): ', re.M)
-HEIGHT = re.compile(r'    height (\d+) to (\d+); ')
+HEIGHT = re.compile(r'    height (\d+) to (\d+); (.*)')
 FIGURE = re.compile(r'    figure (\d+), cited by line (\d+) on page (\d+)(?:, folio (\d+))?: '
                     r'(?:(\d+) turns?, costs (\d+)·\d+ = (\d+)|the same [^;\n]*)(?:; kept with figure (\d+))?\n')
 
@@ -27,6 +27,14 @@ def heading(galley, page):
     side = ('left', 'right')[(galley.folio + page - 1) % 2]
     spread = (str(marking.leaf(2, galley.folio, page)), side) if galley.spec.sides == 2 else ('', '')
     return (str(page), folio(galley, page), *spread)
+
+
+def asked(galley, last):
+    """The heights that are asked of a page, as they are told."""
+    spec = galley.spec
+    if not last:
+        return f'{spec.htmin} to {spec.htmax} is asked'
+    return f'{"at most" if spec.edition == 1 else f"{spec.lastmin} to"} {spec.htmax} is asked of the last page'
 
 
 def kept_with(galley, number):
@@ -52,8 +60,9 @@ def accepted(galley, words, text):
             and ('the first folio is' in text) == (galley.folio != 1)
             and [figure[3] for figure in figures] == [folio(galley, int(figure[2])) for figure in figures]
             and [figure[7] for figure in figures] == [kept_with(galley, int(figure[0])) for figure in figures]
-            and heights == [(str(marking.tightest(galley, *page)), str(marking.loosest(galley, *page)))
-                            for page in zip(starts, ends)]
+            and heights == [(str(marking.tightest(galley, *page)), str(marking.loosest(galley, *page)), asked(galley, q == p))
+                            for q, page in enumerate(zip(starts, ends), 1)]
+            and (f', of the last page {spec.lastmin} to {spec.htmax}, separation' in text) == (spec.edition == 2)
             and [int(figure[0]) for figure in figures] == list(range(1, len(galley.figures) + 1))
             and turns == x and sum(int(figure[6] or 0) for figure in figures) == spec.alpha * x
             and f'X {x}, Y {y}, T = alpha·X + beta·Y = {spec.alpha}·{x} + {spec.beta}·{y} = {t}\n' in text)
@@ -79,8 +88,9 @@ def refused(galley, words, number, page, text):
         height = marking.tightest(galley, (a, b), (i, j))
         return numbers == [height, galley.spec.htmax, height - galley.spec.htmax] and numbers[2] > 0
     if number == 16:
-        height = marking.loosest(galley, (a, b), (i, j))
-        return numbers == [height, galley.spec.htmin, galley.spec.htmin - height] and numbers[2] > 0
+        height, last = marking.loosest(galley, (a, b), (i, j)), page == len(ends) - 1
+        least, name = galley.spec.floor(last), 'lastMin' if last else 'htMin'
+        return numbers == [height, least, least - height] and numbers[2] > 0 and name in said
     if number == 17:
         return numbers == [j, galley.figures[j - 1].cite, i] and numbers[1] > i
     return number == 18 and numbers == [i, j, m, n] and (i, j) != (m, n)

@@ -4,7 +4,7 @@ from reference import marking, search
 from reference.galley import read
 
 # A galley as text, by what its lists' names begin with.
-CASES = {'a': 'case-a', 'c': 'case-c', 'left': 'left-hand', 'kept': 'kept'}
+CASES = {'a': 'case-a', 'c': 'case-c', 'left': 'left-hand', 'kept': 'kept', 'close': 'full-close'}
 SMALL = 6_000  # bytes of a galley that the reference makes in a moment
 
 

@@ -17,6 +17,19 @@ class Spec(NamedTuple):
     sides: int
     alpha: int
     beta: int
+    lastmin: Optional[int] = None  # of the second edition alone
+
+    @property
+    def edition(self):
+        return 1 if self.lastmin is None else 2
+
+    @property
+    def mark(self):
+        return (b'GS', b'G2')[self.edition - 1]
+
+    def floor(self, last):
+        """What rule 16 asks of a page; of the last one nothing in the first edition."""
+        return (self.lastmin or 0) if last else self.htmin
 
 
 class Folio(NamedTuple):
@@ -56,8 +69,9 @@ class Kind(NamedTuple):
     record: Callable
 
 
-KINDS = {b'GS': Kind(7, Spec), b'FO': Kind(1, Folio), b'TL': Kind(4, Line), b'FG': Kind(4, Figure),
+KINDS = {b'GS': Kind(7, Spec), b'G2': Kind(8, Spec), b'FO': Kind(1, Folio), b'TL': Kind(4, Line), b'FG': Kind(4, Figure),
          b'FK': Kind(4, lambda *fields: Figure(*fields, kept=1))}
+SPECS = (b'GS', b'G2')  # either edition
 
 
 class Stream(NamedTuple):
@@ -144,9 +158,9 @@ def mark_fault(mark, alone, streams):
     if len(mark) < 2:
         return 1
     # The specification opens the file and stands nowhere else.
-    if (mark == b'GS') != (not alone) or mark not in (*KINDS, b'ED'):
+    if (mark in SPECS) != (not alone) or mark not in (*KINDS, b'ED'):
         return 2
-    if mark == b'GS':
+    if mark in SPECS:
         return None
     # A folio stands straight after it and nowhere else.
     if mark == b'FO':
@@ -184,7 +198,8 @@ def alone_in_range(record):
 def spec_in_range(spec):
     return (1 <= spec.htmax <= LONGEST and spec.htmin <= spec.htmax
             and spec.smin <= spec.smax <= LONGEST and spec.sides in (1, 2)
-            and spec.alpha <= HEAVIEST and spec.beta <= HEAVIEST)
+            and spec.alpha <= HEAVIEST and spec.beta <= HEAVIEST
+            and (spec.edition == 1 or spec.lastmin <= spec.htmax))
 
 
 def write(galley):
@@ -194,7 +209,8 @@ def write(galley):
 
 def opening(galley):
     """The bytes before line 1."""
-    return record(b'GS', *galley.spec) + (b'' if galley.stated is None else record(b'FO', galley.stated))
+    fields = galley.spec[:KINDS[galley.spec.mark].fields]
+    return record(galley.spec.mark, *fields) + (b'' if galley.stated is None else record(b'FO', galley.stated))
 
 
 def record(mark, *fields):

@@ -44,7 +44,7 @@ def page_fault(galley, start, end, page, last):
         return 14
     if tightest(galley, start, end) > spec.htmax:
         return 15
-    if not last and loosest(galley, start, end) < spec.htmin:
+    if loosest(galley, start, end) < spec.floor(last):
         return 16
     ends_leaf = leaf(spec.sides, galley.folio, page) != leaf(spec.sides, galley.folio, page + 1)
     if (ends_leaf or last) and any(j > 0 and floats[j - 1].cite > end[0] for floats, j in zip(galley.floats, end[1:])):
@@ -97,11 +97,12 @@ def waiting(galley, place):
 
 
 def is_pagination(galley, maps, p):
-    """Whether the map onto p pages meets the four constraints of the paper's section 2."""
+    """Whether the map onto p pages meets the four constraints of the paper's section 2, the last page held to lastMin."""
     return (set().union(*maps) == set(range(1, p + 1))
             and all(map(never_falls, maps))
             and all(not_overfull(galley, maps, page) for page in range(1, p + 1))
-            and all(not_underfull(galley, maps, page) for page in range(1, p))
+            and all(not_underfull(galley, maps, page, galley.spec.htmin) for page in range(1, p))
+            and not_underfull(galley, maps, p, galley.spec.lastmin or 0)
             and ends_are_legal(galley, maps)
             and citations_come_first(galley, maps))
 
@@ -114,8 +115,8 @@ def not_overfull(galley, maps, page):
     return page_height(galley, maps, page, 'least', galley.spec.smin) <= galley.spec.htmax
 
 
-def not_underfull(galley, maps, page):
-    return page_height(galley, maps, page, 'most', galley.spec.smax) >= galley.spec.htmin
+def not_underfull(galley, maps, page, least):
+    return page_height(galley, maps, page, 'most', galley.spec.smax) >= least
 
 
 def page_height(galley, maps, page, space, separation):

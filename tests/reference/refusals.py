@@ -35,7 +35,7 @@ def of_page(galley, words, last):
         return 14
     if not marking.not_overfull(so_far, maps, page):
         return 15
-    if not last and not marking.not_underfull(so_far, maps, page):
+    if not marking.not_underfull(so_far, maps, page, (galley.spec.lastmin or 0) if last else galley.spec.htmin):
         return 16
     if not marking.citations_come_first(galley, ahead):
         return 17
@@ -80,6 +80,7 @@ def files():
     yield 'a second end', opened + figure + b'EDED', 8, 68
     yield from folios(spec, line, figure)
     yield from kept(opened, line, figure)
+    yield from editions(spec, line, figure)
     yield from out_of_range(opened)
 
 
@@ -133,12 +134,40 @@ def kept(opened, line, figure):
     yield 'a byte after the end, after a kept figure', opened + keeps + b'ED?', 8, 68
 
 
+def editions(first, line, figure):
+    """`G2` is turned away where `GS` is, and where its eighth field is out of range; what comes after one."""
+    spec, folio = record(b'G2', 30, 30, 0, 0, 1, 1, 1, 20), record(b'FO', 38)
+    opened, full = spec + line, spec + 4_000 * line
+    yield 'half a second edition', spec[:33], 1, 0
+    yield 'a second edition without its eighth field', spec[:30], 1, 0
+    yield 'nothing after a second edition', spec, 1, 34
+    yield 'second edition after the first', first + spec, 2, 30
+    yield 'first edition after the second', spec + first, 2, 34
+    yield 'second edition twice', spec + spec, 2, 34
+    yield 'second edition twice, cut short', spec + b'G2', 2, 34
+    yield 'second edition after a folio', first + folio + spec, 2, 36
+    yield 'second edition after a line', opened + spec, 2, 52
+    yield 'second edition after a figure, out of range', opened + figure + record(b'G2', *8 * (2**32 - 1,)), 2, 70
+    yield 'second folio in a second edition', spec + folio + folio, 2, 40
+    yield 'half a folio in a second edition', (spec + folio)[:39], 1, 34
+    yield 'folio out of range in a second edition', spec + record(b'FO', 0), 3, 34
+    yield 'end straight after a second edition', spec + b'ED', 5, 34
+    yield 'figure straight after a second edition', spec + figure, 5, 34
+    yield 'end straight after a folio in a second edition', spec + folio + b'ED', 5, 40
+    yield 'line 4,001 in a second edition', full + line, 4, 34 + 4_000 * 18
+    yield 'citation above m in a second edition', opened + record(b'FG', 1, 0, 0, 2), 6, 52
+    yield 'a byte after the end of a second edition', opened + b'ED?', 8, 54
+    for last in (31, 100_000, 2**32 - 1):
+        yield f'lastMin {last} above htMax', record(b'G2', 0, 30, 0, 0, 1, 1, 1, last) + line + b'ED', 3, 0
+
+
 def out_of_range(opened):
     """One field at a time just outside its range, the others inside."""
     for fields in [(2, 1, 0, 0, 1, 1, 1), (0, 0, 0, 0, 1, 1, 1), (0, 100_001, 0, 0, 1, 1, 1), (0, 1, 2, 1, 1, 1, 1),
                    (0, 1, 0, 100_001, 1, 1, 1), (0, 1, 0, 0, 0, 1, 1), (0, 1, 0, 0, 3, 1, 1),
                    (0, 1, 0, 0, 1, 1_001, 1), (0, 1, 0, 0, 1, 1, 1_001), (2**32 - 1, 1, 0, 0, 1, 1, 1)]:
         yield f'specification {fields}', record(b'GS', *fields) + opened[30:] + b'ED', 3, 0
+        yield f'second edition {fields}', record(b'G2', *fields, 0) + opened[30:] + b'ED', 3, 0
     for sizes in [(100_001, 0, 0), (0, 1, 0), (0, 0, 100_001), (0, 100_001, 100_001), (2**32 - 1, 0, 0)]:
         yield f'line {sizes}', opened + record(b'TL', *sizes, 1) + b'ED', 3, 48
         yield f'figure {sizes}', opened + record(b'FG', *sizes, 1) + b'ED', 3, 48

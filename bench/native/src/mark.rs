@@ -50,7 +50,7 @@ fn broken_rule(galley: &Galley, start: (usize, usize), end: (usize, usize), page
     if height.tight > galley.spec.ht_max {
         return 15;
     }
-    if !last && height.loose < galley.spec.ht_min {
+    if height.loose < if last { galley.spec.last_min } else { galley.spec.ht_min } {
         return 16;
     }
     if (last || ends_leaf(galley, page)) && j > 0 && galley.figure(j).last as usize > i {

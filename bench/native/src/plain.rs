@@ -40,7 +40,7 @@ fn fill_place(galley: &Galley, work: &mut [u32], place: Place, cited: usize) {
 /// smaller cost changes the choice.
 pub fn best_starts(galley: &Galley, work: &[u32], (i, j): Place) -> [Option<Least>; 2] {
     let spec = &galley.spec;
-    let ht_min = if (i, j) == (galley.m, galley.n) { 0 } else { spec.ht_min };
+    let ht_min = if (i, j) == (galley.m, galley.n) { spec.last_min } else { spec.ht_min };
     let mut best: [Option<Least>; 2] = [None; 2];
     let mut lines = Height::default();
     for a in (0..=i).rev() {

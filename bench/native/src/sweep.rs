@@ -39,7 +39,7 @@ pub fn fill(galley: &Galley, work: &mut [u32]) {
             sweep(galley, work, &lines, &mut queues, &Pages { b, j, figures: figures.between(b, j) });
         }
     }
-    // The last page may be low, so its starts are no such window.
+    // The last page is held to a height of its own, so its starts are another window.
     let best = best_starts(galley, work, (m, n));
     store(galley, work, (m, n), OPENS, best[OPENS]);
     store(galley, work, (m, n), ENDS, best[ENDS]);
