@@ -52,6 +52,7 @@ modelOf bytes g =
             sides = sidesIn g;
             alpha = g .spec .alpha;
             beta = g .spec .beta;
+            lastmin = g .lastmin;
           };
       floats = 1;
       stream = streamsOf bytes g;

@@ -64,6 +64,7 @@ galleyWith spec first lines figures =
     record {
       spec = spec;
       folio = 1;
+      lastmin = 0;
       text = record { first = first; count = lines };
       figures = record { first = first + lines * 18; count = figures };
     }

@@ -104,6 +104,7 @@ fn read_blocks(s: &[u8], spec: Spec, first: usize) -> Reading
                 return Reading::Galley(Galley {
                     spec,
                     folio: 1,
+                    lastmin: 0,
                     text: Stream {
                         first,
                         count: lines,

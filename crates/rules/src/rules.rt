@@ -1,12 +1,12 @@
 // The rules of a list and of a page that ask for no height: 12, 13, 14, 17, and 16 for a height that is known.
 ghost use mathlib.Core.Path.{_≡_};
-ghost use mathlib.Core.Bool.{_&&_, _||_};
+ghost use mathlib.Core.Bool.{_&&_};
 ghost use mathlib.Core.List.{List, [], _∷_};
 ghost use Prim.Native.Nat.{ℕ, _≤_};
 ghost use lib.ListN.{length};
 ghost use lib.Dec.{leb, ltb};
 ghost use Rattle.model.specs.Gather.{implies};
-ghost use Rattle.model.specs.Rules.{forward, mayEnd, cited};
+ghost use Rattle.model.specs.Rules.{floor, forward, mayEnd, cited};
 ghost use Rattle.model.specs.Answers.{counted};
 ghost use Rattle.galley.specs.Model.{textOf, floatsOf, modelOf};
 ghost use Rattle.galley.specs.Sound.{SoundStream, Sound};
@@ -76,12 +76,19 @@ pub fn start_fault(s: &[u8], g: Galley, a: usize, b: usize, i: usize, j: usize) 
     first_fault(13, forward, closes)
 }
 
+// What rule 16 holds the loosest height of a page to: htMin, and of the last page lastMin.
+pub fn floor_of(g: Galley, last: bool) -> u32
+    ensures { λ r. ⌜ ((bytes : List ℕ) → r ≡ floor (modelOf bytes g) last) ⌝ }
+{
+    if last { g.lastmin } else { g.spec.htmin }
+}
+
 // The first of 16 and 17 that a page of this loosest height breaks, or 0.
 pub fn end_fault(s: &[u8], g: Galley, loose: u32, page: Page, last: bool, i: usize, j: usize) -> u32
     requires { ⌜ (Sound (now s) g) × (j ≤ g .figures .count) ⌝ }
-    ensures { λ r. ⌜ r ≡ faultFrom 16 (last || leb (g .spec .htmin) loose) (cited (modelOf (now (s .entry)) g) (page .0) last (i ∷ j ∷ [])) ⌝ }
+    ensures { λ r. ⌜ r ≡ faultFrom 16 (leb (floor (modelOf (now (s .entry)) g) last) loose) (cited (modelOf (now (s .entry)) g) (page .0) last (i ∷ j ∷ [])) ⌝ }
 {
-    let fills = last | (g.spec.htmin <= loose);
+    let fills = floor_of(g, last) <= loose;
     let asked = model::page::ends_spread(g.spec.sides, g.folio, page) | last;
     let cited = is_cited(s, g.figures, asked, i, j);
     first_fault(16, fills, cited)

@@ -104,7 +104,7 @@ module _ {bytes : List ℕ} {spec : Spec} {first lines figures last at after : �
   -- The end, a second specification and a refusal end the run.
   pub run-end : recordIn bytes at true lines figures last ≡ found.End
       → reads.Galley
-      (record { spec = spec; folio = 1; text = record { first = first; count = lines }; figures = record { first = after; count = figures } })
+      (record { spec = spec; folio = 1; lastmin = 0; text = record { first = first; count = lines }; figures = record { first = after; count = figures } })
       ≡ blocks bytes spec first 4201 0 0 0
   run-end e = rw (r .end) (sym (blocks-end bytes spec first lines figures last room (rw (r .due) at e)) ∙ r .run)
 
