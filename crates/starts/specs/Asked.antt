@@ -4,6 +4,7 @@ use mathlib.Core.Bool.{Bool, _&&_, _||_}
 use mathlib.Core.List.{List}
 use lib.Dec.{eqb, leb, ltb}
 use lib.ListN.{length}
+use Rattle.model.specs.Gather.{pick}
 use Rattle.galley.specs.declared.Galley.{Galley}
 use Rattle.galley.specs.Model.{textOf, modelOf}
 use Rattle.galley.specs.Sound.{Sound}
@@ -22,9 +23,9 @@ searchOf bytes g w i j side =
 abbrev pub allPlaced : Galley → ℕ → ℕ → Bool
 allPlaced g i j = eqb i (g .text .count) && eqb j (g .figures .count)
 
--- A page from (a, b) to (i, j) of this loosest height is not empty, and full enough unless it is the last.
+-- A page from (a, b) to (i, j) of this loosest height is not empty, and as high as rule 16 asks.
 abbrev pub worth : Galley → ℕ → ℕ → ℕ → ℕ → ℕ → Bool
-worth g a b i j loose = (ltb a i || ltb b j) && (allPlaced g i j || leb (g .spec .htmin) loose)
+worth g a b i j loose = (ltb a i || ltb b j) && leb (pick (allPlaced g i j) (g .lastmin) (g .spec .htmin)) loose
 
 -- A start that an entry has room for.
 pub record Startable (a b : ℕ) : Type 0 where

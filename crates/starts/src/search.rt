@@ -30,11 +30,12 @@ pub fn is_full(g: Galley, i: usize, j: usize) -> bool
     (i == g.text.count) & (j == g.figures.count)
 }
 
-// Whether a page from (a, b) to (i, j) of this loosest height counts: it is not empty, and full enough unless it is the last.
+// Whether a page from (a, b) to (i, j) of this loosest height counts: it is not empty, and as high as rule 16 asks.
 fn counts(g: Galley, a: usize, b: usize, i: usize, j: usize, loose: u32) -> bool
     ensures { λ r. ⌜ r ≡ worth g a b i j loose ⌝ }
 {
-    ((a < i) | (b < j)) & (is_full(g, i, j) | (g.spec.htmin <= loose))
+    let floor = rules::rules::floor_of(g, is_full(g, i, j));
+    ((a < i) | (b < j)) & (floor <= loose)
 }
 
 // The start (a, b), whose own page costs x with all before it, against the best so far.
