@@ -6,7 +6,7 @@ ghost use Prim.Native.Nat.{ℕ, _≤_};
 ghost use lib.ListN.{length};
 ghost use lib.Dec.{leb, ltb};
 ghost use Rattle.model.specs.Gather.{implies};
-ghost use Rattle.model.specs.Rules.{floor, forward, mayEnd, cited};
+ghost use Rattle.model.specs.Rules.{forward, mayEnd, closes, floor, cited};
 ghost use Rattle.model.specs.Answers.{counted};
 ghost use Rattle.galley.specs.Model.{textOf, floatsOf, modelOf};
 ghost use Rattle.galley.specs.Sound.{SoundStream, Sound};
@@ -30,8 +30,8 @@ fn is_forward(g: Galley, a: usize, b: usize, i: usize, j: usize) -> bool
     (((a <= i) & (i <= g.text.count)) & ((b <= j) & (j <= g.figures.count))) & ((a < i) | (b < j))
 }
 
-// 14: a page may end before the first line, after the last, or in a space that allows it.
-pub fn may_end(s: &[u8], text: Stream, i: usize) -> bool
+// A page may end before the first line, after the last, or in a space that allows it.
+fn may_end(s: &[u8], text: Stream, i: usize) -> bool
     requires { ⌜ SoundStream (now s) text ⌝ }
     ensures { λ r. ⌜ r ≡ mayEnd (textOf (now (s .entry)) text) i ⌝ }
 {
@@ -39,6 +39,14 @@ pub fn may_end(s: &[u8], text: Stream, i: usize) -> bool
         return blocks::field(s, text, i, galley::LEGAL) == 1;
     }
     true
+}
+
+// 14: a page may end where every stream lets it end; any figure does.
+pub fn may_close(s: &[u8], g: Galley, i: usize, j: usize) -> bool
+    requires { ⌜ Sound (now s) g ⌝ }
+    ensures { λ r. ⌜ r ≡ closes (modelOf (now (s .entry)) g) (i ∷ j ∷ []) ⌝ }
+{
+    may_end(s, g.text, i)
 }
 
 // 17, for one stream of floats: where it is asked, the last float placed is cited by a line already placed.
@@ -72,7 +80,7 @@ pub fn start_fault(s: &[u8], g: Galley, a: usize, b: usize, i: usize, j: usize) 
     ensures { λ r. ⌜ r ≡ startFault (modelOf (now (s .entry)) g) (a ∷ b ∷ []) (i ∷ j ∷ []) ⌝ }
 {
     let forward = is_forward(g, a, b, i, j);
-    let closes = may_end(s, g.text, i);
+    let closes = may_close(s, g, i, j);
     first_fault(13, forward, closes)
 }
 

@@ -32,15 +32,7 @@ module _ (g : Galley) (sane : Sane g) (p : ℕ) (w : ℕ → Place) (P : Map) (a
   pub laid-pagination : Laid g p w → Pagination g p P
   unfolding fits fills tightest loosest
   laid-pagination l =
-      record {
-        into = into;
-        onto = onto;
-        order = order;
-        over = over;
-        under = under;
-        legal = legal;
-        fourth = fourth;
-      }
+      record { into = into; onto = onto; order = order; over = over; under = under; legal = legal; fourth = fourth }
     where
       kept : (e : ℕ) → 1 ≤ e → e ≤ p → Kept g e (eqb e p) (w (pred e)) (w e)
       kept zero a c = absurd (omega arith)
