@@ -5,6 +5,7 @@ use Rattle.window.specs.Queue.{lineAt}
 use Rattle.window.specs.Run.{PassedRun}
 use Rattle.window.specs.laws.Run.{upto-next}
 use borrow.Author.Needs.{needs}
+use ghost.Mode.{_$_}
 use Rattle.window.proofs.queue.drop_passed.Statement.{statement}
 use Rattle.window.proofs.queue.drop_passed.Tie as tie
 
@@ -14,29 +15,11 @@ Inv-loop words head tail low h₀ h = PassedRun words head tail low h
 abbrev μ-loop : tie.MeasureT-loop
 μ-loop words head tail low h₀ h = tail - h
 
-loop-holds : tie.Need-loop-holds Inv-loop μ-loop
-loop-holds c = search needs
-
-mul-if1 : tie.Need-mul-if1 Inv-loop μ-loop
-mul-if1 c = search needs
-
-mul-if1-2 : tie.Need-mul-if1-2 Inv-loop μ-loop
-mul-if1-2 c = search needs
-
-shared-slice-read-if1 : tie.Need-shared-slice-read-if1 Inv-loop μ-loop
-shared-slice-read-if1 c = search needs
-
 cast-if1 : tie.Need-cast-if1 Inv-loop μ-loop
 cast-if1 c = omega (arith, c .shared-slice-known .given (2 * c .before .before .loop .h))
 
 returns : tie.Need-returns Inv-loop μ-loop
 returns c = search needs
-
-add-h : tie.Need-add-h Inv-loop μ-loop
-add-h c = search needs
-
-loop-less : tie.Need-loop-less Inv-loop μ-loop
-loop-less c = search needs
 
 loop-again : tie.Need-loop-again Inv-loop μ-loop
 loop-again c =
@@ -57,16 +40,5 @@ returns-2 c = search needs
 pub drop-passed-spec : {M : Type 1} → statement M
 drop-passed-spec =
     tie.close
-    (tie.spec
-    Inv-loop
-    μ-loop
-    loop-holds
-    mul-if1
-    mul-if1-2
-    shared-slice-read-if1
-    cast-if1
-    returns
-    add-h
-    loop-less
-    loop-again
-    returns-2)
+    ((λ (a, b, c, d, e, f).
+    tie.spec Inv-loop μ-loop a b c d cast-if1 returns e f loop-again returns-2) $ omega arith)

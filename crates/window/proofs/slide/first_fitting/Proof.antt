@@ -6,6 +6,7 @@ use lib.ListN.{getD}
 use Rattle.window.specs.Run.{FittingRun}
 use Rattle.window.specs.laws.Run.{upto-next}
 use borrow.Author.Needs.{needs}
+use ghost.Mode.{_$_}
 use Rattle.window.proofs.slide.first_fitting.Statement.{statement}
 use Rattle.window.proofs.slide.first_fitting.Tie as tie
 
@@ -15,35 +16,11 @@ Inv-loop sums load from i a₀ a = FittingRun sums load from i a
 abbrev μ-loop : tie.MeasureT-loop
 μ-loop sums load from i a₀ a = i - a
 
-loop-holds : tie.Need-loop-holds Inv-loop μ-loop
-loop-holds c = search needs
-
-mul-if1 : tie.Need-mul-if1 Inv-loop μ-loop
-mul-if1 c = search needs
-
-add-if1 : tie.Need-add-if1 Inv-loop μ-loop
-add-if1 c = search needs
-
-mul-if1-2 : tie.Need-mul-if1-2 Inv-loop μ-loop
-mul-if1-2 c = search needs
-
-shared-slice-read-if1 : tie.Need-shared-slice-read-if1 Inv-loop μ-loop
-shared-slice-read-if1 c = search needs
-
 add-if1-2 : tie.Need-add-if1-2 Inv-loop μ-loop
 add-if1-2 c =
     let start = c .before .before .before .before in
     let last = start .pre .small (4 * start .args .i + 1) (omega arith) in
     omega (arith, last, start .pre .tight)
-
-mul-if1-3 : tie.Need-mul-if1-3 Inv-loop μ-loop
-mul-if1-3 c = search needs
-
-mul-if1-4 : tie.Need-mul-if1-4 Inv-loop μ-loop
-mul-if1-4 c = search needs
-
-shared-slice-read-if1-2 : tie.Need-shared-slice-read-if1-2 Inv-loop μ-loop
-shared-slice-read-if1-2 c = search needs
 
 add-if1-3 : tie.Need-add-if1-3 Inv-loop μ-loop
 add-if1-3 c =
@@ -54,12 +31,6 @@ add-if1-3 c =
 
 returns : tie.Need-returns Inv-loop μ-loop
 returns c = search needs
-
-add-a : tie.Need-add-a Inv-loop μ-loop
-add-a c = search needs
-
-loop-less : tie.Need-loop-less Inv-loop μ-loop
-loop-less c = search needs
 
 loop-again : tie.Need-loop-again Inv-loop μ-loop
 loop-again c =
@@ -81,21 +52,5 @@ returns-2 c = search needs
 pub first-fitting-spec : {M : Type 1} → statement M
 first-fitting-spec =
     tie.close
-    (tie.spec
-    Inv-loop
-    μ-loop
-    loop-holds
-    mul-if1
-    add-if1
-    mul-if1-2
-    shared-slice-read-if1
-    add-if1-2
-    mul-if1-3
-    mul-if1-4
-    shared-slice-read-if1-2
-    add-if1-3
-    returns
-    add-a
-    loop-less
-    loop-again
-    returns-2)
+    ((λ (a, b, c, d, e, f, g, h, i, j).
+    tie.spec Inv-loop μ-loop a b c d e add-if1-2 f g h add-if1-3 returns i j loop-again returns-2) $ omega arith)

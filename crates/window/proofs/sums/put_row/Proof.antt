@@ -4,6 +4,7 @@ use native.Mathlib.Omega.{arith}
 use lib.ListN.{length-set}
 use Rattle.window.specs.Sums.{rowPut}
 use borrow.Author.Needs.{needs}
+use ghost.Mode.{_$_}
 use Rattle.window.proofs.sums.put_row.Statement.{statement}
 use Rattle.window.proofs.sums.put_row.Tie as tie
 
@@ -23,18 +24,6 @@ returns c = search needs
 pub put-row-spec : {M : Type 1} → statement M
 put-row-spec =
     tie.close
-    (tie.spec
-    (λ c. search needs)
-    (λ c. search needs)
-    (λ c. search needs)
-    (λ c. search needs)
-    (λ c. search needs)
-    slice-write-sums-2
-    (λ c. search needs)
-    (λ c. search needs)
-    slice-write-sums-3
-    (λ c. search needs)
-    (λ c. search needs)
-    slice-write-sums-4
-    (λ c. search needs)
-    returns)
+    ((λ (a, b, c, d, e, f, g, h, i).
+    tie.spec a b c d e slice-write-sums-2 f g slice-write-sums-3 h i slice-write-sums-4 (λ c. search needs)
+    returns) $ omega arith)
