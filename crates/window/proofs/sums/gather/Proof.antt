@@ -1,9 +1,9 @@
 -- `gather` meets its contract. The loop's invariant: the rows up to line k are written and its sums in hand; each turn
 -- writes the next.
-use Prim.Native.Nat.{_-_}
+use Prim.Native.Nat.{_+_, _-_, _≤_}
 use native.Mathlib.Omega.{arith}
 use mathlib.Core.Path.{_≡_}
-use Rattle.window.specs.Run.{SumsRun, SumsFit}
+use Rattle.window.specs.Run.{SumsRun}
 use Rattle.window.specs.laws.Sums.{sums-first, sums-fit, sums-next}
 use ghost.Mode.{_$_}
 use Rattle.window.proofs.sums.gather.Statement.{statement}
@@ -23,8 +23,8 @@ loop-holds c =
 
 -- The sums in hand and the fields of the line are small.
 fit : (c : tie.After-field3 Inv-loop μ-loop)
-    → SumsFit (c .before .before .before .before .before .loop .tight) (c .before .before .before .before .before .loop .loose)
-    (c .before .before .field .result) (c .before .field2 .result) (c .field3 .result)
+    → c .before .before .before .before .before .loop .tight + c .before .before .before .before .before .loop .loose
+    + c .before .before .field .result + c .before .field2 .result + c .field3 .result ≤ 1600300000
 fit c =
     let st = c .before .before .before .before .before .loop in
     let start = c .before .before .before .before .before .before .before .before .before .before .before .before in
@@ -33,16 +33,16 @@ fit c =
     (c .before .before .field .ensures) (c .before .field2 .ensures) (c .field3 .ensures) (start .pre .sound) (start .pre .few)
 
 add-high : tie.Need-add-high Inv-loop μ-loop
-add-high c = let sums = fit c in omega arith
+add-high c = omega (arith, fit c)
 
 add-wide : tie.Need-add-wide Inv-loop μ-loop
-add-wide c = let sums = fit c in omega arith
+add-wide c = omega (arith, fit c)
 
 add-tight : tie.Need-add-tight Inv-loop μ-loop
-add-tight c = let sums = fit c in omega arith
+add-tight c = omega (arith, fit c)
 
 add-loose : tie.Need-add-loose Inv-loop μ-loop
-add-loose c = let sums = fit c in omega arith
+add-loose c = omega (arith, fit c)
 
 loop-again : tie.Need-loop-again Inv-loop μ-loop
 loop-again c =
@@ -66,5 +66,4 @@ pub gather-spec : {M : Type 1} → statement M
 gather-spec =
     tie.close
     ((λ (a, b, c, d, e, f, g, h).
-    tie.spec Inv-loop μ-loop a loop-holds b c d e add-high add-wide add-tight add-loose f g loop-again h
-    returns) $ omega arith)
+    tie.spec Inv-loop μ-loop a loop-holds b c d e add-high add-wide add-tight add-loose f g loop-again h returns) $ omega arith)
