@@ -17,7 +17,7 @@ pub record Reachable (sums : List ℕ) (space beside limit from i : ℕ) : Type 
   pub either : space ≤ 1
   pub room : 4 * i + 4 ≤ length sums
   pub small : (k : ℕ) → k ≤ i → SmallPair sums (2 * k + space)
-  pub lightly : beside ≤ 1000000000
+  pub added : beside ≤ 1000000000
   pub limited : limit ≤ 1000000001
 
 -- The same for both ends of a window.

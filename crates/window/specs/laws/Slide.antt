@@ -38,7 +38,7 @@ ends-next st load window i o =
 -- The height up to the last line, and what the page has beside its lines, fit a word together.
 pub reached-small : {sums : List ℕ} {space beside limit from i : ℕ} → Reachable sums space beside limit from i
     → costAt sums (2 * i + space) + beside ≤ 2000000000
-reached-small {i = i} r = omega (arith, r .small i (le-refl i) .1, r .lightly)
+reached-small {i = i} r = omega (arith, r .small i (le-refl i) .1, r .added)
 
 -- One end of the window: from what was known of the old one, and the first line from there on whose page stays below the limit.
 module _ (sums : List ℕ) (st : Stream) (gap : ℕ → ℕ) (space beside limit old i new : ℕ)
