@@ -11,17 +11,13 @@ use mir.Syntax.{Body, loop}
 use base.Logic.{SProp, ent, ex, guard, via, exI, exE, guardI, guardE}
 use prog.Model.{Model}
 use prog.Routine.{Env as Routines}
-use prog.Wp.{Heap, Env, Calls, Loops, Out, Wp, afterTurn}
+use prog.Wp.{Heap, Env, Out, Wp, afterTurn}
 use sound.Loop.{loop-rule}
-use contract.Running.{GhostRules, Running, givenOf, tables, tablesOf}
+use contract.Running.{GhostRules, MachineTables, Running, givenOf, tables, tablesOf}
 use types.Kit.{Item, ⋆}
 
 module _ {M : Type 1} {𝓤 : URA M} {H : Heap 𝓤} (𝓜 : Model 𝓤 H) (𝓖 : GhostRules 𝓤 H) (𝓡 : Running 𝓤 H 𝓜) (γ : Routines) where
-  abbrev C : Calls 𝓤 H
-  C = tables 𝓤 H 𝓜 𝓡 γ .C
-
-  abbrev Λ : Loops 𝓤 H
-  Λ = tables 𝓤 H 𝓜 𝓡 γ .Λ
+  open MachineTables (tables 𝓤 H 𝓜 𝓡 γ) using (C, Λ)
 
   -- What is had before turn i, and what is known of i. `Left` is what is due where the loop is left.
   module _ (E : Env 𝓤 H) (turn : Body) (Left : Out → SProp 𝓤) (n : ℕ) (At : ℕ → List (Item 𝓤)) (Good : ℕ → Type 0) where

@@ -16,11 +16,11 @@ use base.Logic.{SProp, ent, sep, emp, via, monoR, emp∗, fst∗, snd∗, exE, i
 use base.Fml.{Fml, ftrue, fsep}
 use prog.Model.{Model}
 use prog.Routine.{Routine, Env as Routines}
-use prog.Wp.{Heap, Env, Calls, Loops, WpFn, Closed}
+use prog.Wp.{Heap, Env, WpFn, Closed}
 use ghost.Atoms.{Atoms, sem}
 use contract.Lifetimes.{Lfts, Shares, AllOutlive}
 use contract.Monad.{fact}
-use contract.Running.{GhostRules, Running, givenOf, tables, tablesOf}
+use contract.Running.{GhostRules, MachineTables, Running, givenOf, tables, tablesOf}
 use types.Kit.{Given, Item, Goal, Post, Step, step, Seq, Sq, prop, ‵, raw, _⊛_, ⋆, some, later, runs, lands, _$_, _∵_, ! }
 use types.Kit.{qed, by, move, drop, use1, use2, split, join, pick, fsplit, fjoin, suffices, frame, await, done}
 use types.Run.{Opds}
@@ -143,11 +143,7 @@ module _ {M : Type 1} {𝓤 : URA M} {H : Heap 𝓤} (𝓜 : Model 𝓤 H) (𝓖
   abbrev W : Given 𝓤 H (𝓖 .A)
   W = givenOf 𝓤 H 𝓜 𝓖
 
-  abbrev C : Calls 𝓤 H
-  C = tables 𝓤 H 𝓜 𝓡 γ .C
-
-  abbrev Λ : Loops 𝓤 H
-  Λ = tables 𝓤 H 𝓜 𝓡 γ .Λ
+  open MachineTables (tables 𝓤 H 𝓜 𝓡 γ) using (C, Λ)
 
   -- a table of calls is monotone under a frame, which the call rule asks
   framed : FmC 𝓤 H (W .laws) C

@@ -59,17 +59,8 @@ fn answer(marks: usize, s: Tally) -> Report
             place: s.below,
         };
     }
-    Report::Summed(Totals {
-        papers: s.papers,
-        pages: s.pages,
-        x: s.x,
-        y: s.y,
-        turns: s.turns,
-        least: s.least,
-        greatest: s.greatest,
-        excess: s.excess,
-        count: s.papers,
-    })
+    let totals = s.totals;
+    Report::Summed(totals)
 }
 
 // The report on marks of any number: paper after paper is counted into the tally.

@@ -1,29 +1,23 @@
 // The tally of the papers gone through so far, one paper at a time.
 ghost use mathlib.Core.Path.{_≡_};
 ghost use Prim.Native.Nat.{_+_, _-_, _*_, _≤_, _<_, min, max};
-ghost use Rattle.report.specs.Tally.{noPapers, withPaper, leastWith, belowWith, Within};
+ghost use Rattle.report.specs.Tally.{noPapers, leastWith, belowWith, totalsWith, withPaper, Within};
 use crate::Mark;
+use crate::Totals;
 
 // 10,000 numbers of 32 bits come to less than 2⁴⁶.
 pub type Total = u64;
 
-// `below` is the first paper, counted from 1, whose T is below the engine's, and 0 as long as there is none.
+// What the papers come to, and the first of them, counted from 1, whose T is below the engine's; 0 as long as there is none.
 pub struct Tally {
-    pub papers: Total,
-    pub pages: Total,
-    pub x: Total,
-    pub y: Total,
-    pub turns: Total,
-    pub least: Total,
-    pub greatest: Total,
-    pub excess: Total,
+    pub totals: Totals,
     pub below: Total,
 }
 
 pub fn no_papers() -> Tally
     ensures { λ r. ⌜ r ≡ noPapers ⌝ }
 {
-    Tally {
+    let totals = Totals {
         papers: 0,
         pages: 0,
         x: 0,
@@ -32,8 +26,9 @@ pub fn no_papers() -> Tally
         least: 0,
         greatest: 0,
         excess: 0,
-        below: 0,
-    }
+        count: 0,
+    };
+    Tally { totals, below: 0 }
 }
 
 fn wide(number: u32) -> Total
@@ -74,46 +69,44 @@ fn excess(m: Mark) -> u32
 }
 
 // The least T: the first paper's own, since there is none before it.
-fn least_with(m: Mark, s: Tally) -> Total
-    ensures { λ r. ⌜ r ≡ leastWith m s ⌝ }
+fn least_with(m: Mark, t: Totals) -> Total
+    ensures { λ r. ⌜ r ≡ leastWith m t ⌝ }
 {
     let turns = wide(m.turns);
-    if s.papers == 0 {
+    if t.papers == 0 {
         turns
     } else {
-        lesser(s.least, turns)
+        lesser(t.least, turns)
     }
 }
 
 // The first paper below its engine: once there is one, that one.
 fn below_with(m: Mark, s: Tally) -> Total
-    requires { ⌜ s .papers < 10000 ⌝ }
+    requires { ⌜ s .totals .papers < 10000 ⌝ }
     ensures { λ r. ⌜ r ≡ belowWith m s ⌝ }
 {
     if 0 < s.below {
         return s.below;
     }
     if m.turns < m.engine {
-        return s.papers + 1;
+        return s.totals.papers + 1;
     }
     0
 }
 
-pub fn with_paper(m: Mark, s: Tally) -> Tally
-    requires { ⌜ (s .papers < 10000) × Within s ⌝ }
-    ensures { λ r. ⌜ (r ≡ withPaper m s) × Within r ⌝ }
+fn totals_with(m: Mark, t: Totals) -> Totals
+    requires { ⌜ (t .papers < 10000) × Within t ⌝ }
+    ensures { λ r. ⌜ (r ≡ totalsWith m t) × Within r ⌝ }
 {
-    let pages = plus(s.pages, m.pages);
-    let x = plus(s.x, m.x);
-    let y = plus(s.y, m.y);
-    let turns = plus(s.turns, m.turns);
-    let more = excess(m);
-    let over = plus(s.excess, more);
-    let least = least_with(m, s);
-    let greatest = greater(s.greatest, wide(m.turns));
-    let below = below_with(m, s);
-    Tally {
-        papers: s.papers + 1,
+    let pages = plus(t.pages, m.pages);
+    let x = plus(t.x, m.x);
+    let y = plus(t.y, m.y);
+    let turns = plus(t.turns, m.turns);
+    let over = plus(t.excess, excess(m));
+    let least = least_with(m, t);
+    let greatest = greater(t.greatest, wide(m.turns));
+    Totals {
+        papers: t.papers + 1,
         pages,
         x,
         y,
@@ -121,6 +114,15 @@ pub fn with_paper(m: Mark, s: Tally) -> Tally
         least,
         greatest,
         excess: over,
-        below,
+        count: t.papers + 1,
     }
+}
+
+pub fn with_paper(m: Mark, s: Tally) -> Tally
+    requires { ⌜ (s .totals .papers < 10000) × Within (s .totals) ⌝ }
+    ensures { λ r. ⌜ (r ≡ withPaper m s) × Within (r .totals) ⌝ }
+{
+    let below = below_with(m, s);
+    let totals = totals_with(m, s.totals);
+    Tally { totals, below }
 }

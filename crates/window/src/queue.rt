@@ -58,7 +58,7 @@ fn drop_passed(words: &[u32], head: usize, tail: usize, low: usize) -> usize
     h
 }
 
-// A line and its cost, or the two ends of a window or of a queue, written as entry `at`.
+// A line and its cost, the two ends of a window or of a queue, or two sums of a line, written as entry `at`.
 pub fn push(words: &mut [u32], at: usize, line: u32, cost: u32)
     requires { ⌜ 2 * at + 2 ≤ length (now words) ⌝ }
     ensures { λ _. ⌜ now (words .exit) ≡ pushed (now (words .entry)) at line cost ⌝ }

@@ -55,12 +55,6 @@ module _ {M : Type 1} {𝓤 : URA M} {H : Heap 𝓤} (𝓜 : Model 𝓤 H) (𝓖
   abbrev c : Clauses 𝓤 report.ended
   c = report.clauses 𝓤 H (𝓖 .A) (𝓜 .mem) (𝓡 .run)
 
-  abbrev cl : Clauses 𝓤 limit.ended
-  cl = limit.clauses 𝓤 H (𝓖 .A) (𝓜 .mem) (𝓡 .run)
-
-  abbrev cn : Clauses 𝓤 none.ended
-  cn = none.clauses 𝓤 H (𝓖 .A) (𝓜 .mem) (𝓡 .run)
-
   abbrev of-marks : walk.Passed W {n = 1} (shrSliceOf (0 ∷ []) tt (plain (λ _. K.the-row)))
   of-marks = record {
     vals = λ κs. slice-vals;
@@ -68,6 +62,12 @@ module _ {M : Type 1} {𝓤 : URA M} {H : Heap 𝓤} (𝓜 : Model 𝓤 H) (𝓖
     copy = λ κs. shr-slice-copy 𝓤 H (𝓖 .A) W (named 0) (κs .0) K.the-row;
     silent = λ k κs x f. refl;
   }
+
+  abbrev cl : Clauses 𝓤 limit.ended
+  cl = limit.clauses 𝓤 H (𝓖 .A) (𝓜 .mem) (𝓡 .run)
+
+  abbrev cn : Clauses 𝓤 none.ended
+  cn = none.clauses 𝓤 H (𝓖 .A) (𝓜 .mem) (𝓡 .run)
 
   module _ (κ : Lft) (q : Share) (s : RefT (List Mark)) (p : Is (turns.Marks κ) s (slice-vals s)) where
     abbrev y : walk.Call W report.ended c
@@ -113,7 +113,7 @@ module _ {M : Type 1} {𝓤 : URA M} {H : Heap 𝓤} (𝓜 : Model 𝓤 H) (𝓖
         move ! (23 ∷ []) $ use1 W (‵ (flft κ q) ⊛ ‵ ftrue) (id⊢ 𝓤 _) $ split ! $
         keep ! (3 ∷ 0 ∷ 15 ∷ 11 ∷ 9 ∷ 7 ∷ 5 ∷ 17 ∷ 21 ∷ 19 ∷ 23 ∷ 13 ∷ 25 ∷ 24 ∷ 22 ∷ 20 ∷ 18 ∷ 16 ∷ 14 ∷ 12 ∷ 10 ∷ 8 ∷ 6 ∷ []) $
         turns.begins 𝓜 𝓖 𝓡 κ q s p l₀ l₁ l₂ l₃ l₄ l₅ l₆ l₇ l₈ l₉
-        (turns.good xs 0 u′ is″ (subst Within (sym (tally-none xs)) none-within))))))))))))))
+        (turns.good xs 0 u′ is″ (subst (λ (t : Tally). Within (t .totals)) (sym (tally-none xs)) none-within))))))))))))))
 
 pub report-on-spec : {M : Type 1} → stated.statement M
 unfolding code.routine tablesOf

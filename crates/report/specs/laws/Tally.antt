@@ -12,19 +12,19 @@ use borrow.Author.Tests.{leb-true, leb-false, lt-ltb}
 use Rattle.model.specs.Gather.{pick, sum}
 use Rattle.report.specs.declared.Mark.{Mark}
 use Rattle.report.specs.Report.{paper, extreme, first, firstBelow, totalsOf, reportOf}
-use Rattle.report.specs.Tally.{tallyOf, noPapers, leastWith, belowWith, withPaper, Within, limitOf, answerOf}
+use Rattle.report.specs.Tally.{tallyOf, noPapers, leastWith, belowWith, totalsWith, withPaper, Within, limitOf, answerOf}
 
 -- The tally of no papers is all zeros.
 pub tally-none : (marks : List Mark) → tallyOf marks 0 ≡ noPapers
 unfolding tallyOf totalsOf firstBelow first sum extreme
 tally-none marks = refl
 
-pub none-within : Within noPapers
-none-within = record { pages = omega arith; x = omega arith; y = omega arith; turns = omega arith; excess = omega arith }
+pub none-within : Within (noPapers .totals)
+none-within = omega arith
 
 -- The tally of one paper more is the tally with that paper.
 pub tally-next : (marks : List Mark) (n : ℕ) → tallyOf marks (suc n) ≡ withPaper (paper marks (suc n)) (tallyOf marks n)
-unfolding tallyOf totalsOf firstBelow first sum extreme withPaper leastWith belowWith
+unfolding tallyOf totalsOf firstBelow first sum extreme totalsWith leastWith belowWith
 tally-next marks zero = simp zero-max
 tally-next marks (suc n) = simp (add-one, eqb·suc-zero)
 

@@ -4,7 +4,7 @@ use mathlib.Core.Path.{sym, ap, _∙_}
 use mathlib.Core.List.{List}
 use lib.ListN.{length}
 use Prim.Native.Nat.{ℕ}
-use borrow.Author.Needs.{needs}
+use ghost.Mode.{_$_}
 use denote.Ref.{now}
 use Rattle.sections.specs.Folding.{startOf}
 use Rattle.sections.specs.Answer.{Size, numbersAfter}
@@ -46,13 +46,5 @@ returns-2 c = simp (← c .before .is-size .ensures, c .if1 .left)
 pub write-numbers-spec : {M : Type 1} → statement M
 write-numbers-spec =
     tie.close
-    (tie.spec
-    (λ c κs. search needs)
-    (λ c κs. search needs)
-    (λ c. search needs)
-    (λ c. search needs)
-    sub-copy-numbers
-    mul-copy-numbers-2
-    copy-numbers-requires
-    returns
-    returns-2)
+    ((λ (a, b, c, d).
+    tie.spec a b c d sub-copy-numbers mul-copy-numbers-2 copy-numbers-requires returns returns-2) $ omega arith)

@@ -68,22 +68,30 @@ module _ {bytes : List ℕ} {g : Galley} {w words : List ℕ} {j : ℕ} (lent : 
       → (window : Window) (i : ℕ) → i ≤ g .text .count
       → Ends (textOf bytes (g .text)) (loadOf g mixed figures) window i → Slidable sums (loadOf g mixed figures) window i
   can-slide {sums} summed mixed b figures floats window i h ends =
-      record { low = from (window .low) (ends .low); high = from (window .high) (ends .high) }
+      let beside = figures-low b figures floats in
+      let spec = lent .sound .specRanged in
+      let load = loadOf g mixed figures in
+      let p = separation-most mixed (g .spec .smin) (omega (arith, spec .smins, spec .smaxs)) in
+      let q = separation-most mixed (g .spec .smax) (spec .smaxs) in
+      record {
+        low = from 0 (load .tight) (load .htmax + 1) (window .low) (omega arith) (omega (arith, beside .tight))
+            (omega (arith, spec .htmaxs)) (ends .low);
+        high = from 1 (load .loose) (load .htmin) (window .high) (omega arith) (omega (arith, beside .loose))
+            (omega (arith, spec .htmins, spec .htmaxs)) (ends .high);
+      }
     where
-      from : (a : ℕ) → a ≤ i → Reachable sums (loadOf g mixed figures) a i
-      from a l =
-          let low = figures-low b figures floats in
-          let spec = lent .sound .specRanged in
-          let p = separation-most mixed (g .spec .smin) (omega (arith, spec .smins, spec .smaxs)) in
-          let q = separation-most mixed (g .spec .smax) (spec .smaxs) in
+      from : (space beside limit a : ℕ) → space ≤ 1 → beside ≤ 1000000000 → limit ≤ 1000000001 → a ≤ i
+          → Reachable sums space beside limit a i
+      from space beside limit a either added limited start =
           record {
-            start = l;
+            start = start;
+            either = either;
             room = omega (arith, summed .room);
-            small = sums-small bytes (g .text) (lent .sound .text) (lent .sound .fewLines) sums (summed .rows) i h;
-            tight = omega (arith, low .tight);
-            loose = omega (arith, low .loose);
-            htmin = omega (arith, spec .htmins, spec .htmaxs);
-            htmax = omega (arith, spec .htmaxs);
+            small = λ k l.
+                sums-small bytes (g .text) (lent .sound .text) (lent .sound .fewLines) sums (summed .rows) space either k
+                (omega arith);
+            added = added;
+            limited = limited;
           }
 
   -- A queue of starts with b figures can be moved on to a window that ends by line i.

@@ -3,9 +3,9 @@ use Prim.Native.Nat.{ℕ, suc, _+_, _-_, _*_, _≤_, _<_}
 use native.Mathlib.Decide.{decLe}
 use native.Mathlib.Omega.{arith}
 use mathlib.Core.Path.{_≡_, sym, ap, _∙_}
-use mathlib.Core.Logic.{_⊎_, inl, inr}
+use mathlib.Core.Logic.{_≢_, _⊎_, inl, inr}
 use mathlib.Core.List.{List}
-use lib.ListN.{length, set, length-set}
+use lib.ListN.{length, getD, set, length-set}
 use lib.Seq.{getD-set-same, getD-set-other}
 use Rattle.places.specs.declared.Start.{Start}
 use Rattle.places.specs.declared.Entry.{Entry}
@@ -19,29 +19,17 @@ module _ (words : List ℕ) (t line cost : ℕ) where
   unfolding pushed
   pushed-length = simp length-set
 
-  pub other-line : (k : ℕ) → ¬ (k ≡ t) → lineAt (pushed words t line cost) k ≡ lineAt words k
+  -- A word of another entry is as it was.
+  other-word : (n : ℕ) → n ≢ 2 * t → n ≢ 2 * t + 1 → getD (pushed words t line cost) n 0 ≡ getD words n 0
   unfolding pushed
-  other-line k h =
-      getD-set-other (set words (2 * t) line) (2 * t + 1) (2 * k) cost 0 (λ e. h (omega arith))
-      ∙ getD-set-other words (2 * t) (2 * k) line 0 (λ e. h (omega arith))
+  other-word n h m =
+      getD-set-other (set words (2 * t) line) (2 * t + 1) n cost 0 m ∙ getD-set-other words (2 * t) n line 0 h
+
+  pub other-line : (k : ℕ) → ¬ (k ≡ t) → lineAt (pushed words t line cost) k ≡ lineAt words k
+  other-line k h = other-word (2 * k) (λ e. h (omega arith)) (λ e. omega arith)
 
   pub other-cost : (k : ℕ) → ¬ (k ≡ t) → costAt (pushed words t line cost) k ≡ costAt words k
-  unfolding pushed
-  other-cost k h =
-      getD-set-other (set words (2 * t) line) (2 * t + 1) (2 * k + 1) cost 0 (λ e. h (omega arith))
-      ∙ getD-set-other words (2 * t) (2 * k + 1) line 0 (λ e. h (omega arith))
-
-  pushed-line : (k : ℕ) → k < t → lineAt (pushed words t line cost) k ≡ lineAt words k
-  unfolding pushed
-  pushed-line k h =
-      getD-set-other (set words (2 * t) line) (2 * t + 1) (2 * k) cost 0 (omega arith)
-      ∙ getD-set-other words (2 * t) (2 * k) line 0 (omega arith)
-
-  pushed-cost : (k : ℕ) → k < t → costAt (pushed words t line cost) k ≡ costAt words k
-  unfolding pushed
-  pushed-cost k h =
-      getD-set-other (set words (2 * t) line) (2 * t + 1) (2 * k + 1) cost 0 (omega arith)
-      ∙ getD-set-other words (2 * t) (2 * k + 1) line 0 (omega arith)
+  other-cost k h = other-word (2 * k + 1) (λ e. omega arith) (λ e. h (omega arith))
 
   -- Entries other than the one pushed are as they were.
   pub pushed-beside : {old : List ℕ} {from to : ℕ} → from ≤ t → t < to → Beside old words from to
@@ -68,46 +56,41 @@ module _ (words : List ℕ) (t line cost : ℕ) where
       let n : length (set words (2 * t) line) ≡ length words = simp length-set in
       getD-set-same (set words (2 * t) line) (2 * t + 1) cost 0 (omega arith)
 
+-- What rises up to the entry before t, and from that one to what is pushed as entry t, rises with it.
+rises-with : (f g : ℕ → ℕ) (head t : ℕ) → ((k : ℕ) → ¬ (k ≡ t) → g k ≡ f k)
+    → ((k : ℕ) → head ≤ k → suc k < t → f k < f (suc k)) → ((k : ℕ) → head ≤ k → suc k ≡ t → f k < g t)
+    → (k : ℕ) → head ≤ k → suc k < t + 1 → g k < g (suc k)
+rises-with f g head t same up last k l m = go (decLe (suc (suc k)) t)
+  where
+    one : g k ≡ f k
+    one = same k (λ e. omega arith)
+
+    go : Dec (suc (suc k) ≤ t) → g k < g (suc k)
+    go (yes p) =
+        let two = same (suc k) (λ e. omega arith) in
+        omega (arith, one, up k l p)
+    go (no p) =
+        let end : suc k ≡ t = omega arith in
+        let two = ap g end in
+        omega (arith, one, last k l end)
+
 -- A reached line pushed after what is no cheaper was dropped: it covers itself and what the dropped ones covered.
 module _ (col : ℕ → Entry) (words : List ℕ) (queue : Queue) (low a x t : ℕ) (r : Start) (here : col a ≡ Least x r)
     (dropped : Dropped words (queue .head) (queue .tail) x t) (room : 2 * t + 2 ≤ length words)
     (h : Held col words queue low a) where
   push-lines : (k : ℕ) → queue .head ≤ k → suc k < t + 1
       → lineAt (pushed words t a x) k < lineAt (pushed words t a x) (suc k)
-  push-lines k l m = go (decLe (suc (suc k)) t)
-    where
-      go : Dec (suc (suc k) ≤ t) → lineAt (pushed words t a x) k < lineAt (pushed words t a x) (suc k)
-      go (yes p) =
-          let to = dropped .to in
-          let rise = h .lines k l (omega arith) in
-          let one = pushed-line words t a x k (omega arith) in
-          let two = pushed-line words t a x (suc k) p in
-          omega arith
-      go (no p) =
-          let to = dropped .to in
-          let last : suc k ≡ t = omega arith in
-          let rise = h .before k l (omega arith) in
-          let one = pushed-line words t a x k (omega arith) in
-          let two = ap (lineAt (pushed words t a x)) last ∙ pushed-own-line words t a x room in
-          omega arith
+  push-lines =
+      rises-with (lineAt words) (lineAt (pushed words t a x)) (queue .head) t (other-line words t a x)
+      (λ k l m. h .lines k l (omega (arith, dropped .to)))
+      (λ k l m. omega (arith, h .before k l (omega (arith, dropped .to)), pushed-own-line words t a x room))
 
   push-costs : (k : ℕ) → queue .head ≤ k → suc k < t + 1
       → costAt (pushed words t a x) k < costAt (pushed words t a x) (suc k)
-  push-costs k l m = go (decLe (suc (suc k)) t)
-    where
-      go : Dec (suc (suc k) ≤ t) → costAt (pushed words t a x) k < costAt (pushed words t a x) (suc k)
-      go (yes p) =
-          let to = dropped .to in
-          let rise = h .costs k l (omega arith) in
-          let one = pushed-cost words t a x k (omega arith) in
-          let two = pushed-cost words t a x (suc k) p in
-          omega arith
-      go (no p) =
-          let last : suc k ≡ t = omega arith in
-          let rise = dropped .cheaper k l last in
-          let one = pushed-cost words t a x k (omega arith) in
-          let two = ap (costAt (pushed words t a x)) last ∙ pushed-own-cost words t a x room in
-          omega arith
+  push-costs =
+      rises-with (costAt words) (costAt (pushed words t a x)) (queue .head) t (other-cost words t a x)
+      (λ k l m. h .costs k l (omega (arith, dropped .to)))
+      (λ k l m. omega (arith, dropped .cheaper k l m, pushed-own-cost words t a x room))
 
   push-before : (k : ℕ) → queue .head ≤ k → k < t + 1 → lineAt (pushed words t a x) k < a + 1
   push-before k l m = go (decLe (suc k) t)
@@ -116,7 +99,7 @@ module _ (col : ℕ → Entry) (words : List ℕ) (queue : Queue) (low a x t : �
       go (yes p) =
           let to = dropped .to in
           let old = h .before k l (omega arith) in
-          let one = pushed-line words t a x k p in
+          let one = other-line words t a x k (λ e. omega arith) in
           omega arith
       go (no p) =
           let last : k ≡ t = omega arith in
@@ -132,8 +115,8 @@ module _ (col : ℕ → Entry) (words : List ℕ) (queue : Queue) (low a x t : �
           let to = dropped .to in
           let old = h .reached k l (omega arith) in (
             old .0,
-            ap col (pushed-line words t a x k p) ∙ old .1
-                ∙ ap (λ (y : ℕ). Least y (old .0)) (sym (pushed-cost words t a x k p)),
+            ap col (other-line words t a x k (λ e. omega arith)) ∙ old .1
+                ∙ ap (λ (y : ℕ). Least y (old .0)) (sym (other-cost words t a x k (λ e. omega arith))),
           )
       go (no p) =
           let last : k ≡ t = omega arith in
@@ -154,8 +137,8 @@ module _ (col : ℕ → Entry) (words : List ℕ) (queue : Queue) (low a x t : �
     where
       go : Dec (suc (old .at) ≤ t) → Cover (pushed words t a x) (tailed queue (t + 1)) k y
       go (yes p) =
-          let line = pushed-line words t a x (old .at) p in
-          let cost = pushed-cost words t a x (old .at) p in
+          let line = other-line words t a x (old .at) (λ e. omega arith) in
+          let cost = other-cost words t a x (old .at) (λ e. omega arith) in
           let later = old .later in
           let cheaper = old .cheaper in
           record { at = old .at; from = old .from; to = omega arith; later = omega arith; cheaper = omega arith }

@@ -10,10 +10,10 @@ use mir.Val.{Val, vptr}
 use base.Logic.{SProp, ent, via, fst∗, emp, id⊢}
 use base.Fml.{Lft, Share, ftrue, flft}
 use prog.Model.{Model}
-use prog.Wp.{Heap, Calls, Loops, WpFn}
+use prog.Wp.{Heap, WpFn}
 use sound.WpLaws.{FmC, fmOf, WpFn-mono}
 use contract.Monad.{fact}
-use contract.Running.{GhostRules, Running, givenOf, tables, tablesOf}
+use contract.Running.{GhostRules, MachineTables, Running, givenOf, tables, tablesOf}
 use types.Kit.{Given, ‵, raw, _⊛_, some, later, _$_, _∵_, !, qed, move, keep, drop, use1, use2, split, join, pick, fsplit, fjoin}
 use types.Kit.{suffices, frame, await, done}
 use types.Run.{enter, alloc1, alloc0, params1, pass1, pass0, from, hop, stop, load, addr, and-then, no-more, assigns, init, look}
@@ -70,11 +70,7 @@ module _ {M : Type 1} {𝓤 : URA M} {H : Heap 𝓤} (𝓜 : Model 𝓤 H) (𝓖
   abbrev W : Given 𝓤 H (𝓖 .A)
   W = givenOf 𝓤 H 𝓜 𝓖
 
-  abbrev C : Calls 𝓤 H
-  C = tables 𝓤 H 𝓜 𝓡 code.env .C
-
-  abbrev Λ : Loops 𝓤 H
-  Λ = tables 𝓤 H 𝓜 𝓡 code.env .Λ
+  open MachineTables (tables 𝓤 H 𝓜 𝓡 code.env) using (C, Λ)
 
   framed : FmC 𝓤 H (W .laws) C
   unfolding tablesOf
@@ -157,11 +153,12 @@ unfolding code.routine tablesOf
 barleychime-report-spec 𝓤 H 𝓜 𝓖 𝓡 =
     let A = 𝓖 .A in
     let 𝓦 : Given 𝓤 H A = W 𝓜 𝓖 𝓡 in
-    let run = WpFn 𝓤 H (C 𝓜 𝓖 𝓡) (Λ 𝓜 𝓖 𝓡) code.function in
-    entered 𝓤 H (tripleOf 𝓤 H A f.signature (f.spec 𝓤 H A (𝓜 .mem) (𝓡 .run))) (C 𝓜 𝓖 𝓡) (Λ 𝓜 𝓖 𝓡) key.name code.function (code.unfolded 𝓤 H 𝓜 𝓡)
+    let 𝓣 = tables 𝓤 H 𝓜 𝓡 code.env in
+    let run = WpFn 𝓤 H (𝓣 .C) (𝓣 .Λ) code.function in
+    entered 𝓤 H (tripleOf 𝓤 H A f.signature (f.spec 𝓤 H A (𝓜 .mem) (𝓡 .run))) (𝓣 .C) (𝓣 .Λ) key.name code.function (code.unfolded 𝓤 H 𝓜 𝓡)
     (walk-meets 𝓤 H A f.ended stayed 𝓦
     (goes-none-slice 𝓤 H A 𝓦 2 (0 ∷ []) tt (plain (λ _. K.the-row)) yes, (goes-gave-ref 𝓤 H A 𝓦 2 1 tt words, tt)) (c 𝓜 𝓖 𝓡)
-    run (WpFn-mono 𝓤 H (𝓦 .laws) (tablesOf 𝓤 H 𝓜 (tables 𝓤 H 𝓜 𝓡 code.env)) code.function)
+    run (WpFn-mono 𝓤 H (𝓦 .laws) (tablesOf 𝓤 H 𝓜 𝓣) code.function)
     (walked 𝓤 H A f.ended stayed (c 𝓜 𝓖 𝓡) run (λ κs. (slice-vals, (ptr-vals, tt)))
     (λ κs. (shr-slice-tells (named 0) (κs .0) K.the-row, (mut-tells (named 1) (κs .1 .0) (words .row κs), tt)))
     (λ κs qs bounds a g are. via 𝓤 _ (fst∗ 𝓤 _ (emp 𝓤)) (goes 𝓜 𝓖 𝓡 (κs .0) (κs .1 .0) (qs .0) (qs .1 .0) (a .0) (are .0) (a .1 .0)))))

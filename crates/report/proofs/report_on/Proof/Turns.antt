@@ -16,8 +16,8 @@ use package.mir.Val.{Val, vint, vptr, vbool}
 use base.Logic.{SProp, ent, guardI, id⊢, emp}
 use base.Fml.{Lft, Share, flft, fat, froom, fdies, fshr-bor}
 use prog.Model.{Model}
-use prog.Wp.{Heap, Env, Calls, Loops, Out, Wp, afterSeq, afterBlock, afterTurn, atReturn}
-use contract.Running.{GhostRules, Running, givenOf, tables}
+use prog.Wp.{Heap, Env, Out, Wp, afterSeq, afterBlock, afterTurn, atReturn}
+use contract.Running.{GhostRules, MachineTables, Running, givenOf, tables}
 use types.Kit.{Given, Item, Sq, runs, ‵, raw, ⋆, anyQ, atRet, _$_, _∵_, !, qed, by, move, keep, use1, join, fjoin, rewrite}
 use types.Part.{whole, sub, look-in}
 use types.Share.{arr-parts}
@@ -39,7 +39,7 @@ use Rattle.byhand.specs.Walk as walk
 use Rattle.byhand.specs.Count.{counted}
 use Rattle.report.specs.declared.Mark.{Mark}
 use Rattle.report.specs.declared.tally.Tally.{Tally}
-use Rattle.report.specs.Report.{paper, unmarked}
+use Rattle.report.specs.Report.{paper, unmarked, totalsOf}
 use Rattle.report.specs.Tally.{tallyOf, withPaper, Within, limitOf, answerOf}
 use Rattle.report.specs.laws.Tally.{tally-next, limit-few, limit-within, answer-report}
 use Rattle.report.proofs.Mark as K
@@ -74,31 +74,27 @@ kvals = LL.vals K.the-type K′.the-laws
 -- What is known of the tally of the first i papers: it fits its words, and its sums have room.
 pub record Good (xs : List Mark) (i : ℕ) : Type 0 where
   pub fits : Is T.the-row (tallyOf xs i) (T′.lowered (tallyOf xs i) ∷ [])
-  pub within : Within (tallyOf xs i)
+  pub within : Within (tallyOf xs i .totals)
 
 -- A tally that a call returned is such a tally, and its machine value is the one that the loop goes on with.
 pub lowers : (s : Tally) (u : Val) → Is T.the-row s (u ∷ []) → u ≡ T′.lowered s
 lowers s u is = ap only (LL.tells T.the-type T′.the-laws s (u ∷ []) is)
 
-pub good : (xs : List Mark) (i : ℕ) (u : Val) → Is T.the-row (tallyOf xs i) (u ∷ []) → Within (tallyOf xs i) → Good xs i
+pub good : (xs : List Mark) (i : ℕ) (u : Val) → Is T.the-row (tallyOf xs i) (u ∷ []) → Within (tallyOf xs i .totals) → Good xs i
 good xs i u is within = record {
   fits = subst (λ (v : Val). Is T.the-row (tallyOf xs i) (v ∷ [])) (lowers (tallyOf xs i) u is) is;
   within = within;
 }
 
-papers : (xs : List Mark) (i : ℕ) → tallyOf xs i .papers ≡ i
-unfolding tallyOf
+papers : (xs : List Mark) (i : ℕ) → tallyOf xs i .totals .papers ≡ i
+unfolding tallyOf totalsOf
 papers xs i = refl
 
 module _ {M : Type 1} {𝓤 : URA M} {H : Heap 𝓤} (𝓜 : Model 𝓤 H) (𝓖 : GhostRules 𝓤 H) (𝓡 : Running 𝓤 H 𝓜) where
   abbrev W : Given 𝓤 H (𝓖 .A)
   W = givenOf 𝓤 H 𝓜 𝓖
 
-  abbrev C : Calls 𝓤 H
-  C = tables 𝓤 H 𝓜 𝓡 code.env .C
-
-  abbrev Λ : Loops 𝓤 H
-  Λ = tables 𝓤 H 𝓜 𝓡 code.env .Λ
+  open MachineTables (tables 𝓤 H 𝓜 𝓡 code.env) using (C, Λ)
 
   abbrev c : Clauses 𝓤 report.ended
   c = report.clauses 𝓤 H (𝓖 .A) (𝓜 .mem) (𝓡 .run)
@@ -106,11 +102,11 @@ module _ {M : Type 1} {𝓤 : URA M} {H : Heap 𝓤} (𝓜 : Model 𝓤 H) (𝓖
   abbrev cs : Clauses 𝓤 step.ended
   cs = step.clauses 𝓤 H (𝓖 .A) (𝓜 .mem) (𝓡 .run)
 
-  abbrev ca : Clauses 𝓤 answer.ended
-  ca = answer.clauses 𝓤 H (𝓖 .A) (𝓜 .mem) (𝓡 .run)
-
   abbrev ys : Mark → Tally → walk.Call W step.ended cs
   ys m s = ((tt, tt, tt, (m, (s, tt)), (kvals m, (T′.lowered s ∷ [], tt))), tt)
+
+  abbrev ca : Clauses 𝓤 answer.ended
+  ca = answer.clauses 𝓤 H (𝓖 .A) (𝓜 .mem) (𝓡 .run)
 
   abbrev ya : ℕ → Tally → walk.Call W answer.ended ca
   ya n s = ((tt, tt, tt, (n, (s, tt)), (uint-vals w64 n, (T′.lowered s ∷ [], tt))), tt)
@@ -166,7 +162,7 @@ module _ {M : Type 1} {𝓤 : URA M} {H : Heap 𝓤} (𝓜 : Model 𝓤 H) (𝓖
           let room : length xs * 20 < 2 ^ 63 = p .0 .1 .1 in
           let far : i * 20 < 2 ^ 64 = omega (arith, inside, room) in
           let next : i + 1 < 2 ^ 64 = omega (arith, inside, room) in
-          let few : t .papers < 10000 = let w = limit-few (length xs) in let e = papers xs i in omega (arith, small, w, e) in
+          let few : t .totals .papers < 10000 = let w = limit-few (length xs) in let e = papers xs i in omega (arith, small, w, e) in
           qed W (At i) ∵ exec ! C Λ E mir.turn-1 (anyQ (afterTurn 𝓤 H X Left)) $
           assigns ! (bin ! (load ! (from ! (stop !)) (look ! 2 refl)) (load ! (from ! (stop !)) (look ! 9 refl)) tt)
           (from ! (stop !)) (init ! 3 refl (tt, tt)) $
@@ -189,7 +185,7 @@ module _ {M : Type 1} {𝓤 : URA M} {H : Heap 𝓤} (𝓜 : Model 𝓤 H) (𝓖
           nothing ! $ owned ! T.the-row (Is T.the-row) (LL.makes T.the-type T′.the-plain 𝓤 H A) t (T′.lowered t ∷ []) (g .fits) $ fjoin ! $
           owned ! K.the-row (Is K.the-row) (LL.makes K.the-type K′.the-plain 𝓤 H A) m (kvals m) is $ fjoin ! $
           walk.calls 𝓜 𝓖 𝓡 code.env step.ended cs ! step-def.routine code.calls-report·tally·with-paper (step-thm.met 𝓤 H 𝓜 𝓖 𝓡) (ys m t)
-          (guardI 𝓤 ((t .papers < 10000) × Within t) (emp 𝓤) (few, g .within)) (λ r. (r ≡ withPaper m t) × Within r) (λ r ws. id⊢ 𝓤 _)
+          (guardI 𝓤 ((t .totals .papers < 10000) × Within (t .totals)) (emp 𝓤) (few, g .within)) (λ r. (r ≡ withPaper m t) × Within (r .totals)) (λ r ws. id⊢ 𝓤 _)
           (and-then ! (load ! (from ! (stop !)) (look ! 7 refl)) (and-then ! (load ! (from ! (stop !)) (look ! 8 refl)) (no-more !)))
           (λ u r e is′.
           let same : r ≡ tallyOf xs (suc i) = e .0 ∙ sym (tally-next xs i) in
@@ -201,7 +197,7 @@ module _ {M : Type 1} {𝓤 : URA M} {H : Heap 𝓤} (𝓜 : Model 𝓤 H) (𝓖
           rewrite ! 4 (λ (j : ℕ). ‵ (fat fullShare word l₄ 0 (vint w64 j))) (add-one i) refl $
           forget ! 5 refl $ forget ! 6 refl $ forget ! 7 refl $ forget ! 8 refl $
           keep ! (3 ∷ 2 ∷ 4 ∷ 5 ∷ 6 ∷ 7 ∷ 8 ∷ 9 ∷ 10 ∷ 11 ∷ 12 ∷ 13 ∷ 14 ∷ 15 ∷ 16 ∷ 17 ∷ 18 ∷ 19 ∷ 20 ∷ 21 ∷ 22 ∷ 23 ∷ 24 ∷ []) $
-          by ! (k (good xs (suc i) u is″ (subst Within same (e .1)))))))
+          by ! (k (good xs (suc i) u is″ (subst (λ (r′ : Tally). Within (r′ .totals)) same (e .1)))))))
 
       -- the last turn leaves the loop, and `answer` is called
       ends : (X : SProp 𝓤) → Good xs n → Turn n X

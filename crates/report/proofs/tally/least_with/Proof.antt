@@ -5,13 +5,12 @@ use Rattle.report.specs.Tally.{leastWith}
 use Rattle.report.proofs.tally.least_with.Statement.{statement}
 use Rattle.report.proofs.tally.least_with.Tie as tie
 
-returns : tie.Need-returns
-unfolding leastWith
-returns c = simp (eq-eqb _ _ (c .if1 .taken), c .before .before .wide .ensures)
-
-returns-2 : tie.Need-returns-2
-unfolding leastWith
-returns-2 c = simp (ne-eqb _ _ (c .before .if1 .left), c .lesser .ensures, c .before .before .before .wide .ensures)
-
 pub least-with-spec : {M : Type 1} → statement M
-least-with-spec = tie.close (tie.spec (λ c κs. search needs) (λ c κs. search needs) returns returns-2)
+unfolding leastWith
+least-with-spec =
+    tie.close
+    (tie.spec
+    (λ c κs. search needs)
+    (λ c κs. search needs)
+    (λ c. simp (eq-eqb _ _ (c .if1 .taken), c .before .before .wide .ensures))
+    (λ c. simp (ne-eqb _ _ (c .before .if1 .left), c .lesser .ensures, c .before .before .before .wide .ensures)))
