@@ -17,7 +17,7 @@ pub fn may_stop(s: &[u8], g: Galley, i: usize, j: usize, c: usize) -> bool
     ensures { λ r. ⌜ r ≡ mayStop (modelOf (now (s .entry)) g) i j c ⌝ }
 {
     let asked = model::page::side_ends(g.spec.sides, g.folio, c) | starts::search::is_full(g, i, j);
-    rules::rules::may_end(s, g.text, i) & rules::rules::is_cited(s, g.figures, asked, i, j)
+    rules::rules::may_close(s, g, i, j) & rules::rules::is_cited(s, g.figures, asked, i, j)
 }
 
 // What a page on side c costs that ends at (i, j), with so many figures waiting: where it ends its leaf and is not the last, the

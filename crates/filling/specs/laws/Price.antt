@@ -8,15 +8,15 @@ use mathlib.Core.List.{List}
 use Rattle.model.specs.Gather.{sum}
 use Rattle.model.specs.Galley.{Sane}
 use Rattle.model.specs.Leaf.{ends}
-use Rattle.model.specs.Rules.{mayEnd, cited}
+use Rattle.model.specs.Rules.{closes, cited}
 use Rattle.theorems.specs.turns.Waiting.{pageCost}
 use Rattle.theorems.specs.pages.Graph.{full}
 use Rattle.theorems.specs.turns.Bounds.{allFloats, dearest}
 use Rattle.galley.specs.declared.Galley.{Galley}
-use Rattle.galley.specs.Model.{textOf, floatsOf, modelOf, sidesIn}
+use Rattle.galley.specs.Model.{floatsOf, modelOf, sidesIn}
 use Rattle.galley.specs.Sound.{Sound}
 use Rattle.rules.specs.Waiting.{waits}
-use Rattle.rules.specs.laws.Two.{closes-two, full-two}
+use Rattle.rules.specs.laws.Two.{full-two}
 use Rattle.rules.specs.laws.Walked.{waiting-two}
 use Rattle.starts.specs.Search.{place, mayStop}
 use Rattle.starts.specs.Asked.{allPlaced}
@@ -25,12 +25,9 @@ use Rattle.filling.specs.Asked.{priceOf}
 module _ (bytes : List ℕ) (g : Galley) (i j c : ℕ) where
   -- Rules 14 and 17.
   pub may-stop-two : mayStop (modelOf bytes g) i j c
-      ≡ (mayEnd (textOf bytes (g .text)) i && cited (modelOf bytes g) c (allPlaced g i j) (place i j))
+      ≡ (closes (modelOf bytes g) (place i j) && cited (modelOf bytes g) c (allPlaced g i j) (place i j))
   unfolding mayStop full
-  may-stop-two =
-      let e = closes-two bytes g i j in
-      let f = full-two bytes g i j in
-      rw (e, f)
+  may-stop-two = rw (full-two bytes g i j)
 
   -- The price, by two tests: whether the page is the last, and whether it ends its leaf.
   pub price-two : Sane (modelOf bytes g) → (n : ℕ) → n ≡ waits (floatsOf bytes (g .figures)) i j → (last turns : Bool)

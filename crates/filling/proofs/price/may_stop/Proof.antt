@@ -14,7 +14,7 @@ returns c =
       may-stop-two (now (a .s)) (a .g) (a .i) (a .j) (a .c),
       cited-two (now (a .s)) (a .g) (a .c) (allPlaced (a .g) (a .i) (a .j)) (a .i) (a .j),
       c .is-cited .ensures,
-      c .before .may-end .ensures,
+      c .before .may-close .ensures,
       c .before .before .is-full .ensures,
       c .before .before .before .side-ends .ensures,
     )
