@@ -8,7 +8,7 @@ ghost use lib.Dec.{leb, ltb};
 ghost use Rattle.model.specs.Gather.{implies};
 ghost use Rattle.model.specs.Rules.{forward, mayEnd, closes, floor, cited};
 ghost use Rattle.model.specs.Answers.{counted};
-ghost use Rattle.galley.specs.Model.{textOf, floatsOf, modelOf};
+ghost use Rattle.galley.specs.Model.{streamOf, legalOf, floatsOf, modelOf};
 ghost use Rattle.galley.specs.Sound.{SoundStream, Sound};
 ghost use Rattle.rules.specs.Parts.{faultFrom, startFault};
 use galley::Galley;
@@ -30,23 +30,23 @@ fn is_forward(g: Galley, a: usize, b: usize, i: usize, j: usize) -> bool
     (((a <= i) & (i <= g.text.count)) & ((b <= j) & (j <= g.figures.count))) & ((a < i) | (b < j))
 }
 
-// A page may end before the first line, after the last, or in a space that allows it.
-fn may_end(s: &[u8], text: Stream, i: usize) -> bool
-    requires { ⌜ SoundStream (now s) text ⌝ }
-    ensures { λ r. ⌜ r ≡ mayEnd (textOf (now (s .entry)) text) i ⌝ }
+// 14, for one stream: a page may end before its first block, after its last, or in a space that allows it.
+fn may_end(s: &[u8], stream: Stream, k: usize) -> bool
+    requires { ⌜ SoundStream (now s) stream ⌝ }
+    ensures { λ r. ⌜ ((cite : ℕ → ℕ) → r ≡ mayEnd (streamOf (now (s .entry)) stream (legalOf (now (s .entry)) stream) cite) k) ⌝ }
 {
-    if (0 < i) & (i < text.count) {
-        return blocks::field(s, text, i, galley::LEGAL) == 1;
+    if (0 < k) & (k < stream.count) {
+        return blocks::is_legal(s, stream, k);
     }
     true
 }
 
-// 14: a page may end where every stream lets it end; any figure does.
+// 14: a page may end where every stream lets it end.
 pub fn may_close(s: &[u8], g: Galley, i: usize, j: usize) -> bool
     requires { ⌜ Sound (now s) g ⌝ }
     ensures { λ r. ⌜ r ≡ closes (modelOf (now (s .entry)) g) (i ∷ j ∷ []) ⌝ }
 {
-    may_end(s, g.text, i)
+    may_end(s, g.text, i) & may_end(s, g.figures, j)
 }
 
 // 17, for one stream of floats: where it is asked, the last float placed is cited by a line already placed.
