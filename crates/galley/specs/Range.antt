@@ -1,12 +1,10 @@
 -- The ranges that number 3 guards: document 01, "The galley file".
 use Prim.Native.Nat.{_≤_}
-use mathlib.Core.Bool.{Bool, true, _&&_}
+use mathlib.Core.Bool.{Bool, _&&_}
 use lib.Dec.{leb}
 use Rattle.galley.specs.declared.Spec.{Spec}
 use Rattle.galley.specs.declared.Block.{Block}
 use Rattle.galley.specs.declared.Line.{Line}
-use Rattle.galley.specs.declared.Record.{Record}
-use Rattle.galley.specs.declared.Record.the-variants as found
 
 -- Least heights do not pass greatest ones, sides is 1 or 2, and every field keeps to its limit.
 unfoldable pub specInRange : Spec → Bool
@@ -26,16 +24,8 @@ unfoldable pub blockInRange : Block → Bool
 blockInRange b = leb (b .height) 100000 && leb (b .least) (b .most) && leb (b .most) 100000
 
 -- So do a line's, and its last field is 0 or 1.
-unfoldable pub lineInRange : Line → Bool
+abbrev pub lineInRange : Line → Bool
 lineInRange l = blockInRange (l .block) && leb (l .legal) 1
-
--- Whether what a record's fields say is in range; a figure's citation is tested where its place is known.
-unfoldable pub inRange : Record → Bool
-inRange (found.Spec g) = specInRange g
-inRange (found.Line l) = lineInRange l
-inRange (found.Figure f) = blockInRange (f .block)
-inRange found.End = true
-inRange (found.Refused number place) = true
 
 -- The same as inequalities: a specification in range.
 pub record SpecRanged (g : Spec) : Type 0 where

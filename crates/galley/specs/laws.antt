@@ -1,9 +1,13 @@
 pub mod Pick
 pub mod Range
-pub mod Record
 pub mod Place
-pub mod Whole
-pub mod Blocks
+pub mod Record
+pub mod Reached
+pub mod Step
 pub mod Sound
+pub mod Underway
 pub mod Write
+pub mod Stand
+pub mod Each
 pub mod RoundTrip
+pub mod Back

@@ -43,7 +43,6 @@ block-ranged b h =
     record { heights = leb-true _ _ (c .0); leasts = leb-true _ _ (c .1); mosts = leb-true _ _ (l .1) }
 
 pub line-ranged : (l : Line) → lineInRange l ≡ true → LineRanged l
-unfolding lineInRange
 line-ranged l h =
     let a = and-true (blockInRange (l .block)) (leb (l .legal) 1) h in
     record { block = block-ranged (l .block) (a .0); legals = leb-true _ _ (a .1) }
@@ -73,5 +72,4 @@ ranged-block b r =
     )
 
 pub ranged-line : (l : Line) → LineRanged l → lineInRange l ≡ true
-unfolding lineInRange
 ranged-line l r = simp (ranged-block (l .block) (r .block), le-leb (l .legal) 1 (r .legals))

@@ -1,197 +1,225 @@
 -- Reading what was written gives the values back.
-use Prim.Native.Nat.{ℕ, zero, suc, _+_, _-_, _*_, _≤_, _<_}
+use Prim.Native.Nat.{ℕ, zero, suc, _+_, _-_, _*_, _≤_}
 use native.Mathlib.Omega.{arith}
-use mathlib.Core.Bool.{true, false}
+use native.Mathlib.Nat.{eq-or-lt-of-le}
+use mathlib.Core.Logic.{⊎-elim}
 use mathlib.Core.List.{List, [], _∷_, _++_, append-assoc}
 use mathlib.Core.Path.{_≡_, refl, sym, ap, _∙_}
-use lib.ListN.{length, getD, length-append}
-use borrow.Author.Tests.{le-ltb, lt-leb, ne-eqb}
-use Rattle.galley.specs.Range.{BlockRanged, LineRanged}
-use Rattle.galley.specs.Place.{misplaced, tooEarly, tooMany, unfit}
-use Rattle.galley.specs.Record.{lineOf, figureOf, sizeOf, recordAt}
-use Rattle.galley.specs.Whole.{cited, ended, settled, recordIn, dueAt, galleyWith, blocks, opened, galleyOf}
-use Rattle.galley.specs.Block.{offset}
+use lib.ListN.{length, length-append}
+use lib.Dec.{eqb}
+use Rattle.model.specs.Gather.{pick}
+use Rattle.galley.specs.Place.{line, figure, GS, TL, FG, ED, kindOf}
+use Rattle.galley.specs.Whole.{beginning, settled, readFrom, galleyOf}
 use Rattle.galley.specs.Write.{specBytes, lineBytes, figureBytes, each, bytesOf, LinesRanged, FiguresRanged, InRange}
-use Rattle.galley.specs.laws.Record.{Found, found-at}
-use Rattle.galley.specs.laws.Blocks.{blocks-line, blocks-figure, blocks-end}
-use Rattle.galley.specs.laws.Write.{spec-after, line-after, figure-after, end-after, line-fields, figure-fields}
+use Rattle.galley.specs.laws.Place.{Fits}
+use Rattle.galley.specs.laws.Reached.{Counted, counted-more}
+use Rattle.galley.specs.laws.Each.{each-append, each-length, Goes, each-run}
+use Rattle.galley.specs.laws.Stand.{spec-step, line-step, figure-step, end-step}
+use Rattle.galley.specs.laws.Underway.{read-on}
+use Rattle.galley.specs.laws.Write.{spec-after, line-after, figure-after, end-after}
 use Rattle.galley.specs.declared.Spec.{Spec}
 use Rattle.galley.specs.declared.Line.{Line}
 use Rattle.galley.specs.declared.Figure.{Figure}
 use Rattle.galley.specs.declared.Galley.{Galley}
-use Rattle.galley.specs.declared.Record.the-variants as found
 use Rattle.galley.specs.declared.Reading.the-variants as reads
+use Rattle.galley.specs.declared.Sofar.{Sofar}
 
--- A specification at the start is in its place.
-spec-in : (bytes : List ℕ) (g : Spec) → recordAt bytes 0 ≡ found.Spec g → recordIn bytes 0 false 0 0 0 ≡ found.Spec g
-unfolding recordIn settled unfit misplaced tooEarly tooMany Found sizeOf
-spec-in bytes g e =
-    let h = rw e at (found-at bytes 0) in
-    simp (le-ltb (length bytes - 0) 2 (omega (arith, h .there)), h .marked, e)
+-- The galley of so many lines, from an offset on, and so many figures after them.
+abbrev pub galleyWith : Spec → ℕ → ℕ → ℕ → Galley
+galleyWith spec first lines figures =
+    record {
+      spec = spec;
+      text = record { first = first; count = lines };
+      figures = record { first = first + lines * 18; count = figures };
+    }
 
--- A line that is read before line 4,001 and before any figure is in its place.
-line-in : (bytes : List ℕ) (at lines last : ℕ) (l : Line) → recordAt bytes at ≡ found.Line l → lines < 4000
-    → recordIn bytes at true lines 0 last ≡ found.Line l
-unfolding recordIn settled unfit misplaced tooEarly tooMany Found sizeOf
-line-in bytes at lines last l e few =
-    let h = rw e at (found-at bytes at) in
-    simp (le-ltb (length bytes - at) 2 (omega (arith, h .there)), h .marked, lt-leb 4000 lines few, e)
+-- So many blocks of a stage were read, of as many as there are: the next one is due.
+record Come (g : Galley) (earliest stage due read left total : ℕ) (so : Sofar) : Type 0 where
+  galley : so .galley ≡ g
+  low : earliest ≤ so .stage
+  high : so .stage ≤ stage
+  counted : Counted stage read so
+  at : so .at ≡ due
+  sum : read + left ≡ total
 
--- A figure after a line, rightly cited, is in its place.
-figure-in : (bytes : List ℕ) (at lines figures last : ℕ) (f : Figure) → recordAt bytes at ≡ found.Figure f
-    → 1 ≤ lines → figures < 200 → 1 ≤ f .cite → f .cite ≤ lines → last ≤ f .cite
-    → recordIn bytes at true lines figures last ≡ found.Figure f
-unfolding recordIn settled cited unfit misplaced tooEarly tooMany Found sizeOf
-figure-in bytes at lines figures last f e some few one within grows =
-    let h = rw e at (found-at bytes at) in
-    simp (
-      le-ltb (length bytes - at) 2 (omega (arith, h .there)),
-      h .marked,
-      ne-eqb lines 0 (λ z. omega arith),
-      lt-leb 200 figures few,
-      e,
-      ne-eqb (f .cite) 0 (λ z. omega arith),
-      le-ltb lines (f .cite) within,
-      le-ltb (f .cite) last grows,
-    )
+-- With one more of the stage there is one more.
+module _ {g : Galley} {earliest stage due read left total : ℕ} {so : Sofar} (c : Come g earliest stage due read (suc left) total so) where
+  come-more : pick (eqb stage (so .stage)) (so .count + 1) 1 ≡ read + 1
+  come-more = counted-more stage read so (c .counted) (c .high)
 
--- The end after a line, with nothing after it, is in its place.
-end-in : (bytes : List ℕ) (at lines figures last : ℕ) → recordAt bytes at ≡ found.End → 1 ≤ lines → at + 2 ≡ length bytes
-    → recordIn bytes at true lines figures last ≡ found.End
-unfolding recordIn settled ended unfit misplaced tooEarly tooMany Found
-end-in bytes at lines figures last e some whole =
-    let h = rw e at (found-at bytes at) in
-    simp (
-      le-ltb (length bytes - at) 2 (omega arith),
-      h .0,
-      ne-eqb lines 0 (λ z. omega arith),
-      e,
-      le-ltb 2 (length bytes - at) (omega arith),
-    )
+  come-on : (after : Galley) (farther : ℕ) (next : Sofar) → earliest ≤ stage → next .galley ≡ after → next .stage ≡ stage
+      → next .count ≡ read + 1 → next .at ≡ farther → Come after earliest stage farther (read + 1) left total next
+  come-on after farther next low galley same count at =
+      record {
+        galley = galley;
+        low = omega arith;
+        high = omega arith;
+        counted = record { here = λ _. count; before = λ z. absurd (omega arith) };
+        at = at;
+        sum = omega (arith, c .sum);
+      }
 
--- After the lines that were written there are so many lines more.
-lines-run : (bytes before rest : List ℕ) (ls : List Line) (spec : Spec) (first lines total : ℕ)
-    → bytes ≡ before ++ each lineBytes ls rest → length before ≡ first + lines * 18 → total ≡ lines + length ls → total ≤ 4000
-    → LinesRanged ls
-    → blocks bytes spec first (4201 - (lines + 0)) lines 0 0 ≡ blocks bytes spec first (4201 - (total + 0)) total 0 0
-unfolding each LinesRanged
-lines-run bytes before rest [] spec first lines total e at t few r =
-    let same : total ≡ lines = omega arith in rw same
-lines-run bytes before rest (l ∷ ls) spec first lines total e at t few r =
-    let due : length before ≡ dueAt first lines 0 = omega arith in
-    let here : recordAt bytes (dueAt first lines 0) ≡ found.Line l
-    = rw (← due, e) (line-after before (each lineBytes ls rest) l (r .0)) in
-    let long : length (before ++ lineBytes l []) ≡ first + (lines + 1) * 18 = simp length-append (omega arith) in
-    blocks-line bytes spec first lines 0 0 (omega arith) l (line-in bytes (dueAt first lines 0) lines 0 l here (omega arith))
-    ∙ lines-run bytes (before ++ lineBytes l []) rest ls spec first (lines + 1) total
-    (e ∙ sym (append-assoc before (lineBytes l []) (each lineBytes ls rest))) long (omega arith) few (r .1)
+-- These lines are still to come.
+record LinesLeft (spec : Spec) (first total : ℕ) (ls : List Line) (so : Sofar) : Type 0 where
+  read : ℕ
+  come : Come (galleyWith spec first read 0) 1 line (first + read * 18) read (length ls) total so
+  last : so .last ≡ 0
+  ranged : LinesRanged ls
 
--- After the figures that were written comes the end.
-figures-run : (bytes before : List ℕ) (fs : List Figure) (spec : Spec) (first lines figures last total : ℕ)
-    → bytes ≡ before ++ each figureBytes fs (69 ∷ 68 ∷ []) → length before ≡ first + lines * 18 + figures * 18
-    → total ≡ figures + length fs → total ≤ 200 → 1 ≤ lines → lines ≤ 4000 → FiguresRanged lines last fs
-    → blocks bytes spec first (4201 - (lines + figures)) lines figures last
-    ≡ reads.Galley (galleyWith spec first lines total)
-unfolding each FiguresRanged
-figures-run bytes before [] spec first lines figures last total e at t few some most r =
-    let same : total ≡ figures = omega arith in
-    let here : recordAt bytes (dueAt first lines figures) ≡ found.End = rw (← at, e) (end-after before []) in
+-- These figures are still to come.
+record FiguresLeft (spec : Spec) (first lines total : ℕ) (fs : List Figure) (so : Sofar) : Type 0 where
+  read : ℕ
+  come : Come (galleyWith spec first lines read) line figure (first + lines * 18 + read * 18) read (length fs) total so
+  ranged : FiguresRanged lines (so .last) fs
+
+lines-go : (bytes before rest : List ℕ) (spec : Spec) (first total : ℕ) (l : Line) (ls : List Line) (so : Sofar) → total ≤ 4000
+    → bytes ≡ before ++ lineBytes l rest → length before ≡ so .at → LinesLeft spec first total (l ∷ ls) so
+    → Goes bytes (LinesLeft spec first total) so ls
+unfolding LinesRanged kindOf
+lines-go bytes before rest spec first total l ls so few e at left =
+    let c = left .come in
+    let here = rw (← e, at) at (line-after before rest l (left .ranged .0)) in
+    let fits : Fits (kindOf TL) so
+    = record { soon = c .low; late = c .high; timely = λ l. absurd (omega arith); few = λ s. let n = c .counted .here s in omega arith } in
+    let far : so .at + 18 ≡ first + (left .read + 1) * 18 = omega (arith, c .at) in
+    record {
+      next = _;
+      on = line-step bytes so l here fits;
+      left =
+          record {
+            read = left .read + 1;
+            come = come-on c _ _ _ (omega arith) (rw (c .galley, come-more c, far)) refl (come-more c) far;
+            last = left .last;
+            ranged = left .ranged .1;
+          };
+      due = refl;
+    }
+
+figures-go : (bytes before rest : List ℕ) (spec : Spec) (first lines total : ℕ) (f : Figure) (fs : List Figure) (so : Sofar)
+    → 1 ≤ lines → lines ≤ 4000 → total ≤ 200
+    → bytes ≡ before ++ figureBytes f rest → length before ≡ so .at → FiguresLeft spec first lines total (f ∷ fs) so
+    → Goes bytes (FiguresLeft spec first lines total) so fs
+unfolding FiguresRanged kindOf
+figures-go bytes before rest spec first lines total f fs so some many few e at left =
+    let c = left .come in
+    let r = left .ranged in
+    let here = rw (← e, at) at (figure-after before rest f (r .0) (omega (arith, r .2))) in
+    let same : so .galley .text .count ≡ lines = ap (λ (g : Galley). g .text .count) (c .galley) in
+    let fits : Fits (kindOf FG) so
+    = record { soon = omega (arith, c .low); late = c .high; timely = λ l. omega arith; few = λ s. let n = c .counted .here s in omega arith } in
+    let far : so .at + 18 ≡ first + lines * 18 + (left .read + 1) * 18 = omega (arith, c .at) in
+    record {
+      next = _;
+      on = figure-step bytes so f here fits (r .1) (omega (arith, r .2)) (r .3);
+      left =
+          record {
+            read = left .read + 1;
+            come = come-on c _ _ _ (omega arith) (rw (c .galley, come-more c)) refl (come-more c) far;
+            ranged = r .4;
+          };
+      due = refl;
+    }
+
+-- The end comes after the last figure.
+end-read : (bytes before : List ℕ) (spec : Spec) (first lines total turns : ℕ) (so : Sofar) → 1 ≤ lines → 1 ≤ turns
+    → bytes ≡ before ++ 69 ∷ 68 ∷ [] → length before ≡ first + lines * 18 + total * 18
+    → FiguresLeft spec first lines total [] so → readFrom bytes turns so ≡ reads.Galley (galleyWith spec first lines total)
+unfolding readFrom settled kindOf
+end-read bytes before spec first lines total zero so some one e at left = absurd (omega arith)
+end-read bytes before spec first lines total (suc turns) so some one e at left =
+    let c = left .come in
+    let all : left .read ≡ total = omega (arith, c .sum) in
+    let here : length before ≡ so .at = at ∙ rw (← all) (sym (c .at)) in
     let long : length bytes ≡ length before + 2 = ap length e ∙ simp length-append (omega arith) in
-    rw same
-    (blocks-end bytes spec first lines figures last (omega arith)
-    (end-in bytes (dueAt first lines figures) lines figures last here some (omega arith)))
-figures-run bytes before (f ∷ fs) spec first lines figures last total e at t few some most r =
-    let here : recordAt bytes (dueAt first lines figures) ≡ found.Figure f
-    = rw (← at, e) (figure-after before (each figureBytes fs (69 ∷ 68 ∷ [])) f (r .0) (omega (arith, r .2))) in
-    let long : length (before ++ figureBytes f []) ≡ first + lines * 18 + (figures + 1) * 18
-    = simp length-append (omega arith) in
-    blocks-figure bytes spec first lines figures last (omega arith) f
-    (figure-in bytes (dueAt first lines figures) lines figures last f here some (omega arith) (r .1) (r .2) (r .3))
-    ∙ figures-run bytes (before ++ figureBytes f []) fs spec first lines (figures + 1) (f .cite) total
-    (e ∙ sym (append-assoc before (figureBytes f []) (each figureBytes fs (69 ∷ 68 ∷ [])))) long (omega arith) few some most (r .4)
+    let same : so .galley .text .count ≡ lines = ap (λ (g : Galley). g .text .count) (c .galley) in
+    let fits : Fits (kindOf ED) so
+    = record { soon = omega (arith, c .low); late = c .high; timely = λ l. omega arith; few = λ s. absurd (omega (arith, c .high)) } in
+    rw (end-step bytes so (rw (← here, e) (end-after before [])) fits (omega arith)) (ap reads.Galley (c .galley ∙ rw all))
 
-each-append : {A : Type 0} (write : A → List ℕ → List ℕ)
-    → ((a : A) (rest more : List ℕ) → write a rest ++ more ≡ write a (rest ++ more))
-    → (rs : List A) (rest : List ℕ) → each write rs [] ++ rest ≡ each write rs rest
-unfolding each
-each-append write joins [] rest = refl
-each-append write joins (r ∷ rs) rest = joins r (each write rs []) rest ∙ ap (write r) (each-append write joins rs rest)
-
-lines-length : (ls : List Line) → length (each lineBytes ls []) ≡ length ls * 18
-unfolding each
-lines-length [] = refl
-lines-length (l ∷ ls) = let h = lines-length ls in omega arith
+-- After the last line the figures are still to come.
+figures-due : (spec : Spec) (first lines total : ℕ) (fs : List Figure) (so : Sofar) → 1 ≤ lines → length fs ≡ total
+    → FiguresRanged lines 0 fs → LinesLeft spec first lines [] so → FiguresLeft spec first lines total fs so
+figures-due spec first lines total fs so some all ranged left =
+    let c = left .come in
+    let read : left .read ≡ lines = omega (arith, c .sum) in
+    let stage : line ≤ so .stage
+    = ⊎-elim (λ e. omega arith) (λ less. absurd (omega (arith, c .counted .before less))) (eq-or-lt-of-le (c .high)) in
+    record {
+      read = 0;
+      come =
+          record {
+            galley = c .galley ∙ rw read;
+            low = stage;
+            high = omega (arith, c .high);
+            counted = record { here = λ e. absurd (omega (arith, c .high)); before = λ z. refl };
+            at = omega (arith, c .at);
+            sum = omega arith;
+          };
+      ranged = rw (left .last) ranged;
+    }
 
 -- The galley that values make.
 abbrev pub galleyFrom : Spec → List Line → List Figure → Galley
 galleyFrom g ls fs = galleyWith g 30 (length ls) (length fs)
 
+pub lines-length : (ls : List Line) (rest : List ℕ) → length (each lineBytes ls rest) ≡ length ls * 18 + length rest
+lines-length = each-length lineBytes (λ l rest. omega arith)
+
+figures-length : (fs : List Figure) (rest : List ℕ) → length (each figureBytes fs rest) ≡ length fs * 18 + length rest
+figures-length = each-length figureBytes (λ f rest. omega arith)
+
+-- From line 1 on, all that was written is read.
+blocks-read : (bytes before : List ℕ) (spec : Spec) (ls : List Line) (fs : List Figure) (turns : ℕ) (so : Sofar) → InRange spec ls fs
+    → bytes ≡ before ++ each lineBytes ls (each figureBytes fs (69 ∷ 68 ∷ [])) → length before ≡ so .at
+    → length ls + (length fs + 1) ≤ turns → LinesLeft spec (length before) (length ls) ls so
+    → readFrom bytes turns so ≡ reads.Galley (galleyWith spec (length before) (length ls) (length fs))
+blocks-read bytes before spec ls fs turns so r e at enough left =
+    let first = length before in
+    let lines = length ls in
+    let ends : List ℕ = 69 ∷ 68 ∷ [] in
+    let figures : List ℕ = each figureBytes fs ends in
+    let text : List ℕ = before ++ each lineBytes ls [] in
+    let whole : List ℕ = text ++ each figureBytes fs [] in
+    let split : bytes ≡ text ++ figures
+    = e ∙ ap (before ++_) (sym (each-append lineBytes (λ a rest more. refl) ls figures)) ∙ sym (append-assoc before (each lineBytes ls []) figures) in
+    let all : bytes ≡ whole ++ ends
+    = split ∙ ap (text ++_) (sym (each-append figureBytes (λ a rest more. refl) fs ends)) ∙ sym (append-assoc text (each figureBytes fs []) ends) in
+    let long : length text ≡ first + lines * 18 = simp length-append (omega (arith, lines-length ls [])) in
+    let longer : length whole ≡ first + lines * 18 + length fs * 18
+    = simp length-append (omega (arith, lines-length ls [], figures-length fs [])) in
+    each-run lineBytes bytes (LinesLeft spec first lines) (λ l. refl) (λ l rest. refl)
+    (λ before rest l more so e at left. lines-go bytes before rest spec first lines l more so (r .fewLines) e at left)
+    before figures ls (length fs + 1) turns so _ e at enough left
+    (λ turns so enough left.
+    each-run figureBytes bytes (FiguresLeft spec first lines (length fs)) (λ f. refl) (λ f rest. refl)
+    (λ before rest f more so e at left.
+    figures-go bytes before rest spec first lines (length fs) f more so (r .some) (r .fewLines) (r .fewFigures) e at left)
+    text ends fs 1 turns so _ split (omega (arith, left .come .at, left .come .sum)) enough
+    (figures-due spec first lines (length fs) fs so (r .some) refl (r .figures) left)
+    (λ turns so enough left. end-read bytes whole spec first lines (length fs) turns so (r .some) enough all longer left))
+
 -- What was written for values in range reads without refusal, as many lines and figures as there are.
 pub round-trip : (g : Spec) (ls : List Line) (fs : List Figure) → InRange g ls fs
     → galleyOf (bytesOf g ls fs) ≡ reads.Galley (galleyFrom g ls fs)
-unfolding galleyOf opened bytesOf
+unfolding galleyOf bytesOf kindOf
 round-trip g ls fs r =
-    let end : List ℕ = each figureBytes fs (69 ∷ 68 ∷ []) in
     let bytes = bytesOf g ls fs in
-    let before = specBytes g (each lineBytes ls []) in
-    let split : bytes ≡ before ++ end = ap (specBytes g) (sym (each-append lineBytes (λ a rest more. refl) ls end)) in
-    let long : length before ≡ 30 + length ls * 18 + 0 * 18 = let h = lines-length ls in omega arith in
-    ap (opened bytes) (spec-in bytes g (spec-after [] (each lineBytes ls end) g (r .spec)))
-    ∙ lines-run bytes (specBytes g []) end ls g 30 0 (length ls) refl (omega arith) (omega arith) (r .fewLines) (r .lines)
-    ∙ figures-run bytes before fs g 30 (length ls) 0 0 (length fs) split long (omega arith) (r .fewFigures) (r .some)
-    (r .fewLines) (r .figures)
-
-lines-ranged : (ls : List Line) (k : ℕ) (d : Line) → LinesRanged ls → k < length ls → LineRanged (getD ls k d)
-unfolding LinesRanged
-lines-ranged [] k d r h = absurd (omega arith)
-lines-ranged (l ∷ ls) zero d r h = r .0
-lines-ranged (l ∷ ls) (suc k) d r h = lines-ranged ls k d (r .1) (omega arith)
-
-figures-ranged : (m last : ℕ) (fs : List Figure) (k : ℕ) (d : Figure) → m ≤ 4000 → FiguresRanged m last fs → k < length fs
-    → BlockRanged (getD fs k d .block) × (getD fs k d .cite ≤ 4000)
-unfolding FiguresRanged
-figures-ranged m last [] k d few r h = absurd (omega arith)
-figures-ranged m last (f ∷ fs) zero d few r h = (r .0, omega (arith, r .2))
-figures-ranged m last (f ∷ fs) (suc k) d few r h = figures-ranged m (f .cite) fs k d few (r .4) (omega arith)
-
--- Record k + 1 of those that were written is read where its number says.
-module _ {A : Type 0} (write : A → List ℕ → List ℕ) (read : List ℕ → ℕ → A) (Fine : A → Type 0)
-    (long : (a : A) → length (write a []) ≡ 18) (joins : (a : A) (rest : List ℕ) → write a [] ++ rest ≡ write a rest)
-    (back : (before rest : List ℕ) (a : A) → Fine a → read (before ++ write a rest) (length before) ≡ a) where
-  each-at : (bytes before rest : List ℕ) (rs : List A) → bytes ≡ before ++ each write rs rest
-      → (k : ℕ) → k < length rs → (d : A) → Fine (getD rs k d) → read bytes (length before + k * 18) ≡ getD rs k d
-  unfolding each
-  each-at bytes before rest [] e k h d fine = absurd (omega arith)
-  each-at bytes before rest (r ∷ rs) e zero h d fine =
-      let here : length before + 0 * 18 ≡ length before = omega arith in
-      rw (here, e) (back before (each write rs rest) r fine)
-  each-at bytes before rest (r ∷ rs) e (suc k) h d fine =
-      let size = long r in
-      let here : length before + suc k * 18 ≡ length (before ++ write r []) + k * 18 = simp length-append (omega arith) in
-      rw here
-      (each-at bytes (before ++ write r []) rest rs
-      (e ∙ ap (before ++_) (sym (joins r (each write rs rest))) ∙ sym (append-assoc before (write r []) (each write rs rest))) k (omega arith) d fine)
-
--- Each line that was written is read back.
-pub line-back : (g : Spec) (ls : List Line) (fs : List Figure) → InRange g ls fs → (k : ℕ) → k < length ls → (d : Line)
-    → lineOf (bytesOf g ls fs) (offset (galleyFrom g ls fs .text) (k + 1)) ≡ getD ls k d
-unfolding bytesOf
-line-back g ls fs r k h d =
-    let here : 30 + (k + 1 - 1) * 18 ≡ length (specBytes g []) + k * 18 = omega arith in
-    rw here
-    (each-at lineBytes lineOf LineRanged (λ l. refl) (λ l rest. refl) line-fields (bytesOf g ls fs) (specBytes g [])
-    (each figureBytes fs (69 ∷ 68 ∷ [])) ls refl k h d (lines-ranged ls k d (r .lines) h))
-
--- Each figure that was written is read back.
-pub figure-back : (g : Spec) (ls : List Line) (fs : List Figure) → InRange g ls fs → (k : ℕ) → k < length fs → (d : Figure)
-    → figureOf (bytesOf g ls fs) (offset (galleyFrom g ls fs .figures) (k + 1)) ≡ getD fs k d
-unfolding bytesOf
-figure-back g ls fs r k h d =
-    let end : List ℕ = each figureBytes fs (69 ∷ 68 ∷ []) in
-    let before = specBytes g (each lineBytes ls []) in
-    let split : bytesOf g ls fs ≡ before ++ end = ap (specBytes g) (sym (each-append lineBytes (λ a rest more. refl) ls end)) in
-    let here : 30 + length ls * 18 + (k + 1 - 1) * 18 ≡ length before + k * 18 = let t = lines-length ls in omega arith in
-    rw here
-    (each-at figureBytes figureOf (λ f. BlockRanged (f .block) × (f .cite ≤ 4000)) (λ f. refl) (λ f rest. refl)
-    (λ before rest f fine. figure-fields before rest f (fine .0) (fine .1)) (bytesOf g ls fs) before (69 ∷ 68 ∷ []) fs split k h d
-    (figures-ranged (length ls) 0 fs k d (r .fewLines) (r .figures) h))
+    let fits : Fits (kindOf GS) beginning
+    = record { soon = omega arith; late = omega arith; timely = λ l. absurd (omega arith); few = λ e. absurd (omega arith) } in
+    read-on bytes (length bytes) beginning _ (spec-step bytes beginning g (spec-after [] _ g (r .spec)) fits)
+    ∙ blocks-read bytes (specBytes g []) g ls fs (length bytes) _ r refl refl
+    (omega (arith, lines-length ls (each figureBytes fs (69 ∷ 68 ∷ [])), figures-length fs (69 ∷ 68 ∷ [])))
+    (record {
+      read = 0;
+      come =
+          record {
+            galley = refl;
+            low = omega arith;
+            high = omega arith;
+            counted = record { here = λ e. absurd (omega arith); before = λ l. refl };
+            at = omega arith;
+            sum = omega arith;
+          };
+      last = refl;
+      ranged = r .lines;
+    })
