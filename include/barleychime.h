@@ -14,6 +14,16 @@
  * A galley has m lines (1 to 4,000) and n figures (0 to 200). A page list has two words a page: the lines placed so far and
  * the figures placed so far. A word is 32 bits in the machine's own byte order; the galley's bytes are the same everywhere.
  *
+ * A galley's records, in this order; each has a mark of two ASCII bytes and then its fields, of 4 bytes each, unsigned, the most
+ * significant first. Lengths are in hundredths of a point.
+ *   GS  30 bytes  the page specification: htMin, htMax, sMin, sMax, sides (1 or 2), alpha, beta
+ *   FO   6 bytes  the folio of the first page, 1 to 9,999; the record may be absent, and the folio is then 1
+ *   TL  18 bytes  a line: height, least and greatest space after it, 1 if a page may end in that space, else 0
+ *   FG  18 bytes  a figure: height, least and greatest space after it, the number of the line that cites it, from 1
+ *   ED   2 bytes  the end
+ * Double-sided (sides 2), an even folio and the next one face each other on a spread, so the first folio decides on spreads and
+ * turns. Pages are counted from 1 all the same, in page lists, answers and places.
+ *
  * Refusals: the call returns the number, answer[0] is the number, answer[1] the place, the rest of the answer is 0.
  *
  * The galley's writer can mend these. Place: byte offset of the record's mark, or where one was due; for 8, of what follows.
@@ -63,7 +73,7 @@
 #define BARLEYCHIME_MOST_LIST_WORDS BARLEYCHIME_LIST_WORDS(4000, 200)
 
 /* Bytes of the longest galley. Whatever is longer is refused, and its first bytes, one more than these, decide how. */
-#define BARLEYCHIME_LONGEST_GALLEY ((size_t)30 + 4200 * 18 + 2)
+#define BARLEYCHIME_LONGEST_GALLEY ((size_t)30 + 6 + 4200 * 18 + 2)
 
 /* Bytes of stack that a call takes below the frame of its caller, at most: either call, and marking alone. They are what the
  * archive's machine code takes, rounded up; the tests compare them. Making needs 4,096 bytes more where the dynamic linker
@@ -78,7 +88,7 @@ enum {
     BARLEYCHIME_PLACE = 1,  /* 0, or the refusal's place */
     BARLEYCHIME_PAGES = 2,  /* p: pages */
     BARLEYCHIME_X = 3,      /* pages, or spreads, between citations and their figures, summed over the figures */
-    BARLEYCHIME_Y = 4,      /* turns from the first page to the last */
+    BARLEYCHIME_Y = 4,      /* turns from the first page to the last: pages, or spreads, between them */
     BARLEYCHIME_TURNS = 5   /* T = alpha * X + beta * Y */
 };
 

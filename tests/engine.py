@@ -1,5 +1,6 @@
 """The C interface of the engine, for every test that calls it: the one place where its functions are declared."""
 import ctypes
+import os
 import pathlib
 import subprocess
 
@@ -12,6 +13,12 @@ def proved(crate):
     """The archive of a crate, proved and compiled."""
     subprocess.run(['rt', 'staticlib', crate], cwd=ROOT, check=True, stdout=subprocess.DEVNULL, stderr=subprocess.DEVNULL)
     return ROOT / 'target' / 'staticlib' / f'lib{crate}.a'
+
+
+def archive():
+    """The archive that is tested: the one that BARLEYCHIME_LIB names, else the proved one."""
+    named = os.environ.get('BARLEYCHIME_LIB')
+    return pathlib.Path(named).resolve() if named else proved('barleychime')
 
 
 def load(archive, folder=None):

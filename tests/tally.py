@@ -25,9 +25,9 @@ class Tally:
             self.refusals.add(answer[1])
         return answer
 
-    def kind(self, name):
-        """Counts an answer by its kind, so that the test can ask whether it has met enough of each."""
-        self.kinds[name] += 1
+    def kind(self, *names):
+        """Counts an answer by its kinds, so that the test can ask whether it has met enough of each."""
+        self.kinds.update(names)
 
     def enough(self, kinds, least):
         for kind in kinds:

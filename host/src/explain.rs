@@ -2,7 +2,7 @@
 
 use crate::engine::{Desk, Measure, Refusal};
 use crate::galley::Galley;
-use crate::page::{spread, Page};
+use crate::page::{folio, spread, Page};
 use crate::record::Record;
 use crate::refusal::{mender, sentence};
 use crate::text::field_at_fault;
@@ -56,9 +56,10 @@ pub fn refused_galley(bytes: &[u8], refusal: Refusal) -> String {
 fn opening(galley: &Galley) -> String {
     let spec = &galley.spec;
     format!(
-        "galley: {}, {}; height {} to {}, separation {} to {}; {}; alpha {}, beta {}\n",
+        "galley: {}, {}{}; height {} to {}, separation {} to {}; {}; alpha {}, beta {}\n",
         counted(galley.lines.len(), "line"),
         counted(galley.figures.len(), "figure"),
+        if galley.folio == 1 { String::new() } else { format!("; the first folio is {}", galley.folio) },
         spec.ht_min,
         spec.ht_max,
         spec.s_min,
@@ -70,7 +71,7 @@ fn opening(galley: &Galley) -> String {
 }
 
 fn page_in_words(galley: &Galley, pages: &[Page], page: &Page) -> String {
-    let mut text = format!("page {}, {}: ", page.number, spread_in_words(galley, page.number));
+    let mut text = format!("{}, {}: ", numbered(galley, page.number), spread_in_words(galley, page.number));
     if !page.is_sound(galley) {
         return text + &format!("from {:?} to {:?}\n", page.start, page.end);
     }
@@ -88,11 +89,19 @@ fn page_in_words(galley: &Galley, pages: &[Page], page: &Page) -> String {
     text
 }
 
+/// A page with its number, and with its folio where that is another.
+fn numbered(galley: &Galley, page: usize) -> String {
+    match folio(galley, page) {
+        same if same == page => format!("page {page}"),
+        folio => format!("page {page}, folio {folio}"),
+    }
+}
+
 fn spread_in_words(galley: &Galley, page: usize) -> String {
-    match (galley.spec.double_sided, page % 2) {
+    match (galley.spec.double_sided, folio(galley, page) % 2) {
         (false, _) => "a spread by itself".into(),
-        (true, 0) => format!("spread {}, left", spread(true, page)),
-        (true, _) => format!("spread {}, right", spread(true, page)),
+        (true, 0) => format!("spread {}, left", spread(galley, page)),
+        (true, _) => format!("spread {}, right", spread(galley, page)),
     }
 }
 
@@ -112,14 +121,13 @@ fn range(kind: &str, before: usize, last: usize) -> Option<String> {
 
 /// The turns that a figure costs: from the spread of its citation to its own.
 fn figure_in_words(galley: &Galley, pages: &[Page], page: &Page, figure: usize) -> String {
-    let double_sided = galley.spec.double_sided;
     let citation = galley.figures[figure - 1].citation;
     let cited_on = pages.iter().find(|page| page.end.0 >= citation).map(|page| page.number);
     let opening = format!("    figure {figure}, cited by line {citation}");
     let Some(cited_on) = cited_on else {
         return format!("{opening}, which no page places\n");
     };
-    let (there, here) = (spread(double_sided, cited_on), spread(double_sided, page.number));
+    let (there, here) = (spread(galley, cited_on), spread(galley, page.number));
     let cost = match here.checked_sub(there) {
         None => "before its citation".into(),
         Some(0) if cited_on == page.number => "the same page, no turn".into(),
@@ -129,7 +137,7 @@ fn figure_in_words(galley: &Galley, pages: &[Page], page: &Page, figure: usize) 
             format!("{}, costs {alpha}·{turns} = {}", counted(turns, "turn"), alpha * turns as u64)
         }
     };
-    format!("{opening} on page {cited_on}: {cost}\n")
+    format!("{opening} on {}: {cost}\n", numbered(galley, cited_on))
 }
 
 /// The numbers by which the page breaks the rule.

@@ -31,6 +31,8 @@ pub struct Figure {
 
 pub struct Galley {
     pub spec: Spec,
+    /// The folio of page 1.
+    pub folio: usize,
     pub lines: Vec<Line>,
     pub figures: Vec<Figure>,
 }
@@ -39,11 +41,12 @@ impl Galley {
     /// The galley in these bytes, if they are records in their order. The engine is to be asked first: it judges them.
     pub fn decode(bytes: &[u8]) -> Option<Galley> {
         let (first, mut rest) = Record::take(bytes)?;
-        let (mut lines, mut figures) = (Vec::new(), Vec::new());
+        let (mut folio, mut lines, mut figures) = (1, Vec::new(), Vec::new());
         loop {
             let (record, after) = Record::take(rest)?;
             rest = after;
             match (record.kind.mark, record.fields.as_slice()) {
+                ("FO", &[stated]) => folio = stated as usize,
                 ("TL", &[height, least, most, end]) => {
                     lines.push(Line { block: Block { height, least, most }, page_end: end == 1 })
                 }
@@ -54,7 +57,7 @@ impl Galley {
                 _ => return None,
             }
         }
-        Some(Galley { spec: spec_of(&first.fields)?, lines, figures })
+        Some(Galley { spec: spec_of(&first.fields)?, folio, lines, figures })
     }
 }
 

@@ -42,7 +42,8 @@ pub const EXPLAIN: &str = "\
 barleychime explain GALLEY LIST
 
 Says page by page what it holds, its heights and those that are asked, its spread, and the turns that each figure costs.
-For a refused list it says which page breaks which rule, with the numbers. Heights are in hundredths of a point.
+For a refused list it says which page breaks which rule, with the numbers. Heights are in hundredths of a point. Pages are
+counted from 1; where the galley opens on another folio, each page is named with its folio too.
 ";
 
 pub const PACK: &str = "\
@@ -51,11 +52,12 @@ barleychime pack TEXT > GALLEY
 Writes a galley file from a text with one record a line; `#` opens a comment. Lengths are in hundredths of a point.
 
   GS htMin htMax sMin sMax sides alpha beta    page heights, separation of text and figures, 1 or 2 sides, weights
+  FO folio                                     the folio of the first page, 1 to 9,999; without this record it is 1
   TL height least most end                     a line, the space after it, 1 if a page may end there (else 0)
   FG height least most line                    a figure, the space after it, the line that cites it (from 1)
   ED                                           the end
 
-First GS, then all lines, then all figures. Nothing is written if the galley would be refused.
+First GS, then FO if there is one, then all lines, then all figures. Nothing is written if the galley would be refused.
 ";
 
 pub const UNPACK: &str = "\

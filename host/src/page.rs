@@ -54,10 +54,15 @@ fn heights<'a>(blocks: impl Iterator<Item = &'a Block>) -> (u64, u64) {
     (tight, loose)
 }
 
-/// The spread of page q in double-sided work; single-sided, each page is one by itself.
-pub fn spread(double_sided: bool, page: usize) -> usize {
-    if double_sided {
-        page / 2 + 1
+/// The folio of page q: pages are counted from 1, folios from the galley's first.
+pub fn folio(galley: &Galley, page: usize) -> usize {
+    galley.folio + page - 1
+}
+
+/// The spread of page q in double-sided work, which goes by folio; single-sided, each page is one by itself.
+pub fn spread(galley: &Galley, page: usize) -> usize {
+    if galley.spec.double_sided {
+        folio(galley, page) / 2 + 1
     } else {
         page
     }

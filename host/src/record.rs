@@ -8,12 +8,16 @@ pub struct Kind {
 }
 
 pub const SPEC: Kind = Kind { mark: "GS", fields: &["htMin", "htMax", "sMin", "sMax", "sides", "alpha", "beta"] };
+pub const FOLIO: Kind = Kind { mark: "FO", fields: &["folio"] };
 pub const LINE: Kind = Kind { mark: "TL", fields: &["height", "least space", "greatest space", "page end"] };
 pub const FIGURE: Kind = Kind { mark: "FG", fields: &["height", "least space", "greatest space", "citation"] };
 pub const END: Kind = Kind { mark: "ED", fields: &[] };
 
+/// All of them, in the order in which they come.
+pub const KINDS: [&Kind; 5] = [&SPEC, &FOLIO, &LINE, &FIGURE, &END];
+
 pub fn kind_of(mark: &[u8]) -> Option<&'static Kind> {
-    [&SPEC, &LINE, &FIGURE, &END].into_iter().find(|kind| kind.mark.as_bytes() == mark)
+    KINDS.into_iter().find(|kind| kind.mark.as_bytes() == mark)
 }
 
 #[derive(Clone, Debug, PartialEq, Eq)]
@@ -46,6 +50,7 @@ impl Record {
             ("GS", &[_, ht_max, _, s_max, ..]) => {
                 vec![(0, ht_max), (1, LONGEST), (0, s_max), (0, LONGEST), (1, 2), (0, 1_000), (0, 1_000)]
             }
+            ("FO", _) => vec![(1, 9_999)],
             ("TL", &[_, _, most, _]) => vec![(0, LONGEST), (0, most), (0, LONGEST), (0, 1)],
             ("FG", &[_, _, most, _]) => vec![(0, LONGEST), (0, most), (0, LONGEST)],
             _ => vec![],

@@ -1,8 +1,8 @@
-//! Galleys as text, one record a line: `GS 30 30 0 0 1 1 1`, `TL 10 0 0 1`, `FG 20 0 0 1`, `ED`; `#` opens a comment.
+//! Galleys as text, one record a line: `GS 30 30 0 0 1 1 1`, `FO 38`, `TL 10 0 0 1`, `FG 20 0 0 1`, `ED`; `#` opens a comment.
 
 use crate::engine::{self, Refusal};
 use crate::list::{shown, whole_number};
-use crate::record::{kind_of, Record};
+use crate::record::{kind_of, Record, KINDS};
 use crate::refusal;
 
 /// A galley packed from text: its bytes, and for each record where it begins and the line that it comes from.
@@ -36,7 +36,8 @@ pub fn pack(text: &str) -> Result<Packed, String> {
 
 fn record_of(words: &[&str]) -> Result<Record, String> {
     let Some(kind) = kind_of(words[0].as_bytes()) else {
-        return Err(format!("mark: {} is none of GS, TL, FG, ED", shown(words[0])));
+        let marks = KINDS.map(|kind| kind.mark).join(", ");
+        return Err(format!("mark: {} is none of {marks}", shown(words[0])));
     };
     let mut fields = Vec::new();
     for (at, name) in kind.fields.iter().enumerate() {

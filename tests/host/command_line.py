@@ -151,7 +151,7 @@ def full_size(tally, command, folder):
     spec = Spec(50_000, 55_000, 1_600, 2_200, 2, 1, 1)
     lines = tuple(Line(1_200, 0, 20 + 600 * (k % 5 == 0), int(k % 5 > 1)) for k in range(1, 4_001))
     figures = tuple(Figure(9_000 + 1_000 * (k % 13), 1_000, 1_400, 20 * k) for k in range(1, 201))
-    largest = Galley(spec, (lines, figures))
+    largest = Galley(spec, (lines, figures), 9_999)
     data = write(largest)
     path = file(folder, 'largest.galley', data)
     status, output, remarks = command.text('make', path)
@@ -162,10 +162,10 @@ def full_size(tally, command, folder):
     status, text, _ = command.text('explain', path, '-', given=output.encode())
     tally.same('explained', (status, text.endswith('no list has fewer turns\n')), (0, True))
     open_end = data[:-2]
-    for name, after, due in [('no end', b'', 'R 1 75630'), ('half a mark', b'E', 'R 1 75630'),
-                             ('a byte', b'ED?', 'R 8 75632'), ('many bytes', b'ED' + bytes(100_000), 'R 8 75632'),
-                             ('an unknown mark', b'??', 'R 2 75630'), ('a line', open_end[30:48], 'R 2 75630'),
-                             ('figure 201', open_end[-18:], 'R 4 75630'), ('half of it', b'FG\0', 'R 4 75630')]:
+    for name, after, due in [('no end', b'', 'R 1 75636'), ('half a mark', b'E', 'R 1 75636'),
+                             ('a byte', b'ED?', 'R 8 75638'), ('many bytes', b'ED' + bytes(100_000), 'R 8 75638'),
+                             ('an unknown mark', b'??', 'R 2 75636'), ('a line', open_end[36:54], 'R 2 75636'),
+                             ('figure 201', open_end[-18:], 'R 4 75636'), ('half of it', b'FG\0', 'R 4 75636')]:
         status, output, _ = command.text('make', '-', given=open_end + after)
         tally.same(f'the longest galley with {name}', (status, output), (1, due + '\n'))
     tally.group('command: full size')

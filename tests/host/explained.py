@@ -1,4 +1,4 @@
-"""What `explain` says, against the reference: heights, spreads, turns of each figure, and the numbers that break a rule."""
+"""What `explain` says, against the reference: folios, spreads, heights, turns of figures, and the numbers that break a rule."""
 
 import random
 import re
@@ -6,9 +6,9 @@ import re
 from reference import marking, sample, search
 from reference.galley import write
 
-PAGE = re.compile(r'page (\d+), (?:spread (\d+), (left|right)|a spread by itself): ')
+PAGE = re.compile(r'^page (\d+)(?:, folio (\d+))?, (?:spread (\d+), (left|right)|a spread by itself): ', re.M)
 HEIGHT = re.compile(r'    height (\d+) to (\d+); ')
-FIGURE = re.compile(r'    figure (\d+), cited by line (\d+) on page (\d+): '
+FIGURE = re.compile(r'    figure (\d+), cited by line (\d+) on page (\d+)(?:, folio (\d+))?: '
                     r'(?:(\d+) turns?, costs (\d+)·\d+ = (\d+)|the same )')
 
 
@@ -16,19 +16,32 @@ def listed(galley, words):
     return ''.join(' '.join(map(str, end)) + '\n' for end in marking.places(galley, words)).encode()
 
 
+def folio(galley, page):
+    """The folio as it is told: only where it is not the page's number."""
+    return '' if galley.folio == 1 else str(galley.folio + page - 1)
+
+
+def heading(galley, page):
+    """Number, folio, spread and side of a page, as they are told."""
+    side = ('left', 'right')[(galley.folio + page - 1) % 2]
+    spread = (str(marking.leaf(2, galley.folio, page)), side) if galley.spec.sides == 2 else ('', '')
+    return (str(page), folio(galley, page), *spread)
+
+
 def accepted(galley, words, text):
     """Whether every number in the text is the reference's."""
     ends, spec = marking.places(galley, words), galley.spec
     starts = [galley.nothing, *ends[:-1]]
     pages, heights, figures = PAGE.findall(text), HEIGHT.findall(text), FIGURE.findall(text)
-    spreads = [('', '') if spec.sides == 1 else (str(q // 2 + 1), ('left', 'right')[q % 2]) for q in range(1, len(ends) + 1)]
-    turns = sum(int(figure[3] or 0) for figure in figures)
+    turns = sum(int(figure[4] or 0) for figure in figures)
     _, p, x, y, t = marking.mark(galley, words)
-    return (pages == [(str(q), *spread) for q, spread in enumerate(spreads, 1)]
+    return (pages == [heading(galley, q) for q in range(1, len(ends) + 1)]
+            and ('the first folio is' in text) == (galley.folio != 1)
+            and all(figure[3] == folio(galley, int(figure[2])) for figure in figures)
             and heights == [(str(marking.tightest(galley, *page)), str(marking.loosest(galley, *page)))
                             for page in zip(starts, ends)]
             and [int(figure[0]) for figure in figures] == list(range(1, len(galley.figures) + 1))
-            and turns == x and sum(int(figure[5] or 0) for figure in figures) == spec.alpha * x
+            and turns == x and sum(int(figure[6] or 0) for figure in figures) == spec.alpha * x
             and f'X {x}, Y {y}, T = alpha·X + beta·Y = {spec.alpha}·{x} + {spec.beta}·{y} = {t}\n' in text)
 
 

@@ -59,7 +59,7 @@ def text_of(words):
 def lists_of_galleys(tally, command, folder):
     """Random galleys, each with lists of every kind: what the reference marks and makes decides the report."""
     rng, kinds = random.Random(12), collections.Counter()
-    for galley in sample.galleys(120, 60, 7, 4):
+    for galley in sample.galleys(120, 90, 7, 4):
         best = search.best_by_table(galley)
         lists = [sample.page_list(rng, galley) for _ in range(4)]
         lists += [best, *(sample.mutated(rng, best) for _ in range(8))] if best else []

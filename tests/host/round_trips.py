@@ -3,18 +3,26 @@
 from reference import cases, refusals, sample
 from reference.galley import STREAMS, Figure, Galley, Line, Spec, write
 
-GOOD = 'GS 30 30 0 0 1 1 1\nTL 10 0 0 1\n'
+SPEC, LINE = 'GS 30 30 0 0 1 1 1\n', 'TL 10 0 0 1\n'
+GOOD = SPEC + LINE
 
 # Text, exit status, and what the remark must say.
 ERRORS = [
     ('GX 1\n', 2, 'line 1: mark: `GX`'),
-    ('gs 30 30 0 0 1 1 1\n', 2, 'line 1: mark'),
+    ('gs 30 30 0 0 1 1 1\n', 2, 'line 1: mark: `gs` is none of GS, FO, TL, FG, ED'),
     ('GS 30 30 0 0 1 1\n', 2, 'line 1: field 7 (beta): missing'),
     ('# one\nGS 30 x 0 0 1 1 1\n', 2, 'line 2: field 2 (htMax): `x`'),
     ('GS 30 30 0 0 1 1 1 1\n', 2, 'line 1: `1` stands after'),
     (GOOD + 'TL -1 0 0 1\nED\n', 2, 'line 3: field 1 (height): `-1`'),
     (GOOD + 'TL 4294967296 0 0 1\nED\n', 2, 'line 3: field 1 (height)'),
     (GOOD + 'ED 1\n', 2, 'line 3: `1` stands after'),
+    (SPEC + 'FO\n' + LINE + 'ED\n', 2, 'line 2: field 1 (folio): missing'),
+    (SPEC + 'FO 38 39\n' + LINE + 'ED\n', 2, 'line 2: `39` stands after'),
+    (SPEC + 'FO 0\n' + LINE + 'ED\n', 1, 'line 2: field 1 (folio): 0, but it must be 1 to 9999'),
+    (SPEC + 'FO 10000\n' + LINE + 'ED\n', 1, 'line 2: field 1 (folio): 10000, but it must be 1 to 9999'),
+    (SPEC + 'FO 38\nFO 38\n' + LINE + 'ED\n', 1, 'line 3: at byte 36: a mark is unknown, or known but out of place'),
+    ('FO 38\n' + GOOD + 'ED\n', 1, 'line 1: at byte 0: a mark is unknown'),
+    (GOOD + 'FO 38\nED\n', 1, 'line 3: at byte 48: a mark is unknown'),
     (GOOD, 1, 'after line 2: '),
     ('', 1, 'after line 0: '),
     ('TL 10 0 0 1\nED\n', 1, 'line 1: '),
@@ -36,13 +44,14 @@ ERRORS = [
 
 def text_of(galley):
     blocks = [(stream.mark.decode(), *block) for stream, held in zip(STREAMS, galley.streams) for block in held]
-    records = [('GS', *galley.spec), *blocks, ('ED',)]
+    folio = [] if galley.stated is None else [('FO', galley.stated)]
+    records = [('GS', *galley.spec), *folio, *blocks, ('ED',)]
     return ''.join(' '.join(map(str, record)) + '\n' for record in records)
 
 
 def there_and_back(tally, command, root, folder):
     edge = Spec(100_000, 100_000, 100_000, 100_000, 2, 1_000, 1_000)
-    largest = Galley(edge, (4_000 * (Line(100_000, 100_000, 100_000, 0),), 200 * (Figure(100_000, 0, 100_000, 4_000),)))
+    largest = Galley(edge, (4_000 * (Line(100_000, 100_000, 100_000, 0),), 200 * (Figure(100_000, 0, 100_000, 4_000),)), 9_999)
     for galley in [cases.A, cases.C, largest, *sample.galleys(105, 60, 12, 6)]:
         data, text = write(galley), text_of(galley)
         tally.same(f'unpack {galley}', command.text('unpack', '-', given=data), (0, text, ''))

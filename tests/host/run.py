@@ -4,7 +4,11 @@ BARLEYCHIME_LIB names the archive; without it target/staticlib/libbarleychime.a 
 'N passed, M failed'. To try the tests themselves without the proved archive, over the plain Rust of bench/native:
 
     cargo build --release --offline --manifest-path tests/host/standin/Cargo.toml
-    BARLEYCHIME_LIB=tests/host/standin/target/release/libbarleychime.a python3 tests/host/run.py
+    export BARLEYCHIME_LIB=tests/host/standin/target/release/libbarleychime.a
+    export BARLEYCHIME_PROGRAM=tests/host/standin/target/release/paginate
+    python3 tests/host/run.py
+
+The tests of marking, making, report and program take them too.
 """
 
 import os

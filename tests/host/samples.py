@@ -3,13 +3,14 @@
 from reference import marking, search
 from reference.galley import read
 
+CASES = {'a': 'case-a', 'c': 'case-c', 'left': 'left-hand'}  # a galley as text, by what its lists' names begin with
 SMALL = 6_000  # bytes of a galley that the reference makes in a moment
 
 
 def run(tally, command, root, folder):
     lists, expected = root / 'samples/lists', root / 'tests/host/expected'
-    for case in 'ac':
-        _, data, _ = command.run('pack', root / f'samples/case-{case}.txt')
+    for case, text in CASES.items():
+        _, data, _ = command.run('pack', root / f'samples/{text}.txt')
         galley = folder / f'{case}.galley'
         galley.write_bytes(data)
         texts = {'make': command.text('make', galley)[1]}
@@ -19,6 +20,10 @@ def run(tally, command, root, folder):
         for name, text in texts.items():
             name = name if case in name.split('-') else f'{name}-{case}'
             tally.same(name, text, (expected / f'{name}.txt').read_text())
+    due = [f'mark-{path.stem}.txt' for path in lists.iterdir()]
+    tally.same('every list has its answer', sorted(path.name for path in expected.glob('mark-*')), sorted(due))
+    texts = sorted(path.stem for path in (root / 'samples').glob('*.txt'))
+    tally.same('every text has its answer', texts, sorted(CASES.values()))
     tally.group('samples')
     for path in sorted((root / 'samples/real').glob('*.galley')):
         real(tally, command, path)

@@ -1,5 +1,6 @@
 """The proved making, compiled, against a search of all lists in Python: the answer, the list, and every word of lent memory.
-Galleys with too many lists are compared with the reference's table instead. The last line is 'N passed, M failed'."""
+Galleys with too many lists are compared with the reference's table instead. Kinds of galleys, of answers and of choices among
+lists are counted, so that one that is missing fails. The last line is 'N passed, M failed'."""
 import itertools
 import pathlib
 import random
@@ -7,11 +8,12 @@ import sys
 
 sys.path.insert(0, str(pathlib.Path(__file__).resolve().parents[1]))
 import engine  # noqa: E402
+import kinds  # noqa: E402
 import windows  # noqa: E402
 from reference import cases, galley, marking, sample, search  # noqa: E402
 from tally import Tally  # noqa: E402
 
-GALLEYS, LARGER, FINE, LONG, SEED = 2_400, 60, 1_400, 100, 20261116
+GALLEYS, LEFT, LARGER, FINE, LONG, SEED = 2_400, 300, 60, 1_400, 100, 20261116
 MOST_LISTS = 2_000
 
 
@@ -56,10 +58,11 @@ def largest(make, sides):
 
 
 def main():
-    make = engine.Engine(engine.load(engine.proved('barleychime'))).make
+    make = engine.Engine(engine.load(engine.archive())).make
     tally, refilled, rng = Tally(), 0, random.Random(SEED)
 
     def try_all(name, g, best):
+        tally.kind(*kinds.of_galley(g), *(kinds.of_list(g, best) if best else ()))
         for work, pages in lendings(rng, g):
             expected = due(g, best, work, pages)
             tally.kind(expected[0][1] if expected[0][0] == 'refused' else f'sides {g.spec.sides}')
@@ -68,8 +71,10 @@ def main():
     for name, g, words, counts in cases.MADE:
         if len(g.lines) < 50:
             try_all(name, g, words)
-    for number, g in enumerate(sample.galleys(SEED, GALLEYS, 5, 3)):
-        try_all(f'galley {number}', g, search.best(g))
+    for number, g in enumerate([*sample.galleys(SEED, GALLEYS, 5, 3), *sample.left_galleys(SEED + 5, LEFT)]):
+        lists = list(search.every(g))
+        tally.kind(*kinds.of_choice(g, lists))
+        try_all(f'galley {number}', g, search.first(g, lists))
     for number, g in enumerate(sample.galleys(SEED + 1, LARGER, 40, 8)):
         try_all(f'larger galley {number}', g, search.best_by_table(g))
     for name, g, best in long(LONG):
@@ -89,6 +94,7 @@ def main():
             tally.kind('refused galley')
             tally.same(f'broken galley {number}', make(broken, work, pages), (read, work, pages))
     tally.enough((9, 10, 11, 'sides 1', 'sides 2', 'refused galley'), 20)
+    tally.enough((*kinds.OF_GALLEYS, *kinds.OF_LISTS, *kinds.OF_CHOICES), 20)
     tally.same('windows that empty and refill', refilled >= 1_000, True)
     print('makings by answer:', dict(sorted(tally.kinds.items(), key=str)), f'and {refilled} windows that empty and refill')
     return tally.end()

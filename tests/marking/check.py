@@ -1,5 +1,5 @@
 """The proved marking, compiled, against the reference in Python: document 01's cases, and random galleys with lists of
-every kind. The last line is 'N passed, M failed'."""
+every kind, counted, so that a kind that is missing fails. The last line is 'N passed, M failed'."""
 import pathlib
 import random
 import sys
@@ -7,6 +7,7 @@ import time
 
 sys.path.insert(0, str(pathlib.Path(__file__).resolve().parents[1]))
 import engine  # noqa: E402
+import kinds  # noqa: E402
 from reference import cases, galley, marking, sample, search  # noqa: E402
 from tally import Tally  # noqa: E402
 
@@ -14,34 +15,36 @@ GALLEYS, SEED = 2_400, 20261115
 
 
 def lists_for(rng, g):
-    """At least a dozen lists: the best if there is one, lists that never fall, slips, lists cut short, and any words."""
-    best = search.best(g)
-    valid = [best] if best else []
+    """At least a dozen lists: valid ones if there are any, the best among them, lists that never fall, slips, lists cut short,
+    and any words."""
+    every = list(search.every(g))
+    valid = [search.first(g, every), *rng.sample(every, min(2, len(every)))] if every else []
     rising = [sample.page_list(rng, g) for _ in range(4)]
     slipped = [sample.mutated(rng, rng.choice(valid + rising)) for _ in range(5)]
-    cut = [words[:-2] for words in valid + rising[:1]]
+    cut = [words[:-2] for words in valid[:1] + rising[:1]]
     highest = engine.HIGHEST
     any_words = [tuple(rng.choice((0, 1, 2, 3, highest, rng.randint(0, highest))) for _ in range(rng.randint(0, 8)))]
     return valid + rising + slipped + cut + any_words + [(highest,) * rng.choice((2, 4))]
 
 
 def main():
-    mark = engine.Engine(engine.load(engine.proved('barleychime'))).mark
+    mark = engine.Engine(engine.load(engine.archive())).mark
     tally = Tally()
     for name, g, words, expected in cases.MARKED + cases.MARKED_LONG:
         tally.same(name, mark(galley.write(g), words), expected)
     rng = random.Random(SEED)
     for number, g in enumerate(sample.galleys(SEED, GALLEYS, 5, 3)):
         data = galley.write(g)
+        tally.kind(*kinds.of_galley(g))
         for words in lists_for(rng, g):
             expected = marking.mark(g, words)
-            tally.kind(expected[1] if expected[0] == 'refused' else f'sides {g.spec.sides}')
+            tally.kind(*[expected[1]] if expected[0] == 'refused' else [f'sides {g.spec.sides}', *kinds.of_list(g, words)])
             tally.same(f'galley {number}, {words}', mark(data, words), expected)
         broken = sample.broken(rng, data)
         read = galley.read(broken)
         if read[0] == 'refused':
             tally.same(f'galley {number}, broken', mark(broken, (1, 0)), read)
-    tally.enough([*range(12, 19), 'sides 1', 'sides 2'], 20)
+    tally.enough([*range(12, 19), 'sides 1', 'sides 2', *kinds.OF_GALLEYS, *kinds.OF_LISTS], 20)
     data = galley.write(cases.LONGEST)
     began = time.perf_counter()
     mark(data, cases.ONE_A_PAGE)

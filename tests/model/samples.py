@@ -2,7 +2,7 @@
 
 The definitions are mathematics, so they are run by the checker: a table of random galleys, with what the reference answers
 for each, takes the place of the table of cases, and must agree with the definitions in the same way. Lists are chosen so that
-the sample has every kind of answer, counted by sidedness; a kind that is missing fails. As a check that the table can disagree,
+the sample has every kind of answer, counted by sidedness and by the parity of the first folio; a kind that is missing fails. As a check that the table can disagree,
 one answer is then falsified.
 """
 import collections
@@ -16,8 +16,8 @@ import definitions
 sys.path.insert(0, str(definitions.ROOT / 'tests'))
 from reference import marking, sample, search  # noqa: E402
 
-GALLEYS, LINES, FIGURES, LISTS, DRAWN, SEED = 120, 5, 2, 5, 40, 20261115
-SIDES = {1: 'single-sided', 2: 'double-sided'}
+GALLEYS, LEFT, LINES, FIGURES, LISTS, DRAWN, SEED = 120, 12, 5, 2, 5, 40, 20261115
+SINGLE, ODD, EVEN = 'single-sided', 'double-sided from an odd folio', 'double-sided from an even folio'
 
 
 def listed(items):
@@ -32,7 +32,7 @@ def block(height, least, most, legal, cite):
 def galley_text(g):
     s = g.spec
     spec = (f'record {{ htmin = {s.htmin}; htmax = {s.htmax}; smin = {s.smin}; smax = {s.smax}; '
-            f'sides = {"double" if s.sides == 2 else "single"}; alpha = {s.alpha}; beta = {s.beta} }}')
+            f'sides = {f"double {g.folio}" if s.sides == 2 else "single"}; alpha = {s.alpha}; beta = {s.beta} }}')
     lines = listed(block(*line[:3], line.legal, 0) for line in g.lines)
     figures = listed(block(*figure[:3], True, figure.cite) for figure in g.figures)
     return f'galleyOf ({spec}) {lines} {figures}'
@@ -57,7 +57,7 @@ def marked(g, words):
     """The answer of marking, as it is written in the table, and its kind."""
     answer = marking.mark(g, words)
     if answer[0] == 'accepted':
-        return f'(marks {" ".join(map(str, answer[1:]))})', 'marked: accepted'
+        return f'(marks {" ".join(map(str, answer[1:]))})', 'marked: accepted' + ('' if words[0] else ' with figures alone on page 1')
     number, place = answer[1:]
     return f'(refuses {number} {place})', f'marked: {number}{where(g, number, place)}'
 
@@ -68,18 +68,25 @@ def where(g, number, place):
         return ''
     if number == 18:
         return ' after page 1' if place == 1 else ' after a later page'
-    if number == 17 and g.spec.sides == 2 and place % 2 == 0:
+    if number == 17 and g.spec.sides == 2 and (g.folio - 1 + place) % 2 == 0:
         return ' on a page that opens a spread, the last of its list'
     return ' on page 1' if place == 1 else ' on a later page'
 
 
-def kinds(sides):
-    """Every kind of answer that there is."""
+def binding(g):
+    """How a galley's pages are bound, as far as the kinds tell it apart."""
+    return SINGLE if g.spec.sides == 1 else ODD if g.folio % 2 else EVEN
+
+
+def kinds(bound):
+    """Every kind of answer that there is; from an even folio page 1 opens a spread, and figures may stand there alone."""
     yield from ('made: none (11)', 'made: a tie decides', 'made: the turns decide', 'marked: accepted', 'marked: 12')
     for number in range(13, 18):
-        yield from (f'marked: {number} on page 1', f'marked: {number} on a later page')
-    if sides == 2:
+        yield from (f'marked: {number} on page 1', f'marked: {number} on a later page')[bound == EVEN and number == 17:]
+    if bound != SINGLE:
         yield 'marked: 17 on a page that opens a spread, the last of its list'
+    if bound == EVEN:
+        yield 'marked: accepted with figures alone on page 1'
     yield from ('marked: 18 after page 1', 'marked: 18 after a later page')
 
 
@@ -96,20 +103,20 @@ def lists(rng, g, seen):
     if valid:
         yield rng.choice(valid)
     for _ in range(LISTS):
-        yield min((drawn(rng, g, valid) for _ in range(DRAWN)), key=lambda words: seen[g.spec.sides, marked(g, words)[1]])
+        yield min((drawn(rng, g, valid) for _ in range(DRAWN)), key=lambda words: seen[binding(g), marked(g, words)[1]])
 
 
 def rows(seed, seen):
     """A row for making and for some lists of each galley; their kinds are counted."""
     rng = random.Random(seed)
-    for g in sample.galleys(seed, GALLEYS, LINES, FIGURES):
+    for g in (*sample.galleys(seed, GALLEYS, LINES, FIGURES), *sample.left_galleys(seed, LEFT)):
         asked = f'asks ({galley_text(g)})'
         answer, kind = made(g)
-        seen[g.spec.sides, kind] += 1
+        seen[binding(g), kind] += 1
         yield f'{asked} making {answer}'
         for words in lists(rng, g, seen):
             answer, kind = marked(g, words)
-            seen[g.spec.sides, kind] += 1
+            seen[binding(g), kind] += 1
             yield f'{asked} (marking {numbers(words)}) {answer}'
 
 
@@ -134,9 +141,9 @@ def agrees(table):
 
 def missing(seen):
     """Prints how many answers of each kind there are, and counts the kinds that are missing."""
-    due = [(sides, kind) for sides in SIDES for kind in kinds(sides)]
-    for sides, kind in due:
-        print(f'{SIDES[sides]}, {kind}: {seen[sides, kind] or "MISSING"}')
+    due = [(bound, kind) for bound in (SINGLE, ODD, EVEN) for kind in kinds(bound)]
+    for bound, kind in due:
+        print(f'{bound}, {kind}: {seen[bound, kind] or "MISSING"}')
     return sum(not seen[each] for each in due)
 
 
@@ -145,7 +152,7 @@ def main():
     table = list(rows(SEED, seen))
     lacking = missing(seen)
     right = agrees(table)
-    print(f'{len(table)} answers of {GALLEYS} galleys: ' + ('agree' if right[1] else f'DISAGREE, {right}'))
+    print(f'{len(table)} answers of {GALLEYS + LEFT} galleys: ' + ('agree' if right[1] else f'DISAGREE, {right}'))
     at = next(i for i, row in enumerate(table) if '(marks ' in row)
     table[at] = table[at].replace('(marks ', '(marks 1', 1)
     wrong = agrees(table)

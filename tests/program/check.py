@@ -1,5 +1,6 @@
-"""The program of document 01 against the reference: what it prints for galleys of every kind, its limits and its refusals.
-The last line is 'N passed, M failed'."""
+"""The program of document 01 against the reference: what it prints for galleys of every kind (counted), its limits, its refusals.
+BARLEYCHIME_PROGRAM names another program than the proved one. The last line is 'N passed, M failed'."""
+import os
 import pathlib
 import random
 import subprocess
@@ -8,16 +9,17 @@ import sys
 ROOT = pathlib.Path(__file__).resolve().parents[2]
 sys.path.insert(0, str(ROOT / 'tests'))
 import engine  # noqa: E402
+import kinds  # noqa: E402
 from reference import cases, galley, marking, sample, search  # noqa: E402
 from tally import Tally  # noqa: E402
 
-PROGRAM = ROOT / 'target' / 'bin' / 'paginate'
+PROGRAM = os.environ.get('BARLEYCHIME_PROGRAM') or ROOT / 'target' / 'bin' / 'paginate'
 SEED = 20261117
 WORK, LIST, INPUT = 10_248, 400, 8_192
 
 
-def due(data):
-    """What the program owes for its input."""
+def due(data, tally):
+    """What the program owes for its input; the kinds of its galley and of its list are counted."""
     if len(data) > INPUT:
         return f'R 19 {INPUT}\n'
     read = galley.read(data)
@@ -28,6 +30,7 @@ def due(data):
         if lent < needed:
             return f'R {number} {needed}\n'
     best = search.best_by_table(g)
+    tally.kind(*kinds.of_galley(g), *(kinds.of_list(g, best) if best else ()))
     if best is None:
         return 'R 11 0\n'
     rows = [marking.mark(g, best)[1:], *((q, *end) for q, end in enumerate(marking.places(g, best), 1))]
@@ -48,7 +51,9 @@ def inputs():
 def main():
     tally = Tally()
     for data in inputs():
-        tally.same(f'{len(data)} bytes', subprocess.run([PROGRAM], input=data, capture_output=True).stdout.decode(), due(data))
+        printed = subprocess.run([PROGRAM], input=data, capture_output=True).stdout.decode()
+        tally.same(f'{len(data)} bytes', printed, due(data, tally))
+    tally.enough((*kinds.OF_GALLEYS, *kinds.OF_LISTS), 1)
     return tally.end()
 
 

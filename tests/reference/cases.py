@@ -1,4 +1,5 @@
-"""Document 01's galleys to try and some more: the answers that making and marking owe."""
+"""Document 01's galleys to try and some more, those of document 02's requests among them: the answers that making and marking
+owe."""
 
 from dataclasses import replace
 
@@ -13,6 +14,11 @@ def plain(spec, heights, figures):
 
 def respec(galley, **fields):
     return replace(galley, spec=galley.spec._replace(**fields))
+
+
+def opening(galley, folio):
+    """The galley with `FO` and this first folio; without the record where there is None."""
+    return replace(galley, stated=folio)
 
 
 def high(galley, height):
@@ -34,6 +40,8 @@ C = plain(A.spec._replace(htmin=10, htmax=20, sides=2), (10, 10, 20, 20), [(20, 
 EVEN = plain(A.spec._replace(htmin=0, htmax=20, sides=2), (10, 10, 10), [])
 PAIR = plain(A.spec._replace(htmin=0, alpha=0, beta=0), (10,), [(10, 1), (10, 1)])
 SPACED = Galley(A.spec._replace(htmin=28), (3 * (Line(10, 5, 8, 1),), ()))
+# The figure fills page 1, and its line is too low for any page but the last: page 2 must lie on the same spread.
+FIGURE_FIRST = plain(Spec(20, 20, 0, 0, 2, 1, 1), (10,), [(20, 1)])
 # Galleys F, G and H of the table that is proved (crates/cases): every space and the separation stretch; every other line forbids
 # a page end; a page may end after lines 255 and 300 alone.
 F = Galley(Spec(0, 100_000, 4, 40, 1, 2, 3),
@@ -61,6 +69,19 @@ MADE = [
     ('two pages where the tightest fits', high(F, 61), (2, 3, 5, 4), (2, 0, 1, 3)),
     ('three pages where it does not', high(F, 60), (1, 2, 3, 4, 5, 4), (3, 0, 2, 6)),
     ('a last line that forbids a page end', G, (2, 0, 4, 0, 5, 1, 5, 2), (4, 1, 3, 4)),
+    ('C from folio 2', opening(C, 2), (2, 0, 3, 0, 4, 0, 4, 1), (4, 0, 1, 1)),
+    ('C from folio 3', opening(C, 3), (1, 0, 2, 0, 3, 0, 4, 0, 4, 1), (5, 0, 2, 2)),
+    ('C, folio 1 stated', opening(C, 1), (1, 0, 2, 0, 3, 0, 4, 0, 4, 1), (5, 0, 2, 2)),
+    ('C up to folio 10,001', opening(C, 9_998), (2, 0, 3, 0, 4, 0, 4, 1), (4, 0, 1, 1)),
+    ('C up to folio 10,003', opening(C, 9_999), (1, 0, 2, 0, 3, 0, 4, 0, 4, 1), (5, 0, 2, 2)),
+    ('C single-sided from folio 38', opening(respec(C, sides=1), 38), (2, 0, 3, 0, 4, 0, 4, 1), (4, 1, 3, 4)),
+    ('A from folio 38', opening(A, 38), (1, 1, 3, 1), (2, 0, 1, 1)),
+    ('even page count from folio 3', opening(respec(EVEN, beta=0), 3), (2, 0, 3, 0), (2, 0, 1, 0)),
+    ('odd page count from folio 2', opening(respec(EVEN, beta=0), 2), (1, 0, 2, 0, 3, 0), (3, 0, 1, 0)),
+    ('two pages on one spread', opening(EVEN, 2), (2, 0, 3, 0), (2, 0, 0, 0)),
+    ('a figure opens the galley', opening(FIGURE_FIRST, 2), (0, 1, 1, 1), (2, 0, 0, 0)),
+    ('a figure cannot open a right-hand page', opening(FIGURE_FIRST, 3), None, None),
+    ('a figure cannot open it single-sided', opening(respec(FIGURE_FIRST, sides=1), 2), None, None),
     ('a figure alone without separation', plain(A.spec._replace(smin=1, smax=1), (10, 10, 10), [(30, 1)]),
      (3, 0, 3, 1), (2, 1, 1, 2)),
 ]
@@ -115,6 +136,17 @@ MARKED = [
     ('cut short after a low page 3', G, (2, 0, 4, 0, 5, 0), ('refused', 18, 3)),
     ('cut short after page 2', A, (1, 1, 2, 1), ('refused', 18, 2)),
     ('more lines than there are, on page 2', A, (3, 0, 4, 1), ('refused', 13, 2)),
+    ('C2 from folio 2', opening(C, 2), (2, 0, 3, 0, 4, 0, 4, 1), ('accepted', 4, 0, 1, 1)),
+    ('C2 from folio 39', opening(C, 39), (2, 0, 3, 0, 4, 0, 4, 1), ('accepted', 4, 1, 2, 3)),
+    ('C3 from folio 38', opening(C, 38), (1, 0, 2, 0, 3, 0, 3, 1, 4, 1), ('refused', 17, 4)),
+    ('C3 from folio 9,999', opening(C, 9_999), (1, 0, 2, 0, 3, 0, 3, 1, 4, 1), ('accepted', 5, 0, 2, 2)),
+    ('C3 single-sided from folio 39', opening(respec(C, sides=1), 39), (1, 0, 2, 0, 3, 0, 3, 1, 4, 1), ('refused', 17, 4)),
+    ('a figure opens the galley', opening(FIGURE_FIRST, 2), (0, 1, 1, 1), ('accepted', 2, 0, 0, 0)),
+    ('a figure opens it at folio 9,998', opening(FIGURE_FIRST, 9_998), (0, 1, 1, 1), ('accepted', 2, 0, 0, 0)),
+    ('a figure opens a right-hand page', opening(FIGURE_FIRST, 3), (0, 1, 1, 1), ('refused', 17, 1)),
+    ('a figure opens the galley, without a folio', FIGURE_FIRST, (0, 1, 1, 1), ('refused', 17, 1)),
+    ('a figure opens the galley and its list ends there', opening(FIGURE_FIRST, 2), (0, 1), ('refused', 17, 1)),
+    ('A2 from folio 38', opening(A, 38), (3, 0, 3, 1), ('accepted', 2, 1, 1, 2)),
     ('more figures than there are, on page 2', A, (3, 0, 3, 2), ('refused', 13, 2)),
 ]
 
@@ -123,4 +155,6 @@ MARKED_LONG = [
     ('most pages', LONGEST, ONE_A_PAGE, ('accepted', 4_200, 819_900, 4_199, 824_099_000)),
     ('most pages, double-sided', respec(LONGEST, sides=2), ONE_A_PAGE,
      ('accepted', 4_200, 410_000, 2_100, 412_100_000)),
+    ('most pages, up to folio 14,197', opening(respec(LONGEST, sides=2), 9_998), ONE_A_PAGE,
+     ('accepted', 4_200, 409_900, 2_099, 411_999_000)),
 ]

@@ -7,6 +7,7 @@ from pathlib import Path
 
 sys.path.insert(0, str(Path(__file__).resolve().parents[1]))
 
+import kinds  # noqa: E402
 from reference import cases, marking, refusals, sample, search  # noqa: E402
 from reference.galley import Figure, Galley, Line, Spec, read, write  # noqa: E402
 from tally import Tally  # noqa: E402
@@ -50,10 +51,11 @@ def turned_away(tally):
 
 def round_trips(tally):
     edge = Spec(100_000, 100_000, 100_000, 100_000, 2, 1_000, 1_000)
-    largest = Galley(edge, (4_000 * (Line(100_000, 100_000, 100_000, 0),), 200 * (Figure(100_000, 0, 100_000, 4_000),)))
+    largest = Galley(edge, (4_000 * (Line(100_000, 100_000, 100_000, 0),), 200 * (Figure(100_000, 0, 100_000, 4_000),)), 9_999)
     for galley in [largest, *sample.galleys(1, 300, 8, 5)]:
         tally.same(f'round trip of {galley}', read(write(galley)), ('galley', galley))
-    tally.same('line 1 begins', write(largest)[largest.first:][:2], b'TL')
+        begins = 30 if galley.stated is None else 36
+        tally.same('line 1 begins', (galley.first, write(galley)[galley.first:][:2]), (begins, b'TL'))
     tally.group('galleys written and read')
     for galley in sample.galleys(2, 20, 4, 3):
         damaged(tally, galley)
@@ -63,7 +65,7 @@ def round_trips(tally):
 def damaged(tally, galley):
     """Cut short: 1 where the broken record began. One byte changed: refused inside the file, or still what it says."""
     data = write(galley)
-    begins = [0, *range(galley.first, len(data), 18)]
+    begins = [0, 30, *range(galley.first, len(data), 18)]
     cuts = [(read(data[:cut]), ('refused', 1, max(at for at in begins if at <= cut)))
             for cut in range(len(data))]
     tally.same('cut short', [cut for cut, (got, due) in enumerate(cuts) if got != due], [])
@@ -136,11 +138,15 @@ def random_lists(tally):
 def searches(tally):
     """The table finds what the search of all lists finds, ties included."""
     tied = solved = 0
+    met = set()
     for galley in [*sample.galleys(8, 600, 5, 3), *sample.galleys(9, 100, 9, 0), *sample.fine_galleys(13, 200, 8, 11, 2)]:
-        ranks = sorted(search.rank(galley, words) for words in search.every(galley))
+        lists = list(search.every(galley))
+        ranks = sorted(search.rank(galley, words) for words in lists)
         solved += bool(ranks)
+        met.update(kinds.of_galley(galley), kinds.of_choice(galley, lists), *(kinds.of_list(galley, words) for words in lists))
         tied += len(ranks) > 1 and ranks[0][0] == ranks[1][0]
-        tally.same(f'best of {galley}', search.best_by_table(galley), search.best(galley))
+        tally.same(f'best of {galley}', search.best_by_table(galley), search.first(galley, lists))
+    tally.same('every kind of galley, list and choice', met, {*kinds.OF_GALLEYS, *kinds.OF_LISTS, *kinds.OF_CHOICES})
     tally.group('table against search of all lists', f' ({solved} galleys have a valid list, {tied} a tie)')
 
 

@@ -1,11 +1,12 @@
-"""The galley file: what a galley holds, how it is written, and which byte strings are turned away (document 01)."""
+"""The galley file: what a galley holds, how it is written, and which byte strings are turned away (documents 01 and 02)."""
 
 import struct
 from dataclasses import dataclass
-from typing import NamedTuple
+from typing import NamedTuple, Optional
 
 LONGEST = 100_000  # any length, in hundredths of a point
 HEAVIEST = 1_000  # either weight
+HIGHEST_FOLIO = 9_999  # of a first page
 
 
 class Spec(NamedTuple):
@@ -16,6 +17,10 @@ class Spec(NamedTuple):
     sides: int
     alpha: int
     beta: int
+
+
+class Folio(NamedTuple):
+    first: int  # the folio of the galley's first page
 
 
 class Line(NamedTuple):
@@ -41,13 +46,24 @@ class Stream(NamedTuple):
 
 # In the order in which they follow one another in a file; the first is the text, the others are cited by its lines.
 STREAMS = (Stream(b'TL', Line, 4_000), Stream(b'FG', Figure, 200))
+KINDS = {b'GS': Spec, b'FO': Folio, **{stream.mark: stream.kind for stream in STREAMS}}
 
 
 @dataclass(frozen=True)
 class Galley:
     spec: Spec
     streams: tuple  # of blocks, one entry for each of STREAMS
-    first: int = 30  # where line 1 begins: only the specification comes before it
+    stated: Optional[int] = None  # the first folio as `FO` states it, None without the record
+
+    @property
+    def folio(self):
+        """The folio of page 1."""
+        return 1 if self.stated is None else self.stated
+
+    @property
+    def first(self):
+        """Where line 1 begins."""
+        return len(opening(self))
 
     @property
     def lines(self):
@@ -72,21 +88,17 @@ class Galley:
         return (0,) * len(self.streams)
 
 
-MARKS = (b'GS', *(stream.mark for stream in STREAMS), b'ED')
-
-
 def read(data):
     """('galley', Galley), or ('refused', number, place) with the first of 1 to 8 in document 01's order of tests."""
-    spec, streams, at = None, [[] for _ in STREAMS], 0
+    alone, streams, at = [], [[] for _ in STREAMS], 0
     while True:
         mark = data[at:at + 2]
-        fault = mark_fault(mark, spec, streams)
+        fault = mark_fault(mark, alone, streams)
         if fault:
             return ('refused', fault, at)
         if mark == b'ED':
             break
-        number = None if mark == b'GS' else stream_of(mark)
-        kind = Spec if number is None else STREAMS[number].kind
+        kind, number = KINDS[mark], stream_of(mark)
         after = at + 2 + 4 * len(kind._fields)
         if after > len(data):
             return ('refused', 1, at)
@@ -94,29 +106,31 @@ def read(data):
         fault = record_fault(record, number, streams)
         if fault:
             return ('refused', fault, at)
-        if number is None:
-            spec = record
-        else:
-            streams[number].append(record)
+        (alone if number is None else streams[number]).append(record)
         at = after
     if at + 2 < len(data):
         return ('refused', 8, at + 2)
-    return ('galley', Galley(spec, tuple(map(tuple, streams))))
+    spec, *folio = alone
+    return ('galley', Galley(spec, tuple(map(tuple, streams)), folio[0].first if folio else None))
 
 
 def stream_of(mark):
-    return next(number for number, stream in enumerate(STREAMS) if stream.mark == mark)
+    """The number of the stream that a record belongs to; None for those that stand alone, before all streams."""
+    return next((number for number, stream in enumerate(STREAMS) if stream.mark == mark), None)
 
 
-def mark_fault(mark, spec, streams):
+def mark_fault(mark, alone, streams):
     """Why this mark cannot stand after what was read so far: 1, 2, 5 or 4, tested in that order; None if it can."""
     if len(mark) < 2:
         return 1
     # The specification opens the file and stands nowhere else.
-    if (mark == b'GS') != (spec is None) or mark not in MARKS:
+    if (mark == b'GS') != (not alone) or mark not in (*KINDS, b'ED'):
         return 2
     if mark == b'GS':
         return None
+    # A folio stands straight after it and nowhere else.
+    if mark == b'FO':
+        return 2 if len(alone) > 1 or any(streams) else None
     number = len(STREAMS) if mark == b'ED' else stream_of(mark)
     if any(streams[number + 1:]):
         return 2
@@ -128,9 +142,9 @@ def mark_fault(mark, spec, streams):
 
 
 def record_fault(record, number, streams):
-    """Why these fields are turned away: 3, then 6, then 7; None if they are not. The specification has no stream's number."""
+    """Why these fields are turned away: 3, then 6, then 7; None if they are not. What stands alone has no stream's number."""
     if number is None:
-        return None if spec_in_range(record) else 3
+        return None if alone_in_range(record) else 3
     if not (record.height <= LONGEST and record.least <= record.most <= LONGEST):
         return 3
     if number == 0:
@@ -143,6 +157,10 @@ def record_fault(record, number, streams):
     return None
 
 
+def alone_in_range(record):
+    return 1 <= record.first <= HIGHEST_FOLIO if isinstance(record, Folio) else spec_in_range(record)
+
+
 def spec_in_range(spec):
     return (1 <= spec.htmax <= LONGEST and spec.htmin <= spec.htmax
             and spec.smin <= spec.smax <= LONGEST and spec.sides in (1, 2)
@@ -152,7 +170,12 @@ def spec_in_range(spec):
 def write(galley):
     """The bytes of a galley. Ranges are not tested, so that refused files can be written too."""
     blocks = (record(stream.mark, *block) for stream, held in zip(STREAMS, galley.streams) for block in held)
-    return record(b'GS', *galley.spec) + b''.join(blocks) + b'ED'
+    return opening(galley) + b''.join(blocks) + b'ED'
+
+
+def opening(galley):
+    """The bytes before line 1."""
+    return record(b'GS', *galley.spec) + (b'' if galley.stated is None else record(b'FO', galley.stated))
 
 
 def record(mark, *fields):

@@ -4,9 +4,10 @@ The two halves share nothing but `leaf`, so that each can convict the other. A p
 """
 
 
-def leaf(sides, page):
-    """What the reader sees at once: the spread in double-sided work, else the page itself."""
-    return page // 2 + 1 if sides == 2 else page
+def leaf(sides, folio, page):
+    """What the reader sees at once: in double-sided work the spread, which goes by folio from that of page 1 on; else the page
+    itself."""
+    return (folio + page - 1) // 2 + 1 if sides == 2 else page
 
 
 # By document 01: a list of words, the first rule it breaks, its turns.
@@ -45,7 +46,7 @@ def page_fault(galley, start, end, page, last):
         return 15
     if not last and loosest(galley, start, end) < spec.htmin:
         return 16
-    ends_leaf = leaf(spec.sides, page) != leaf(spec.sides, page + 1)
+    ends_leaf = leaf(spec.sides, galley.folio, page) != leaf(spec.sides, galley.folio, page + 1)
     if (ends_leaf or last) and any(j > 0 and floats[j - 1].cite > end[0] for floats, j in zip(galley.floats, end[1:])):
         return 17
     return None
@@ -78,8 +79,9 @@ def turns(galley, ends):
         for number, block in enumerate(floats, 1):
             placed = next(page for page, end in enumerate(ends, 1) if end[stream] >= number)
             cited = next(page for page, end in enumerate(ends, 1) if end[0] >= block.cite)
-            x += leaf(spec.sides, placed) - leaf(spec.sides, cited)
-    y = len(ends) // 2 if spec.sides == 2 else len(ends) - 1
+            x += leaf(spec.sides, galley.folio, placed) - leaf(spec.sides, galley.folio, cited)
+    last = galley.folio + len(ends) - 1
+    y = last // 2 - galley.folio // 2 if spec.sides == 2 else len(ends) - 1
     return x, y, spec.alpha * x + spec.beta * y
 
 
@@ -147,7 +149,7 @@ def citation_leaves(galley, maps, sides):
     """The leaf of each float's citing line, and its own."""
     for floats, page_of in zip(galley.floats, maps[1:]):
         for block, page in zip(floats, page_of):
-            yield leaf(sides, maps[0][block.cite - 1]), leaf(sides, page)
+            yield leaf(sides, galley.folio, maps[0][block.cite - 1]), leaf(sides, galley.folio, page)
 
 
 def turn_s(galley, maps, p):
@@ -162,7 +164,7 @@ def turn_d(galley, maps, p):
 
 def turn(galley, maps, p, sides):
     thumbing = sum(galley.spec.alpha * (placed - cited) for cited, placed in citation_leaves(galley, maps, sides))
-    return thumbing + galley.spec.beta * (leaf(sides, p) - 1)
+    return thumbing + galley.spec.beta * (leaf(sides, galley.folio, p) - leaf(sides, galley.folio, 1))
 
 
 def words_of_map(maps, p):

@@ -77,7 +77,37 @@ def files():
     yield 'citation below the previous but not the first', opened + line + line + b''.join(cites), 7, 84 + 2 * 18
     yield 'a byte after the end', opened + b'EDx', 8, 50
     yield 'a second end', opened + figure + b'EDED', 8, 68
+    yield from folios(spec, line, figure)
     yield from out_of_range(opened)
+
+
+def folios(spec, line, figure):
+    """`FO` out of place, cut short and out of range, and what comes after one."""
+    folio, unfit = record(b'FO', 38), record(b'FO', 0)
+    opened, full = spec + folio + line, spec + folio + 4_000 * line
+    yield 'folio first', folio, 2, 0
+    yield 'folio after a line', spec + line + folio, 2, 48
+    yield 'folio after a line, out of range', spec + line + unfit, 2, 48
+    yield 'folio after a line, cut short', spec + line + b'FO', 2, 48
+    yield 'folio after a figure', spec + line + figure + folio, 2, 66
+    yield 'folio after 4,000 lines', full + folio, 2, 36 + 4_000 * 18
+    yield 'second folio', spec + folio + folio, 2, 36
+    yield 'second folio after a line', opened + folio + line, 2, 54
+    yield 'second folio, cut short', spec + folio + b'FO', 2, 36
+    yield 'specification after a folio', spec + folio + spec, 2, 36
+    yield 'half a mark after the specification', spec + b'F', 1, 30
+    yield 'half a folio', (spec + folio)[:35], 1, 30
+    yield 'half a folio out of range', spec + record(b'FO', 2**32 - 1)[:5], 1, 30
+    yield 'nothing after a folio', spec + folio, 1, 36
+    yield 'end straight after a folio', spec + folio + b'ED', 5, 36
+    yield 'figure straight after a folio', spec + folio + figure, 5, 36
+    yield 'line 4,001 after a folio', full + line, 4, 36 + 4_000 * 18
+    yield 'line out of range after a folio', spec + folio + record(b'TL', 1, 0, 0, 2), 3, 36
+    yield 'citation above m after a folio', opened + record(b'FG', 1, 0, 0, 2), 6, 54
+    yield 'citations fall after a folio', opened + line + record(b'FG', 1, 0, 0, 2) + figure, 7, 90
+    yield 'a byte after the end, after a folio', opened + b'ED?', 8, 56
+    for first in (0, 10_000, 65_536 + 38, 2**32 - 1):
+        yield f'folio {first}', spec + record(b'FO', first) + line + b'ED', 3, 30
 
 
 def out_of_range(opened):

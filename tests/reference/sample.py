@@ -21,7 +21,7 @@ def one_galley(rng, max_lines, max_figures, sides):
     lines = tuple(Line(*sized(rng, htmax), int(rng.random() < 0.85)) for _ in range(rng.randint(1, max_lines)))
     cites = citations(rng, len(lines), rng.randint(0, max_figures))
     figures = tuple(Figure(*sized(rng, htmax), cite) for cite in cites)
-    return Galley(spec, (lines, figures))
+    return Galley(spec, (lines, figures), folio(rng))
 
 
 def fine_galleys(seed, count, least_lines, most_lines, max_figures, highest=24):
@@ -40,7 +40,25 @@ def one_fine_galley(rng, lines, max_figures, htmax, sides):
     barred = forbidden_ends(rng, lines)
     cites = citations(rng, lines, rng.randint(0, max_figures))
     text = tuple(Line(*fine(rng, htmax, 1.5 / lines), int(k not in barred)) for k in range(1, lines + 1))
-    return Galley(spec, (text, tuple(Figure(*fine(rng, htmax, 0.2), cite) for cite in cites)))
+    return Galley(spec, (text, tuple(Figure(*fine(rng, htmax, 0.2), cite) for cite in cites)), folio(rng))
+
+
+def folio(rng):
+    """A first folio as `FO` states it: none, even or odd, and some after which folios pass 9,999."""
+    return rng.choice((None, None, 1, 2, 38, 39, 9_998, 9_999, rng.randint(1, 9_999)))
+
+
+def left_galleys(seed, count):
+    """Double-sided galleys that open on a left-hand page. A figure fills a page and the first lines do not, so that the best
+    list often has figures before any line."""
+    rng = random.Random(seed)
+    for _ in range(count):
+        htmax = rng.randint(8, 40)
+        spec = Spec(rng.randint(htmax // 2, htmax), htmax, 0, rng.choice((0, 2)), 2, weight(rng), weight(rng))
+        lines = tuple(Line(rng.randint(0, htmax // 2), 0, 2, rng.randint(0, 1)) for _ in range(rng.randint(1, 5)))
+        cites = citations(rng, min(2, len(lines)), rng.randint(1, 3))
+        figures = tuple(Figure(rng.randint(spec.htmin, htmax), 0, 0, cite) for cite in cites)
+        yield Galley(spec, (lines, figures), rng.choice((2, 38, 9_998)))
 
 
 def fine(rng, htmax, chance):

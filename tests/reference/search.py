@@ -31,11 +31,12 @@ def first(galley, lists):
 
 
 def rank(galley, words):
-    """What making compares: turns, an odd page count in double-sided work, the starts from the last page backwards."""
+    """What making compares: turns, an odd last folio in double-sided work, the starts from the last page backwards."""
     _, p, _, _, turns = marking.mark(galley, words)
     starts = [galley.nothing] + marking.places(galley, words)[:-1]
     # Each list's starts end with the only place of nothing, so neither of two lists' starts can begin the other's.
-    return turns, galley.spec.sides == 2 and p % 2 == 1, [later_first(start) for start in reversed(starts)]
+    odd = (galley.folio + p - 1) % 2 == 1
+    return turns, galley.spec.sides == 2 and odd, [later_first(start) for start in reversed(starts)]
 
 
 def later_first(place):
@@ -48,25 +49,27 @@ ENDS, OPENS = 1, 0  # a page's side: whether its leaf ends with it (single-sided
 def best_by_table(galley):
     """As best, from a table with one entry for each place and side of the page that ends there.
 
-    Turning a leaf costs beta and, for each float that is cited but still waiting, alpha; over all turns that makes T.
-    A page's side fixes that of the page before it, so the least cost with the latest start is all there is to keep.
+    Turning a leaf costs beta and, for each float that is cited but still waiting, alpha; over all turns that makes T. Nothing
+    is turned before page 1. A page's side fixes that of the page before it, so the least cost with the latest start is all
+    there is to keep.
     """
     double = galley.spec.sides == 2
     cited = [[sum(block.cite <= i for block in floats) for floats in galley.floats] for i in range(len(galley.lines) + 1)]
-    table = {(galley.nothing, OPENS): (0, galley.nothing)}
+    # Before page 1 there is the side of the folio before its own.
+    table = {(galley.nothing, OPENS if galley.folio % 2 else ENDS): (0, galley.nothing)}
     for start in product(*(range(size + 1) for size in galley.sizes)):
         for side in (OPENS, ENDS):
             if (start, side) not in table:
                 continue
             cost = table[start, side][0]
-            if side == ENDS:
+            if side == ENDS and start != galley.nothing:
                 cost += galley.spec.alpha * (sum(cited[start[0]]) - sum(start[1:])) + galley.spec.beta
             next_side = OPENS if double and side == ENDS else ENDS
             for end in page_ends(galley, start):
                 if next_side == OPENS or all(j <= known for j, known in zip(end[1:], cited[end[0]])):
                     entry = (cost, later_first(start))
                     table[end, next_side] = min(entry, table.get((end, next_side), entry))
-    # Double-sided, even pages open a spread, so OPENS is the even page count and goes first.
+    # Double-sided, even folios open a spread, so OPENS is the even last folio and goes first.
     ends = [(table[galley.sizes, side][0], side) for side in (OPENS, ENDS) if (galley.sizes, side) in table]
     return traced(table, galley, min(ends)[1], double) if ends else None
 

@@ -55,7 +55,7 @@ def random_marks(rng):
 
 
 def main():
-    called = engine.Engine(engine.load(engine.proved('barleychime')))
+    called = engine.Engine(engine.load(engine.archive()))
     tally, began, rng = Tally(), time.time(), random.Random(SEED)
     for name, marks in [('none', []), *extremes(), *random_marks(rng)]:
         due = report.words(marks)

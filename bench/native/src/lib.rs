@@ -1,9 +1,10 @@
 //! Galleys read, marked and made in plain Rust.
 //!
 //! It shares no code with the proved engine, so that the two can be compared, in their answers and in their speed. The
-//! rules are document 01's. Both searches follow the engine's design: the plain one of the starts of every place and side
-//! was written without a look at the engine's code, the one by queues before the engine had its own. Their authors knew
-//! the reference in Python: that all agree tells of slips, less of a sentence in the papers that all might misread.
+//! rules are document 01's, as document 02 amends them. Both searches follow the engine's design: the plain one of the
+//! starts of every place and side was written without a look at the engine's code, the one by queues before the engine had
+//! its own. Their authors knew the reference in Python: that all agree tells of slips, less of a sentence in the papers
+//! that all might misread.
 //! Like the engine it allocates nothing: galley, work area and page list are lent, sums and queues are on the stack.
 #![no_std]
 #![forbid(unsafe_code)]

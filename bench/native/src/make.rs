@@ -42,7 +42,7 @@ fn make_by(fill: impl Fn(&Galley, &mut [u32]), bytes: &[u8], work: &mut [u32], l
     answer
 }
 
-/// The side of the last page of the best list: of equal costs, that of an even page count.
+/// The side of the last page of the best list: of equal costs, that of an even last folio.
 fn best_end(galley: &Galley, work: &[u32]) -> Option<usize> {
     let whole = (galley.m, galley.n);
     match (least(galley, work, whole, OPENS), least(galley, work, whole, ENDS)) {

@@ -52,7 +52,7 @@ fn broken_rule(galley: &Galley, start: (usize, usize), end: (usize, usize), page
     if !last && height.loose < galley.spec.ht_min {
         return 16;
     }
-    if (last || ends_leaf(galley.spec.sides, page)) && j > 0 && galley.figure(j).last as usize > i {
+    if (last || ends_leaf(galley, page)) && j > 0 && galley.figure(j).last as usize > i {
         return 17;
     }
     0
@@ -60,7 +60,6 @@ fn broken_rule(galley: &Galley, start: (usize, usize), end: (usize, usize), page
 
 /// p, X, Y, T of a valid list.
 pub fn measure(galley: &Galley, list: &[u32]) -> Answer {
-    let sides = galley.spec.sides;
     let pages = list.len() / 2;
     let (mut cited_on, mut placed_on) = (1, 1);
     let mut x = 0;
@@ -72,8 +71,8 @@ pub fn measure(galley: &Galley, list: &[u32]) -> Answer {
         while list[2 * placed_on - 1] < figure as u32 {
             placed_on += 1;
         }
-        x += leaf(sides, placed_on) - leaf(sides, cited_on);
+        x += leaf(galley, placed_on) - leaf(galley, cited_on);
     }
-    let y = leaf(sides, pages) - 1;
+    let y = leaf(galley, pages) - leaf(galley, 1);
     Answer { number: 0, place: 0, p: pages as u32, x, y, t: galley.spec.alpha * x + galley.spec.beta * y }
 }

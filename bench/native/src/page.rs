@@ -36,15 +36,20 @@ pub fn height_of(galley: &Galley, (a, b): (usize, usize), (i, j): (usize, usize)
     Height::page(lines, figures, a < i && b < j, &galley.spec)
 }
 
+/// Pages are counted from 1, folios from the galley's first.
+fn folio_of(galley: &Galley, page: usize) -> usize {
+    galley.folio as usize + page - 1
+}
+
 /// The page, or its spread in double-sided work.
-pub fn leaf(sides: u32, page: usize) -> u32 {
-    if sides == 2 {
-        (page / 2 + 1) as u32
+pub fn leaf(galley: &Galley, page: usize) -> u32 {
+    if galley.spec.sides == 2 {
+        (folio_of(galley, page) / 2 + 1) as u32
     } else {
         page as u32
     }
 }
 
-pub fn ends_leaf(sides: u32, page: usize) -> bool {
-    sides == 1 || page % 2 == 1
+pub fn ends_leaf(galley: &Galley, page: usize) -> bool {
+    galley.spec.sides == 1 || folio_of(galley, page) % 2 == 1
 }

@@ -1,5 +1,6 @@
 //! The places: what the work area holds of each, the sides of a page, and what a page costs that ends at one.
 
+use crate::page::ends_leaf;
 use crate::read::Galley;
 
 /// Words of a place: two sides of a tag, the cost, the starting line and the starting figure.
@@ -66,9 +67,9 @@ pub fn first_side(sides: u32) -> usize {
 /// Nothing placed, before page 1.
 pub const ORIGIN: Least = Least { cost: 0, start: (0, 0) };
 
-/// The side before page 1, which ends its spread.
-pub fn origin_side(sides: u32) -> usize {
-    side_before(sides, ENDS)
+/// The side before page 1, which opens its spread or ends it.
+pub fn origin_side(galley: &Galley) -> usize {
+    side_before(galley.spec.sides, if ends_leaf(galley, 1) { ENDS } else { OPENS })
 }
 
 /// Whether a page may end after line i.

@@ -21,7 +21,7 @@ fn fill_place(galley: &Galley, work: &mut [u32], place: Place, cited: usize) {
     let (i, j) = place;
     let mut best = [None; 2];
     if place == (0, 0) {
-        best[origin_side(galley.spec.sides)] = Some(ORIGIN);
+        best[origin_side(galley)] = Some(ORIGIN);
     } else if may_end(galley, i) && (galley.spec.sides == 2 || j <= cited) {
         best = best_starts(galley, work, place);
         // A figure cited further on may not stand on a spread that ends before its citation.

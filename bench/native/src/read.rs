@@ -6,8 +6,10 @@ pub const MOST_LINES: usize = 4_000;
 pub const MOST_FIGURES: usize = 200;
 const LONGEST: u32 = 100_000;
 const HEAVIEST: u32 = 1_000;
+const HIGHEST_FOLIO: u32 = 9_999;
 
 const SPEC_BYTES: usize = 30;
+const FOLIO_BYTES: usize = 6;
 const BLOCK_BYTES: usize = 18;
 
 pub struct Spec {
@@ -32,6 +34,8 @@ pub struct Block {
 /// A galley that reads without refusal; its lines and figures stay where they are in the lent bytes.
 pub struct Galley<'a> {
     pub spec: Spec,
+    /// The folio of page 1.
+    pub folio: u32,
     pub m: usize,
     pub n: usize,
     lines: &'a [u8],
@@ -61,62 +65,103 @@ fn block(record: &[u8]) -> Block {
 }
 
 pub fn read(bytes: &[u8]) -> Result<Galley<'_>, Answer> {
-    let refused = |number, place| Err(Answer::refused(number, place));
-    let spec = match bytes {
-        [] | [_] => return refused(1, 0),
-        [b'G', b'S', ..] if bytes.len() < SPEC_BYTES => return refused(1, 0),
-        [b'G', b'S', ..] => spec_of(bytes),
-        _ => return refused(2, 0),
-    };
-    if !spec_in_range(&spec) {
-        return refused(3, 0);
+    let spec = read_spec(bytes)?;
+    let (folio, lines_at) = read_folio(bytes, SPEC_BYTES)?;
+    let Counts { m, n, .. } = read_blocks(bytes, lines_at)?;
+    let figures_at = lines_at + m * BLOCK_BYTES;
+    let end = figures_at + n * BLOCK_BYTES;
+    if end + 2 < bytes.len() {
+        return Err(Answer::refused(8, end + 2));
     }
+    Ok(Galley { spec, folio, m, n, lines: &bytes[lines_at..figures_at], figures: &bytes[figures_at..end] })
+}
 
-    let (mut m, mut n) = (0, 0);
-    let mut cited = 0;
-    let mut at = SPEC_BYTES;
+fn read_spec(bytes: &[u8]) -> Result<Spec, Answer> {
+    let spec = match bytes {
+        [] | [_] => return Err(Answer::refused(1, 0)),
+        [b'G', b'S', ..] if bytes.len() < SPEC_BYTES => return Err(Answer::refused(1, 0)),
+        [b'G', b'S', ..] => spec_of(bytes),
+        _ => return Err(Answer::refused(2, 0)),
+    };
+    if spec_in_range(&spec) {
+        Ok(spec)
+    } else {
+        Err(Answer::refused(3, 0))
+    }
+}
+
+/// The first folio, 1 where none is stated, and where line 1 begins.
+fn read_folio(bytes: &[u8], at: usize) -> Result<(u32, usize), Answer> {
+    let rest = &bytes[at..];
+    if !rest.starts_with(b"FO") {
+        return Ok((1, at));
+    }
+    if rest.len() < FOLIO_BYTES {
+        return Err(Answer::refused(1, at));
+    }
+    match field(rest, 0) {
+        folio @ 1..=HIGHEST_FOLIO => Ok((folio, at + FOLIO_BYTES)),
+        _ => Err(Answer::refused(3, at)),
+    }
+}
+
+/// Lines and figures read so far, and the line that cites the last figure.
+#[derive(Default)]
+struct Counts {
+    m: usize,
+    n: usize,
+    cited: u32,
+}
+
+/// Lines and figures up to the end of the galley.
+fn read_blocks(bytes: &[u8], lines_at: usize) -> Result<Counts, Answer> {
+    let mut counts = Counts::default();
+    let mut at = lines_at;
     loop {
         let rest = &bytes[at..];
+        let refused = |number| Err(Answer::refused(number, at));
         if rest.len() < 2 {
-            return refused(1, at);
+            return refused(1);
         }
         let mark = [rest[0], rest[1]];
         match &mark {
-            b"TL" if n > 0 => return refused(2, at),
-            b"TL" if m == MOST_LINES => return refused(4, at),
-            b"FG" | b"ED" if m == 0 => return refused(5, at),
-            b"FG" if n == MOST_FIGURES => return refused(4, at),
-            b"TL" | b"FG" if rest.len() < BLOCK_BYTES => return refused(1, at),
+            b"TL" if counts.n > 0 => return refused(2),
+            b"TL" if counts.m == MOST_LINES => return refused(4),
+            b"FG" | b"ED" if counts.m == 0 => return refused(5),
+            b"FG" if counts.n == MOST_FIGURES => return refused(4),
+            b"TL" | b"FG" if rest.len() < BLOCK_BYTES => return refused(1),
             b"TL" | b"FG" => {}
-            b"ED" => break,
-            _ => return refused(2, at),
+            b"ED" => return Ok(counts),
+            _ => return refused(2),
         }
-        let block = block(rest);
-        if block.height > LONGEST || block.most > LONGEST || block.least > block.most {
-            return refused(3, at);
-        }
-        if &mark == b"TL" {
-            if block.last > 1 {
-                return refused(3, at);
-            }
-            m += 1;
-        } else {
-            if block.last == 0 || block.last as usize > m {
-                return refused(6, at);
-            }
-            if block.last < cited {
-                return refused(7, at);
-            }
-            cited = block.last;
-            n += 1;
+        let fault = counts.take(block(rest), &mark == b"TL");
+        if fault != 0 {
+            return refused(fault);
         }
         at += BLOCK_BYTES;
     }
-    if at + 2 < bytes.len() {
-        return refused(8, at + 2);
+}
+
+impl Counts {
+    /// One line or figure more; or the refusal that its fields come to.
+    fn take(&mut self, block: Block, is_line: bool) -> u32 {
+        if block.height > LONGEST || block.most > LONGEST || block.least > block.most || (is_line && block.last > 1) {
+            return 3;
+        }
+        if is_line {
+            self.m += 1;
+            return 0;
+        }
+        if block.last == 0 || block.last as usize > self.m {
+            return 6;
+        }
+        if block.last < self.cited {
+            return 7;
+        }
+        self.cited = block.last;
+        self.n += 1;
+        0
     }
-    let figures_at = SPEC_BYTES + m * BLOCK_BYTES;
-    Ok(Galley { spec, m, n, lines: &bytes[SPEC_BYTES..figures_at], figures: &bytes[figures_at..at] })
 }
 
 fn spec_of(record: &[u8]) -> Spec {

@@ -29,7 +29,7 @@ pub fn fill(galley: &Galley, work: &mut [u32]) {
             earliest += 1;
         }
         if j == 0 {
-            store(galley, work, (0, 0), origin_side(galley.spec.sides), Some(ORIGIN));
+            store(galley, work, (0, 0), origin_side(galley), Some(ORIGIN));
         }
         // Where b is j the column feeds itself, so that comes last.
         for b in earliest..=j {

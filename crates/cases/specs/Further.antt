@@ -10,7 +10,7 @@ use Rattle.cases.specs.Galleys.{galleyA, galleyB, galleyC, galleyD, gall
 unfoldable pub makings : List Case
 makings =
     -- an even page count first: two pages, not three
-    asks (galleyD double 1) making (makes 2 0 1 1 (2 ∷ 0 ∷ 3 ∷ 0 ∷ []))
+    asks (galleyD (double 1) 1) making (makes 2 0 1 1 (2 ∷ 0 ∷ 3 ∷ 0 ∷ []))
     -- the later starting line
     ∷ asks (galleyD single 1) making (makes 2 0 1 1 (2 ∷ 0 ∷ 3 ∷ 0 ∷ []))
     -- the weight of Y is 0, so that also lists of three pages tie: from the last page backwards theirs start later, and
@@ -74,9 +74,9 @@ refusals =
     -- 17: the last figure of page 2 is too soon, though the first is not
     ∷ asks (galleyF 47) (marking (2 ∷ 1 ∷ 2 ∷ 4 ∷ 5 ∷ 4 ∷ [])) (refuses 17 2)
     -- 17: page 2 opens a spread, but is the last of its list
-    ∷ asks (galleyC double) (marking (2 ∷ 0 ∷ 2 ∷ 1 ∷ [])) (refuses 17 2)
+    ∷ asks (galleyC (double 1)) (marking (2 ∷ 0 ∷ 2 ∷ 1 ∷ [])) (refuses 17 2)
     -- 17: page 3 ends its spread, and the figure of page 2 is still to be cited
-    ∷ asks (galleyC double) (marking (2 ∷ 0 ∷ 2 ∷ 1 ∷ 3 ∷ 1 ∷ 4 ∷ 1 ∷ [])) (refuses 17 3)
+    ∷ asks (galleyC (double 1)) (marking (2 ∷ 0 ∷ 2 ∷ 1 ∷ 3 ∷ 1 ∷ 4 ∷ 1 ∷ [])) (refuses 17 3)
     -- 18: a figure is missing; page 3 is too low for any page but the last of a list
     ∷ asks galleyG (marking (2 ∷ 0 ∷ 4 ∷ 0 ∷ 5 ∷ 1 ∷ [])) (refuses 18 3)
     ∷ asks galleyG (marking (2 ∷ 0 ∷ 4 ∷ 0 ∷ 5 ∷ 0 ∷ [])) (refuses 18 3)

@@ -4,7 +4,7 @@ use mathlib.Core.Bool.{Bool, true, false}
 use mathlib.Core.List.{List, [], _∷_, _++_}
 use Prim.Native.Nat.{ℕ}
 use lib.ListN.{replicate}
-use Rattle.model.specs.Galley.{Sides, single, Spec, Galley}
+use Rattle.model.specs.Galley.{Sides, single, double, Spec, Galley}
 use Rattle.cases.specs.Case.{Block, galleyOf}
 
 unfoldable pub spec : ℕ → ℕ → ℕ → ℕ → Sides → ℕ → ℕ → Spec
@@ -75,3 +75,7 @@ galleyH =
     galleyOf (spec 0 300 0 0 single 1 1)
     (replicate 254 (line 1 false) ++ line 1 true ∷ replicate 44 (line 1 false) ++ line 1 true ∷ line 1 true ∷ [])
     []
+
+-- Galley I: a line that cites a figure of 25 and one of 10, which do not fit on one page, double-sided from a folio on.
+unfoldable pub galleyI : ℕ → Galley
+galleyI folio = galleyOf (spec 0 30 0 0 (double folio) 1 1) (line 20 true ∷ []) (figure 25 1 ∷ figure 10 1 ∷ [])

@@ -3,5 +3,6 @@ pub mod Case
 pub mod Galleys
 pub mod Starred
 pub mod Further
+pub mod Requests
 pub mod Table
 pub mod Agrees

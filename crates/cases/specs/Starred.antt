@@ -29,10 +29,10 @@ starred =
     ∷ asks (galleyB 20 true) making (makes 2 0 1 1 (1 ∷ 0 ∷ 2 ∷ 0 ∷ []))
     ∷ asks (galleyB 21 true) making (refuses 11 0)
     -- C1
-    ∷ asks (galleyC double) making (makes 5 0 2 2 (1 ∷ 0 ∷ 2 ∷ 0 ∷ 3 ∷ 0 ∷ 4 ∷ 0 ∷ 4 ∷ 1 ∷ []))
+    ∷ asks (galleyC (double 1)) making (makes 5 0 2 2 (1 ∷ 0 ∷ 2 ∷ 0 ∷ 3 ∷ 0 ∷ 4 ∷ 0 ∷ 4 ∷ 1 ∷ []))
     -- C2
-    ∷ asks (galleyC double) (marking (2 ∷ 0 ∷ 3 ∷ 0 ∷ 4 ∷ 0 ∷ 4 ∷ 1 ∷ [])) (marks 4 1 2 3)
+    ∷ asks (galleyC (double 1)) (marking (2 ∷ 0 ∷ 3 ∷ 0 ∷ 4 ∷ 0 ∷ 4 ∷ 1 ∷ [])) (marks 4 1 2 3)
     -- C3, and single-sided
-    ∷ asks (galleyC double) (marking (1 ∷ 0 ∷ 2 ∷ 0 ∷ 3 ∷ 0 ∷ 3 ∷ 1 ∷ 4 ∷ 1 ∷ [])) (marks 5 0 2 2)
+    ∷ asks (galleyC (double 1)) (marking (1 ∷ 0 ∷ 2 ∷ 0 ∷ 3 ∷ 0 ∷ 3 ∷ 1 ∷ 4 ∷ 1 ∷ [])) (marks 5 0 2 2)
     ∷ asks (galleyC single) (marking (1 ∷ 0 ∷ 2 ∷ 0 ∷ 3 ∷ 0 ∷ 3 ∷ 1 ∷ 4 ∷ 1 ∷ [])) (refuses 17 4)
     ∷ []

@@ -1,8 +1,9 @@
--- The table of cases: those of document 01, then those for what they leave open.
+-- The table of cases: those of document 01, then those for what they leave open, then those of document 02.
 use mathlib.Core.List.{List, _++_}
 use Rattle.cases.specs.Case.{Case}
 use Rattle.cases.specs.Starred.{starred}
 use Rattle.cases.specs.Further.{makings, heights, refusals}
+use Rattle.cases.specs.Requests.{folios}
 
 unfoldable pub table : List Case
-table = starred ++ makings ++ heights ++ refusals
+table = starred ++ makings ++ heights ++ refusals ++ folios

@@ -35,6 +35,10 @@ abbrev pub streamsOf : List ℕ → Galley → ℕ → model.Stream
 streamsOf bytes g zero = textOf bytes (g .text)
 streamsOf bytes g (suc s) = floatsOf bytes (g .figures)
 
+-- The sidedness of a galley, by its field `sides` and its first folio.
+abbrev pub sidesIn : Galley → model.Sides
+sidesIn g = sidesOf (g .spec .sides) (g .folio)
+
 -- The galley as the page model has it.
 abbrev pub modelOf : List ℕ → Galley → model.Galley
 modelOf bytes g =
@@ -45,7 +49,7 @@ modelOf bytes g =
             htmax = g .spec .htmax;
             smin = g .spec .smin;
             smax = g .spec .smax;
-            sides = sidesOf (g .spec .sides);
+            sides = sidesIn g;
             alpha = g .spec .alpha;
             beta = g .spec .beta;
           };

@@ -64,9 +64,10 @@ pub struct Stream {
     pub count: usize,
 }
 
-// A galley that was read: its specification and its streams.
+// A galley that was read: its specification, the folio of its first page, and its streams.
 pub struct Galley {
     pub spec: Spec,
+    pub folio: u32,
     pub text: Stream,
     pub figures: Stream,
 }

@@ -6,9 +6,11 @@ use mathlib.Core.List.{List}
 use lib.ListN.{getD}
 use Rattle.model.specs.Gather.{total, row}
 
--- Whether one page or a spread of two facing pages is seen at a time (paper, section 2).
+-- Whether one page or a spread of two facing pages is seen at a time (paper, section 2). Spreads go by folio, so double-sided
+-- work has the folio of its first page (document 02, S-1).
 pub data Sides : Type 0 where
-  single double : Sides
+  single : Sides
+  double : ℕ → Sides
 
 -- The page specification: page height, separation between kinds, sidedness (paper, section 2) and weights (section 3).
 pub record Spec : Type 0 where

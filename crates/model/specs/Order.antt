@@ -7,6 +7,7 @@ use lib.ListN.{length}
 use lib.Dec.{leb}
 use Rattle.model.specs.Gather.{implies}
 use Rattle.model.specs.Galley.{Sides, single, double, Galley, Place, zeros}
+use Rattle.model.specs.Leaf.{folioOf}
 use Rattle.model.specs.Turns.{turns}
 
 -- By the first order, and where that takes two as equal by the second (document 01, "Making": one tie after another).
@@ -27,17 +28,18 @@ lex le (x ∷ xs) (y ∷ ys) = le x y && implies (le y x) (lex le xs ys)
 unfoldable pub geb : ℕ → ℕ → Bool
 geb a b = leb b a
 
--- 1 for a count of pages that is odd in double-sided work, else 0: even counts are preferred (document 01, "Making").
+-- 1 where the last of p pages has an odd folio in double-sided work, else 0: an even one is preferred (document 01, "Making";
+-- document 02, S-1).
 unfoldable pub oddly : Sides → ℕ → ℕ
 oddly single p = 0
-oddly double p = p % 2
+oddly (double f) p = folioOf f p % 2
 
 -- The places where the pages of a list start, put before `after`: the last page's start first (document 01, "Making").
 unfoldable pub startsOf : Place → List Place → List Place → List Place
 startsOf u [] after = after
 startsOf u (v ∷ vs) after = startsOf v vs (u ∷ after)
 
--- The first list is preferred to the second, or is as good: by turns; in double-sided work by evenness of the page count; then
+-- The first list is preferred to the second, or is as good: by turns; in double-sided work by evenness of the last folio; then
 -- by the starts of the pages, the last page's first, each by its line and then its float of each stream (document 01,
 -- "Making").
 unfoldable pub before : Galley → List Place → List Place → Bool

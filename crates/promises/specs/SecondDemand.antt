@@ -1,6 +1,7 @@
 -- The second demand: marking accepts a list exactly where it is a pagination, under the published model, of the galley that
 -- the bytes say, and reports that pagination's page count and goal functions. `markOf` is the contract of `mark`.
 use Prim.Native.Nat.{ℕ, _+_, _-_, _*_, _/_, _≤_}
+use native.Mathlib.Nat.{zero-add}
 use native.Mathlib.Omega.{arith}
 use mathlib.Core.Path.{_≡_, refl, sym, _∙_, ap}
 use mathlib.Core.Logic.{_↔_}
@@ -9,17 +10,17 @@ use mathlib.Core.List.{List}
 use Rattle.model.specs.declared.answer.Answer.the-variants.{Counted, Refused}
 use Rattle.model.specs.Gather.{sum}
 use Rattle.model.specs.Galley.{Block}
-use Rattle.model.specs.Leaf.{leaf, sidesOf}
+use Rattle.model.specs.Leaf.{folioOf, leaf, sidesOf}
 use Rattle.model.specs.laws.Leaf.{leaf-mono}
 use Rattle.model.specs.Answers.{accepted, marked, wordsOf}
 use Rattle.model.specs.Pagination.{Map, Pagination, listOn, xOn, turnsOn}
-use Rattle.theorems.specs.published.Theorem.{words-published, words-unique, words-counts, turn-single, turn-double}
+use Rattle.theorems.specs.published.Theorem.{words-published, words-unique, words-counts, turn-leaves}
 use Rattle.galley.specs.declared.Galley.{Galley}
 use Rattle.galley.specs.declared.Reading.{Reading}
 use Rattle.galley.specs.declared.Reading.the-variants as reads
 use Rattle.galley.specs.Whole.{galleyOf}
 use Rattle.galley.specs.Sound.{citation}
-use Rattle.galley.specs.Model.{modelOf}
+use Rattle.galley.specs.Model.{sidesIn, modelOf}
 use Rattle.marking.specs.Mark.{markRead, markOf}
 use Rattle.rules.specs.laws.Sane.{reads-sane}
 
@@ -58,73 +59,69 @@ accepts-paginations bytes words = (
       ∙ words-published (modelOf bytes (t .0)) (reads-sane bytes (t .0) (m .says)) words .1 (t .1, t .2, m .pages, m .list),
 )
 
--- The paper's X, with the figures the only floats.
-x-figures : (bytes : List ℕ) (g : Galley) (P : Map)
-    → xOn (modelOf bytes g) P
-    ≡ sum (g .figures .count) (λ f. leaf (sidesOf (g .spec .sides)) (P 1 f) - leaf (sidesOf (g .spec .sides)) (P 0 (citation bytes g f)))
-unfolding xOn sum
-x-figures bytes g P = omega arith
-
 module _ {bytes words : List ℕ} {g : Galley} {p : ℕ} {P : Map} (m : Paginates bytes words g p P) where
   -- The answer is its page count, X and Y over its leaves, and its turns.
   pub reports : markOf bytes words
-      ≡ Counted p (xOn (modelOf bytes g) P) (leaf (sidesOf (g .spec .sides)) p - leaf (sidesOf (g .spec .sides)) 1)
+      ≡ Counted p (xOn (modelOf bytes g) P) (leaf (sidesIn g) p - leaf (sidesIn g) 1)
       (turnsOn (modelOf bytes g) p P)
   reports =
       mark-is bytes words g (m .says)
       ∙ ap (marked (modelOf bytes g)) (sym (m .list))
       ∙ words-counts (modelOf bytes g) (reads-sane bytes g (m .says)) (m .pages)
 
-  -- Single-sided: X is Σ (P(f) − P(R(f))), Y is p − 1, and the turns are the paper's Turn.S.
+  -- With S for the numbers of the leaves: X is Σ (S(P(f)) − S(P(R(f)))), Y is S(p) − S(1), and the turns are X and Y by their
+  -- weights.
+  by-leaves : (S : ℕ → ℕ) → ((q : ℕ) → leaf (sidesIn g) q ≡ S q)
+      → markOf bytes words
+      ≡ Counted p (sum (g .figures .count) (λ f. S (P 1 f) - S (P 0 (citation bytes g f)))) (S p - S 1)
+      (sum (g .figures .count) (λ f. g .spec .alpha * (S (P 1 f) - S (P 0 (citation bytes g f)))) + g .spec .beta * (S p - S 1))
+  unfolding xOn sum
+  by-leaves S is =
+      let X = sum (g .figures .count) (λ f. S (P 1 f) - S (P 0 (citation bytes g f))) in
+      let T = sum (g .figures .count) (λ f. g .spec .alpha * (S (P 1 f) - S (P 0 (citation bytes g f)))) + g .spec .beta * (S p - S 1) in
+      let ex : xOn (modelOf bytes g) P ≡ X = simp is (omega arith) in
+      let ey : leaf (sidesIn g) p - leaf (sidesIn g) 1 ≡ S p - S 1 = simp is in
+      let paper = turn-leaves (modelOf bytes g) p P S is in
+      let et : turnsOn (modelOf bytes g) p P ≡ T = omega arith in
+      reports ∙ cc
+
+  -- Single-sided: X is Σ (P(f) − P(R(f))), Y is p − 1, and the turns are the paper's Turn.S, whatever the folio.
   pub reports-single : g .spec .sides ≡ 1
       → markOf bytes words
       ≡ Counted p (sum (g .figures .count) (λ f. P 1 f - P 0 (citation bytes g f))) (p - 1)
       (sum (g .figures .count) (λ f. g .spec .alpha * (P 1 f - P 0 (citation bytes g f))) + g .spec .beta * (p - 1))
-  unfolding leaf sidesOf sum
-  reports-single e =
-      let M = modelOf bytes g in
-      let X = sum (g .figures .count) (λ f. P 1 f - P 0 (citation bytes g f)) in
-      let T = sum (g .figures .count) (λ f. g .spec .alpha * (P 1 f - P 0 (citation bytes g f))) + g .spec .beta * (p - 1) in
-      let ex : xOn M P ≡ X =
-      x-figures bytes g P
-      ∙ ap (λ n. sum (g .figures .count) (λ f. leaf (sidesOf n) (P 1 f) - leaf (sidesOf n) (P 0 (citation bytes g f)))) e in
-      let ey : leaf (sidesOf (g .spec .sides)) p - leaf (sidesOf (g .spec .sides)) 1 ≡ p - 1 =
-      ap (λ n. leaf (sidesOf n) p - leaf (sidesOf n) 1) e in
-      let paper = turn-single M p P (ap sidesOf e) in
-      let et : turnsOn M p P ≡ T = omega arith in
-      reports ∙ cc
+  unfolding leaf sidesOf
+  reports-single e = by-leaves (λ q. q) (λ q. rw e)
 
-  -- Double-sided, with S(q) = q DIV 2 + 1: X is Σ (S(P(f)) − S(P(R(f)))), Y is S(p) − 1, and the turns are Turn.D.
+  -- Double-sided, with the spread of page q by its folio, S(q) = (F − 1 + q) DIV 2 + 1: X is Σ (S(P(f)) − S(P(R(f)))), Y is S(p) − S(1),
+  -- and the turns are Turn.D over these spreads (document 02, S-1).
   pub reports-double : g .spec .sides ≡ 2
+      → (let S : ℕ → ℕ = λ q. folioOf (g .folio) q / 2 + 1 in
+      markOf bytes words
+      ≡ Counted p (sum (g .figures .count) (λ f. S (P 1 f) - S (P 0 (citation bytes g f)))) (S p - S 1)
+      (sum (g .figures .count) (λ f. g .spec .alpha * (S (P 1 f) - S (P 0 (citation bytes g f)))) + g .spec .beta * (S p - S 1)))
+  unfolding leaf sidesOf
+  reports-double e = by-leaves (λ q. folioOf (g .folio) q / 2 + 1) (λ q. rw e)
+
+  -- Where the first folio is 1, this is the paper's own Turn.D, with S(q) = q DIV 2 + 1 and S(1) = 1.
+  pub reports-first : g .spec .sides ≡ 2 → g .folio ≡ 1
       → (let S : ℕ → ℕ = λ q. q / 2 + 1 in
       markOf bytes words
       ≡ Counted p (sum (g .figures .count) (λ f. S (P 1 f) - S (P 0 (citation bytes g f)))) (S p - 1)
       (sum (g .figures .count) (λ f. g .spec .alpha * (S (P 1 f) - S (P 0 (citation bytes g f)))) + g .spec .beta * (S p - 1)))
-  unfolding leaf sidesOf sum
-  reports-double e =
-      let M = modelOf bytes g in
-      let S : ℕ → ℕ = λ q. q / 2 + 1 in
-      let X = sum (g .figures .count) (λ f. S (P 1 f) - S (P 0 (citation bytes g f))) in
-      let T = sum (g .figures .count) (λ f. g .spec .alpha * (S (P 1 f) - S (P 0 (citation bytes g f)))) + g .spec .beta * (S p - 1) in
-      let ex : xOn M P ≡ X =
-      x-figures bytes g P
-      ∙ ap (λ n. sum (g .figures .count) (λ f. leaf (sidesOf n) (P 1 f) - leaf (sidesOf n) (P 0 (citation bytes g f)))) e in
-      let ey : leaf (sidesOf (g .spec .sides)) p - leaf (sidesOf (g .spec .sides)) 1 ≡ S p - 1 =
-      ap (λ n. leaf (sidesOf n) p - leaf (sidesOf n) 1) e in
-      let paper = turn-double M p P (ap sidesOf e) in
-      let et : turnsOn M p P ≡ T = omega arith in
-      reports ∙ cc
+  unfolding leaf sidesOf
+  reports-first e f = by-leaves (λ q. q / 2 + 1) (λ q. rw (e, f, zero-add))
 
   -- No subtraction in X is cut off at 0: no figure is on a leaf before that of the line that cites it. Nor is that in Y, since
   -- there is a page.
   pub nothing-cut : ((f : ℕ) → 1 ≤ f → f ≤ g .figures .count
-      → leaf (sidesOf (g .spec .sides)) (P 0 (citation bytes g f)) ≤ leaf (sidesOf (g .spec .sides)) (P 1 f))
-      × (leaf (sidesOf (g .spec .sides)) 1 ≤ leaf (sidesOf (g .spec .sides)) p)
+      → leaf (sidesIn g) (P 0 (citation bytes g f)) ≤ leaf (sidesIn g) (P 1 f))
+      × (leaf (sidesIn g) 1 ≤ leaf (sidesIn g) p)
   nothing-cut =
       let lined = reads-sane bytes g (m .says) .lined in
       let first = m .pages .into 0 1 (record { stream = omega arith; first = omega arith; last = lined }) in (
         λ f l h. m .pages .fourth 1 f (omega arith) (record { stream = omega arith; first = l; last = h }),
-        leaf-mono (sidesOf (g .spec .sides)) 1 p (omega (arith, first .0, first .1)),
+        leaf-mono (sidesIn g) 1 p (omega (arith, first .0, first .1)),
       )
 
   -- No other pagination of the galley has the same list.

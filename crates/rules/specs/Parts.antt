@@ -5,33 +5,42 @@ use lib.Dec.{eqb}
 use Rattle.model.specs.Gather.{pick}
 use Rattle.model.specs.Galley as model
 use Rattle.model.specs.Rules.{forward, closes}
-use Rattle.model.specs.Leaf.{leaf, sidesOf}
+use Rattle.model.specs.Leaf.{leaf}
 use Rattle.model.specs.declared.answer.Answer.{Answer}
 use Rattle.model.specs.declared.answer.Answer.the-variants.{Counted, Refused}
 use Rattle.galley.specs.declared.Galley.{Galley}
 use Rattle.galley.specs.Range.{SpecRanged}
+use Rattle.galley.specs.Model.{sidesIn}
+
+-- Of rule n and the rule after it, given what each says of the page, the number of the first that fails, or 0.
+unfoldable pub faultFrom : ℕ → Bool → Bool → ℕ
+faultFrom n this next = pick this (pick next 0 (n + 1)) n
 
 -- Rules 13 and 14, which ask for no height: the number of the first that fails, or 0.
-unfoldable pub startFault : model.Galley → model.Place → model.Place → ℕ
-startFault g u v = pick (forward g u v) (pick (closes g v) 0 14) 13
+abbrev pub startFault : model.Galley → model.Place → model.Place → ℕ
+startFault g u v = faultFrom 13 (forward g u v) (closes g v)
 
--- Rules 16 and 17, given what each says of the page: the number of the first that fails, or 0.
-unfoldable pub endFault : Bool → Bool → ℕ
-endFault fills cited = pick fills (pick cited 0 17) 16
+-- Y of p pages: the leaves turned from the first to the last (document 01, "Spreads and turns").
+unfoldable pub leavesTurned : Galley → ℕ → ℕ
+leavesTurned g p = leaf (sidesIn g) p - leaf (sidesIn g) 1
 
 -- The counts of p pages with X known.
 unfoldable pub counts : Galley → ℕ → ℕ → Answer
-counts g p x =
-    let y = leaf (sidesOf (g .spec .sides)) p - leaf (sidesOf (g .spec .sides)) 1 in
-    Counted p x y (g .spec .alpha * x + g .spec .beta * y)
+counts g p x = let y = leavesTurned g p in Counted p x y (g .spec .alpha * x + g .spec .beta * y)
 
 -- The answer once p pages are judged: 18 where the last does not end at the full place, else the counts.
 unfoldable pub finished : Galley → ℕ → ℕ → ℕ → ℕ → Answer
 finished g p a b x = pick (eqb a (g .text .count) && eqb b (g .figures .count)) (counts g p x) (Refused 18 p)
 
--- Numbers of pages and of X, and weights, that keep T within 32 bits.
-pub record CountLimits (g : Galley) (pages x : ℕ) : Type 0 where
+-- A number of pages, and a first folio, that keep every folio within 32 bits.
+pub record PageLimits (g : Galley) (pages : ℕ) : Type 0 where
   pub some : 1 ≤ pages
   pub few : pages ≤ 4200
+  pub folio : 1 ≤ g .folio
+  pub folios : g .folio ≤ 9999
+
+-- Numbers of pages and of X, and weights, that keep T within 32 bits.
+pub record CountLimits (g : Galley) (pages x : ℕ) : Type 0 where
+  pub numbered : PageLimits g pages
   pub most : x ≤ 200 * pages
   pub ranged : SpecRanged (g .spec)

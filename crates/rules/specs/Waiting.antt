@@ -6,11 +6,11 @@ use lib.ListN.{length}
 use lib.Dec.{leb}
 use Rattle.model.specs.Gather.{pick, times}
 use Rattle.model.specs.Galley as model
-use Rattle.model.specs.Leaf.{ends, sidesOf}
+use Rattle.model.specs.Leaf.{ends}
 use Rattle.galley.specs.declared.Stream.{Stream}
 use Rattle.galley.specs.declared.Galley.{Galley}
 use Rattle.galley.specs.Sound.{SoundStream}
-use Rattle.galley.specs.Model.{floatsOf}
+use Rattle.galley.specs.Model.{floatsOf, sidesIn}
 
 -- Of the `left` floats after float k, those met on the way to the first that a line after i cites (document 02, S-2).
 unfoldable pub waitingFrom : model.Stream → ℕ → ℕ → ℕ → List ℕ
@@ -39,4 +39,4 @@ pub record Walked (bytes : List ℕ) (floats : Stream) (i j known : ℕ) : Type 
 -- What page q adds to X where so many figures wait at its end: all of them where it ends its leaf (document 01, "Spreads and
 -- turns").
 unfoldable pub waitingAt : Galley → ℕ → ℕ → ℕ
-waitingAt g q waiting = pick (ends (sidesOf (g .spec .sides)) q) waiting 0
+waitingAt g q waiting = pick (ends (sidesIn g) q) waiting 0

@@ -1,10 +1,20 @@
 // The counts of a list whose pages were judged.
 ghost use mathlib.Core.Path.{_≡_};
 ghost use Prim.Native.Nat.{_*_};
-ghost use Rattle.rules.specs.Parts.{CountLimits, finished};
+ghost use Rattle.rules.specs.Parts.{leavesTurned, PageLimits, CountLimits, finished};
 use galley::Galley;
 use model::answer::Answer;
 use model::page::Page;
+
+// Y: the leaves turned from the first of so many pages to the last.
+fn leaves_turned(g: Galley, pages: u32) -> u32
+    requires { ⌜ PageLimits g pages ⌝ }
+    ensures { λ r. ⌜ r ≡ leavesTurned g pages ⌝ }
+{
+    let first = model::page::spread_of(g.spec.sides, g.folio, Page(1));
+    let last = model::page::spread_of(g.spec.sides, g.folio, Page(pages));
+    last.0 - first.0
+}
 
 // 18 where the last page does not end at the full place, else p, X, Y, T.
 pub fn finish(g: Galley, pages: u32, a: usize, b: usize, x: u32) -> Answer
@@ -12,9 +22,7 @@ pub fn finish(g: Galley, pages: u32, a: usize, b: usize, x: u32) -> Answer
     ensures { λ r. ⌜ r ≡ finished g pages a b x ⌝ }
 {
     if (a == g.text.count) & (b == g.figures.count) {
-        let first = model::page::spread_of(g.spec.sides, Page(1));
-        let last = model::page::spread_of(g.spec.sides, Page(pages));
-        let y = last.0 - first.0;
+        let y = leaves_turned(g, pages);
         return Answer::Counted {
             pages,
             x,

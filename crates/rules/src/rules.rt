@@ -10,7 +10,7 @@ ghost use Rattle.model.specs.Rules.{forward, mayEnd, cited};
 ghost use Rattle.model.specs.Answers.{counted};
 ghost use Rattle.galley.specs.Model.{textOf, floatsOf, modelOf};
 ghost use Rattle.galley.specs.Sound.{SoundStream, Sound};
-ghost use Rattle.rules.specs.Parts.{startFault, endFault};
+ghost use Rattle.rules.specs.Parts.{faultFrom, startFault};
 use galley::Galley;
 use galley::Stream;
 use model::page::Page;
@@ -52,6 +52,20 @@ pub fn is_cited(s: &[u8], floats: Stream, asked: bool, i: usize, j: usize) -> bo
     true
 }
 
+// The first that is broken of a rule and the one after it, or 0.
+fn first_fault(rule: u32, kept: bool, next: bool) -> u32
+    requires { ⌜ rule ≤ 17 ⌝ }
+    ensures { λ r. ⌜ r ≡ faultFrom rule kept next ⌝ }
+{
+    if kept {
+        if next {
+            return 0;
+        }
+        return rule + 1;
+    }
+    rule
+}
+
 // The first of 13 and 14 that a page from (a, b) to (i, j) breaks, or 0.
 pub fn start_fault(s: &[u8], g: Galley, a: usize, b: usize, i: usize, j: usize) -> u32
     requires { ⌜ Sound (now s) g ⌝ }
@@ -59,28 +73,16 @@ pub fn start_fault(s: &[u8], g: Galley, a: usize, b: usize, i: usize, j: usize) 
 {
     let forward = is_forward(g, a, b, i, j);
     let closes = may_end(s, g.text, i);
-    if forward {
-        if closes {
-            return 0;
-        }
-        return 14;
-    }
-    13
+    first_fault(13, forward, closes)
 }
 
 // The first of 16 and 17 that a page of this loosest height breaks, or 0.
 pub fn end_fault(s: &[u8], g: Galley, loose: u32, page: Page, last: bool, i: usize, j: usize) -> u32
     requires { ⌜ (Sound (now s) g) × (j ≤ g .figures .count) ⌝ }
-    ensures { λ r. ⌜ r ≡ endFault (last || leb (g .spec .htmin) loose) (cited (modelOf (now (s .entry)) g) (page .0) last (i ∷ j ∷ [])) ⌝ }
+    ensures { λ r. ⌜ r ≡ faultFrom 16 (last || leb (g .spec .htmin) loose) (cited (modelOf (now (s .entry)) g) (page .0) last (i ∷ j ∷ [])) ⌝ }
 {
     let fills = last | (g.spec.htmin <= loose);
-    let asked = model::page::ends_spread(g.spec.sides, page) | last;
+    let asked = model::page::ends_spread(g.spec.sides, g.folio, page) | last;
     let cited = is_cited(s, g.figures, asked, i, j);
-    if fills {
-        if cited {
-            return 0;
-        }
-        return 17;
-    }
-    16
+    first_fault(16, fills, cited)
 }

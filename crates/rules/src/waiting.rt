@@ -35,10 +35,10 @@ pub fn still_waiting(waiting: usize, placed: usize) -> usize
 
 // What a page adds to X with so many figures waiting at its end: all of them where it ends its leaf, else 0.
 pub fn waiting_at(g: Galley, page: Page, waiting: usize) -> u32
-    requires { ⌜ waiting ≤ 200 ⌝ }
+    requires { ⌜ (1 ≤ g .folio) × (waiting ≤ 200) ⌝ }
     ensures { λ r. ⌜ r ≡ waitingAt g (page .0) waiting ⌝ }
 {
-    if model::page::ends_spread(g.spec.sides, page) {
+    if model::page::ends_spread(g.spec.sides, g.folio, page) {
         return waiting as u32;
     }
     0

@@ -1,9 +1,10 @@
 -- `mark` meets its contract: a galley that reads is sound, and each case of the reading is the clause of `markRead` for it.
-use borrow.Author.Needs.{needs}
 use denote.Ref.{now}
 use mathlib.Core.Path.{sym, _∙_}
 use Rattle.galley.specs.laws.Sound.{sound}
 use Rattle.marking.specs.Mark.{markRead, markOf}
+use native.Mathlib.Omega.{arith}
+use ghost.Mode.{_$_}
 use Rattle.marking.proofs.mark.Statement.{statement}
 use Rattle.marking.proofs.mark.Tie as tie
 
@@ -22,12 +23,4 @@ returns-2 c =
     simp (← c .before .before .before .read-galley .ensures, c .before .reading2 .given .1)
 
 pub mark-spec : {M : Type 1} → statement M
-mark-spec =
-    tie.close
-    (tie.spec
-    (λ c κs. search needs)
-    (λ c. search needs)
-    mark-read-requires
-    (λ c. search needs)
-    returns
-    returns-2)
+mark-spec = tie.close ((λ (a, b, c). tie.spec a b mark-read-requires c returns returns-2) $ omega arith)

@@ -3,29 +3,24 @@ use Prim.Native.Nat.{ℕ, _≤_, _<_}
 use native.Mathlib.Omega.{arith}
 use mathlib.Core.Path.{_≡_, refl, sym}
 use mathlib.Core.Bool.{Bool, true, false}
-use mathlib.Core.List.{List, [], _∷_}
-use Rattle.model.specs.Gather.{pick}
-use Rattle.model.specs.Galley.{count}
 use Rattle.model.specs.Galley as model
 use Rattle.model.specs.Rules.{forward, closes, fits, fills, cited, firstBroken, broken}
-use Rattle.model.specs.laws.Rules.{forward-at}
-use Rattle.galley.specs.declared.Galley.{Galley}
-use Rattle.galley.specs.Model.{modelOf}
-use Rattle.rules.specs.Parts.{startFault, endFault}
+use Rattle.rules.specs.Parts.{faultFrom, startFault}
 
-start-first : (a b c d e : Bool) (n : ℕ) → n ≡ pick a (pick b 0 14) 13 → 0 < n → n ≡ firstBroken a b c d e
-unfolding firstBroken
+start-first : (a b c d e : Bool) (n : ℕ) → n ≡ faultFrom 13 a b → 0 < n → n ≡ firstBroken a b c d e
+unfolding faultFrom firstBroken
 start-first false b c d e n h l = h
 start-first true false c d e n h l = h
 start-first true true c d e n h l = absurd (omega arith)
 
-none-first : (a b : Bool) (n : ℕ) → n ≡ pick a (pick b 0 14) 13 → n ≤ 0 → (a ≡ true) × (b ≡ true)
+none-first : (a b : Bool) (n : ℕ) → n ≡ faultFrom 13 a b → n ≤ 0 → (a ≡ true) × (b ≡ true)
+unfolding faultFrom
 none-first false b n h l = absurd (omega arith)
 none-first true false n h l = absurd (omega arith)
 none-first true true n h l = (refl, refl)
 
-end-first : (d e : Bool) → firstBroken true true true d e ≡ pick d (pick e 0 17) 16
-unfolding firstBroken
+end-first : (d e : Bool) → firstBroken true true true d e ≡ faultFrom 16 d e
+unfolding faultFrom firstBroken
 end-first false e = refl
 end-first true false = refl
 end-first true true = refl
@@ -33,41 +28,21 @@ end-first true true = refl
 module _ (M : model.Galley) (q : ℕ) (last : Bool) (u v : model.Place) (n : ℕ) (e : n ≡ startFault M u v) where
   -- 13 or 14.
   pub broken-start : 0 < n → n ≡ broken M q last u v
-  unfolding startFault broken
+  unfolding broken
   broken-start h = start-first (forward M u v) (closes M v) (fits M u v) (fills M last u v) (cited M q last v) n e h
 
   pub goes-forward : n ≤ 0 → forward M u v ≡ true
-  unfolding startFault
   goes-forward h = none-first (forward M u v) (closes M v) n e h .0
 
   -- 15.
   pub broken-over : n ≤ 0 → fits M u v ≡ false → 15 ≡ broken M q last u v
-  unfolding startFault broken firstBroken
+  unfolding broken firstBroken
   broken-over h over = let both = none-first (forward M u v) (closes M v) n e h in rw (both .0, both .1, over)
 
   -- 16 or 17, or none.
   pub broken-end : n ≤ 0 → fits M u v ≡ true → (d : Bool) → fills M last u v ≡ d
-      → endFault d (cited M q last v) ≡ broken M q last u v
-  unfolding startFault endFault broken
+      → faultFrom 16 d (cited M q last v) ≡ broken M q last u v
+  unfolding broken
   broken-end h fit d full =
       let both = none-first (forward M u v) (closes M v) n e h in
       rw (both .0, both .1, fit, full) (sym (end-first d (cited M q last v)))
-
--- What rule 13 says of the two counts.
-pub record Onward (g : Galley) (a b i j : ℕ) : Type 0 where
-  pub lines : a ≤ i
-  pub topLine : i ≤ g .text .count
-  pub figures : b ≤ j
-  pub topFigure : j ≤ g .figures .count
-
-pub goes-onward : (bytes : List ℕ) (g : Galley) (a b i j : ℕ) → forward (modelOf bytes g) (a ∷ b ∷ []) (i ∷ j ∷ []) ≡ true
-    → Onward g a b i j
-unfolding count
-goes-onward bytes g a b i j h =
-    let f = forward-at (modelOf bytes g) (a ∷ b ∷ []) (i ∷ j ∷ []) h in
-    record {
-      lines = f .up 0 (omega arith);
-      topLine = f .top 0 (omega arith);
-      figures = f .up 1 (omega arith);
-      topFigure = f .top 1 (omega arith);
-    }

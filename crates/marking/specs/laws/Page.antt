@@ -1,23 +1,29 @@
 -- One page of a run: what is known of it once 13 and 14 are tested, and how each way of leaving it goes on.
-use Prim.Native.Nat.{ℕ, _+_, _-_, _*_, _/_, _≤_, _<_}
+use Prim.Native.Nat.{ℕ, zero, suc, _+_, _-_, _*_, _/_, _≤_, _<_}
 use native.Mathlib.Omega.{arith}
-use mathlib.Core.Path.{_≡_, sym, _∙_}
+use mathlib.Core.Path.{_≡_, refl, sym, _∙_}
 use mathlib.Core.Bool.{_&&_, _||_}
 use mathlib.Core.List.{List, [], _∷_}
 use lib.ListN.{length, getD}
 use lib.Dec.{eqb, leb, ltb}
 use Rattle.model.specs.declared.answer.Answer.the-variants.{Refused}
+use Rattle.model.specs.Galley.{Place, count}
 use Rattle.model.specs.Rules.{cited, broken}
+use Rattle.model.specs.laws.Rules.{Forward, forward-at}
 use Rattle.galley.specs.declared.Galley.{Galley}
+use Rattle.galley.specs.declared.Stream.{Stream}
+use Rattle.galley.specs.Sound.{SoundStream, Sound}
 use Rattle.galley.specs.Model.{floatsOf, modelOf}
 use Rattle.blocks.specs.declared.heights.Heights.{Heights}
 use Rattle.blocks.specs.Heights.{apartBy, withBlock, Room}
-use Rattle.rules.specs.Parts.{startFault, endFault}
+use Rattle.blocks.specs.laws.Heights.{separation-most, Grown, with-grown}
+use Rattle.rules.specs.Parts.{faultFrom, startFault}
 use Rattle.rules.specs.Waiting.{waits, Walked, waitingAt}
 use Rattle.marking.specs.Parts.{WholePages}
+use Rattle.rules.specs.laws.Two.{separation-two, blocks-two}
 use Rattle.rules.specs.laws.Walked.{walked-on}
-use Rattle.marking.specs.laws.Heights.{PageSoFar, page-start, page-line-room, page-line, page-figure-room, page-figure, page-over, page-fits, page-fills}
-use Rattle.marking.specs.laws.Faults.{Onward, goes-onward, broken-start, goes-forward, broken-over, broken-end}
+use Rattle.marking.specs.laws.Heights.{PageSoFar, oneMore, page-start, page-placed, page-more, page-over, page-fits, page-fills}
+use Rattle.marking.specs.laws.Faults.{broken-start, goes-forward, broken-over, broken-end}
 use Rattle.marking.specs.laws.Run.{Run, wholly, run-refused, run-next}
 
 -- Page `done` + 1 goes from (a, b) to (i, j), and `start` is the first of 13 and 14 that it breaks, or 0.
@@ -50,80 +56,115 @@ module _ {bytes : List ℕ} {g : Galley} {ws : List ℕ} {done a b w x i j start
       (broken-start (modelOf bytes g) (done + 1) (eqb (done + 1) (length ws / 2)) (a ∷ b ∷ []) (i ∷ j ∷ []) start (p .fault) h) h
 
   -- Otherwise the page goes forward.
-  pub begun-onward : start ≤ 0 → Onward g a b i j
+  pub begun-onward : start ≤ 0 → Forward (modelOf bytes g) (a ∷ b ∷ []) (i ∷ j ∷ [])
   begun-onward fine =
-      goes-onward bytes g a b i j
+      forward-at (modelOf bytes g) (a ∷ b ∷ []) (i ∷ j ∷ [])
       (goes-forward (modelOf bytes g) (done + 1) (eqb (done + 1) (length ws / 2)) (a ∷ b ∷ []) (i ∷ j ∷ []) start (p .fault) fine)
 
--- The same page, which breaks neither 13 nor 14, with its heights so far.
-pub record Underway (bytes : List ℕ) (g : Galley) (ws : List ℕ) (done a b w x i j start k f : ℕ) (h : Heights) : Type 0 where
+-- The same page, which breaks neither 13 nor 14, with its heights so far, which are those of its blocks up to v.
+pub record Underway (bytes : List ℕ) (g : Galley) (ws : List ℕ) (done a b w x i j start : ℕ) (v : Place) (h : Heights) : Type 0 where
   pub begun : Begun bytes g ws done a b w x i j start
   pub fine : start ≤ 0
-  pub onward : Onward g a b i j
-  pub soFar : PageSoFar bytes g a b i j k f h
+  pub onward : Forward (modelOf bytes g) (a ∷ b ∷ []) (i ∷ j ∷ [])
+  pub soFar : PageSoFar (modelOf bytes g) (a ∷ b ∷ []) v (i ∷ j ∷ []) h
 
 -- At first it has its separation alone.
 pub underway-start : {bytes : List ℕ} {g : Galley} {ws : List ℕ} {done a b w x i j start : ℕ}
     → Begun bytes g ws done a b w x i j start → start ≤ 0
-    → Underway bytes g ws done a b w x i j start a b (apartBy (g .spec) (ltb a i && ltb b j))
+    → Underway bytes g ws done a b w x i j start (a ∷ b ∷ []) (apartBy (g .spec) (ltb a i && ltb b j))
+unfolding apartBy
 underway-start {bytes} {g} {a = a} {b = b} {i = i} {j = j} p fine =
     let on = begun-onward p fine in
+    let ranged = p .listed .sound .specRanged in
     record {
       begun = p;
       fine = fine;
       onward = on;
-      soFar = page-start bytes g (p .listed .sound) a b i j (on .lines) (on .figures);
+      soFar =
+          page-start (modelOf bytes g) (a ∷ b ∷ []) (i ∷ j ∷ []) (apartBy (g .spec) (ltb a i && ltb b j)) (on .up)
+          (sym (separation-two bytes g (g .spec .smin) a b i j)) (sym (separation-two bytes g (g .spec .smax) a b i j))
+          (separation-most (ltb a i && ltb b j) (g .spec .smin) (omega arith))
+          (separation-most (ltb a i && ltb b j) (g .spec .smax) (omega arith));
     }
 
-module _ {bytes : List ℕ} {g : Galley} {ws : List ℕ} {done a b w x i j start k f : ℕ} {h : Heights}
-    (u : Underway bytes g ws done a b w x i j start k f h) where
-  -- A line more.
-  pub underway-line-room : k < i → Room bytes (g .text) h (k + 1)
-  underway-line-room =
-      page-line-room bytes g (u .begun .listed .sound) a b i j (u .soFar) (u .onward .topLine) (u .onward .topFigure)
+-- The records of stream s: the text is 0.
+abbrev pub recordsOf : Galley → ℕ → Stream
+recordsOf g zero = g .text
+recordsOf g (suc s) = g .figures
 
-  pub underway-line : k < i → Underway bytes g ws done a b w x i j start (k + 1) f (withBlock bytes (g .text) h a k)
-  underway-line less =
-      record {
-        begun = u .begun;
-        fine = u .fine;
-        onward = u .onward;
-        soFar = page-line bytes g (u .begun .listed .sound) a b i j (u .soFar) (u .onward .topLine) (u .onward .topFigure) less;
-      }
+-- A place of two streams is past another where each count is.
+pub past-two : {i j k f : ℕ} → i ≤ k → j ≤ f → (s : ℕ) → s ≤ 1 → count (i ∷ j ∷ []) s ≤ count (k ∷ f ∷ []) s
+unfolding count
+past-two lines figures zero l = lines
+past-two lines figures (suc zero) l = figures
+past-two lines figures (suc (suc s)) l = absurd (omega arith)
 
-  -- A figure more.
-  pub underway-figure-room : f < j → Room bytes (g .figures) h (f + 1)
-  underway-figure-room =
-      page-figure-room bytes g (u .begun .listed .sound) a b i j (u .soFar) (u .onward .topLine) (u .onward .topFigure)
+module _ {bytes : List ℕ} {g : Galley} (so : Sound bytes g) where
+  stream-sound : (s : ℕ) → SoundStream bytes (recordsOf g s)
+  stream-sound zero = so .text
+  stream-sound (suc s) = so .figures
 
-  pub underway-figure : f < j → Underway bytes g ws done a b w x i j start k (f + 1) (withBlock bytes (g .figures) h b f)
-  underway-figure less =
-      record {
-        begun = u .begun;
-        fine = u .fine;
-        onward = u .onward;
-        soFar = page-figure bytes g (u .begun .listed .sound) a b i j (u .soFar) (u .onward .topLine) (u .onward .topFigure) less;
-      }
+  stream-size : (s : ℕ) → modelOf bytes g .stream s .size ≡ recordsOf g s .count
+  stream-size zero = refl
+  stream-size (suc s) = refl
+
+  stream-grown : (s a k : ℕ) (h : Heights) → a ≤ k → k < recordsOf g s .count
+      → Grown (modelOf bytes g .stream s) a k h (withBlock bytes (recordsOf g s) h a k)
+  stream-grown zero a k h = with-grown bytes (g .text) (so .text) a k h
+  stream-grown (suc s) a k h = with-grown bytes (g .figures) (so .figures) a k h
+
+module _ {bytes : List ℕ} {g : Galley} {ws : List ℕ} {done a b w x i j start : ℕ} {v : Place} {h : Heights}
+    (u : Underway bytes g ws done a b w x i j start v h) where
+  module _ (s : ℕ) (known : s ≤ 1) (less : count v s < count (i ∷ j ∷ []) s) where
+    within : count v s < recordsOf g s .count
+    within =
+        let size = stream-size (u .begun .listed .sound) s in
+        let top = u .onward .top s known in
+        omega arith
+
+    -- There is room for a block more of stream s.
+    pub underway-room : Room bytes (recordsOf g s) h (count v s + 1)
+    underway-room =
+        let so = u .begun .listed .sound in
+        let placed = page-placed _ _ _ (u .soFar) (u .onward) in
+        let all = blocks-two bytes g in
+        let m = so .fewLines in
+        let n = so .fewFigures in
+        let p = u .soFar in
+        let there = within in
+        record { sound = stream-sound so s; within = omega arith; tight = omega arith; loose = omega arith }
+
+    -- A block more of it.
+    pub underway-more : s < length v
+        → Underway bytes g ws done a b w x i j start (oneMore v s) (withBlock bytes (recordsOf g s) h (count (a ∷ b ∷ []) s) (count v s))
+    underway-more long =
+        record {
+          begun = u .begun;
+          fine = u .fine;
+          onward = u .onward;
+          soFar =
+              page-more (modelOf bytes g) _ _ (u .soFar) s known long less _
+              (stream-grown (u .begun .listed .sound) s _ _ h (u .soFar .from s known) within);
+        }
 
   -- 15 ends the run as soon as the page is too high.
   pub underway-over : g .spec .htmax < h .tight → Refused 15 (done + 1) ≡ wholly bytes g ws
   underway-over over =
       refused (u .begun) 15
       (broken-over (modelOf bytes g) (done + 1) (eqb (done + 1) (length ws / 2)) (a ∷ b ∷ []) (i ∷ j ∷ []) start (u .begun .fault)
-      (u .fine) (page-over bytes g (u .begun .listed .sound) a b i j (u .soFar) over)) (omega arith)
+      (u .fine) (page-over (modelOf bytes g) _ _ (u .soFar) over)) (omega arith)
 
-  module _ (low : h .tight ≤ g .spec .htmax) (lines : i ≤ k) (figures : j ≤ f) (n : ℕ)
+  module _ (low : h .tight ≤ g .spec .htmax) (whole : (s : ℕ) → s ≤ 1 → count (i ∷ j ∷ []) s ≤ count v s) (n : ℕ)
       (e : n
-      ≡ endFault (eqb (done + 1) (length ws / 2) || leb (g .spec .htmin) (h .loose))
+      ≡ faultFrom 16 (eqb (done + 1) (length ws / 2) || leb (g .spec .htmin) (h .loose))
       (cited (modelOf bytes g) (done + 1) (eqb (done + 1) (length ws / 2)) (i ∷ j ∷ []))) where
     at-end : n ≡ broken (modelOf bytes g) (done + 1) (eqb (done + 1) (length ws / 2)) (a ∷ b ∷ []) (i ∷ j ∷ [])
     at-end =
-        let sound = u .begun .listed .sound in
         e
         ∙ broken-end (modelOf bytes g) (done + 1) (eqb (done + 1) (length ws / 2)) (a ∷ b ∷ []) (i ∷ j ∷ []) start
-        (u .begun .fault) (u .fine) (page-fits bytes g sound a b i j (u .soFar) lines figures low)
+        (u .begun .fault) (u .fine) (page-fits (modelOf bytes g) _ _ (u .soFar) whole low)
         (eqb (done + 1) (length ws / 2) || leb (g .spec .htmin) (h .loose))
-        (page-fills bytes g sound a b i j (u .soFar) lines figures (eqb (done + 1) (length ws / 2)))
+        (page-fills (modelOf bytes g) _ _ (u .soFar) whole (eqb (done + 1) (length ws / 2)))
 
     -- 16 or 17 ends the run.
     pub underway-ended : 0 < n → Refused n (done + 1) ≡ wholly bytes g ws
@@ -140,6 +181,7 @@ module _ {bytes : List ℕ} {g : Galley} {ws : List ℕ} {done a b w x i j start
 
   -- The figures that waited and are not placed on this page still wait at its end.
   pub underway-walked : (still : ℕ) → still ≡ w - (j - b) → Walked bytes (g .figures) i j still
+  unfolding count
   underway-walked still e =
       let on = u .onward in
-      walked-on (u .begun .run .walked) i j still (on .lines) (on .figures) (on .topFigure) e
+      walked-on (u .begun .run .walked) i j still (on .up 0 (omega arith)) (on .up 1 (omega arith)) (on .top 1 (omega arith)) e

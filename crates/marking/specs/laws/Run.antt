@@ -25,7 +25,7 @@ use Rattle.theorems.specs.turns.Costs.{orderly}
 use Rattle.galley.specs.declared.Galley.{Galley}
 use Rattle.galley.specs.Sound.{Sound}
 use Rattle.galley.specs.Model.{floatsOf, modelOf}
-use Rattle.rules.specs.Parts.{counts, finished}
+use Rattle.rules.specs.Parts.{leavesTurned, counts, finished}
 use Rattle.rules.specs.Waiting.{waits, Walked, waitingAt}
 use Rattle.marking.specs.Parts.{WholePages, rest}
 use Rattle.rules.specs.laws.Two.{full-two, zeros-two, blocks-two}
@@ -183,7 +183,7 @@ module _ (bytes : List ℕ) (g : Galley) (so : Sound bytes g) (ws : List ℕ) wh
 
       counts-are : countsOf (modelOf bytes g) (pagesOf (modelOf bytes g) ws) ≡ wholly bytes g ws
           → counts g (length ws / 2) x ≡ countsOf (modelOf bytes g) (pagesOf (modelOf bytes g) ws)
-      unfolding counts countsOf yOf turns streams
+      unfolding counts leavesTurned countsOf yOf turns streams
       counts-are good = rw (length-pages (modelOf bytes g) ws, ← x-is good)
 
       -- After the last page comes rule 18, and then the counts, for as many pages as the list has.

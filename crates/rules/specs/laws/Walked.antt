@@ -7,13 +7,13 @@ use mathlib.Core.List.{List, [], _∷_}
 use Rattle.model.specs.Gather.{pick, sum}
 use Rattle.model.specs.Galley as model
 use Rattle.model.specs.Galley.{Sane, count}
-use Rattle.model.specs.Leaf.{ends, sidesOf}
+use Rattle.model.specs.Leaf.{ends}
 use Rattle.theorems.specs.turns.Waiting.{dangles, waitingIn, waiting}
 use Rattle.theorems.specs.turns.Costs.{cite-mono}
 use Rattle.galley.specs.declared.Stream.{Stream}
 use Rattle.galley.specs.declared.Galley.{Galley}
 use Rattle.galley.specs.Sound.{SoundStream}
-use Rattle.galley.specs.Model.{floatsOf, modelOf}
+use Rattle.galley.specs.Model.{floatsOf, sidesIn, modelOf}
 use Rattle.rules.specs.Waiting.{waits, Walked, waitingAt}
 use Rattle.rules.specs.laws.Waiting.{Ordered, sum-past, waits-few, waits-cited}
 
@@ -66,7 +66,7 @@ module _ {bytes : List ℕ} {floats : Stream} where
 -- No more figures are counted than wait.
 pub waiting-at-few : (g : Galley) (q w : ℕ) → waitingAt g q w ≤ w
 unfolding waitingAt
-waiting-at-few g q w = go (ends (sidesOf (g .spec .sides)) q)
+waiting-at-few g q w = go (ends (sidesIn g) q)
   where
     go : (e : Bool) → pick e w 0 ≤ w
     go true = omega arith

@@ -5,8 +5,8 @@ use native.Mathlib.Omega.{arith}
 use mathlib.Core.Path.{_≡_, refl, sym, _∙_, ap}
 use mathlib.Core.Bool.{true}
 use lib.ListN.{getD}
-use Rattle.model.specs.Galley.{Galley, Place, count, blocks}
-use Rattle.model.specs.Order.{lex, geb}
+use Rattle.model.specs.Galley.{Sides, Galley, Place, count, blocks}
+use Rattle.model.specs.Order.{lex, geb, oddly}
 use Rattle.model.specs.laws.Rules.{kept, forward-at, placed, placed-grows}
 use Rattle.model.specs.laws.Valid.{placed-sizes}
 use Rattle.model.specs.laws.Order.{preference-refl, lex-preference, lex-antisymm, geb-preference, geb-antisymm}
@@ -22,42 +22,49 @@ later-antisymm = lex-antisymm geb geb-antisymm
 pub later-refl : (u : Place) → lex geb u u ≡ true
 later-refl = preference-refl (lex-preference geb geb-preference)
 
--- At one place the lower side is preferred.
-pub prefers-side : (u : Place) (b d : ℕ) → b ≤ d → Prefers (stop u b) (stop u d)
+-- At one place the side of even folios is preferred.
+pub prefers-side : (sides : Sides) (u : Place) (b d : ℕ) → oddly sides b ≤ oddly sides d
+    → (oddly sides b ≡ oddly sides d → b ≤ d) → Prefers sides (stop u b) (stop u d)
 unfolding Prefers
-prefers-side u b d h = (later-refl u, λ e. h)
+prefers-side sides u b d h k = (later-refl u, λ e. (h, k))
 
 -- Every state is preferred to itself,
-prefers-refl : (s : State) → Prefers s s
+prefers-refl : (sides : Sides) (s : State) → Prefers sides s s
 unfolding Prefers
-prefers-refl (stop u b) = prefers-side u b b (omega arith)
-prefers-refl end = tt
+prefers-refl sides (stop u b) = prefers-side sides u b b (omega arith) (λ e. omega arith)
+prefers-refl sides end = tt
 
 -- what is preferred to a preferred state is preferred,
-prefers-trans : (s t r : State) → Prefers s t → Prefers t r → Prefers s r
+prefers-trans : (sides : Sides) (s t r : State) → Prefers sides s t → Prefers sides t r → Prefers sides s r
 unfolding Prefers
-prefers-trans (stop u b) (stop v c) (stop w d) (h, f) (k, f′) = (
+prefers-trans sides (stop u b) (stop v c) (stop w d) (h, f) (k, f′) = (
   lex-preference geb geb-preference .trans u v w h k,
-  λ e. let p = later-antisymm u v h (rw e k) in le-trans (f p) (f′ (sym p ∙ e)),
+  λ e.
+      let p = later-antisymm u v h (rw e k) in
+      let (l, m) = f p in
+      let (l′, m′) = f′ (sym p ∙ e) in
+      (le-trans l l′, λ q. le-trans (m (omega arith)) (m′ (omega arith))),
 )
-prefers-trans (stop u b) (stop v c) end p q = tt
-prefers-trans (stop u b) end (stop w d) p q = absurd q
-prefers-trans (stop u b) end end p q = tt
-prefers-trans end (stop v c) r p q = absurd p
-prefers-trans end end r p q = q
+prefers-trans sides (stop u b) (stop v c) end p q = tt
+prefers-trans sides (stop u b) end (stop w d) p q = absurd q
+prefers-trans sides (stop u b) end end p q = tt
+prefers-trans sides end (stop v c) r p q = absurd p
+prefers-trans sides end end r p q = q
 
 -- and two states that are each preferred to the other are the same.
-prefers-antisymm : (s t : State) → Prefers s t → Prefers t s → s ≡ t
+prefers-antisymm : (sides : Sides) (s t : State) → Prefers sides s t → Prefers sides t s → s ≡ t
 unfolding Prefers
-prefers-antisymm (stop u b) (stop w d) (h, f) (k, f′) =
+prefers-antisymm sides (stop u b) (stop w d) (h, f) (k, f′) =
     let e = later-antisymm u w h k in
-    let l = f e in
-    let m = f′ (sym e) in
+    let (l, m) = f e in
+    let (l′, m′) = f′ (sym e) in
+    let s = m (omega arith) in
+    let s′ = m′ (omega arith) in
     let c : b ≡ d = omega arith in
     cc
-prefers-antisymm (stop u b) end p q = absurd q
-prefers-antisymm end (stop w d) p q = absurd p
-prefers-antisymm end end p q = refl
+prefers-antisymm sides (stop u b) end p q = absurd q
+prefers-antisymm sides end (stop w d) p q = absurd p
+prefers-antisymm sides end end p q = refl
 
 -- The blocks placed where a state stops, and one more at the end.
 unfoldable pub blocksAt : Galley → State → ℕ
@@ -87,9 +94,9 @@ module _ (g : Galley) (from : Origin) where
         le-antisym = λ p q. omega arith;
         add-mono = λ u v p. omega arith;
         add-cancel = λ u v p. omega arith;
-        tie-refl = prefers-refl;
-        tie-trans = λ {u} {v} {w}. prefers-trans u v w;
-        tie-antisym = λ {u} {v}. prefers-antisymm u v;
+        tie-refl = prefers-refl (g .spec .sides);
+        tie-trans = λ {u} {v} {w}. prefers-trans (g .spec .sides) u v w;
+        tie-antisym = λ {u} {v}. prefers-antisymm (g .spec .sides) u v;
         origin = λ {u} {v}. no-origin u v;
       }
 

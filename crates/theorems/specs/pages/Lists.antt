@@ -11,7 +11,6 @@ use Rattle.model.specs.Gather.{row}
 use Rattle.model.specs.Galley.{Galley, Place, count, streams, zeros, sizes}
 use Rattle.model.specs.Rules.{forward}
 use Rattle.model.specs.Answers.{ended}
-use Rattle.model.specs.Order.{oddly}
 use Rattle.model.specs.Best.{allowed}
 use Rattle.model.specs.laws.Gather.{and-left, and-right, length-row}
 use Rattle.model.specs.laws.Rules.{kept, forward-at}
@@ -21,7 +20,7 @@ use Rattle.model.specs.laws.Lists.{Inside, AllInside}
 use Rattle.model.specs.laws.Valid.{same-true, same-refl, length-sizes, inside-shaped, all-inside}
 use Rattle.theorems.specs.optimality.Graph.{Way, total}
 use Rattle.theorems.specs.turns.Waiting.{pageSum, costs}
-use Rattle.theorems.specs.pages.Graph.{State, stop, end, Origin, Within, Step, price, pageGraph, pagesTo, pagesOn, stopsOf, wayOf}
+use Rattle.theorems.specs.pages.Graph.{State, stop, end, side, Origin, Within, Step, price, pageGraph, pagesTo, pagesOn, stopsOf, wayOf}
 use Rattle.theorems.specs.pages.Sides.{side-side, side-next}
 use Rattle.theorems.specs.pages.Ways.{same-rules, Reads, reads}
 
@@ -103,7 +102,7 @@ module _ (g : Galley) (from : Origin) where
 
   -- An accepted list after a way is a way to the end.
   stops-way : (q : ℕ) (u : Place) (ps : List Place) (after : List State)
-      → Way (pageGraph g from) after (stop u (oddly (g .spec .sides) q)) → Inside (sizes g) u → Inside u (from .place)
+      → Way (pageGraph g from) after (stop u (side (g .spec .sides) q)) → Inside (sizes g) u → Inside u (from .place)
       → AllInside (sizes g) ps → accepts (allowed g) (sizes g) (suc q) u ps ≡ true
       → Way (pageGraph g from) (stopsOf (g .spec .sides) q u ps after) end
   unfolding Way Step stopsOf accepts Within
@@ -112,7 +111,7 @@ module _ (g : Galley) (from : Origin) where
   stops-way q u (v ∷ vs) after w i past is h =
       let rest = and-right (allowed g (suc q) (ended vs) u v) (accepts (allowed g) (sizes g) (suc (suc q)) v vs) h in
       let here = and-left (allowed g (suc q) (ended vs) u v) (accepts (allowed g) (sizes g) (suc (suc q)) v vs) h in
-      stops-way (suc q) v vs (stop u (oddly (g .spec .sides) q) ∷ after) (
+      stops-way (suc q) v vs (stop u (side (g .spec .sides) q) ∷ after) (
         record {
           within = (i, side-side (g .spec .sides) q, past);
           next = sym (side-next (g .spec .sides) q);
@@ -124,10 +123,10 @@ module _ (g : Galley) (from : Origin) where
 
   -- The pages of a list's stops are the list.
   pages-stops : (q : ℕ) (u : Place) (ps : List Place) (after : List State)
-      → pagesOn (stopsOf (g .spec .sides) q u ps after) ≡ pagesTo after (stop u (oddly (g .spec .sides) q)) ps
+      → pagesOn (stopsOf (g .spec .sides) q u ps after) ≡ pagesTo after (stop u (side (g .spec .sides) q)) ps
   unfolding stopsOf pagesTo
   pages-stops q u [] after = refl
-  pages-stops q u (v ∷ vs) after = pages-stops (suc q) v vs (stop u (oddly (g .spec .sides) q) ∷ after)
+  pages-stops q u (v ∷ vs) after = pages-stops (suc q) v vs (stop u (side (g .spec .sides) q) ∷ after)
 
   -- A list that goes on from an origin inside the full place is a way to the end,
   pub list-way : Inside (sizes g) (from .place) → (ps : List Place) → Follows g from ps

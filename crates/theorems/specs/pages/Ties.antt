@@ -17,14 +17,14 @@ use Rattle.model.specs.laws.Gather.{and-left, and-right, and-both, implies-at, 
 use Rattle.model.specs.laws.Order.{preference-refl, lex-preference, geb-preference}
 use Rattle.theorems.specs.optimality.Graph.{Way, total, First}
 use Rattle.theorems.specs.turns.Waiting.{costs}
-use Rattle.theorems.specs.pages.Graph.{State, stop, end, placeOf, Origin, Within, PageStep, Step, Prefers, pageGraph, pageAt, pagesOn}
-use Rattle.theorems.specs.pages.Sides.{side-back}
+use Rattle.theorems.specs.pages.Graph.{State, stop, end, side, placeOf, Origin, Within, PageStep, Step, Prefers, pageGraph, pageAt, pagesOn}
+use Rattle.theorems.specs.pages.Sides.{side-side, side-back, oddly-side, oddly-back}
 use Rattle.theorems.specs.pages.Laws.{later-refl, later-antisymm, prefers-side, no-origin}
 use Rattle.theorems.specs.pages.Ways.{way-side}
 use Rattle.theorems.specs.pages.Lists.{Ends, way-ends, way-costs}
 
--- Document 01's ties for lists that go on from an origin: in double-sided work an even number of all pages, then the later
--- starts, of which `earlier` are those of the pages before the origin.
+-- Document 01's ties for lists that go on from an origin: in double-sided work an even last folio, then the later starts, of
+-- which `earlier` are those of the pages before the origin.
 unfoldable pub ties : Galley → Origin → List Place → List Place → List Place → Bool
 ties g from earlier =
     thenBy (by (λ ps. oddly (g .spec .sides) (from .pages + length ps)) leb)
@@ -61,20 +61,28 @@ module _ (g : Galley) (from : Origin) where
     first-starts (stop u b ∷ us) (end ∷ ws) v c x y = absurd (y .0)
     first-starts (stop u b ∷ us) (stop w d ∷ ws) v c x y =
         let rest : Bool = lex (lex geb) (map placeOf us ++ earlier) (map placeOf ws ++ earlier) in
-        let side : u ≡ w → b ≡ d = λ e. same-side u v b d c (x .0) (rw (← e) at (y .0)) in
+        let same : u ≡ w → b ≡ d = λ e. same-side u v b d c (x .0) (rw (← e) at (y .0)) in
         let next : u ≡ w → First (pageGraph g from) us ws ↔ (rest ≡ true) =
-        λ e. first-starts us ws u b (x .1) (rw (← e, ← side e) at (y .1)) in (
+        λ e. first-starts us ws u b (x .1) (rw (← e, ← same e) at (y .1)) in (
           λ f. then-iff (lex geb u w) (lex geb w u) rest .1
-              (f .0 .0, λ k. let e = later-antisymm u w (f .0 .0) k in let s = side e in next e .0 (f .1 (cc))),
-          λ h. let (l, k) = then-iff (lex geb u w) (lex geb w u) rest .0 h in
-              ((l, λ e. le-of-eq (side e)), λ e. let p : u ≡ w = cc in next p .1 (k (rw p (later-refl w)))),
+              (f .0 .0, λ k. let e = later-antisymm u w (f .0 .0) k in let s = same e in next e .0 (f .1 (cc))),
+          λ h. let (l, k) = then-iff (lex geb u w) (lex geb w u) rest .0 h in (
+            (l, λ e. (le-of-eq (ap (oddly (g .spec .sides)) (same e)), λ q. le-of-eq (same e))),
+            λ e. let p : u ≡ w = cc in next p .1 (k (rw p (later-refl w))),
+          ),
         )
 
-    -- The side on which a way ends is the parity of the number of all pages.
-    end-side : (us : List State) (e : Ends g from us) → oddly (g .spec .sides) (from .pages + length (pagesOn us)) ≡ e .side
+    -- The side on which a way ends tells whether the last folio is odd,
+    end-side : (us : List State) (e : Ends g from us)
+        → oddly (g .spec .sides) (from .pages + length (pagesOn us)) ≡ oddly (g .spec .sides) (e .side)
     end-side us e =
         let long : from .pages + length (pagesOn us) ≡ pageAt from (e .stops) = let l = e .read .long in omega arith in
-        ap (oddly (g .spec .sides)) long ∙ sym (way-side g from (e .stops) (sizes g) (e .side) (e .way))
+        rw (long, way-side g from (e .stops) (sizes g) (e .side) (e .way)) (oddly-side (g .spec .sides) (pageAt from (e .stops)))
+
+    -- and is one that occurs.
+    end-occurs : (us : List State) (e : Ends g from us) → side (g .spec .sides) (e .side) ≡ e .side
+    end-occurs us e =
+        rw (way-side g from (e .stops) (sizes g) (e .side) (e .way)) (side-side (g .spec .sides) (pageAt from (e .stops)))
 
     -- The starts of a way's list are the places of its stops.
     end-starts : (us : List State) (e : Ends g from us)
@@ -94,23 +102,26 @@ module _ (g : Galley) (from : Origin) where
             let rest : Bool = lex (lex geb) (map placeOf (e .stops) ++ earlier) (map placeOf (f .stops) ++ earlier) in
             let next : e .side ≡ f .side → First (pageGraph g from) (e .stops) (f .stops) ↔ (rest ≡ true) =
             λ s. first-starts (e .stops) (f .stops) (sizes g) (e .side) (e .way) (rw (← s) at (f .way)) in
-            let both = then-iff (leb (e .side) (f .side)) (leb (f .side) (e .side)) rest in
+            let odd : ℕ → ℕ = oddly (g .spec .sides) in
+            let same : odd (e .side) ≡ odd (f .side) → e .side ≡ f .side =
+            oddly-back (g .spec .sides) (e .side) (f .side) (end-occurs us e) (end-occurs ws f) in
+            let both = then-iff (leb (odd (e .side)) (odd (f .side))) (leb (odd (f .side)) (odd (e .side))) rest in
             simp (end-side us e, end-side ws f, end-starts us e, end-starts ws f) (
               λ h. let (p, n) = rw (e .last, f .last) at h in
-                  let l = p .1 refl in
+                  let l = p .1 refl .0 in
                   both .1 (
                     le-leb _ _ l,
                     λ k.
-                        let m = leb-true (f .side) (e .side) k in
-                        let s : e .side ≡ f .side = omega arith in
+                        let m = leb-true (odd (f .side)) (odd (e .side)) k in
+                        let s : e .side ≡ f .side = same (omega arith) in
                         next s .0 (n (cc)),
                   ),
               λ h. let (l, k) = both .0 h in
                   rw (e .last, f .last) (
-                    prefers-side (sizes g) (e .side) (f .side) (leb-true _ _ l),
+                    prefers-side (g .spec .sides) (sizes g) (e .side) (f .side) (leb-true _ _ l) (λ q. le-of-eq (same q)),
                     λ q.
                         let s : e .side ≡ f .side = cc in
-                        next s .1 (k (le-leb _ _ (le-of-eq (sym s)))),
+                        next s .1 (k (le-leb _ _ (le-of-eq (ap odd (sym s))))),
                   ),
             )
 

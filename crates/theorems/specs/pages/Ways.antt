@@ -7,7 +7,7 @@ use mathlib.Core.List.{List, [], _∷_, _++_, map}
 use lib.ListN.{length}
 use Rattle.model.specs.Galley.{Galley, Place, count, sizes}
 use Rattle.model.specs.Answers.{same, ended}
-use Rattle.model.specs.Order.{oddly, startsOf}
+use Rattle.model.specs.Order.{startsOf}
 use Rattle.model.specs.Best.{allowed}
 use Rattle.model.specs.laws.Gather.{and-left, and-both}
 use Rattle.model.specs.laws.Rules.{kept, forward-at}
@@ -16,7 +16,7 @@ use Rattle.model.specs.laws.Lists.{Inside, AllInside}
 use Rattle.model.specs.laws.Valid.{same-true, count-sizes}
 use Rattle.theorems.specs.optimality.Graph.{Way, total}
 use Rattle.theorems.specs.turns.Waiting.{pageSum, pageCost, costs}
-use Rattle.theorems.specs.pages.Graph.{State, stop, end, placeOf, full, Origin, Within, Step, price, pageGraph, pageAt, pagesTo}
+use Rattle.theorems.specs.pages.Graph.{State, stop, end, side, placeOf, full, Origin, Within, Step, price, pageGraph, pageAt, pagesTo}
 use Rattle.theorems.specs.pages.Sides.{side-next, allowed-side, cost-side}
 
 module _ (g : Galley) where
@@ -40,25 +40,25 @@ module _ (g : Galley) where
 
   module _ (q : ℕ) (v : Place) (after : List Place) (h : accepts (allowed g) (sizes g) (suc q) v after ≡ true) where
     -- The graph's page to v is the list's page q, where the rest of the list is accepted: the same rules,
-    pub same-rules : (u : Place) → allowed g (oddly (g .spec .sides) q) (full g v) u v ≡ allowed g q (ended after) u v
+    pub same-rules : (u : Place) → allowed g (side (g .spec .sides) q) (full g v) u v ≡ allowed g q (ended after) u v
     same-rules u =
-        ap (λ b. allowed g (oddly (g .spec .sides) q) b u v) (full-ended (suc q) v after h)
+        ap (λ b. allowed g (side (g .spec .sides) q) b u v) (full-ended (suc q) v after h)
         ∙ sym (allowed-side g q (ended after) u v)
 
     -- and the same cost.
-    pub same-price : price g (stop v (oddly (g .spec .sides) q)) ≡ pageCost g q (ended after) v
+    pub same-price : price g (stop v (side (g .spec .sides) q)) ≡ pageCost g q (ended after) v
     unfolding price
     same-price =
-        ap (λ b. pageCost g (oddly (g .spec .sides) q) b v) (full-ended (suc q) v after h) ∙ sym (cost-side g q (ended after) v)
+        ap (λ b. pageCost g (side (g .spec .sides) q) b v) (full-ended (suc q) v after h) ∙ sym (cost-side g q (ended after) v)
 
 module _ (g : Galley) (from : Origin) where
   -- On a way the side is that of the number of pages.
   pub way-side : (us : List State) (v : Place) (c : ℕ) → Way (pageGraph g from) us (stop v c)
-      → c ≡ oddly (g .spec .sides) (pageAt from us)
+      → c ≡ side (g .spec .sides) (pageAt from us)
   unfolding Way Step pageAt
   way-side [] v c e = cc
   way-side (stop u b ∷ us) v c (p, w) =
-      p .next ∙ ap (λ d. oddly (g .spec .sides) (suc d)) (way-side us u b w) ∙ side-next (g .spec .sides) (pageAt from us)
+      p .next ∙ ap (λ d. side (g .spec .sides) (suc d)) (way-side us u b w) ∙ side-next (g .spec .sides) (pageAt from us)
   way-side (end ∷ us) v c (p, w) = absurd p
 
   -- What ps is, the list of a way to v and then of the pages `after`.

@@ -1,6 +1,6 @@
 -- The published model (sections 2 and 3 of the paper) and document 01's rules and numbers say the same, for any number of
 -- float streams. Asked of the galley is only what reading it makes sure of: there is a line, and citations grow and exist.
-use Prim.Native.Nat.{ℕ, _+_, _-_, _*_, _/_}
+use Prim.Native.Nat.{ℕ, _+_, _-_, _*_}
 use native.Mathlib.Omega.{arith}
 use mathlib.Core.Path.{_≡_, refl, sym, _∙_, ap, subst}
 use mathlib.Core.Logic.{_↔_}
@@ -9,7 +9,7 @@ use mathlib.Core.List.{List}
 use lib.ListN.{length}
 use Rattle.model.specs.declared.answer.Answer.the-variants.{Counted}
 use Rattle.model.specs.Gather.{sum}
-use Rattle.model.specs.Galley.{Galley, Place, Block, Sane, single, double}
+use Rattle.model.specs.Galley.{Galley, Place, Block, Sane}
 use Rattle.model.specs.Leaf.{leaf}
 use Rattle.model.specs.Turns.{pageOf}
 use Rattle.model.specs.Answers.{accepted, marked, pagesOf, wordsOf, countsOf}
@@ -81,27 +81,14 @@ module _ (g : Galley) (sane : Sane g) where
         ∙ ap (countsOf g) (pages-words g (listOn g P p 1) (list-shaped g P p 1))
         ∙ places-counts
 
-module _ (g : Galley) (p : ℕ) (P : Map) where
-  -- Single-sided, the turns are the paper's Turn.S: Σ α·(P(f) − P(R(f))) + β·(p − 1).
-  pub turn-single : g .spec .sides ≡ single
-      → turnsOn g p P
-      ≡ sum (g .floats) (λ s. sum (g .stream s .size) (λ f. g .spec .alpha * (P s f - P 0 (g .stream s .cite f))))
-      + g .spec .beta * (p - 1)
-  unfolding turnsOn xOn leaf
-  turn-single e =
-      rw e
-      (ap (λ x. x + g .spec .beta * (p - 1))
-      (weighted (g .spec .alpha) (g .floats) (λ s. g .stream s .size) (λ s f. P s f - P 0 (g .stream s .cite f))))
-
-  -- Double-sided, they are Turn.D: Σ α·(S(P(f)) − S(P(R(f)))) + β·(S(p) − 1), with S(q) = q DIV 2 + 1.
-  pub turn-double : g .spec .sides ≡ double
-      → (let S : ℕ → ℕ = λ q. q / 2 + 1 in
-      turnsOn g p P
-      ≡ sum (g .floats) (λ s. sum (g .stream s .size) (λ f. g .spec .alpha * (S (P s f) - S (P 0 (g .stream s .cite f)))))
-      + g .spec .beta * (S p - 1))
-  unfolding turnsOn xOn leaf
-  turn-double e =
-      let S : ℕ → ℕ = λ q. q / 2 + 1 in
-      rw e
-      (ap (λ x. x + g .spec .beta * (S p - 1))
-      (weighted (g .spec .alpha) (g .floats) (λ s. g .stream s .size) (λ s f. S (P s f) - S (P 0 (g .stream s .cite f)))))
+-- The turns are the paper's goal function over the leaves, whose numbers are S: Σ α·(S(P(f)) − S(P(R(f)))) + β·(S(p) − S(1)). Where
+-- S(q) = q it is Turn.S, and where S(q) = q DIV 2 + 1 it is Turn.D.
+pub turn-leaves : (g : Galley) (p : ℕ) (P : Map) (S : ℕ → ℕ) → ((q : ℕ) → leaf (g .spec .sides) q ≡ S q)
+    → turnsOn g p P
+    ≡ sum (g .floats) (λ s. sum (g .stream s .size) (λ f. g .spec .alpha * (S (P s f) - S (P 0 (g .stream s .cite f)))))
+    + g .spec .beta * (S p - S 1)
+unfolding turnsOn xOn
+turn-leaves g p P S is =
+    simp is
+    (ap (λ x. x + g .spec .beta * (S p - S 1))
+    (weighted (g .spec .alpha) (g .floats) (λ s. g .stream s .size) (λ s f. S (P s f) - S (P 0 (g .stream s .cite f)))))

@@ -3,18 +3,21 @@
 use Prim.Native.Nat.{_+_, _-_, _≤_}
 use borrow.Author.Needs.{needs}
 use denote.Ref.{now}
+use ghost.Mode.{_$_}
 use mathlib.Core.Path.{_∙_}
 use native.Mathlib.Omega.{arith}
+use mathlib.Core.List.{[], _∷_}
+use Rattle.model.specs.Galley.{count}
 use Rattle.galley.specs.Model.{floatsOf}
 use Rattle.rules.specs.laws.Waiting.{waits-few}
 use Rattle.rules.specs.laws.Walked.{waiting-at-few}
-use Rattle.marking.specs.laws.Page.{Begun, begins, begun-refused, Underway, underway-start, underway-line-room, underway-line, underway-figure-room, underway-figure, underway-over, underway-ended, underway-next, underway-walked}
+use Rattle.marking.specs.laws.Page.{Begun, begins, begun-refused, Underway, past-two, underway-start, underway-room, underway-more, underway-over, underway-ended, underway-next, underway-walked}
 use Rattle.marking.specs.laws.Run.{Run, run-start, run-finish}
 use Rattle.marking.proofs.pages.judge_pages.Statement.{statement}
 use Rattle.marking.proofs.pages.judge_pages.Tie as tie
 
 abbrev Inv-loop : tie.InvT-loop
-Inv-loop s g list pages done a b waiting x number i j start heights₀ k₀ f₀ heights k f = Underway s g list done a b waiting x i j start k f heights
+Inv-loop s g list pages done a b waiting x number i j start heights₀ k₀ f₀ heights k f = Underway s g list done a b waiting x i j start (k ∷ f ∷ []) heights
 
 abbrev μ-loop : tie.MeasureT-loop
 μ-loop s g list pages done a b waiting x number i j start heights₀ k₀ f₀ heights k f = (i - k) + (j - f)
@@ -41,89 +44,53 @@ pages-holds c =
     let st = c .before .before in
     run-start (now (st .args .s)) (st .args .g) (st .pre .sound) (now (st .args .list))
 
-cast-finish : tie.Need-cast-finish Inv-loop μ-loop Inv-pages μ-pages
-cast-finish c = search needs
-
 finish-requires : tie.Need-finish-requires Inv-loop μ-loop Inv-pages μ-pages
 finish-requires c κs = search needs
 
-add-number : tie.Need-add-number Inv-loop μ-loop Inv-pages μ-pages
-add-number c = search needs
-
-cast-number : tie.Need-cast-number Inv-loop μ-loop Inv-pages μ-pages
-cast-number c = search needs
-
-mul-size : tie.Need-mul-size Inv-loop μ-loop Inv-pages μ-pages
-mul-size c = search needs
-
-mul-size-2 : tie.Need-mul-size-2 Inv-loop μ-loop Inv-pages μ-pages
-mul-size-2 c = search needs
-
-shared-slice-read-size : tie.Need-shared-slice-read-size Inv-loop μ-loop Inv-pages μ-pages
-shared-slice-read-size c = search needs
-
-size-requires : tie.Need-size-requires Inv-loop μ-loop Inv-pages μ-pages
-size-requires c κs = search needs
-
-mul-size-3 : tie.Need-mul-size-3 Inv-loop μ-loop Inv-pages μ-pages
-mul-size-3 c = search needs
-
-add-size : tie.Need-add-size Inv-loop μ-loop Inv-pages μ-pages
-add-size c = search needs
-
-mul-size-4 : tie.Need-mul-size-4 Inv-loop μ-loop Inv-pages μ-pages
-mul-size-4 c = search needs
-
-shared-slice-read-size-2 : tie.Need-shared-slice-read-size-2 Inv-loop μ-loop Inv-pages μ-pages
-shared-slice-read-size-2 c = search needs
-
-size-requires-2 : tie.Need-size-requires-2 Inv-loop μ-loop Inv-pages μ-pages
-size-requires-2 c κs = search needs
-
 start-fault-requires : tie.Need-start-fault-requires Inv-loop μ-loop Inv-pages μ-pages
 start-fault-requires c κs = search needs
-
-apart-by-requires : tie.Need-apart-by-requires Inv-loop μ-loop Inv-pages μ-pages
-apart-by-requires c κs = search needs
 
 loop-holds : tie.Need-loop-holds Inv-loop μ-loop Inv-pages μ-pages
 loop-holds c = rw (c .apart-by .ensures) (underway-start (page (c .before .before)) (c .before .if2 .left))
 
 with-block-requires : tie.Need-with-block-requires Inv-loop μ-loop Inv-pages μ-pages
-with-block-requires c κs = underway-line-room (c .before .before .before .before .loop .inv) (c .if4 .taken)
-
-add-k : tie.Need-add-k Inv-loop μ-loop Inv-pages μ-pages
-add-k c = search needs
+unfolding count
+with-block-requires c κs = underway-room (c .before .before .before .before .loop .inv) 0 (omega arith) (c .if4 .taken)
 
 loop-less : tie.Need-loop-less Inv-loop μ-loop Inv-pages μ-pages
 loop-less c = let more = c .before .if4 .taken in omega arith
 
 loop-again : tie.Need-loop-again Inv-loop μ-loop Inv-pages μ-pages
-loop-again c = rw (c .with-block .ensures) (underway-line (c .before .before .before .before .before .loop .inv) (c .before .if4 .taken))
+unfolding count
+loop-again c =
+    rw (c .with-block .ensures)
+    (underway-more (c .before .before .before .before .before .loop .inv) 0 (omega arith) (c .before .if4 .taken) (omega arith))
 
 with-block-requires-2 : tie.Need-with-block-requires-2 Inv-loop μ-loop Inv-pages μ-pages
-with-block-requires-2 c κs = underway-figure-room (c .before .before .before .before .before .loop .inv) (c .if5 .taken)
-
-add-f : tie.Need-add-f Inv-loop μ-loop Inv-pages μ-pages
-add-f c = search needs
+unfolding count
+with-block-requires-2 c κs = underway-room (c .before .before .before .before .before .loop .inv) 1 (omega arith) (c .if5 .taken)
 
 loop-less-2 : tie.Need-loop-less-2 Inv-loop μ-loop Inv-pages μ-pages
 loop-less-2 c = let more = c .before .if5 .taken in omega arith
 
 loop-again-2 : tie.Need-loop-again-2 Inv-loop μ-loop Inv-pages μ-pages
-loop-again-2 c = rw (c .with-block2 .ensures) (underway-figure (c .before .before .before .before .before .before .loop .inv) (c .before .if5 .taken))
+unfolding count
+loop-again-2 c =
+    rw (c .with-block2 .ensures)
+    (underway-more (c .before .before .before .before .before .before .loop .inv) 1 (omega arith) (c .before .if5 .taken) (omega arith))
 
 add-end-fault : tie.Need-add-end-fault Inv-loop μ-loop Inv-pages μ-pages
 add-end-fault c = omega (arith, c .before .before .before .before .before .before .before .before .before .before .before .before .before .before .pages .inv .within, c .before .before .before .before .before .before .before .before .before .before .before .before .before .before .before .before .before .pre .few)
 
 end-fault-requires : tie.Need-end-fault-requires Inv-loop μ-loop Inv-pages μ-pages
-end-fault-requires c κs = search needs
+unfolding count
+end-fault-requires c κs =
+    let page = c .before .before .before .before .before .loop .inv in
+    (page .begun .listed .sound, page .onward .top 1 (omega arith))
 
 sub-still-waiting : tie.Need-sub-still-waiting Inv-loop μ-loop Inv-pages μ-pages
-sub-still-waiting c = c .before .before .before .before .before .before .before .loop .inv .onward .figures
-
-still-waiting-requires : tie.Need-still-waiting-requires Inv-loop μ-loop Inv-pages μ-pages
-still-waiting-requires c κs = search needs
+unfolding count
+sub-still-waiting c = c .before .before .before .before .before .before .before .loop .inv .onward .up 1 (omega arith)
 
 waiting-floats-requires : tie.Need-waiting-floats-requires Inv-loop μ-loop Inv-pages μ-pages
 waiting-floats-requires c κs = underway-walked (c .before .before .before .before .before .before .before .before .loop .inv) (c .still-waiting .result) (c .still-waiting .ensures)
@@ -136,7 +103,7 @@ few c =
     omega (arith, waits, c .waiting-floats .ensures, c .before .before .before .before .before .before .before .before .before .before .before .before .before .before .before .before .before .before .before .before .before .pre .sound .fewFigures)
 
 waiting-at-requires : tie.Need-waiting-at-requires Inv-loop μ-loop Inv-pages μ-pages
-waiting-at-requires c κs = few c
+waiting-at-requires c κs = (omega (arith, c .before .before .before .before .before .before .before .before .before .loop .inv .begun .listed), few c)
 
 add-x : tie.Need-add-x Inv-loop μ-loop Inv-pages μ-pages
 add-x c =
@@ -144,9 +111,6 @@ add-x c =
     let pg = c .before .before .before .before .before .before .before .before .before .before .before .before .before .before .before .before .before .before .before .pages in
     let counted = waiting-at-few (st .args .g) (pg .done + 1) (c .before .waiting-floats .result) in
     omega (arith, counted, c .waiting-at .ensures, few (c .before), pg .inv .most, pg .inv .within, st .pre .few)
-
-add-done : tie.Need-add-done Inv-loop μ-loop Inv-pages μ-pages
-add-done c = search needs
 
 pages-less : tie.Need-pages-less Inv-loop μ-loop Inv-pages μ-pages
 pages-less c = let more = c .before .before .before .before .before .before .before .before .before .before .loop .inv .begun .more in omega arith
@@ -156,7 +120,7 @@ pages-again c =
     let end = c .before .before .before .before .end-fault in
     let found = c .before .waiting-floats in
     rw (c .waiting-at .ensures)
-    (underway-next (c .before .before .before .before .before .before .before .before .before .before .loop .inv) (c .before .before .before .before .before .before .before .if3 .left) (c .before .before .before .before .before .before .if4 .left) (c .before .before .before .before .before .if5 .left) (end .result) (end .ensures)
+    (underway-next (c .before .before .before .before .before .before .before .before .before .before .loop .inv) (c .before .before .before .before .before .before .before .if3 .left) (past-two (c .before .before .before .before .before .before .if4 .left) (c .before .before .before .before .before .if5 .left)) (end .result) (end .ensures)
     (c .before .before .before .if6 .left) (found .result) (found .ensures))
 
 returns : tie.Need-returns Inv-loop μ-loop Inv-pages μ-pages
@@ -176,52 +140,10 @@ returns-3 c = underway-over (c .before .before .before .loop .inv) (c .if3 .take
 returns-4 : tie.Need-returns-4 Inv-loop μ-loop Inv-pages μ-pages
 returns-4 c =
     let end = c .before .end-fault in
-    underway-ended (c .before .before .before .before .before .before .before .loop .inv) (c .before .before .before .before .if3 .left) (c .before .before .before .if4 .left) (c .before .before .if5 .left) (end .result) (end .ensures) (c .if6 .taken)
+    underway-ended (c .before .before .before .before .before .before .before .loop .inv) (c .before .before .before .before .if3 .left) (past-two (c .before .before .before .if4 .left) (c .before .before .if5 .left)) (end .result) (end .ensures) (c .if6 .taken)
 
 pub judge-pages-spec : {M : Type 1} → statement M
 judge-pages-spec =
     tie.close
-    (tie.spec
-    Inv-loop
-    μ-loop
-    Inv-pages
-    μ-pages
-    pages-holds
-    cast-finish
-    finish-requires
-    add-number
-    cast-number
-    mul-size
-    mul-size-2
-    shared-slice-read-size
-    size-requires
-    mul-size-3
-    add-size
-    mul-size-4
-    shared-slice-read-size-2
-    size-requires-2
-    start-fault-requires
-    apart-by-requires
-    loop-holds
-    with-block-requires
-    add-k
-    loop-less
-    loop-again
-    with-block-requires-2
-    add-f
-    loop-less-2
-    loop-again-2
-    add-end-fault
-    end-fault-requires
-    sub-still-waiting
-    still-waiting-requires
-    waiting-floats-requires
-    waiting-at-requires
-    add-x
-    add-done
-    pages-less
-    pages-again
-    returns
-    returns-2
-    returns-3
-    returns-4)
+    ((λ (a, b, c, d, e, f, g, h, i, j, k, l, m, n, o, p, q).
+    tie.spec Inv-loop μ-loop Inv-pages μ-pages pages-holds a finish-requires b c d e f g h i j k l start-fault-requires m loop-holds with-block-requires n loop-less loop-again with-block-requires-2 o loop-less-2 loop-again-2 add-end-fault end-fault-requires sub-still-waiting p waiting-floats-requires waiting-at-requires add-x q pages-less pages-again returns returns-2 returns-3 returns-4) $ omega arith)

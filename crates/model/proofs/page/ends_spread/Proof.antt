@@ -9,7 +9,7 @@ use Rattle.model.proofs.page.ends_spread.Tie as tie
 returns : tie.Need-returns
 returns c =
     let a = c .before .before .args in
-    c .side-ends .ensures ∙ ends-parity (sidesOf (a .sides)) (a .page .0)
+    c .side-ends .ensures ∙ ends-parity (sidesOf (a .sides) (a .folio)) (a .page .0)
 
 pub ends-spread-spec : {M : Type 1} → statement M
 ends-spread-spec = tie.close (tie.spec (λ c. search needs) (λ c κs. search needs) returns)

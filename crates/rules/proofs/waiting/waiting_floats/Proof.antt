@@ -2,7 +2,7 @@
 -- wait; each way that a turn ends is one law of laws/Waiting.
 use Prim.Native.Nat.{_+_, _-_, _≤_}
 use mathlib.Core.Path.{_≡_}
-use borrow.Author.Needs.{needs}
+use ghost.Mode.{_$_}
 use denote.Ref.{now}
 use native.Mathlib.Omega.{arith}
 use Rattle.galley.specs.Model.{floatsOf}
@@ -24,21 +24,6 @@ loop-holds c =
     let known = c .before .pre in
     (known .within, waits-known (floatsOf (now (a .s)) (a .floats)) (a .i) (a .j) (a .known) (known .within) (known .upto))
 
-add-if1 : tie.Need-add-if1 Inv-loop μ-loop
-add-if1 c = search needs
-
-add-field : tie.Need-add-field Inv-loop μ-loop
-add-field c = search needs
-
-add-field-2 : tie.Need-add-field-2 Inv-loop μ-loop
-add-field-2 c = search needs
-
-field-requires : tie.Need-field-requires Inv-loop μ-loop
-field-requires c κs = search needs
-
-size-requires : tie.Need-size-requires Inv-loop μ-loop
-size-requires c κs = search needs
-
 returns : tie.Need-returns Inv-loop μ-loop
 returns c =
     let a = c .before .before .before .before .before .before .before .args in
@@ -46,12 +31,6 @@ returns c =
     let none = waits-stop (floatsOf (now (a .s)) (a .floats)) (a .i) (a .j + l .found) (c .before .before .before .if1 .taken)
     (omega (arith, c .if2 .taken, c .before .size .ensures, c .before .before .field .ensures)) in
     omega (arith, l .inv .1)
-
-add-found : tie.Need-add-found Inv-loop μ-loop
-add-found c = search needs
-
-loop-less : tie.Need-loop-less Inv-loop μ-loop
-loop-less c = search needs
 
 loop-again : tie.Need-loop-again Inv-loop μ-loop
 loop-again c =
@@ -72,17 +51,5 @@ returns-2 c =
 pub waiting-floats-spec : {M : Type 1} → statement M
 waiting-floats-spec =
     tie.close
-    (tie.spec
-    Inv-loop
-    μ-loop
-    loop-holds
-    add-if1
-    add-field
-    add-field-2
-    field-requires
-    size-requires
-    returns
-    add-found
-    loop-less
-    loop-again
-    returns-2)
+    ((λ (a, b, c, d, e, f, g).
+    tie.spec Inv-loop μ-loop loop-holds a b c d e returns f g loop-again returns-2) $ omega arith)

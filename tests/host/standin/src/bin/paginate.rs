@@ -1,0 +1,26 @@
+//! The program of document 01 over the plain Rust implementation. Never shipped: it lets the program's tests be tried without
+//! the proved one.
+
+use std::io::{self, Read};
+
+const INPUT: usize = 8_192;
+
+fn main() -> io::Result<()> {
+    let (mut work, mut list) = ([0; 10_248], [0; 400]);
+    let mut input = Vec::new();
+    io::stdin().take(INPUT as u64 + 1).read_to_end(&mut input)?;
+    if input.len() > INPUT {
+        println!("R 19 {INPUT}");
+        return Ok(());
+    }
+    let answer = native::make(&input, &mut work, &mut list);
+    if answer.number != 0 {
+        println!("R {} {}", answer.number, answer.place);
+        return Ok(());
+    }
+    println!("{} {} {} {}", answer.p, answer.x, answer.y, answer.t);
+    for (page, end) in (1..=answer.p).zip(list.chunks_exact(2)) {
+        println!("{page} {} {}", end[0], end[1]);
+    }
+    Ok(())
+}
