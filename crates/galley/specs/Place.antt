@@ -10,6 +10,9 @@ use Rattle.galley.specs.declared.Sofar.{Sofar}
 abbrev pub GS : ℕ
 GS = 0x4753
 
+abbrev pub FO : ℕ
+FO = 0x464f
+
 abbrev pub TL : ℕ
 TL = 0x544c
 
@@ -26,14 +29,17 @@ nothing = 0
 abbrev pub spec : ℕ
 spec = 1
 
+abbrev pub folio : ℕ
+folio = 2
+
 abbrev pub line : ℕ
-line = 2
+line = 3
 
 abbrev pub figure : ℕ
-figure = 3
+figure = 4
 
 abbrev pub end : ℕ
-end = 4
+end = 5
 
 -- A kind of record: the stage that it reaches, the first and the last stage after which it may come, how many there may be of
 -- its stage, and its bytes.
@@ -41,15 +47,17 @@ abbrev pub rowOf : ℕ → ℕ → ℕ → ℕ → ℕ → Kind
 rowOf stage earliest latest most size =
     record { stage = stage; earliest = earliest; latest = latest; most = most; size = size }
 
--- The kind of record that a mark opens. The specification is first and comes once, figures follow all lines, and the end follows
--- all of them; an unknown mark fits nowhere, and only its two bytes are known.
+-- The kind of record that a mark opens. The specification is first and comes once, a folio may stand straight after it (document
+-- 02, S-1), figures follow all lines, and the end follows all of them; an unknown mark fits nowhere, and only its two bytes are
+-- known.
 unfoldable pub kindOf : ℕ → Kind
 kindOf mark =
     pick (eqb mark GS) (rowOf spec nothing nothing 1 30)
+    (pick (eqb mark FO) (rowOf folio spec spec 1 6)
     (pick (eqb mark TL) (rowOf line spec line 4000 18)
     (pick (eqb mark FG) (rowOf figure spec figure 200 18)
     (pick (eqb mark ED) (rowOf end spec figure 1 2)
-    (rowOf nothing spec nothing 0 2))))
+    (rowOf nothing spec nothing 0 2)))))
 
 -- A record that comes too soon or too late in the order of stages: number 2.
 abbrev pub misplaced : Kind → Sofar → Bool

@@ -1,5 +1,5 @@
 -- The ranges that number 3 guards: document 01, "The galley file".
-use Prim.Native.Nat.{_≤_}
+use Prim.Native.Nat.{ℕ, _≤_}
 use mathlib.Core.Bool.{Bool, _&&_}
 use lib.Dec.{leb}
 use Rattle.galley.specs.declared.Spec.{Spec}
@@ -18,6 +18,10 @@ specInRange g =
     && leb (g .sides) 2
     && leb (g .alpha) 1000
     && leb (g .beta) 1000
+
+-- A first folio is 1 to 9,999 (document 02, S-1).
+abbrev pub folioInRange : ℕ → Bool
+folioInRange f = leb 1 f && leb f 9999
 
 -- A block's heights keep to their limit, and its least space does not pass its greatest.
 unfoldable pub blockInRange : Block → Bool
@@ -38,6 +42,11 @@ pub record SpecRanged (g : Spec) : Type 0 where
   pub sidesTwo : g .sides ≤ 2
   pub alphas : g .alpha ≤ 1000
   pub betas : g .beta ≤ 1000
+
+-- A first folio in range.
+pub record FolioRanged (f : ℕ) : Type 0 where
+  pub some : 1 ≤ f
+  pub few : f ≤ 9999
 
 -- A block in range.
 pub record BlockRanged (b : Block) : Type 0 where

@@ -6,8 +6,8 @@ use mathlib.Core.Bool.{Bool}
 use lib.Dec.{ltb, eqb}
 use Rattle.model.specs.Gather.{pick}
 use Rattle.galley.specs.Word.{wordAt, markAt}
-use Rattle.galley.specs.Range.{specInRange, blockInRange, lineInRange}
-use Rattle.galley.specs.Place.{GS, TL, FG, ED, kindOf}
+use Rattle.galley.specs.Range.{specInRange, folioInRange, blockInRange, lineInRange}
+use Rattle.galley.specs.Place.{GS, FO, TL, FG, ED, kindOf}
 use Rattle.galley.specs.declared.Spec.{Spec}
 use Rattle.galley.specs.declared.Block.{Block}
 use Rattle.galley.specs.declared.Line.{Line}
@@ -27,6 +27,10 @@ specOf bytes at =
       alpha = wordAt bytes (at + 22);
       beta = wordAt bytes (at + 26);
     }
+
+-- The field after an `FO`.
+abbrev pub openingFolio : List ℕ → ℕ → ℕ
+openingFolio bytes at = wordAt bytes (at + 2)
 
 -- Where the fields of a line or a figure stand, counted from its mark: the height, the least and the greatest space after it.
 abbrev pub heightAt : ℕ
@@ -70,6 +74,10 @@ ranged fine r at = pick fine r (found.Refused 3 at)
 abbrev pub specAt : List ℕ → ℕ → Record
 specAt bytes at = ranged (specInRange (specOf bytes at)) (found.Spec (specOf bytes at)) at
 
+-- A first folio in range.
+abbrev pub folioAt : List ℕ → ℕ → Record
+folioAt bytes at = ranged (folioInRange (openingFolio bytes at)) (found.Folio (openingFolio bytes at)) at
+
 -- A line in range.
 abbrev pub lineAt : List ℕ → ℕ → Record
 lineAt bytes at = ranged (lineInRange (lineOf bytes at)) (found.Line (lineOf bytes at)) at
@@ -82,10 +90,11 @@ figureAt bytes at = ranged (blockInRange (blockOf bytes at)) (found.Figure (figu
 unfoldable pub fieldsOf : ℕ → List ℕ → ℕ → Record
 fieldsOf mark bytes at =
     pick (eqb mark GS) (specAt bytes at)
+    (pick (eqb mark FO) (folioAt bytes at)
     (pick (eqb mark TL) (lineAt bytes at)
     (pick (eqb mark FG) (figureAt bytes at)
     (pick (eqb mark ED) found.End
-    (found.Refused 2 at))))
+    (found.Refused 2 at)))))
 
 -- The record at an offset: its mark is there (1), its fields are there (1), the mark is known (2) and the fields are in range (3).
 unfoldable pub recordAt : List ℕ → ℕ → Record

@@ -20,15 +20,16 @@ use Rattle.galley.specs.declared.Reading.the-variants as reads
 use Rattle.galley.specs.declared.Step.{Step}
 use Rattle.galley.specs.declared.Step.the-variants.{On, Done}
 
--- The galley of a specification: its streams are still to come, at an offset.
-abbrev pub opened : Spec → ℕ → Galley
-opened g at = record { spec = g; text = record { first = at; count = 0 }; figures = record { first = at; count = 0 } }
+-- The galley of a specification and a first folio (document 02, S-1): its streams are still to come, at an offset.
+abbrev pub opened : Spec → ℕ → ℕ → Galley
+opened g f at = record { spec = g; folio = f; text = record { first = at; count = 0 }; figures = record { first = at; count = 0 } }
 
 -- The galley with so many lines, the figures being still to come.
 abbrev pub withLine : Galley → ℕ → ℕ → Galley
 withLine g lines at =
     record {
       spec = g .spec;
+      folio = g .folio;
       text = record { first = g .text .first; count = lines };
       figures = record { first = at; count = 0 };
     }
@@ -36,13 +37,18 @@ withLine g lines at =
 -- The galley with so many figures.
 abbrev pub withFigure : Galley → ℕ → Galley
 withFigure g figures =
-    record { spec = g .spec; text = g .text; figures = record { first = g .figures .first; count = figures } }
+    record {
+      spec = g .spec;
+      folio = g .folio;
+      text = g .text;
+      figures = record { first = g .figures .first; count = figures };
+    }
 
 -- Nothing was read yet.
 abbrev pub beginning : Sofar
 beginning =
     record {
-      galley = opened (record { htmin = 0; htmax = 0; smin = 0; smax = 0; sides = 0; alpha = 0; beta = 0 }) 0;
+      galley = opened (record { htmin = 0; htmax = 0; smin = 0; smax = 0; sides = 0; alpha = 0; beta = 0 }) 1 0;
       stage = nothing;
       count = 0;
       last = 0;
@@ -81,7 +87,8 @@ closed bytes so = pick (ltb (so .at) (length bytes)) (refused 8 (so .at)) (Done 
 
 -- How reading goes on after the record at an offset.
 unfoldable pub after : List ℕ → Sofar → ℕ → Record → Step
-after bytes so at (found.Spec g) = On (holding so (opened g (so .at)) (so .last))
+after bytes so at (found.Spec g) = On (holding so (opened g 1 (so .at)) (so .last))
+after bytes so at (found.Folio f) = On (holding so (opened (so .galley .spec) f (so .at)) (so .last))
 after bytes so at (found.Line l) = On (holding so (withLine (so .galley) (so .count) (so .at)) (so .last))
 after bytes so at (found.Figure f) = cited so f at
 after bytes so at found.End = closed bytes so

@@ -3,11 +3,13 @@ pub mod Range
 pub mod Place
 pub mod Record
 pub mod Reached
+pub mod More
 pub mod Step
 pub mod Sound
 pub mod Underway
 pub mod Write
 pub mod Stand
 pub mod Each
+pub mod Blocks
 pub mod RoundTrip
 pub mod Back

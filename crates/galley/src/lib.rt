@@ -51,6 +51,7 @@ pub const CITE: usize = 14;
 // What stands at an offset.
 pub enum Record {
     Spec(Spec),
+    Folio(u32),
     Line(Line),
     Figure(Figure),
     End,

@@ -7,6 +7,8 @@ use crate::Sofar;
 // The marks, two bytes each.
 pub const GS: u32 = 0x4753;
 
+pub const FO: u32 = 0x464f;
+
 pub const TL: u32 = 0x544c;
 
 pub const FG: u32 = 0x4647;
@@ -18,11 +20,13 @@ pub const NOTHING: u32 = 0;
 
 pub const SPEC: u32 = 1;
 
-pub const LINE: u32 = 2;
+pub const FOLIO: u32 = 2;
 
-pub const FIGURE: u32 = 3;
+pub const LINE: u32 = 3;
 
-pub const END: u32 = 4;
+pub const FIGURE: u32 = 4;
+
+pub const END: u32 = 5;
 
 // A kind from its row.
 fn row(stage: u32, earliest: u32, latest: u32, most: usize, size: usize) -> Kind
@@ -43,6 +47,7 @@ pub fn kind_of(mark: u32) -> Kind
 {
     match mark {
         GS => row(SPEC, NOTHING, NOTHING, 1, 30),
+        FO => row(FOLIO, SPEC, SPEC, 1, 6),
         TL => row(LINE, SPEC, LINE, 4000, 18),
         FG => row(FIGURE, SPEC, FIGURE, 200, 18),
         ED => row(END, SPEC, FIGURE, 1, 2),

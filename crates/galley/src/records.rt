@@ -3,7 +3,7 @@ ghost use mathlib.Core.Path.{_≡_};
 ghost use Prim.Native.Nat.{_+_, _≤_};
 ghost use lib.ListN.{length};
 ghost use Rattle.galley.specs.Place.{kindOf};
-ghost use Rattle.galley.specs.Record.{blockOf, ranged, specAt, lineAt, figureAt, fieldsOf, recordAt};
+ghost use Rattle.galley.specs.Record.{blockOf, ranged, specAt, folioAt, lineAt, figureAt, fieldsOf, recordAt};
 use crate::Block;
 use crate::Figure;
 use crate::Line;
@@ -11,6 +11,7 @@ use crate::Record;
 use crate::Spec;
 use crate::place::ED;
 use crate::place::FG;
+use crate::place::FO;
 use crate::place::GS;
 use crate::place::TL;
 
@@ -43,6 +44,15 @@ fn spec_at(s: &[u8], at: usize) -> Record
         beta: crate::word::word_at(s, at + 26),
     };
     ranged(crate::range::spec_in_range(g), Record::Spec(g), at)
+}
+
+// The folio of the first page.
+fn folio_at(s: &[u8], at: usize) -> Record
+    requires { ⌜ at + 6 ≤ length (now s) ⌝ }
+    ensures { λ r. ⌜ r ≡ folioAt (now (s .entry)) at ⌝ }
+{
+    let folio = crate::word::word_at(s, at + 2);
+    ranged((1 <= folio) & (folio <= 9999), Record::Folio(folio), at)
 }
 
 // The heights of a block.
@@ -86,6 +96,7 @@ fn fields_of(mark: u32, s: &[u8], at: usize) -> Record
 {
     match mark {
         GS => spec_at(s, at),
+        FO => folio_at(s, at),
         TL => line_at(s, at),
         FG => figure_at(s, at),
         ED => Record::End,

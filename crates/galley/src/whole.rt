@@ -13,12 +13,13 @@ use crate::Spec;
 use crate::Step;
 use crate::Stream;
 
-// The galley of a specification: its streams are still to come, at an offset.
-fn opened(spec: Spec, at: usize) -> Galley
-    ensures { λ r. ⌜ r ≡ opened spec at ⌝ }
+// The galley of a specification and a first folio: its streams are still to come, at an offset.
+fn opened(spec: Spec, folio: u32, at: usize) -> Galley
+    ensures { λ r. ⌜ r ≡ opened spec folio at ⌝ }
 {
     Galley {
         spec,
+        folio,
         text: Stream {
             first: at,
             count: 0,
@@ -37,6 +38,7 @@ fn with_line(g: Galley, lines: usize, at: usize) -> Galley
     let spec = g.spec;
     Galley {
         spec,
+        folio: g.folio,
         text: Stream {
             first: g.text.first,
             count: lines,
@@ -56,6 +58,7 @@ fn with_figure(g: Galley, figures: usize) -> Galley
     let text = g.text;
     Galley {
         spec,
+        folio: g.folio,
         text,
         figures: Stream {
             first: g.figures.first,
@@ -78,7 +81,7 @@ fn beginning() -> Sofar
         beta: 0,
     };
     Sofar {
-        galley: opened(spec, 0),
+        galley: opened(spec, 1, 0),
         stage: crate::place::NOTHING,
         count: 0,
         last: 0,
@@ -168,7 +171,8 @@ fn after(s: &[u8], so: Sofar, found: Record, at: usize) -> Step
     ensures { λ r. ⌜ r ≡ after (now (s .entry)) so at found ⌝ }
 {
     match found {
-        Record::Spec(g) => Step::On(holding(so, opened(g, so.at), so.last)),
+        Record::Spec(g) => Step::On(holding(so, opened(g, 1, so.at), so.last)),
+        Record::Folio(f) => Step::On(holding(so, opened(so.galley.spec, f, so.at), so.last)),
         Record::Line(_l) => {
             Step::On(holding(so, with_line(so.galley, so.count, so.at), so.last))
         }

@@ -1,15 +1,16 @@
 -- Each line and each figure that was written is read back.
 use Prim.Native.Nat.{ℕ, zero, suc, _+_, _-_, _*_, _≤_, _<_}
 use native.Mathlib.Omega.{arith}
-use mathlib.Core.List.{List, [], _∷_, _++_}
-use mathlib.Core.Path.{_≡_, refl, sym, ap}
-use lib.ListN.{length, getD}
+use mathlib.Core.List.{List, [], _∷_, _++_, append-assoc}
+use mathlib.Core.Path.{_≡_, refl, sym, ap, _∙_}
+use lib.ListN.{length, getD, length-append}
 use Rattle.galley.specs.Range.{BlockRanged, LineRanged}
 use Rattle.galley.specs.Record.{lineOf, figureOf}
 use Rattle.galley.specs.Block.{offset}
-use Rattle.galley.specs.Write.{specBytes, lineBytes, figureBytes, each, bytesOf, LinesRanged, FiguresRanged, InRange}
+use Rattle.galley.specs.Write.{lineBytes, figureBytes, each, Stated, headBytes, bytesOf, LinesRanged, FiguresRanged, InRange}
 use Rattle.galley.specs.laws.Each.{each-append, each-at}
-use Rattle.galley.specs.laws.RoundTrip.{galleyFrom, lines-length}
+use Rattle.galley.specs.laws.Blocks.{lines-length}
+use Rattle.galley.specs.laws.RoundTrip.{galleyFrom, head-joins}
 use Rattle.galley.specs.laws.Write.{line-fields, figure-fields}
 use Rattle.galley.specs.declared.Spec.{Spec}
 use Rattle.galley.specs.declared.Line.{Line}
@@ -28,26 +29,33 @@ figures-ranged m last [] k d few r h = absurd (omega arith)
 figures-ranged m last (f ∷ fs) zero d few r h = (r .0, omega (arith, r .2))
 figures-ranged m last (f ∷ fs) (suc k) d few r h = figures-ranged m (f .cite) fs k d few (r .4) (omega arith)
 
--- Each line that was written is read back.
-pub line-back : (g : Spec) (ls : List Line) (fs : List Figure) → InRange g ls fs → (k : ℕ) → k < length ls → (d : Line)
-    → lineOf (bytesOf g ls fs) (offset (galleyFrom g ls fs .text) (k + 1)) ≡ getD ls k d
-unfolding bytesOf
-line-back g ls fs r k h d =
-    let here : 30 + (k + 1 - 1) * 18 ≡ length (specBytes g []) + k * 18 = omega arith in
-    rw here
-    (each-at lineBytes lineOf LineRanged (λ l. refl) (λ l rest. refl) line-fields (bytesOf g ls fs) (specBytes g [])
-    (each figureBytes fs (69 ∷ 68 ∷ [])) ls refl k h d (lines-ranged ls k d (r .lines) h))
+module _ (g : Spec) (o : Stated) (ls : List Line) (fs : List Figure) (r : InRange g o ls fs) where
+  -- Each line that was written is read back.
+  pub line-back : (k : ℕ) → k < length ls → (d : Line)
+      → lineOf (bytesOf g o ls fs) (offset (galleyFrom g o ls fs .text) (k + 1)) ≡ getD ls k d
+  unfolding bytesOf
+  line-back k h d =
+      let before = headBytes g o [] in
+      let figures : List ℕ = each figureBytes fs (69 ∷ 68 ∷ []) in
+      let here : length before + (k + 1 - 1) * 18 ≡ length before + k * 18 = omega arith in
+      rw here
+      (each-at lineBytes lineOf LineRanged (λ l. refl) (λ l rest. refl) line-fields (bytesOf g o ls fs) before figures ls
+      (sym (head-joins g o (each lineBytes ls figures))) k h d (lines-ranged ls k d (r .blocks .lines) h))
 
--- Each figure that was written is read back.
-pub figure-back : (g : Spec) (ls : List Line) (fs : List Figure) → InRange g ls fs → (k : ℕ) → k < length fs → (d : Figure)
-    → figureOf (bytesOf g ls fs) (offset (galleyFrom g ls fs .figures) (k + 1)) ≡ getD fs k d
-unfolding bytesOf
-figure-back g ls fs r k h d =
-    let end : List ℕ = each figureBytes fs (69 ∷ 68 ∷ []) in
-    let before = specBytes g (each lineBytes ls []) in
-    let split : bytesOf g ls fs ≡ before ++ end = ap (specBytes g) (sym (each-append lineBytes (λ a rest more. refl) ls end)) in
-    let here : 30 + length ls * 18 + (k + 1 - 1) * 18 ≡ length before + k * 18 = omega (arith, lines-length ls []) in
-    rw here
-    (each-at figureBytes figureOf (λ f. BlockRanged (f .block) × (f .cite ≤ 4000)) (λ f. refl) (λ f rest. refl)
-    (λ before rest f fine. figure-fields before rest f (fine .0) (fine .1)) (bytesOf g ls fs) before (69 ∷ 68 ∷ []) fs split k h d
-    (figures-ranged (length ls) 0 fs k d (r .fewLines) (r .figures) h))
+  -- Each figure that was written is read back.
+  pub figure-back : (k : ℕ) → k < length fs → (d : Figure)
+      → figureOf (bytesOf g o ls fs) (offset (galleyFrom g o ls fs .figures) (k + 1)) ≡ getD fs k d
+  unfolding bytesOf
+  figure-back k h d =
+      let end : List ℕ = each figureBytes fs (69 ∷ 68 ∷ []) in
+      let head = headBytes g o [] in
+      let before : List ℕ = head ++ each lineBytes ls [] in
+      let split : bytesOf g o ls fs ≡ before ++ end
+      = sym (head-joins g o (each lineBytes ls end)) ∙ ap (head ++_) (sym (each-append lineBytes (λ a rest more. refl) ls end))
+      ∙ sym (append-assoc head (each lineBytes ls []) end) in
+      let long : length before ≡ length head + length ls * 18 = simp length-append (omega (arith, lines-length ls [])) in
+      let here : length head + length ls * 18 + (k + 1 - 1) * 18 ≡ length before + k * 18 = omega arith in
+      rw here
+      (each-at figureBytes figureOf (λ f. BlockRanged (f .block) × (f .cite ≤ 4000)) (λ f. refl) (λ f rest. refl)
+      (λ before rest f fine. figure-fields before rest f (fine .0) (fine .1)) (bytesOf g o ls fs) before (69 ∷ 68 ∷ []) fs split k h d
+      (figures-ranged (length ls) 0 fs k d (r .blocks .fewLines) (r .blocks .figures) h))

@@ -6,7 +6,7 @@ use mathlib.Core.Path.{_≡_, refl, sym}
 use lib.Dec.{eqb, ltb, leb}
 use borrow.Author.Tests.{ltb-true, ltb-false, leb-false, eqb-true, eqb-false, le-ltb, lt-ltb, lt-leb, eq-eqb, ne-eqb}
 use Rattle.model.specs.Gather.{pick}
-use Rattle.galley.specs.Place.{GS, TL, FG, ED, line, kindOf, misplaced, tooEarly, tooMany, unfit}
+use Rattle.galley.specs.Place.{GS, FO, TL, FG, ED, line, kindOf, misplaced, tooEarly, tooMany, unfit}
 use Rattle.galley.specs.laws.Pick.{pick-has, or-false, and-false}
 use Rattle.galley.specs.declared.Kind.{Kind}
 use Rattle.galley.specs.declared.Sofar.{Sofar}
@@ -16,9 +16,10 @@ pub kind-sized : (mark : ℕ) → (2 ≤ kindOf mark .size) × (kindOf mark .siz
 unfolding kindOf
 kind-sized mark =
     pick-has Sized (eqb mark GS) _ _ (λ _. omega arith) (λ _.
+    pick-has Sized (eqb mark FO) _ _ (λ _. omega arith) (λ _.
     pick-has Sized (eqb mark TL) _ _ (λ _. omega arith) (λ _.
     pick-has Sized (eqb mark FG) _ _ (λ _. omega arith) (λ _.
-    pick-has Sized (eqb mark ED) _ _ (λ _. omega arith) (λ _. omega arith))))
+    pick-has Sized (eqb mark ED) _ _ (λ _. omega arith) (λ _. omega arith)))))
   where
     Sized : Kind → Type 0
     Sized kind = (2 ≤ kind .size) × (kind .size ≤ 100)

@@ -14,8 +14,9 @@ use Rattle.galley.specs.Word.{wordAt}
 use Rattle.galley.specs.Place.{spec, line, figure}
 use Rattle.galley.specs.Record.{citeAt, lineOf, figureOf, recordAt}
 use Rattle.galley.specs.Whole.{beginning}
+use Rattle.galley.specs.Range.{FolioRanged}
 use Rattle.galley.specs.Block.{fieldOf}
-use Rattle.galley.specs.Sound.{Reads, SoundCitations}
+use Rattle.galley.specs.Sound.{Opening, Reads, SoundCitations}
 use Rattle.galley.specs.declared.Stream.{Stream}
 use Rattle.galley.specs.declared.Galley.{Galley}
 use Rattle.galley.specs.declared.Record.{Record}
@@ -40,10 +41,18 @@ counted-more stage n so c up = go (eqb stage (so .stage)) refl
 pub record Shape (bytes : List ℕ) (g : Galley) (at : ℕ) : Type 0 where
   pub fewLines : g .text .count ≤ 4000
   pub fewFigures : g .figures .count ≤ 200
-  pub first : g .text .first ≤ 30
+  pub first : g .text .first ≤ 36
   pub follow : g .figures .first ≡ g .text .first + g .text .count * 18
   pub due : at ≡ g .figures .first + g .figures .count * 18
   pub within : at ≤ length bytes
+
+-- What is known of what stands before line 1: the specification, and an `FO` or none.
+pub record Head (bytes : List ℕ) (so : Sofar) : Type 0 where
+  pub starts : so .stage < spec → so .at ≡ 0
+  pub ends : so .stage ≡ spec → so .at ≡ 30
+  pub specRead : spec ≤ so .stage → recordAt bytes 0 ≡ found.Spec (so .galley .spec)
+  pub folio : FolioRanged (so .galley .folio)
+  pub opens : spec ≤ so .stage → Opening bytes (so .galley)
 
 -- What holds of all that was read, with the last citation.
 pub record Reached (bytes : List ℕ) (so : Sofar) : Type 0 where
@@ -51,8 +60,7 @@ pub record Reached (bytes : List ℕ) (so : Sofar) : Type 0 where
   pub count : so .count ≤ 4000
   pub lines : Counted line (so .galley .text .count) so
   pub figures : Counted figure (so .galley .figures .count) so
-  pub specRead : spec ≤ so .stage → recordAt bytes 0 ≡ found.Spec (so .galley .spec)
-  pub starts : so .stage < spec → so .at ≡ 0
+  pub head : Head bytes so
   pub textRead : Reads bytes (so .galley .text) (λ at. found.Line (lineOf bytes at))
   pub figuresRead : Reads bytes (so .galley .figures) (λ at. found.Figure (figureOf bytes at))
   pub citations : SoundCitations bytes (so .galley .figures) (so .galley .text .count)
@@ -109,16 +117,14 @@ citations-more bytes first n lines last cite so upto there one in-lines grows = 
 
 -- A galley that has no block yet.
 pub reached-empty : (bytes : List ℕ) (so : Sofar) → Shape bytes (so .galley) (so .at) → so .count ≤ 4000 → so .stage < line
-    → so .galley .text .count ≡ 0 → so .galley .figures .count ≡ 0 → (spec ≤ so .stage → recordAt bytes 0 ≡ found.Spec (so .galley .spec))
-    → (so .stage < spec → so .at ≡ 0) → Reached bytes so
-reached-empty bytes so shape count early noLines noFigures specRead starts =
+    → so .galley .text .count ≡ 0 → so .galley .figures .count ≡ 0 → Head bytes so → Reached bytes so
+reached-empty bytes so shape count early noLines noFigures head =
     record {
       shape = shape;
       count = count;
       lines = record { here = λ e. absurd (omega arith); before = λ l. noLines };
       figures = record { here = λ e. absurd (omega arith); before = λ l. noFigures };
-      specRead = specRead;
-      starts = starts;
+      head = head;
       textRead = λ k one h. absurd (omega arith);
       figuresRead = λ k one h. absurd (omega arith);
       citations = no-citations bytes (so .galley .figures) (so .galley .text .count) noFigures;
@@ -130,4 +136,11 @@ pub reached-none : (bytes : List ℕ) → Reached bytes beginning
 reached-none bytes =
     let nowhere : Shape bytes (beginning .galley) 0
     = record { fewLines = omega arith; fewFigures = omega arith; first = omega arith; follow = refl; due = refl; within = omega arith } in
-    reached-empty bytes beginning nowhere (omega arith) (omega arith) refl refl (λ l. absurd (omega arith)) (λ l. refl)
+    reached-empty bytes beginning nowhere (omega arith) (omega arith) refl refl
+    (record {
+      starts = λ l. refl;
+      ends = λ e. absurd (omega arith);
+      specRead = λ l. absurd (omega arith);
+      folio = record { some = omega arith; few = omega arith };
+      opens = λ l. absurd (omega arith);
+    })

@@ -8,11 +8,11 @@ use lib.ListN.{length}
 use lib.Dec.{ltb, eqb}
 use borrow.Author.Tests.{ltb-false, eqb-true}
 use Rattle.galley.specs.Word.{markAt}
-use Rattle.galley.specs.Range.{specInRange, blockInRange, lineInRange, SpecRanged, BlockRanged, LineRanged}
-use Rattle.galley.specs.Place.{GS, TL, FG, ED, kindOf}
-use Rattle.galley.specs.Record.{specOf, blockOf, lineOf, figureOf, ranged, fieldsOf, recordAt}
+use Rattle.galley.specs.Range.{specInRange, folioInRange, blockInRange, lineInRange, SpecRanged, FolioRanged, BlockRanged, LineRanged}
+use Rattle.galley.specs.Place.{GS, FO, TL, FG, ED, kindOf}
+use Rattle.galley.specs.Record.{specOf, openingFolio, blockOf, lineOf, figureOf, ranged, fieldsOf, recordAt}
 use Rattle.galley.specs.laws.Pick.{pick-has}
-use Rattle.galley.specs.laws.Range.{spec-ranged, block-ranged, line-ranged}
+use Rattle.galley.specs.laws.Range.{spec-ranged, folio-ranged, block-ranged, line-ranged}
 use Rattle.galley.specs.declared.Figure.{Figure}
 use Rattle.galley.specs.declared.Record.{Record}
 use Rattle.galley.specs.declared.Record.the-variants as found
@@ -41,6 +41,7 @@ pub record RefusedAt (at number place : ℕ) : Type 0 where
 -- What a record that was read at an offset tells.
 unfoldable pub Found : List ℕ → ℕ → Record → Type 0
 Found bytes at (found.Spec g) = Stands SpecRanged bytes at GS g (specOf bytes at)
+Found bytes at (found.Folio f) = Stands FolioRanged bytes at FO f (openingFolio bytes at)
 Found bytes at (found.Line l) = Stands LineRanged bytes at TL l (lineOf bytes at)
 Found bytes at (found.Figure f) = Stands FigureRanged bytes at FG f (figureOf bytes at)
 Found bytes at found.End = Stands Ending bytes at ED tt tt
@@ -68,6 +69,9 @@ module _ (bytes : List ℕ) (at : ℕ) where
       pick-has (Found bytes at) (eqb mark GS) _ _ (λ e.
       ranged-found (specInRange (specOf bytes at)) (found.Spec (specOf bytes at)) (λ r.
       stands SpecRanged GS (specOf bytes at) e there (spec-ranged (specOf bytes at) r))) (λ _.
+      pick-has (Found bytes at) (eqb mark FO) _ _ (λ e.
+      ranged-found (folioInRange (openingFolio bytes at)) (found.Folio (openingFolio bytes at)) (λ r.
+      stands FolioRanged FO (openingFolio bytes at) e there (folio-ranged (openingFolio bytes at) r))) (λ _.
       pick-has (Found bytes at) (eqb mark TL) _ _ (λ e.
       ranged-found (lineInRange (lineOf bytes at)) (found.Line (lineOf bytes at)) (λ r.
       stands LineRanged TL (lineOf bytes at) e there (line-ranged (lineOf bytes at) r))) (λ _.
@@ -75,7 +79,7 @@ module _ (bytes : List ℕ) (at : ℕ) where
       ranged-found (blockInRange (blockOf bytes at)) (found.Figure (figureOf bytes at)) (λ r.
       stands FigureRanged FG (figureOf bytes at) e there (block-ranged (blockOf bytes at) r))) (λ _.
       pick-has (Found bytes at) (eqb mark ED) _ _ (λ e. stands Ending ED tt e there tt)
-      (λ _. refused-found 2 (omega arith) (omega arith)))))
+      (λ _. refused-found 2 (omega arith) (omega arith))))))
 
   -- A record that is read is either refused where it starts or stands whole and in range.
   pub found-at : Found bytes at (recordAt bytes at)

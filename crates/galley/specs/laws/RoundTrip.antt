@@ -1,225 +1,73 @@
 -- Reading what was written gives the values back.
-use Prim.Native.Nat.{ℕ, zero, suc, _+_, _-_, _*_, _≤_}
+use Prim.Native.Nat.{_<_, ℕ, zero, suc, _+_, _-_, _*_, _≤_}
 use native.Mathlib.Omega.{arith}
-use native.Mathlib.Nat.{eq-or-lt-of-le}
-use mathlib.Core.Logic.{⊎-elim}
-use mathlib.Core.List.{List, [], _∷_, _++_, append-assoc}
+use mathlib.Core.List.{List, [], _∷_, _++_}
 use mathlib.Core.Path.{_≡_, refl, sym, ap, _∙_}
 use lib.ListN.{length, length-append}
-use lib.Dec.{eqb}
-use Rattle.model.specs.Gather.{pick}
-use Rattle.galley.specs.Place.{line, figure, GS, TL, FG, ED, kindOf}
-use Rattle.galley.specs.Whole.{beginning, settled, readFrom, galleyOf}
-use Rattle.galley.specs.Write.{specBytes, lineBytes, figureBytes, each, bytesOf, LinesRanged, FiguresRanged, InRange}
+use Rattle.galley.specs.Range.{SpecRanged}
+use Rattle.galley.specs.Place.{line, GS, FO, kindOf}
+use Rattle.galley.specs.Whole.{beginning, opened, moved, holding, readFrom, galleyOf}
+use Rattle.galley.specs.Write.{specBytes, lineBytes, figureBytes, each, Stated, unstated, stated, folioOf, folioBytes, headBytes, StatedRanged, bytesOf, InRange}
 use Rattle.galley.specs.laws.Place.{Fits}
-use Rattle.galley.specs.laws.Reached.{Counted, counted-more}
-use Rattle.galley.specs.laws.Each.{each-append, each-length, Goes, each-run}
-use Rattle.galley.specs.laws.Stand.{spec-step, line-step, figure-step, end-step}
+use Rattle.galley.specs.laws.Stand.{spec-step, folio-step}
 use Rattle.galley.specs.laws.Underway.{read-on}
-use Rattle.galley.specs.laws.Write.{spec-after, line-after, figure-after, end-after}
+use Rattle.galley.specs.laws.Blocks.{galleyWith, lines-due, lines-length, figures-length, blocks-read}
+use Rattle.galley.specs.laws.Write.{spec-after, folio-after}
 use Rattle.galley.specs.declared.Spec.{Spec}
 use Rattle.galley.specs.declared.Line.{Line}
 use Rattle.galley.specs.declared.Figure.{Figure}
 use Rattle.galley.specs.declared.Galley.{Galley}
+use Rattle.galley.specs.declared.Reading.{Reading}
 use Rattle.galley.specs.declared.Reading.the-variants as reads
 use Rattle.galley.specs.declared.Sofar.{Sofar}
 
--- The galley of so many lines, from an offset on, and so many figures after them.
-abbrev pub galleyWith : Spec → ℕ → ℕ → ℕ → Galley
-galleyWith spec first lines figures =
-    record {
-      spec = spec;
-      text = record { first = first; count = lines };
-      figures = record { first = first + lines * 18; count = figures };
-    }
-
--- So many blocks of a stage were read, of as many as there are: the next one is due.
-record Come (g : Galley) (earliest stage due read left total : ℕ) (so : Sofar) : Type 0 where
-  galley : so .galley ≡ g
-  low : earliest ≤ so .stage
-  high : so .stage ≤ stage
-  counted : Counted stage read so
-  at : so .at ≡ due
-  sum : read + left ≡ total
-
--- With one more of the stage there is one more.
-module _ {g : Galley} {earliest stage due read left total : ℕ} {so : Sofar} (c : Come g earliest stage due read (suc left) total so) where
-  come-more : pick (eqb stage (so .stage)) (so .count + 1) 1 ≡ read + 1
-  come-more = counted-more stage read so (c .counted) (c .high)
-
-  come-on : (after : Galley) (farther : ℕ) (next : Sofar) → earliest ≤ stage → next .galley ≡ after → next .stage ≡ stage
-      → next .count ≡ read + 1 → next .at ≡ farther → Come after earliest stage farther (read + 1) left total next
-  come-on after farther next low galley same count at =
-      record {
-        galley = galley;
-        low = omega arith;
-        high = omega arith;
-        counted = record { here = λ _. count; before = λ z. absurd (omega arith) };
-        at = at;
-        sum = omega (arith, c .sum);
-      }
-
--- These lines are still to come.
-record LinesLeft (spec : Spec) (first total : ℕ) (ls : List Line) (so : Sofar) : Type 0 where
-  read : ℕ
-  come : Come (galleyWith spec first read 0) 1 line (first + read * 18) read (length ls) total so
-  last : so .last ≡ 0
-  ranged : LinesRanged ls
-
--- These figures are still to come.
-record FiguresLeft (spec : Spec) (first lines total : ℕ) (fs : List Figure) (so : Sofar) : Type 0 where
-  read : ℕ
-  come : Come (galleyWith spec first lines read) line figure (first + lines * 18 + read * 18) read (length fs) total so
-  ranged : FiguresRanged lines (so .last) fs
-
-lines-go : (bytes before rest : List ℕ) (spec : Spec) (first total : ℕ) (l : Line) (ls : List Line) (so : Sofar) → total ≤ 4000
-    → bytes ≡ before ++ lineBytes l rest → length before ≡ so .at → LinesLeft spec first total (l ∷ ls) so
-    → Goes bytes (LinesLeft spec first total) so ls
-unfolding LinesRanged kindOf
-lines-go bytes before rest spec first total l ls so few e at left =
-    let c = left .come in
-    let here = rw (← e, at) at (line-after before rest l (left .ranged .0)) in
-    let fits : Fits (kindOf TL) so
-    = record { soon = c .low; late = c .high; timely = λ l. absurd (omega arith); few = λ s. let n = c .counted .here s in omega arith } in
-    let far : so .at + 18 ≡ first + (left .read + 1) * 18 = omega (arith, c .at) in
-    record {
-      next = _;
-      on = line-step bytes so l here fits;
-      left =
-          record {
-            read = left .read + 1;
-            come = come-on c _ _ _ (omega arith) (rw (c .galley, come-more c, far)) refl (come-more c) far;
-            last = left .last;
-            ranged = left .ranged .1;
-          };
-      due = refl;
-    }
-
-figures-go : (bytes before rest : List ℕ) (spec : Spec) (first lines total : ℕ) (f : Figure) (fs : List Figure) (so : Sofar)
-    → 1 ≤ lines → lines ≤ 4000 → total ≤ 200
-    → bytes ≡ before ++ figureBytes f rest → length before ≡ so .at → FiguresLeft spec first lines total (f ∷ fs) so
-    → Goes bytes (FiguresLeft spec first lines total) so fs
-unfolding FiguresRanged kindOf
-figures-go bytes before rest spec first lines total f fs so some many few e at left =
-    let c = left .come in
-    let r = left .ranged in
-    let here = rw (← e, at) at (figure-after before rest f (r .0) (omega (arith, r .2))) in
-    let same : so .galley .text .count ≡ lines = ap (λ (g : Galley). g .text .count) (c .galley) in
-    let fits : Fits (kindOf FG) so
-    = record { soon = omega (arith, c .low); late = c .high; timely = λ l. omega arith; few = λ s. let n = c .counted .here s in omega arith } in
-    let far : so .at + 18 ≡ first + lines * 18 + (left .read + 1) * 18 = omega (arith, c .at) in
-    record {
-      next = _;
-      on = figure-step bytes so f here fits (r .1) (omega (arith, r .2)) (r .3);
-      left =
-          record {
-            read = left .read + 1;
-            come = come-on c _ _ _ (omega arith) (rw (c .galley, come-more c)) refl (come-more c) far;
-            ranged = r .4;
-          };
-      due = refl;
-    }
-
--- The end comes after the last figure.
-end-read : (bytes before : List ℕ) (spec : Spec) (first lines total turns : ℕ) (so : Sofar) → 1 ≤ lines → 1 ≤ turns
-    → bytes ≡ before ++ 69 ∷ 68 ∷ [] → length before ≡ first + lines * 18 + total * 18
-    → FiguresLeft spec first lines total [] so → readFrom bytes turns so ≡ reads.Galley (galleyWith spec first lines total)
-unfolding readFrom settled kindOf
-end-read bytes before spec first lines total zero so some one e at left = absurd (omega arith)
-end-read bytes before spec first lines total (suc turns) so some one e at left =
-    let c = left .come in
-    let all : left .read ≡ total = omega (arith, c .sum) in
-    let here : length before ≡ so .at = at ∙ rw (← all) (sym (c .at)) in
-    let long : length bytes ≡ length before + 2 = ap length e ∙ simp length-append (omega arith) in
-    let same : so .galley .text .count ≡ lines = ap (λ (g : Galley). g .text .count) (c .galley) in
-    let fits : Fits (kindOf ED) so
-    = record { soon = omega (arith, c .low); late = c .high; timely = λ l. omega arith; few = λ s. absurd (omega (arith, c .high)) } in
-    rw (end-step bytes so (rw (← here, e) (end-after before [])) fits (omega arith)) (ap reads.Galley (c .galley ∙ rw all))
-
--- After the last line the figures are still to come.
-figures-due : (spec : Spec) (first lines total : ℕ) (fs : List Figure) (so : Sofar) → 1 ≤ lines → length fs ≡ total
-    → FiguresRanged lines 0 fs → LinesLeft spec first lines [] so → FiguresLeft spec first lines total fs so
-figures-due spec first lines total fs so some all ranged left =
-    let c = left .come in
-    let read : left .read ≡ lines = omega (arith, c .sum) in
-    let stage : line ≤ so .stage
-    = ⊎-elim (λ e. omega arith) (λ less. absurd (omega (arith, c .counted .before less))) (eq-or-lt-of-le (c .high)) in
-    record {
-      read = 0;
-      come =
-          record {
-            galley = c .galley ∙ rw read;
-            low = stage;
-            high = omega (arith, c .high);
-            counted = record { here = λ e. absurd (omega (arith, c .high)); before = λ z. refl };
-            at = omega (arith, c .at);
-            sum = omega arith;
-          };
-      ranged = rw (left .last) ranged;
-    }
-
 -- The galley that values make.
-abbrev pub galleyFrom : Spec → List Line → List Figure → Galley
-galleyFrom g ls fs = galleyWith g 30 (length ls) (length fs)
+abbrev pub galleyFrom : Spec → Stated → List Line → List Figure → Galley
+galleyFrom g o ls fs = let first = length (headBytes g o []) in galleyWith (opened g (folioOf o) first) first (length ls) (length fs)
 
-pub lines-length : (ls : List Line) (rest : List ℕ) → length (each lineBytes ls rest) ≡ length ls * 18 + length rest
-lines-length = each-length lineBytes (λ l rest. omega arith)
+pub head-joins : (g : Spec) (o : Stated) (rest : List ℕ) → headBytes g o [] ++ rest ≡ headBytes g o rest
+head-joins g unstated rest = refl
+head-joins g (stated f) rest = refl
 
-figures-length : (fs : List Figure) (rest : List ℕ) → length (each figureBytes fs rest) ≡ length fs * 18 + length rest
-figures-length = each-length figureBytes (λ f rest. omega arith)
+-- A specification fits where nothing was read.
+first : Fits (kindOf GS) beginning
+unfolding kindOf
+first = record { soon = omega arith; late = omega arith; timely = λ l. absurd (omega arith); few = λ e. absurd (omega arith) }
 
--- From line 1 on, all that was written is read.
-blocks-read : (bytes before : List ℕ) (spec : Spec) (ls : List Line) (fs : List Figure) (turns : ℕ) (so : Sofar) → InRange spec ls fs
-    → bytes ≡ before ++ each lineBytes ls (each figureBytes fs (69 ∷ 68 ∷ [])) → length before ≡ so .at
-    → length ls + (length fs + 1) ≤ turns → LinesLeft spec (length before) (length ls) ls so
-    → readFrom bytes turns so ≡ reads.Galley (galleyWith spec (length before) (length ls) (length fs))
-blocks-read bytes before spec ls fs turns so r e at enough left =
-    let first = length before in
-    let lines = length ls in
-    let ends : List ℕ = 69 ∷ 68 ∷ [] in
-    let figures : List ℕ = each figureBytes fs ends in
-    let text : List ℕ = before ++ each lineBytes ls [] in
-    let whole : List ℕ = text ++ each figureBytes fs [] in
-    let split : bytes ≡ text ++ figures
-    = e ∙ ap (before ++_) (sym (each-append lineBytes (λ a rest more. refl) ls figures)) ∙ sym (append-assoc before (each lineBytes ls []) figures) in
-    let all : bytes ≡ whole ++ ends
-    = split ∙ ap (text ++_) (sym (each-append figureBytes (λ a rest more. refl) fs ends)) ∙ sym (append-assoc text (each figureBytes fs []) ends) in
-    let long : length text ≡ first + lines * 18 = simp length-append (omega (arith, lines-length ls [])) in
-    let longer : length whole ≡ first + lines * 18 + length fs * 18
-    = simp length-append (omega (arith, lines-length ls [], figures-length fs [])) in
-    each-run lineBytes bytes (LinesLeft spec first lines) (λ l. refl) (λ l rest. refl)
-    (λ before rest l more so e at left. lines-go bytes before rest spec first lines l more so (r .fewLines) e at left)
-    before figures ls (length fs + 1) turns so _ e at enough left
-    (λ turns so enough left.
-    each-run figureBytes bytes (FiguresLeft spec first lines (length fs)) (λ f. refl) (λ f rest. refl)
-    (λ before rest f more so e at left.
-    figures-go bytes before rest spec first lines (length fs) f more so (r .some) (r .fewLines) (r .fewFigures) e at left)
-    text ends fs 1 turns so _ split (omega (arith, left .come .at, left .come .sum)) enough
-    (figures-due spec first lines (length fs) fs so (r .some) refl (r .figures) left)
-    (λ turns so enough left. end-read bytes whole spec first lines (length fs) turns so (r .some) enough all longer left))
+-- A folio fits straight after it.
+second : {g : Spec} → Fits (kindOf FO) (let next = moved beginning (kindOf GS) in holding next (opened g 1 (next .at)) 0)
+unfolding kindOf
+second = record { soon = omega arith; late = omega arith; timely = λ l. absurd (omega arith); few = λ e. absurd (omega arith) }
+
+-- What stands before line 1 is read.
+head-read : (bytes rest : List ℕ) (g : Spec) (o : Stated) (turns : ℕ) (reading : Reading) → bytes ≡ headBytes g o rest → 2 ≤ turns
+    → SpecRanged g → StatedRanged o
+    → ((turns′ : ℕ) (so : Sofar) → turns ≤ turns′ + 2 → so .galley ≡ opened g (folioOf o) (so .at) → 1 ≤ so .stage → so .stage < line → so .last ≡ 0
+    → so .at ≡ length (headBytes g o []) → readFrom bytes turns′ so ≡ reading)
+    → readFrom bytes turns beginning ≡ reading
+unfolding kindOf
+head-read bytes rest g o zero reading e enough s f on = absurd (omega arith)
+head-read bytes rest g o (suc zero) reading e enough s f on = absurd (omega arith)
+head-read bytes rest g unstated (suc (suc turns)) reading e enough s f on =
+    read-on bytes (suc turns) beginning _ (spec-step bytes beginning g (rw e (spec-after [] rest g s)) first)
+    ∙ on (suc turns) _ (omega arith) refl (omega arith) (omega arith) refl refl
+head-read bytes rest g (stated f) (suc (suc turns)) reading e enough s fine on =
+    read-on bytes (suc turns) beginning _ (spec-step bytes beginning g (rw e (spec-after [] (folioBytes (stated f) rest) g s)) first)
+    ∙ read-on bytes turns _ _ (folio-step bytes _ f (rw e (folio-after (specBytes g []) rest f fine)) second)
+    ∙ on turns _ (omega arith) refl (omega arith) (omega arith) refl refl
 
 -- What was written for values in range reads without refusal, as many lines and figures as there are.
-pub round-trip : (g : Spec) (ls : List Line) (fs : List Figure) → InRange g ls fs
-    → galleyOf (bytesOf g ls fs) ≡ reads.Galley (galleyFrom g ls fs)
-unfolding galleyOf bytesOf kindOf
-round-trip g ls fs r =
-    let bytes = bytesOf g ls fs in
-    let fits : Fits (kindOf GS) beginning
-    = record { soon = omega arith; late = omega arith; timely = λ l. absurd (omega arith); few = λ e. absurd (omega arith) } in
-    read-on bytes (length bytes) beginning _ (spec-step bytes beginning g (spec-after [] _ g (r .spec)) fits)
-    ∙ blocks-read bytes (specBytes g []) g ls fs (length bytes) _ r refl refl
+pub round-trip : (g : Spec) (o : Stated) (ls : List Line) (fs : List Figure) → InRange g o ls fs
+    → galleyOf (bytesOf g o ls fs) ≡ reads.Galley (galleyFrom g o ls fs)
+unfolding galleyOf bytesOf
+round-trip g o ls fs r =
+    let bytes = bytesOf g o ls fs in
+    let blocks : List ℕ = each lineBytes ls (each figureBytes fs (69 ∷ 68 ∷ [])) in
+    let before = headBytes g o [] in
+    let first = length before in
+    let long : length bytes ≡ first + length blocks = ap length (sym (head-joins g o blocks)) ∙ length-append before blocks in
+    let none : first + 0 * 18 ≡ first = omega arith in
+    head-read bytes blocks g o (suc (length bytes)) _ refl (omega arith) (r .spec) (r .folio) (λ turns so enough galley low high last at.
+    blocks-read bytes before (opened g (folioOf o) first) ls fs turns so (r .blocks) (sym (head-joins g o blocks)) (sym at)
     (omega (arith, lines-length ls (each figureBytes fs (69 ∷ 68 ∷ [])), figures-length fs (69 ∷ 68 ∷ [])))
-    (record {
-      read = 0;
-      come =
-          record {
-            galley = refl;
-            low = omega arith;
-            high = omega arith;
-            counted = record { here = λ e. absurd (omega arith); before = λ l. refl };
-            at = omega arith;
-            sum = omega arith;
-          };
-      last = refl;
-      ranged = r .lines;
-    })
+    (lines-due (opened g (folioOf o) first) first (length ls) ls so (galley ∙ rw (at, none)) low high last at refl (r .blocks .lines)))

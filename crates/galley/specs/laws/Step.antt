@@ -1,23 +1,24 @@
--- What one record more tells of a galley.
-use Prim.Native.Nat.{ℕ, _+_, _-_, _*_, _≤_, _<_}
+-- What one record more tells of a galley: reading goes on and is known so far, or its answer is right.
+use Prim.Native.Nat.{ℕ, _+_, _-_, _≤_, _<_}
 use native.Mathlib.Omega.{arith}
 use mathlib.Core.Bool.{_||_}
 use mathlib.Core.List.{List}
-use mathlib.Core.Path.{_≡_, refl, sym, ap, _∙_}
+use mathlib.Core.Path.{_≡_, refl}
 use lib.ListN.{length}
 use lib.Dec.{ltb, eqb}
-use borrow.Author.Tests.{ltb-true, ltb-false, eqb-true, eqb-false}
-use Rattle.galley.specs.Word.{markAt, wordAt}
-use Rattle.galley.specs.Place.{line, figure, GS, TL, FG, ED, kindOf, misplaced, tooEarly, tooMany, unfit}
-use Rattle.galley.specs.Record.{citeAt, lineOf, figureOf, recordAt}
-use Rattle.galley.specs.Whole.{opened, withLine, withFigure, moved, holding, refused, cited, closed, after, stepFrom}
+use borrow.Author.Tests.{ltb-true, ltb-false, eqb-false}
+use Rattle.galley.specs.Word.{markAt}
+use Rattle.galley.specs.Place.{line, GS, FO, TL, FG, ED, kindOf, misplaced, tooEarly, tooMany, unfit}
+use Rattle.galley.specs.Record.{lineOf, figureOf, recordAt}
+use Rattle.galley.specs.Whole.{moved, refused, cited, closed, after, stepFrom}
 use Rattle.galley.specs.Block.{offset}
 use Rattle.galley.specs.Range.{SpecRanged, BlockRanged, LineRanged}
 use Rattle.galley.specs.Sound.{Sound}
 use Rattle.galley.specs.laws.Pick.{pick-has, or-false}
 use Rattle.galley.specs.laws.Place.{kind-sized, Fits, unfit-fits}
 use Rattle.galley.specs.laws.Record.{Found, found-at}
-use Rattle.galley.specs.laws.Reached.{counted-more, Reached, reached-empty, reads-more, no-citations, citations-more}
+use Rattle.galley.specs.laws.Reached.{Reached}
+use Rattle.galley.specs.laws.More.{spec-reached, folio-reached, line-reached, figure-reached}
 use Rattle.galley.specs.declared.Kind.{Kind}
 use Rattle.galley.specs.declared.Spec.{Spec}
 use Rattle.galley.specs.declared.Line.{Line}
@@ -59,94 +60,6 @@ module _ (bytes : List ℕ) (so : Sofar) (r : Reached bytes so) where
   unfolding Fine Right
   refused-fine number at low high = (low, high)
 
-  -- There are no more of a stage than there may be.
-  more-few : (kind : Kind) → Fits kind so → 1 ≤ kind .most → moved so kind .count ≤ kind .most
-  more-few kind fits some =
-      pick-has (_≤ kind .most) (eqb (kind .stage) (so .stage)) (so .count + 1) 1
-      (λ e. let less = fits .few (sym (eqb-true (kind .stage) (so .stage) e)) in omega arith) (λ _. some)
-
-  -- A specification comes first.
-  spec-reached : (g : Spec) → Fits (kindOf GS) so → recordAt bytes (so .at) ≡ found.Spec g → so .at + kindOf GS .size ≤ length bytes
-      → let next = moved so (kindOf GS) in Reached bytes (holding next (opened g (next .at)) (next .last))
-  unfolding kindOf
-  spec-reached g fits e there =
-      let zero = r .starts (omega (arith, fits .late)) in
-      let few = more-few (kindOf GS) fits (omega arith) in
-      reached-empty bytes _
-      (record { fewLines = omega arith; fewFigures = omega arith; first = omega arith; follow = omega arith; due = omega arith; within = there })
-      (omega (arith, few)) (omega arith) refl refl (λ l. rw zero at e) (λ l. absurd (omega arith))
-
-  -- A line comes after the specification, before any figure.
-  line-reached : (l : Line) → Fits (kindOf TL) so → recordAt bytes (so .at) ≡ found.Line l → l ≡ lineOf bytes (so .at)
-      → so .at + kindOf TL .size ≤ length bytes
-      → let next = moved so (kindOf TL) in Reached bytes (holding next (withLine (so .galley) (next .count) (next .at)) (so .last))
-  unfolding kindOf
-  line-reached l fits e same there =
-      let none = r .figures .before (omega (arith, fits .late)) in
-      let more = counted-more line (so .galley .text .count) so (r .lines) (fits .late) in
-      let few = rw more at (more-few (kindOf TL) fits (omega arith)) in
-      rw more
-      (record {
-        shape =
-            record {
-              fewLines = few;
-              fewFigures = omega arith;
-              first = r .shape .first;
-              follow = omega arith;
-              due = omega arith;
-              within = there;
-            };
-        count = few;
-        lines = record { here = λ e. refl; before = λ l. absurd (omega arith) };
-        figures = record { here = λ e. absurd (omega arith); before = λ l. refl };
-        specRead = λ l. r .specRead (omega (arith, fits .soon));
-        starts = λ l. absurd (omega arith);
-        textRead =
-            reads-more bytes (λ at. found.Line (lineOf bytes at)) (so .galley .text .first) (so .galley .text .count) (so .at) (r .textRead)
-            (omega arith) (e ∙ ap found.Line same);
-        figuresRead = λ k one h. absurd (omega arith);
-        citations = no-citations bytes _ (so .galley .text .count + 1) refl;
-        citesLast = λ k one h. absurd (omega arith);
-      })
-
-  -- A figure comes after a line.
-  figure-reached : (f : Figure) → Fits (kindOf FG) so → recordAt bytes (so .at) ≡ found.Figure f → f ≡ figureOf bytes (so .at)
-      → so .at + kindOf FG .size ≤ length bytes → 1 ≤ f .cite → f .cite ≤ so .galley .text .count → so .last ≤ f .cite
-      → let next = moved so (kindOf FG) in Reached bytes (holding next (withFigure (so .galley) (next .count)) (f .cite))
-  unfolding kindOf
-  figure-reached f fits e same there one within grows =
-      let g = so .galley in
-      let more = counted-more figure (g .figures .count) so (r .figures) (fits .late) in
-      let few = rw more at (more-few (kindOf FG) fits (omega arith)) in
-      let cites : wordAt bytes (g .figures .first + g .figures .count * 18 + citeAt) ≡ f .cite
-      = rw (← r .shape .due) (sym (ap (λ (f : Figure). f .cite) same)) in
-      let cited =
-      citations-more bytes (g .figures .first) (g .figures .count) (g .text .count) (so .last) (f .cite) (r .citations) (r .citesLast) cites
-      one within grows in
-      rw more
-      (record {
-        shape =
-            record {
-              fewLines = r .shape .fewLines;
-              fewFigures = few;
-              first = r .shape .first;
-              follow = r .shape .follow;
-              due = omega arith;
-              within = there;
-            };
-        count = omega (arith, few);
-        lines = record { here = λ e. absurd (omega arith); before = λ l. absurd (omega arith) };
-        figures = record { here = λ e. refl; before = λ l. absurd (omega arith) };
-        specRead = λ l. r .specRead (omega (arith, fits .soon));
-        starts = λ l. absurd (omega arith);
-        textRead = r .textRead;
-        figuresRead =
-            reads-more bytes (λ at. found.Figure (figureOf bytes at)) (g .figures .first) (g .figures .count) (so .at) (r .figuresRead)
-            (r .shape .due) (e ∙ ap found.Figure same);
-        citations = cited .0;
-        citesLast = cited .1;
-      })
-
   -- A figure that is rightly cited is read, and any other is refused.
   cited-fine : (f : Figure) → Fits (kindOf FG) so → recordAt bytes (so .at) ≡ found.Figure f → f ≡ figureOf bytes (so .at)
       → so .at + kindOf FG .size ≤ length bytes → Fine bytes so (cited (moved so (kindOf FG)) f (so .at))
@@ -157,7 +70,7 @@ module _ (bytes : List ℕ) (so : Sofar) (r : Reached bytes so) where
       pick-has (Fine bytes so) (ltb (f .cite) (so .last)) _ _ (λ _. refused-fine 7 (so .at) (omega arith) (omega arith)) (λ grows.
       let w = or-false (eqb (f .cite) 0) (ltb lines (f .cite)) within in (
         omega arith,
-        figure-reached f fits e same there (omega (arith, eqb-false (f .cite) 0 (w .0))) (ltb-false lines (f .cite) (w .1))
+        figure-reached bytes so r f fits e same there (omega (arith, eqb-false (f .cite) 0 (w .0))) (ltb-false lines (f .cite) (w .1))
             (ltb-false (f .cite) (so .last) grows),
       )))
 
@@ -174,8 +87,11 @@ module _ (bytes : List ℕ) (so : Sofar) (r : Reached bytes so) where
         someLines = fits .timely (omega arith);
         fewLines = r .shape .fewLines;
         fewFigures = r .shape .fewFigures;
-        specRanged = spec-read-ranged bytes 0 (r .specRead (fits .soon));
-        specRead = r .specRead (fits .soon);
+        specRanged = spec-read-ranged bytes 0 (r .head .specRead (fits .soon));
+        specRead = r .head .specRead (fits .soon);
+        someFolio = r .head .folio .some;
+        fewFolios = r .head .folio .few;
+        opens = r .head .opens (fits .soon);
         text = record { within = omega arith; ranged = λ k one h. line k one h .block };
         textRead = r .textRead;
         legals = λ k one h. line k one h .legals;
@@ -195,9 +111,11 @@ module _ (bytes : List ℕ) (so : Sofar) (r : Reached bytes so) where
       → Fine bytes so (after bytes (moved so (kindOf (markAt bytes (so .at)))) (so .at) found)
   unfolding after Found Fine
   after-fine (found.Spec g) e h fits =
-      rw (h .marked) (omega (arith, kind-sized GS), spec-reached g (rw (h .marked) at fits) e (h .there))
+      rw (h .marked) (omega (arith, kind-sized GS), spec-reached bytes so r g (rw (h .marked) at fits) e (h .there))
+  after-fine (found.Folio f) e h fits =
+      rw (h .marked) (omega (arith, kind-sized FO), folio-reached bytes so r f (rw (h .marked) at fits) e (rw (h .same) (h .fine)) (h .there))
   after-fine (found.Line l) e h fits =
-      rw (h .marked) (omega (arith, kind-sized TL), line-reached l (rw (h .marked) at fits) e (h .same) (h .there))
+      rw (h .marked) (omega (arith, kind-sized TL), line-reached bytes so r l (rw (h .marked) at fits) e (h .same) (h .there))
   after-fine (found.Figure f) e h fits =
       rw (h .marked) (cited-fine f (rw (h .marked) at fits) e (h .same) (h .there))
   after-fine found.End e h fits =

@@ -8,11 +8,11 @@ use lib.ListN.{length, getD, length-append}
 use lib.Seq.{getD-append-add}
 use borrow.Author.Tests.{le-ltb}
 use Rattle.galley.specs.Word.{wordAt, markAt}
-use Rattle.galley.specs.Place.{GS, TL, FG, ED, kindOf}
-use Rattle.galley.specs.Range.{SpecRanged, BlockRanged, LineRanged}
+use Rattle.galley.specs.Place.{GS, FO, TL, FG, ED, kindOf}
+use Rattle.galley.specs.Range.{SpecRanged, FolioRanged, BlockRanged, LineRanged}
 use Rattle.galley.specs.Record.{heightAt, leastAt, mostAt, citeAt, specOf, blockOf, lineOf, figureOf, fieldsOf, recordAt}
-use Rattle.galley.specs.Write.{word, specBytes, blockBytes, lineBytes, figureBytes}
-use Rattle.galley.specs.laws.Range.{ranged-spec, ranged-block, ranged-line}
+use Rattle.galley.specs.Write.{word, specBytes, folioBytes, stated, blockBytes, lineBytes, figureBytes}
+use Rattle.galley.specs.laws.Range.{ranged-spec, ranged-folio, ranged-block, ranged-line}
 use Rattle.galley.specs.declared.Spec.{Spec}
 use Rattle.galley.specs.declared.Block.{Block}
 use Rattle.galley.specs.declared.Line.{Line}
@@ -126,6 +126,15 @@ unfolding kindOf markAt fieldsOf
 spec-after before rest g r =
     written before (specBytes g rest) GS (found.Spec g) refl (omega arith) (omega arith)
     (simp (spec-fields before rest g r, ranged-spec g r))
+
+-- So is a folio.
+pub folio-after : (before rest : List ℕ) (f : ℕ) → FolioRanged f
+    → recordAt (before ++ folioBytes (stated f) rest) (length before) ≡ found.Folio f
+unfolding wordAt kindOf markAt fieldsOf
+folio-after before rest f r =
+    let tail = folioBytes (stated f) rest in
+    written before tail FO (found.Folio f) refl (omega arith) (omega arith)
+    (simp (word-back before tail 2 f (omega arith) refl, ranged-folio f r))
 
 -- The end is read back.
 pub end-after : (before rest : List ℕ) → recordAt (before ++ 69 ∷ 68 ∷ rest) (length before) ≡ found.End
