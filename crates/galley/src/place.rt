@@ -80,13 +80,16 @@ fn is_too_many(kind: Kind, so: Sofar) -> bool
 pub fn unfit_for(kind: Kind, so: Sofar) -> u32
     ensures { λ r. ⌜ r ≡ unfit kind so ⌝ }
 {
-    if is_misplaced(kind, so) {
+    let misplaced = is_misplaced(kind, so);
+    let early = is_too_early(kind, so);
+    let many = is_too_many(kind, so);
+    if misplaced {
         return 2;
     }
-    if is_too_early(kind, so) {
+    if early {
         return 5;
     }
-    if is_too_many(kind, so) {
+    if many {
         return 4;
     }
     0

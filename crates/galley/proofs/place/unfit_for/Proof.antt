@@ -6,26 +6,18 @@ use Rattle.galley.specs.Place.{unfit}
 use Rattle.galley.proofs.place.unfit_for.Statement.{statement}
 use Rattle.galley.proofs.place.unfit_for.Tie as tie
 
--- Neither misplaced nor too early.
-fitting : (c : tie.After-is-too-many)
-    → let a = c .before .before .before .before .before .args in unfit (a .kind) (a .so) ≡ pick (c .is-too-many .result) 4 0
-fitting c =
-    simp (
-      ← c .before .before .before .before .is-misplaced .ensures,
-      c .before .before .before .if1 .left,
-      ← c .before .before .is-too-early .ensures,
-      c .before .if2 .left,
-      ← c .is-too-many .ensures,
-    )
+-- The number by the three tests.
+tested : (c : tie.After-is-too-many)
+    → let a = c .before .before .before .args in
+    unfit (a .kind) (a .so)
+    ≡ pick (c .before .before .is-misplaced .result) 2 (pick (c .before .is-too-early .result) 5 (pick (c .is-too-many .result) 4 0))
+tested c = cc
 
 pub unfit-for-spec : {M : Type 1} → statement M
 unfit-for-spec =
     tie.close
-    (tie.spec
-    (λ c κs. search needs)
-    (λ c. simp (← c .before .is-misplaced .ensures, c .if1 .taken))
-    (λ c κs. search needs)
-    (λ c. simp (← c .before .before .before .is-misplaced .ensures, c .before .before .if1 .left, ← c .before .is-too-early .ensures, c .if2 .taken))
-    (λ c κs. search needs)
-    (λ c. simp (fitting (c .before), c .if3 .taken))
-    (λ c. simp (fitting (c .before), c .if3 .left)))
+    (tie.spec (λ c κs. search needs) (λ c κs. search needs) (λ c κs. search needs)
+    (λ c. simp (tested (c .before), c .if1 .taken))
+    (λ c. simp (tested (c .before .before), c .before .if1 .left, c .if2 .taken))
+    (λ c. simp (tested (c .before .before .before), c .before .before .if1 .left, c .before .if2 .left, c .if3 .taken))
+    (λ c. simp (tested (c .before .before .before), c .before .before .if1 .left, c .before .if2 .left, c .if3 .left)))
