@@ -15,7 +15,7 @@ from reference import galley as reference  # noqa: E402
 from reference.galley import record  # noqa: E402
 
 SEED, RANDOM_GALLEYS, RANDOM_STRINGS = 20261115, 2_000, 2_000
-WORDS = (0, 1, 2, 3, 999, 1_000, 1_001, 99_999, 100_000, 100_001, 2**31, 2**32 - 1)
+WORDS = (0, 1, 2, 3, 999, 1_000, 1_001, 9_999, 10_000, 99_999, 100_000, 100_001, 2**31, 2**32 - 1)
 MARKS = (b'GS', b'TL', b'FG', b'ED', b'SG', b'LT', b'GF', b'DE', b'gs', b'FO', b'G2', b'FK', b'TB', b'\0\0', b'\xff\xff')
 
 
@@ -30,11 +30,11 @@ def words(function, data, count, *number):
 
 
 def proved(data):
-    number, place, *rest = words(READER.galley_probe_read, data, 11)
+    number, place, *rest = words(READER.galley_probe_read, data, 12)
     if number:
         return ('refused', number, place)
-    *spec, lines, figures = rest
-    return ('galley', tuple(spec), *(
+    *spec, folio, lines, figures = rest
+    return ('galley', tuple(spec), folio, *(
         [words(READER.galley_probe_block, data, 4, stream, k) for k in range(1, count + 1)]
         for stream, count in enumerate((lines, figures))))
 
@@ -44,7 +44,7 @@ def due(data):
     if answer[0] == 'refused':
         return answer
     held = answer[1]
-    return ('galley', tuple(held.spec), [tuple(line) for line in held.lines], [tuple(f) for f in held.figures])
+    return ('galley', tuple(held.spec), held.folio, [tuple(line) for line in held.lines], [tuple(f) for f in held.figures])
 
 
 class Tally(counts.Tally):
@@ -55,21 +55,24 @@ class Tally(counts.Tally):
 
 
 SPEC = record(b'GS', 30, 30, 0, 0, 1, 1, 1)
+FOLIO = record(b'FO', 38)
 LINE = record(b'TL', 10, 0, 0, 1)
 FIGURE = record(b'FG', 20, 0, 0, 1)
 END = b'ED'
 A = SPEC + 3 * LINE + FIGURE + END
+A_FROM_38 = SPEC + FOLIO + 3 * LINE + FIGURE + END
 
 
 def case_a(tally):
-    tally.same('case A', A, ('galley', (30, 30, 0, 0, 1, 1, 1), 3 * [(10, 0, 0, 1)], [(20, 0, 0, 1)]))
-    for at in range(len(A)):
-        for byte in range(256):
-            tally.same(f'case A with byte {at} set to {byte}', A[:at] + bytes([byte]) + A[at + 1:])
+    for what, data, folio in (('case A', A, 1), ('case A from folio 38', A_FROM_38, 38)):
+        tally.same(what, data, ('galley', (30, 30, 0, 0, 1, 1, 1), folio, 3 * [(10, 0, 0, 1)], [(20, 0, 0, 1)]))
+        for at in range(len(data)):
+            for byte in range(256):
+                tally.same(f'{what} with byte {at} set to {byte}', data[:at] + bytes([byte]) + data[at + 1:])
 
 
 def cuts(tally):
-    for parts in (A, SPEC + 2 * LINE + 3 * FIGURE + END, SPEC + LINE + END):
+    for parts in (A, A_FROM_38, SPEC + 2 * LINE + 3 * FIGURE + END, SPEC + LINE + END):
         for at in range(len(parts)):
             tally.same(f'cut at {at}', parts[:at], ('refused', 1))
             tally.same(f'two bytes lost at {at}', parts[:at] + parts[at + 2:])
@@ -78,21 +81,22 @@ def cuts(tally):
 
 
 def marks(tally):
-    parts = [SPEC, LINE, LINE, FIGURE, FIGURE, END]
-    for at in range(len(parts)):
-        before = b''.join(parts[:at])
-        for mark in MARKS:
-            tally.same(f'mark {mark} in record {at}', before + mark + parts[at][2:] + b''.join(parts[at + 1:]))
-            for size in (0, 4, 16, 28):
-                tally.same(f'mark {mark} for record {at}', before + mark + bytes(size) + b''.join(parts[at + 1:]))
-        for put in (SPEC, LINE, FIGURE, END):
-            tally.same(f'one record more at {at}', before + put + b''.join(parts[at:]))
-        for mark in range(0, 65_536, 251):
-            tally.same(f'mark {mark} in record {at}', before + mark.to_bytes(2, 'big') + parts[at][2:])
+    for parts in ([SPEC, LINE, LINE, FIGURE, FIGURE, END], [SPEC, FOLIO, LINE, FIGURE, END]):
+        for at in range(len(parts)):
+            before = b''.join(parts[:at])
+            for mark in MARKS:
+                tally.same(f'mark {mark} in record {at}', before + mark + parts[at][2:] + b''.join(parts[at + 1:]))
+                for size in (0, 4, 16, 28):
+                    tally.same(f'mark {mark} for record {at}', before + mark + bytes(size) + b''.join(parts[at + 1:]))
+            for put in (SPEC, FOLIO, LINE, FIGURE, END):
+                tally.same(f'one record more at {at}', before + put + b''.join(parts[at:]))
+            for mark in range(0, 65_536, 251):
+                tally.same(f'mark {mark} in record {at}', before + mark.to_bytes(2, 'big') + parts[at][2:])
 
 
 def ranges(tally):
     for kind, before, after, fields in ((b'GS', b'', LINE + END, (30, 40, 5, 6, 1, 1, 1)),
+                                        (b'FO', SPEC, LINE + END, (38,)),
                                         (b'TL', SPEC, END, (10, 5, 6, 1)),
                                         (b'FG', SPEC + 3 * LINE, END, (10, 5, 6, 2))):
         for at in range(len(fields)):
@@ -118,6 +122,22 @@ def citations(tally):
     tally.same('3 before 6', two + record(b'FG', 100_001, 0, 0, 9) + END, ('refused', 3, 66))
 
 
+def folios(tally):
+    tally.same('from folio 9,999', SPEC + record(b'FO', 9_999) + LINE + END, ('galley', (30, 30, 0, 0, 1, 1, 1), 9_999))
+    tally.same('folio 0', SPEC + record(b'FO', 0) + LINE + END, ('refused', 3, 30))
+    tally.same('folio 10,000', SPEC + record(b'FO', 10_000) + LINE + END, ('refused', 3, 30))
+    tally.same('a folio cut short', SPEC + FOLIO[:5], ('refused', 1, 30))
+    tally.same('a folio first', FOLIO + SPEC + LINE + END, ('refused', 2, 0))
+    tally.same('a second folio', SPEC + 2 * FOLIO + LINE + END, ('refused', 2, 36))
+    tally.same('a folio after a line', SPEC + LINE + FOLIO + END, ('refused', 2, 48))
+    tally.same('a folio after 4,000 lines', SPEC + 4_000 * LINE + FOLIO + END, ('refused', 2, 72_030))
+    tally.same('a folio after a figure', SPEC + LINE + FIGURE + FOLIO + END, ('refused', 2, 66))
+    tally.same('no line after a folio', SPEC + FOLIO + END, ('refused', 5, 36))
+    tally.same('a figure straight after a folio', SPEC + FOLIO + FIGURE + END, ('refused', 5, 36))
+    tally.same('6 after a folio', SPEC + FOLIO + LINE + record(b'FG', 1, 0, 0, 2) + END, ('refused', 6, 54))
+    tally.same('4,001 lines after a folio', SPEC + FOLIO + 4_001 * LINE + END, ('refused', 4, 72_036))
+
+
 def limits(tally):
     full = SPEC + 4_000 * LINE
     tally.same('4,000 lines', full + END, ('galley',))
@@ -141,21 +161,22 @@ def chance(tally):
         data = bytearray(
             record(b'GS', draw.randrange(40), draw.randrange(60), draw.randrange(3), draw.randrange(4), draw.randrange(1, 3),
                    draw.randrange(1_002), draw.randrange(1_002))
+            + draw.choice((b'', record(b'FO', draw.randrange(10_010))))
             + b''.join(record(b'TL', draw.randrange(100_001), draw.randrange(5), draw.randrange(3, 9), draw.randrange(2))
                        for _ in range(lines))
             + b''.join(record(b'FG', draw.randrange(100_001), 0, draw.randrange(9), cite)
                        for cite in sorted(draw.randrange(1, 7) for _ in range(figures)))
             + END)
         for _ in range(draw.randrange(3)):
-            data[draw.randrange(len(data))] = draw.choice(b'\0\1GSTLFGED\xff')
+            data[draw.randrange(len(data))] = draw.choice(b'\0\1GSTLFGEDFO\xff')
         tally.same('a random galley', bytes(data))
     for _ in range(RANDOM_STRINGS):
-        tally.same('a random string', bytes(draw.choice(b'\0\1GSTLFGED') for _ in range(draw.randrange(80))))
+        tally.same('a random string', bytes(draw.choice(b'\0\1GSTLFGEDFO') for _ in range(draw.randrange(80))))
 
 
 def main():
     tally = Tally()
-    for group in (case_a, cuts, marks, ranges, citations, limits, chance):
+    for group in (case_a, cuts, marks, ranges, citations, folios, limits, chance):
         group(tally)
         tally.group(group.__name__)
     return tally.end()

@@ -4,11 +4,10 @@ use mathlib.Core.Path.{_≡_, refl}
 use mathlib.Core.List.{List, [], _∷_, _++_}
 use Rattle.galley.specs.Whole.{galleyOf}
 use Rattle.galley.specs.Word.{wordAt, markAt}
-use Rattle.galley.specs.Mark.{kindOf}
-use Rattle.galley.specs.Range.{specInRange, blockInRange, lineInRange, inRange}
-use Rattle.galley.specs.Place.{misplaced, tooEarly, tooMany, unfit}
-use Rattle.galley.specs.Record.{specOf, lineOf, figureOf, sizeOf, fieldsOf, openedBy, recordAt}
-use Rattle.galley.specs.Whole.{cited, ended, settled, recordIn, next, blocks, opened}
+use Rattle.galley.specs.Range.{specInRange, blockInRange}
+use Rattle.galley.specs.Place.{kindOf}
+use Rattle.galley.specs.Record.{lineOf, figureOf, fieldsOf, recordAt}
+use Rattle.galley.specs.Whole.{cited, closed, after, stepFrom, settled, readFrom}
 use Rattle.galley.specs.Block.{offset}
 use Rattle.galley.specs.declared.Galley.{Galley}
 use Rattle.galley.specs.declared.Reading.the-variants as reads
@@ -39,14 +38,14 @@ galleyA =
 
 -- Case A reads without refusal.
 a-reads : galleyOf caseA ≡ reads.Galley galleyA
-unfolding wordAt markAt kindOf specInRange blockInRange lineInRange inRange misplaced tooEarly tooMany unfit specOf lineOf figureOf sizeOf fieldsOf openedBy recordAt cited ended settled recordIn next blocks opened galleyOf
+unfolding wordAt markAt kindOf specInRange blockInRange fieldsOf recordAt cited closed after stepFrom settled readFrom galleyOf
 a-reads = refl
 
 -- Its third line and its figure.
 a-line : lineOf caseA (offset (galleyA .text) 3) ≡ record { block = record { height = 10; least = 0; most = 0 }; legal = 1 }
-unfolding wordAt lineOf
+unfolding wordAt
 a-line = refl
 
 a-figure : figureOf caseA (offset (galleyA .figures) 1) ≡ record { block = record { height = 20; least = 0; most = 0 }; cite = 1 }
-unfolding wordAt figureOf
+unfolding wordAt
 a-figure = refl

@@ -1,9 +1,8 @@
 -- A galley's bytes, in the order of reading: definitions first, then the laws about them.
 pub mod Word
 pub mod Range
-pub mod Mark
-pub mod Record
 pub mod Place
+pub mod Record
 pub mod Whole
 pub mod Block
 pub mod Sound

@@ -1,40 +1,80 @@
--- Which mark fits where: document 01, "The galley file". Before a record stand the specification, if it was read, and as
--- many lines and figures as were read.
+-- Which record a mark opens, and where it may come: document 01, "The galley file".
 use Prim.Native.Nat.{ℕ}
-use mathlib.Core.Bool.{Bool, true, false, not, _||_}
+use mathlib.Core.Bool.{Bool, _||_, _&&_}
 use lib.Dec.{ltb, leb, eqb}
 use Rattle.model.specs.Gather.{pick}
-use Rattle.galley.specs.declared.Mark.{Mark}
-use Rattle.galley.specs.declared.Mark.the-variants.{Spec, Line, Figure, End, Unknown}
+use Rattle.galley.specs.declared.Kind.{Kind}
+use Rattle.galley.specs.declared.Sofar.{Sofar}
 
--- A specification comes first and once, a line not after a figure, an unknown mark nowhere: number 2.
-unfoldable pub misplaced : Mark → Bool → ℕ → Bool
-misplaced Spec opened figures = opened
-misplaced Line opened figures = not opened || ltb 0 figures
-misplaced Figure opened figures = not opened
-misplaced End opened figures = not opened
-misplaced Unknown opened figures = true
+-- The marks, two bytes each.
+abbrev pub GS : ℕ
+GS = 0x4753
 
--- A figure or the end before any line: number 5.
-unfoldable pub tooEarly : Mark → ℕ → Bool
-tooEarly Spec lines = false
-tooEarly Line lines = false
-tooEarly Figure lines = eqb lines 0
-tooEarly End lines = eqb lines 0
-tooEarly Unknown lines = false
+abbrev pub FO : ℕ
+FO = 0x464f
+
+abbrev pub TL : ℕ
+TL = 0x544c
+
+abbrev pub FG : ℕ
+FG = 0x4647
+
+abbrev pub ED : ℕ
+ED = 0x4544
+
+-- The stages of a galley, in the order in which its records come: before the first record, then what was read last.
+abbrev pub nothing : ℕ
+nothing = 0
+
+abbrev pub spec : ℕ
+spec = 1
+
+abbrev pub folio : ℕ
+folio = 2
+
+abbrev pub line : ℕ
+line = 3
+
+abbrev pub figure : ℕ
+figure = 4
+
+abbrev pub end : ℕ
+end = 5
+
+-- A kind of record: the stage that it reaches, the first and the last stage after which it may come, how many there may be of
+-- its stage, and its bytes.
+abbrev pub rowOf : ℕ → ℕ → ℕ → ℕ → ℕ → Kind
+rowOf stage earliest latest most size =
+    record { stage = stage; earliest = earliest; latest = latest; most = most; size = size }
+
+-- The kind of record that a mark opens. The specification is first and comes once, a folio may stand straight after it (document
+-- 02, S-1), figures follow all lines, and the end follows all of them; an unknown mark fits nowhere, and only its two bytes are
+-- known.
+unfoldable pub kindOf : ℕ → Kind
+kindOf mark =
+    pick (eqb mark GS) (rowOf spec nothing nothing 1 30)
+    (pick (eqb mark FO) (rowOf folio spec spec 1 6)
+    (pick (eqb mark TL) (rowOf line spec line 4000 18)
+    (pick (eqb mark FG) (rowOf figure spec figure 200 18)
+    (pick (eqb mark ED) (rowOf end spec figure 1 2)
+    (rowOf nothing spec nothing 0 2)))))
+
+-- A record that comes too soon or too late in the order of stages: number 2.
+abbrev pub misplaced : Kind → Sofar → Bool
+misplaced kind so = ltb (so .stage) (kind .earliest) || ltb (kind .latest) (so .stage)
+
+-- What belongs after the lines, before any line: number 5.
+abbrev pub tooEarly : Kind → Sofar → Bool
+tooEarly kind so = ltb line (kind .stage) && eqb (so .galley .text .count) 0
 
 -- Line 4,001 or figure 201: number 4.
-unfoldable pub tooMany : Mark → ℕ → ℕ → Bool
-tooMany Spec lines figures = false
-tooMany Line lines figures = leb 4000 lines
-tooMany Figure lines figures = leb 200 figures
-tooMany End lines figures = false
-tooMany Unknown lines figures = false
+abbrev pub tooMany : Kind → Sofar → Bool
+tooMany kind so = eqb (kind .stage) (so .stage) && leb (kind .most) (so .count)
 
--- The number that turns a mark away from its place, 2 before 5 before 4; 0 where it fits.
-unfoldable pub unfit : Mark → Bool → ℕ → ℕ → ℕ
-unfit mark opened lines figures =
-    pick (misplaced mark opened figures) 2
-    (pick (tooEarly mark lines) 5
-    (pick (tooMany mark lines figures) 4
+-- The number that turns a record away from its place, 2 before 5 before 4; 0 where it fits.
+abbrev pub unfit : Kind → Sofar → ℕ
+unfit kind so =
+    pick (misplaced kind so) 2
+    (pick (tooEarly kind so) 5
+    (pick (tooMany kind so) 4
     0))

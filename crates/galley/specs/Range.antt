@@ -1,12 +1,10 @@
 -- The ranges that number 3 guards: document 01, "The galley file".
-use Prim.Native.Nat.{_≤_}
-use mathlib.Core.Bool.{Bool, true, _&&_}
+use Prim.Native.Nat.{ℕ, _≤_}
+use mathlib.Core.Bool.{Bool, _&&_}
 use lib.Dec.{leb}
 use Rattle.galley.specs.declared.Spec.{Spec}
 use Rattle.galley.specs.declared.Block.{Block}
 use Rattle.galley.specs.declared.Line.{Line}
-use Rattle.galley.specs.declared.Record.{Record}
-use Rattle.galley.specs.declared.Record.the-variants as found
 
 -- Least heights do not pass greatest ones, sides is 1 or 2, and every field keeps to its limit.
 unfoldable pub specInRange : Spec → Bool
@@ -21,21 +19,17 @@ specInRange g =
     && leb (g .alpha) 1000
     && leb (g .beta) 1000
 
+-- A first folio is 1 to 9,999 (document 02, S-1).
+abbrev pub folioInRange : ℕ → Bool
+folioInRange f = leb 1 f && leb f 9999
+
 -- A block's heights keep to their limit, and its least space does not pass its greatest.
 unfoldable pub blockInRange : Block → Bool
 blockInRange b = leb (b .height) 100000 && leb (b .least) (b .most) && leb (b .most) 100000
 
 -- So do a line's, and its last field is 0 or 1.
-unfoldable pub lineInRange : Line → Bool
+abbrev pub lineInRange : Line → Bool
 lineInRange l = blockInRange (l .block) && leb (l .legal) 1
-
--- Whether what a record's fields say is in range; a figure's citation is tested where its place is known.
-unfoldable pub inRange : Record → Bool
-inRange (found.Spec g) = specInRange g
-inRange (found.Line l) = lineInRange l
-inRange (found.Figure f) = blockInRange (f .block)
-inRange found.End = true
-inRange (found.Refused number place) = true
 
 -- The same as inequalities: a specification in range.
 pub record SpecRanged (g : Spec) : Type 0 where
@@ -48,6 +42,11 @@ pub record SpecRanged (g : Spec) : Type 0 where
   pub sidesTwo : g .sides ≤ 2
   pub alphas : g .alpha ≤ 1000
   pub betas : g .beta ≤ 1000
+
+-- A first folio in range.
+pub record FolioRanged (f : ℕ) : Type 0 where
+  pub some : 1 ≤ f
+  pub few : f ≤ 9999
 
 -- A block in range.
 pub record BlockRanged (b : Block) : Type 0 where

@@ -2,22 +2,21 @@
 use Prim.Native.Nat.{ℕ, _+_, _-_}
 use mathlib.Core.List.{List}
 use lib.ListN.{length}
-use lib.Dec.{ltb}
+use mathlib.Core.Bool.{Bool}
+use lib.Dec.{ltb, eqb}
 use Rattle.model.specs.Gather.{pick}
 use Rattle.galley.specs.Word.{wordAt, markAt}
-use Rattle.galley.specs.Range.{inRange}
-use Rattle.galley.specs.Mark.{kindOf}
+use Rattle.galley.specs.Range.{specInRange, folioInRange, blockInRange, lineInRange}
+use Rattle.galley.specs.Place.{GS, FO, TL, FG, ED, kindOf}
 use Rattle.galley.specs.declared.Spec.{Spec}
 use Rattle.galley.specs.declared.Block.{Block}
 use Rattle.galley.specs.declared.Line.{Line}
 use Rattle.galley.specs.declared.Figure.{Figure}
-use Rattle.galley.specs.declared.Mark.{Mark}
-use Rattle.galley.specs.declared.Mark.the-variants as mark
 use Rattle.galley.specs.declared.Record.{Record}
 use Rattle.galley.specs.declared.Record.the-variants as found
 
 -- The fields after a `GS`.
-unfoldable pub specOf : List ℕ → ℕ → Spec
+abbrev pub specOf : List ℕ → ℕ → Spec
 specOf bytes at =
     record {
       htmin = wordAt bytes (at + 2);
@@ -28,6 +27,10 @@ specOf bytes at =
       alpha = wordAt bytes (at + 22);
       beta = wordAt bytes (at + 26);
     }
+
+-- The field after an `FO`.
+abbrev pub openingFolio : List ℕ → ℕ → ℕ
+openingFolio bytes at = wordAt bytes (at + 2)
 
 -- Where the fields of a line or a figure stand, counted from its mark: the height, the least and the greatest space after it.
 abbrev pub heightAt : ℕ
@@ -56,38 +59,47 @@ blockOf bytes at =
     }
 
 -- The fields after a `TL`.
-unfoldable pub lineOf : List ℕ → ℕ → Line
+abbrev pub lineOf : List ℕ → ℕ → Line
 lineOf bytes at = record { block = blockOf bytes at; legal = wordAt bytes (at + legalAt) }
 
 -- The fields after an `FG`.
-unfoldable pub figureOf : List ℕ → ℕ → Figure
+abbrev pub figureOf : List ℕ → ℕ → Figure
 figureOf bytes at = record { block = blockOf bytes at; cite = wordAt bytes (at + citeAt) }
 
--- How many bytes the record that a mark opens has; of an unknown mark only the mark is known.
-unfoldable pub sizeOf : Mark → ℕ
-sizeOf mark.Spec = 30
-sizeOf mark.Line = 18
-sizeOf mark.Figure = 18
-sizeOf mark.End = 2
-sizeOf mark.Unknown = 2
+-- A record whose fields are in range, or 3.
+abbrev pub ranged : Bool → Record → ℕ → Record
+ranged fine r at = pick fine r (found.Refused 3 at)
 
--- What its fields say, in range or not; an unknown mark is 2.
-unfoldable pub fieldsOf : Mark → List ℕ → ℕ → Record
-fieldsOf mark.Spec bytes at = found.Spec (specOf bytes at)
-fieldsOf mark.Line bytes at = found.Line (lineOf bytes at)
-fieldsOf mark.Figure bytes at = found.Figure (figureOf bytes at)
-fieldsOf mark.End bytes at = found.End
-fieldsOf mark.Unknown bytes at = found.Refused 2 at
+-- A specification in range.
+abbrev pub specAt : List ℕ → ℕ → Record
+specAt bytes at = ranged (specInRange (specOf bytes at)) (found.Spec (specOf bytes at)) at
 
--- The record that a mark opens: its fields are there (else 1) and in range (else 3).
-unfoldable pub openedBy : Mark → List ℕ → ℕ → Record
-openedBy kind bytes at =
-    let r = fieldsOf kind bytes at in
-    pick (ltb (length bytes - at) (sizeOf kind)) (found.Refused 1 at)
-    (pick (inRange r) r
-    (found.Refused 3 at))
+-- A first folio in range.
+abbrev pub folioAt : List ℕ → ℕ → Record
+folioAt bytes at = ranged (folioInRange (openingFolio bytes at)) (found.Folio (openingFolio bytes at)) at
 
--- The record at an offset: its mark is there (1), is known (2), its fields are there (1) and in range (3).
+-- A line in range.
+abbrev pub lineAt : List ℕ → ℕ → Record
+lineAt bytes at = ranged (lineInRange (lineOf bytes at)) (found.Line (lineOf bytes at)) at
+
+-- A figure in range; its citation is tested where its place is known.
+abbrev pub figureAt : List ℕ → ℕ → Record
+figureAt bytes at = ranged (blockInRange (blockOf bytes at)) (found.Figure (figureOf bytes at)) at
+
+-- What the fields after a mark say; an unknown mark is 2.
+unfoldable pub fieldsOf : ℕ → List ℕ → ℕ → Record
+fieldsOf mark bytes at =
+    pick (eqb mark GS) (specAt bytes at)
+    (pick (eqb mark FO) (folioAt bytes at)
+    (pick (eqb mark TL) (lineAt bytes at)
+    (pick (eqb mark FG) (figureAt bytes at)
+    (pick (eqb mark ED) found.End
+    (found.Refused 2 at)))))
+
+-- The record at an offset: its mark is there (1), its fields are there (1), the mark is known (2) and the fields are in range (3).
 unfoldable pub recordAt : List ℕ → ℕ → Record
 recordAt bytes at =
-    pick (ltb (length bytes - at) 2) (found.Refused 1 at) (openedBy (kindOf (markAt bytes at)) bytes at)
+    let mark = markAt bytes at in
+    pick (ltb (length bytes - at) 2) (found.Refused 1 at)
+    (pick (ltb (length bytes - at) (kindOf mark .size)) (found.Refused 1 at)
+    (fieldsOf mark bytes at))

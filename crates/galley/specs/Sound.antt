@@ -1,6 +1,7 @@
 -- What a galley that reads without refusal keeps to: document 01, "The galley file".
 use Prim.Native.Nat.{ℕ, _+_, _*_, _≤_}
 use mathlib.Core.List.{List}
+use mathlib.Core.Logic.{_⊎_}
 use mathlib.Core.Path.{_≡_}
 use lib.ListN.{length}
 use Rattle.galley.specs.Record.{legalAt, citeAt, blockOf, lineOf, figureOf, recordAt}
@@ -19,6 +20,11 @@ pub record SoundStream (bytes : List ℕ) (stream : Stream) : Type 0 where
 -- Each block of the stream is read where its number says, as the record that is due at that offset.
 abbrev pub Reads : List ℕ → Stream → (ℕ → Record) → Type 0
 Reads bytes stream due = (k : ℕ) → 1 ≤ k → k ≤ stream .count → recordAt bytes (offset stream k) ≡ due (offset stream k)
+
+-- The first folio stands in an `FO` straight after the specification, or there is none and it is 1; line 1 follows.
+abbrev pub Opening : List ℕ → Galley → Type 0
+Opening bytes g =
+    ((g .folio ≡ 1) × (g .text .first ≡ 30)) ⊎ ((recordAt bytes 30 ≡ found.Folio (g .folio)) × (g .text .first ≡ 36))
 
 -- Citations never decrease along the stream.
 abbrev pub Growing : List ℕ → Stream → Type 0
@@ -45,6 +51,7 @@ pub record Sound (bytes : List ℕ) (g : Galley) : Type 0 where
   pub specRead : recordAt bytes 0 ≡ found.Spec (g .spec)
   pub someFolio : 1 ≤ g .folio
   pub fewFolios : g .folio ≤ 9999
+  pub opens : Opening bytes g
   pub text : SoundStream bytes (g .text)
   pub textRead : Reads bytes (g .text) (λ at. found.Line (lineOf bytes at))
   pub legals : (k : ℕ) → 1 ≤ k → k ≤ g .text .count → fieldOf bytes (g .text) legalAt k ≤ 1

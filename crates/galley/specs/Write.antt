@@ -2,7 +2,7 @@
 use Prim.Native.Nat.{ℕ, _/_, _%_, _≤_}
 use mathlib.Core.List.{List, [], _∷_}
 use lib.ListN.{length}
-use Rattle.galley.specs.Range.{SpecRanged, LineRanged, BlockRanged}
+use Rattle.galley.specs.Range.{SpecRanged, FolioRanged, LineRanged, BlockRanged}
 use Rattle.galley.specs.declared.Spec.{Spec}
 use Rattle.galley.specs.declared.Block.{Block}
 use Rattle.galley.specs.declared.Line.{Line}
@@ -35,9 +35,33 @@ unfoldable pub each : {A : Type 0} → (A → List ℕ → List ℕ) → List A 
 each write [] rest = rest
 each write (r ∷ rs) rest = write r (each write rs rest)
 
--- The specification, the lines, the figures and the end.
-unfoldable pub bytesOf : Spec → List Line → List Figure → List ℕ
-bytesOf g ls fs = specBytes g (each lineBytes ls (each figureBytes fs (69 ∷ 68 ∷ [])))
+-- The first folio as a galley states it (document 02, S-1): not at all, or in an `FO`.
+pub data Stated : Type 0 where
+  unstated : Stated
+  stated : ℕ → Stated
+
+-- Without the record it is 1.
+abbrev pub folioOf : Stated → ℕ
+folioOf unstated = 1
+folioOf (stated f) = f
+
+-- The `FO`, if there is one.
+abbrev pub folioBytes : Stated → List ℕ → List ℕ
+folioBytes unstated rest = rest
+folioBytes (stated f) rest = 70 ∷ 79 ∷ word f rest
+
+-- What stands before line 1.
+abbrev pub headBytes : Spec → Stated → List ℕ → List ℕ
+headBytes g o rest = specBytes g (folioBytes o rest)
+
+-- The specification, the folio, the lines, the figures and the end.
+unfoldable pub bytesOf : Spec → Stated → List Line → List Figure → List ℕ
+bytesOf g o ls fs = headBytes g o (each lineBytes ls (each figureBytes fs (69 ∷ 68 ∷ [])))
+
+-- A folio that is stated is in range.
+abbrev pub StatedRanged : Stated → Type 0
+StatedRanged unstated = Unit {0}
+StatedRanged (stated f) = FolioRanged f
 
 -- Every line is in range.
 unfoldable pub LinesRanged : List Line → Type 0
@@ -50,11 +74,16 @@ FiguresRanged m last [] = Unit {0}
 FiguresRanged m last (f ∷ fs) =
     BlockRanged (f .block) × (1 ≤ f .cite) × (f .cite ≤ m) × (last ≤ f .cite) × FiguresRanged m (f .cite) fs
 
--- Values that a galley may have.
-pub record InRange (g : Spec) (ls : List Line) (fs : List Figure) : Type 0 where
-  pub spec : SpecRanged g
+-- Lines and figures that a galley may have.
+pub record BlocksInRange (ls : List Line) (fs : List Figure) : Type 0 where
   pub some : 1 ≤ length ls
   pub fewLines : length ls ≤ 4000
   pub fewFigures : length fs ≤ 200
   pub lines : LinesRanged ls
   pub figures : FiguresRanged (length ls) 0 fs
+
+-- Values that a galley may have.
+pub record InRange (g : Spec) (o : Stated) (ls : List Line) (fs : List Figure) : Type 0 where
+  pub spec : SpecRanged g
+  pub folio : StatedRanged o
+  pub blocks : BlocksInRange ls fs

@@ -51,6 +51,7 @@ pub const CITE: usize = 14;
 // What stands at an offset.
 pub enum Record {
     Spec(Spec),
+    Folio(u32),
     Line(Line),
     Figure(Figure),
     End,
@@ -79,11 +80,28 @@ pub enum Reading {
     Refused { number: u32, place: u32 },
 }
 
-// The kinds of mark.
-pub enum Mark {
-    Spec,
-    Line,
-    Figure,
-    End,
-    Unknown,
+// A kind of record: the stage that it reaches, the first and the last stage after which it may come, how many there may be of
+// its stage, and its bytes.
+pub struct Kind {
+    pub stage: u32,
+    pub earliest: u32,
+    pub latest: u32,
+    pub most: usize,
+    pub size: usize,
+}
+
+// How far reading has come: the galley as far as it was read, the stage reached, how many records of that stage there were, the
+// line cited last, and where the next record is due.
+pub struct Sofar {
+    pub galley: Galley,
+    pub stage: u32,
+    pub count: usize,
+    pub last: u32,
+    pub at: usize,
+}
+
+// What one record more gives: reading goes on, or it is done.
+pub enum Step {
+    On(Sofar),
+    Done(Reading),
 }

@@ -1,74 +1,88 @@
-// Which mark fits where: the one place that decides it.
+// Which record a mark opens, and where it may come: a row for each.
 ghost use mathlib.Core.Path.{_≡_};
-ghost use Rattle.galley.specs.Mark.{kindOf};
-ghost use Rattle.galley.specs.Place.{misplaced, tooEarly, tooMany, unfit};
-use crate::Mark;
+ghost use Rattle.galley.specs.Place.{rowOf, kindOf, misplaced, tooEarly, tooMany, unfit};
+use crate::Kind;
+use crate::Sofar;
 
-// The kind of record that a mark opens.
-pub fn kind_of(mark: u32) -> Mark
+// The marks, two bytes each.
+pub const GS: u32 = 0x4753;
+
+pub const FO: u32 = 0x464f;
+
+pub const TL: u32 = 0x544c;
+
+pub const FG: u32 = 0x4647;
+
+pub const ED: u32 = 0x4544;
+
+// The stages of a galley, in the order in which its records come.
+pub const NOTHING: u32 = 0;
+
+pub const SPEC: u32 = 1;
+
+pub const FOLIO: u32 = 2;
+
+pub const LINE: u32 = 3;
+
+pub const FIGURE: u32 = 4;
+
+pub const END: u32 = 5;
+
+// A kind from its row.
+fn row(stage: u32, earliest: u32, latest: u32, most: usize, size: usize) -> Kind
+    ensures { λ r. ⌜ r ≡ rowOf stage earliest latest most size ⌝ }
+{
+    Kind {
+        stage,
+        earliest,
+        latest,
+        most,
+        size,
+    }
+}
+
+// The kind of record that a mark opens; one that is unknown fits nowhere.
+pub fn kind_of(mark: u32) -> Kind
     ensures { λ r. ⌜ r ≡ kindOf mark ⌝ }
 {
-    if mark == 0x4753 {
-        return Mark::Spec;
+    match mark {
+        GS => row(SPEC, NOTHING, NOTHING, 1, 30),
+        FO => row(FOLIO, SPEC, SPEC, 1, 6),
+        TL => row(LINE, SPEC, LINE, 4000, 18),
+        FG => row(FIGURE, SPEC, FIGURE, 200, 18),
+        ED => row(END, SPEC, FIGURE, 1, 2),
+        _ => row(NOTHING, SPEC, NOTHING, 0, 2),
     }
-    if mark == 0x544c {
-        return Mark::Line;
-    }
-    if mark == 0x4647 {
-        return Mark::Figure;
-    }
-    if mark == 0x4544 {
-        return Mark::End;
-    }
-    Mark::Unknown
 }
 
 // Whether a record of this kind has no business here: number 2.
-fn is_misplaced(mark: Mark, opened: bool, figures: usize) -> bool
-    ensures { λ r. ⌜ r ≡ misplaced mark opened figures ⌝ }
+fn is_misplaced(kind: Kind, so: Sofar) -> bool
+    ensures { λ r. ⌜ r ≡ misplaced kind so ⌝ }
 {
-    match mark {
-        Mark::Spec => opened,
-        Mark::Line => !opened | (0 < figures),
-        Mark::Figure => !opened,
-        Mark::End => !opened,
-        Mark::Unknown => true,
-    }
+    (so.stage < kind.earliest) | (kind.latest < so.stage)
 }
 
 // Whether a line had to come first: number 5.
-fn is_too_early(mark: Mark, lines: usize) -> bool
-    ensures { λ r. ⌜ r ≡ tooEarly mark lines ⌝ }
+fn is_too_early(kind: Kind, so: Sofar) -> bool
+    ensures { λ r. ⌜ r ≡ tooEarly kind so ⌝ }
 {
-    match mark {
-        Mark::Spec => false,
-        Mark::Line => false,
-        Mark::Figure => lines == 0,
-        Mark::End => lines == 0,
-        Mark::Unknown => false,
-    }
+    (LINE < kind.stage) & (so.galley.text.count == 0)
 }
 
-// Whether there are as many of this kind as there may be: number 4.
-fn is_too_many(mark: Mark, lines: usize, figures: usize) -> bool
-    ensures { λ r. ⌜ r ≡ tooMany mark lines figures ⌝ }
+// Whether there are as many of its stage as there may be: number 4.
+fn is_too_many(kind: Kind, so: Sofar) -> bool
+    ensures { λ r. ⌜ r ≡ tooMany kind so ⌝ }
 {
-    match mark {
-        Mark::Spec => false,
-        Mark::Line => 4000 <= lines,
-        Mark::Figure => 200 <= figures,
-        Mark::End => false,
-        Mark::Unknown => false,
-    }
+    (kind.stage == so.stage) & (kind.most <= so.count)
 }
 
-// The number that turns a mark away from its place, or 0 where it fits.
-pub fn unfit_for(mark: Mark, opened: bool, lines: usize, figures: usize) -> u32
-    ensures { λ r. ⌜ r ≡ unfit mark opened lines figures ⌝ }
+// The number that turns a record away from its place, or 0 where it fits.
+pub fn unfit_for(kind: Kind, so: Sofar) -> u32
+    ensures { λ r. ⌜ r ≡ unfit kind so ⌝ }
 {
-    let misplaced = is_misplaced(mark, opened, figures);
-    let early = is_too_early(mark, lines);
-    let many = is_too_many(mark, lines, figures);
+    let misplaced = is_misplaced(kind, so);
+    let early = is_too_early(kind, so);
+    let many = is_too_many(kind, so);
     if misplaced {
         return 2;
     }

@@ -2,20 +2,39 @@
 ghost use mathlib.Core.Path.{_≡_};
 ghost use Prim.Native.Nat.{_+_, _≤_};
 ghost use lib.ListN.{length};
-ghost use Rattle.galley.specs.Record.{specOf, blockOf, lineOf, figureOf, sizeOf, fieldsOf, recordAt};
+ghost use Rattle.galley.specs.Place.{kindOf};
+ghost use Rattle.galley.specs.Record.{blockOf, ranged, specAt, folioAt, lineAt, figureAt, fieldsOf, recordAt};
 use crate::Block;
 use crate::Figure;
 use crate::Line;
-use crate::Mark;
 use crate::Record;
 use crate::Spec;
+use crate::place::ED;
+use crate::place::FG;
+use crate::place::FO;
+use crate::place::GS;
+use crate::place::TL;
 
-// The fields of a specification.
-fn spec_fields(s: &[u8], at: usize) -> Spec
-    requires { ⌜ at + 30 ≤ length (now s) ⌝ }
-    ensures { λ r. ⌜ r ≡ specOf (now (s .entry)) at ⌝ }
+// A record whose fields are in range, or 3.
+fn ranged(fine: bool, found: Record, at: usize) -> Record
+    ensures { λ r. ⌜ r ≡ ranged fine found at ⌝ }
 {
-    Spec {
+    if fine {
+        found
+    } else {
+        Record::Refused {
+            number: 3,
+            place: at,
+        }
+    }
+}
+
+// A specification.
+fn spec_at(s: &[u8], at: usize) -> Record
+    requires { ⌜ at + 30 ≤ length (now s) ⌝ }
+    ensures { λ r. ⌜ r ≡ specAt (now (s .entry)) at ⌝ }
+{
+    let g = Spec {
         htmin: crate::word::word_at(s, at + 2),
         htmax: crate::word::word_at(s, at + 6),
         smin: crate::word::word_at(s, at + 10),
@@ -23,7 +42,17 @@ fn spec_fields(s: &[u8], at: usize) -> Spec
         sides: crate::word::word_at(s, at + 18),
         alpha: crate::word::word_at(s, at + 22),
         beta: crate::word::word_at(s, at + 26),
-    }
+    };
+    ranged(crate::range::spec_in_range(g), Record::Spec(g), at)
+}
+
+// The folio of the first page.
+fn folio_at(s: &[u8], at: usize) -> Record
+    requires { ⌜ at + 6 ≤ length (now s) ⌝ }
+    ensures { λ r. ⌜ r ≡ folioAt (now (s .entry)) at ⌝ }
+{
+    let folio = crate::word::word_at(s, at + 2);
+    ranged((1 <= folio) & (folio <= 9999), Record::Folio(folio), at)
 }
 
 // The heights of a block.
@@ -38,52 +67,40 @@ fn block_fields(s: &[u8], at: usize) -> Block
     }
 }
 
-// The fields of a line.
-fn line_fields(s: &[u8], at: usize) -> Line
+// A line.
+fn line_at(s: &[u8], at: usize) -> Record
     requires { ⌜ at + 18 ≤ length (now s) ⌝ }
-    ensures { λ r. ⌜ r ≡ lineOf (now (s .entry)) at ⌝ }
+    ensures { λ r. ⌜ r ≡ lineAt (now (s .entry)) at ⌝ }
 {
-    Line {
-        block: block_fields(s, at),
-        legal: crate::word::word_at(s, at + crate::LEGAL),
-    }
+    let block = block_fields(s, at);
+    let legal = crate::word::word_at(s, at + crate::LEGAL);
+    let fine = crate::range::block_in_range(block) & (legal <= 1);
+    ranged(fine, Record::Line(Line { block, legal }), at)
 }
 
-// The fields of a figure.
-fn figure_fields(s: &[u8], at: usize) -> Figure
+// A figure; its citation is tested where its place is known.
+fn figure_at(s: &[u8], at: usize) -> Record
     requires { ⌜ at + 18 ≤ length (now s) ⌝ }
-    ensures { λ r. ⌜ r ≡ figureOf (now (s .entry)) at ⌝ }
+    ensures { λ r. ⌜ r ≡ figureAt (now (s .entry)) at ⌝ }
 {
-    Figure {
-        block: block_fields(s, at),
-        cite: crate::word::word_at(s, at + crate::CITE),
-    }
+    let block = block_fields(s, at);
+    let cite = crate::word::word_at(s, at + crate::CITE);
+    let found = Record::Figure(Figure { block, cite });
+    ranged(crate::range::block_in_range(block), found, at)
 }
 
-// How many bytes the record that a mark opens has; of an unknown mark only the mark is known.
-fn size_of(mark: Mark) -> usize
-    ensures { λ r. ⌜ r ≡ sizeOf mark ⌝ }
-{
-    match mark {
-        Mark::Spec => 30,
-        Mark::Line => 18,
-        Mark::Figure => 18,
-        Mark::End => 2,
-        Mark::Unknown => 2,
-    }
-}
-
-// What its fields say, in range or not; an unknown mark is 2.
-fn fields_of(mark: Mark, s: &[u8], at: usize) -> Record
-    requires { ⌜ at + sizeOf mark ≤ length (now s) ⌝ }
+// What the fields after a mark say; an unknown mark is 2.
+fn fields_of(mark: u32, s: &[u8], at: usize) -> Record
+    requires { ⌜ at + kindOf mark .size ≤ length (now s) ⌝ }
     ensures { λ r. ⌜ r ≡ fieldsOf mark (now (s .entry)) at ⌝ }
 {
     match mark {
-        Mark::Spec => Record::Spec(spec_fields(s, at)),
-        Mark::Line => Record::Line(line_fields(s, at)),
-        Mark::Figure => Record::Figure(figure_fields(s, at)),
-        Mark::End => Record::End,
-        Mark::Unknown => Record::Refused {
+        GS => spec_at(s, at),
+        FO => folio_at(s, at),
+        TL => line_at(s, at),
+        FG => figure_at(s, at),
+        ED => Record::End,
+        _ => Record::Refused {
             number: 2,
             place: at,
         },
@@ -101,19 +118,12 @@ pub fn record_at(s: &[u8], at: usize) -> Record
             place: at,
         };
     }
-    let mark = crate::place::kind_of(crate::word::mark_at(s, at));
-    if left < size_of(mark) {
+    let mark = crate::word::mark_at(s, at);
+    if left < crate::place::kind_of(mark).size {
         return Record::Refused {
             number: 1,
             place: at,
         };
     }
-    let found = fields_of(mark, s, at);
-    if crate::range::is_in_range(found) {
-        return found;
-    }
-    Record::Refused {
-        number: 3,
-        place: at,
-    }
+    fields_of(mark, s, at)
 }

@@ -1,158 +1,219 @@
 // A galley, record by record: each in its place, with the first refusal.
 ghost use mathlib.Core.Path.{_≡_};
-ghost use Prim.Native.Nat.{_≤_};
-ghost use Rattle.galley.specs.Whole.{cited, ended, recordIn, blocks, galleyOf};
+ghost use Prim.Native.Nat.{_+_, _≤_};
+ghost use Rattle.model.specs.Gather.{pick};
+ghost use Rattle.galley.specs.Whole.{Small, beginning, moved, holding, refused, opened, withLine, withFigure, cited, closed, after, stepFrom, galleyOf};
 use crate::Figure;
 use crate::Galley;
+use crate::Kind;
 use crate::Reading;
 use crate::Record;
+use crate::Sofar;
 use crate::Spec;
+use crate::Step;
 use crate::Stream;
 
-// A figure whose citation is right: 6, then 7.
-fn cited_figure(f: Figure, lines: usize, last: u32, at: usize) -> Record
-    ensures { λ r. ⌜ r ≡ cited lines last at f ⌝ }
+// The galley of a specification and a first folio: its streams are still to come, at an offset.
+fn opened(spec: Spec, folio: u32, at: usize) -> Galley
+    ensures { λ r. ⌜ r ≡ opened spec folio at ⌝ }
+{
+    Galley {
+        spec,
+        folio,
+        text: Stream {
+            first: at,
+            count: 0,
+        },
+        figures: Stream {
+            first: at,
+            count: 0,
+        },
+    }
+}
+
+// The galley with so many lines, the figures being still to come.
+fn with_line(g: Galley, lines: usize, at: usize) -> Galley
+    ensures { λ r. ⌜ r ≡ withLine g lines at ⌝ }
+{
+    let spec = g.spec;
+    Galley {
+        spec,
+        folio: g.folio,
+        text: Stream {
+            first: g.text.first,
+            count: lines,
+        },
+        figures: Stream {
+            first: at,
+            count: 0,
+        },
+    }
+}
+
+// The galley with so many figures.
+fn with_figure(g: Galley, figures: usize) -> Galley
+    ensures { λ r. ⌜ r ≡ withFigure g figures ⌝ }
+{
+    let spec = g.spec;
+    let text = g.text;
+    Galley {
+        spec,
+        folio: g.folio,
+        text,
+        figures: Stream {
+            first: g.figures.first,
+            count: figures,
+        },
+    }
+}
+
+// Nothing was read yet.
+fn beginning() -> Sofar
+    ensures { λ r. ⌜ r ≡ beginning ⌝ }
+{
+    let spec = Spec {
+        htmin: 0,
+        htmax: 0,
+        smin: 0,
+        smax: 0,
+        sides: 0,
+        alpha: 0,
+        beta: 0,
+    };
+    Sofar {
+        galley: opened(spec, 1, 0),
+        stage: crate::place::NOTHING,
+        count: 0,
+        last: 0,
+        at: 0,
+    }
+}
+
+// One more of a stage, or the first.
+fn one_more(same: bool, count: usize) -> usize
+    requires { ⌜ count ≤ 4000 ⌝ }
+    ensures { λ r. ⌜ r ≡ pick same (count + 1) 1 ⌝ }
+{
+    if same { count + 1 } else { 1 }
+}
+
+// One record more of a kind: its stage is reached, and the next record is due after it.
+fn moved(so: Sofar, kind: Kind) -> Sofar
+    requires { ⌜ (Small so) × (kind .size ≤ 100) ⌝ }
+    ensures { λ r. ⌜ r ≡ moved so kind ⌝ }
+{
+    let galley = so.galley;
+    Sofar {
+        galley,
+        stage: kind.stage,
+        count: one_more(kind.stage == so.stage, so.count),
+        last: so.last,
+        at: so.at + kind.size,
+    }
+}
+
+// The same with another galley, and another line cited last.
+fn holding(so: Sofar, galley: Galley, last: u32) -> Sofar
+    ensures { λ r. ⌜ r ≡ holding so galley last ⌝ }
+{
+    Sofar {
+        galley,
+        stage: so.stage,
+        count: so.count,
+        last,
+        at: so.at,
+    }
+}
+
+// Reading is done with a refusal.
+fn refused(number: u32, at: usize) -> Step
+    requires { ⌜ at ≤ 100000 ⌝ }
+    ensures { λ r. ⌜ r ≡ refused number at ⌝ }
+{
+    Step::Done(Reading::Refused {
+        number,
+        place: at as u32,
+    })
+}
+
+// One figure more, if its citation is right: 6, then 7.
+fn cited(so: Sofar, f: Figure, at: usize) -> Step
+    requires { ⌜ at ≤ 100000 ⌝ }
+    ensures { λ r. ⌜ r ≡ cited so f at ⌝ }
 {
     let cite = crate::word::size(f.cite);
-    let before = crate::word::size(last);
-    let beyond = (cite == 0) | (lines < cite);
-    let falls = cite < before;
+    let beyond = (cite == 0) | (so.galley.text.count < cite);
+    let falls = f.cite < so.last;
     if beyond {
-        return Record::Refused {
-            number: 6,
-            place: at,
-        };
+        return refused(6, at);
     }
     if falls {
-        return Record::Refused {
-            number: 7,
-            place: at,
-        };
+        return refused(7, at);
     }
-    Record::Figure(f)
+    Step::On(holding(so, with_figure(so.galley, so.count), f.cite))
 }
 
 // The end, if nothing follows it: 8.
-fn last_record(s: &[u8], at: usize) -> Record
-    ensures { λ r. ⌜ r ≡ ended (now (s .entry)) at ⌝ }
+fn closed(s: &[u8], so: Sofar) -> Step
+    requires { ⌜ so .at ≤ 100000 ⌝ }
+    ensures { λ r. ⌜ r ≡ closed (now (s .entry)) so ⌝ }
 {
-    if 2 < crate::word::left_from(s, at) {
-        return Record::Refused {
-            number: 8,
-            place: at + 2,
-        };
+    if so.at < s.len() {
+        return refused(8, so.at);
     }
-    Record::End
+    let galley = so.galley;
+    Step::Done(Reading::Galley(galley))
 }
 
-// The record at an offset, in its place after so many lines and figures.
-pub fn record_in(
-    s: &[u8],
-    at: usize,
-    opened: bool,
-    lines: usize,
-    figures: usize,
-    last: u32,
-) -> Record
-    ensures { λ r. ⌜ r ≡ recordIn (now (s .entry)) at opened lines figures last ⌝ }
+// How reading goes on after the record at an offset.
+fn after(s: &[u8], so: Sofar, found: Record, at: usize) -> Step
+    requires { ⌜ (at ≤ 100000) × (so .at ≤ 100000) ⌝ }
+    ensures { λ r. ⌜ r ≡ after (now (s .entry)) so at found ⌝ }
 {
-    if crate::word::left_from(s, at) < 2 {
-        return Record::Refused {
-            number: 1,
-            place: at,
-        };
+    match found {
+        Record::Spec(g) => Step::On(holding(so, opened(g, 1, so.at), so.last)),
+        Record::Folio(f) => Step::On(holding(so, opened(so.galley.spec, f, so.at), so.last)),
+        Record::Line(_l) => {
+            Step::On(holding(so, with_line(so.galley, so.count, so.at), so.last))
+        }
+        Record::Figure(f) => cited(so, f, at),
+        Record::End => closed(s, so),
+        Record::Refused { number, place: _p } => refused(number, at),
     }
-    let mark = crate::place::kind_of(crate::word::mark_at(s, at));
-    let number = crate::place::unfit_for(mark, opened, lines, figures);
+}
+
+// The next record, in its place.
+fn step_from(s: &[u8], so: Sofar) -> Step
+    requires { ⌜ Small so ⌝ }
+    ensures { λ r. ⌜ r ≡ stepFrom (now (s .entry)) so ⌝ }
+{
+    let at = so.at;
+    if crate::word::left_from(s, at) < 2 {
+        return refused(1, at);
+    }
+    let kind = crate::place::kind_of(crate::word::mark_at(s, at));
+    let number = crate::place::unfit_for(kind, so);
     if 0 < number {
-        return Record::Refused { number, place: at };
+        return refused(number, at);
     }
     let found = crate::reader::read_record(s, at);
-    match found {
-        Record::Spec(g) => Record::Spec(g),
-        Record::Line(l) => Record::Line(l),
-        Record::Figure(f) => cited_figure(f, lines, last, at),
-        Record::End => last_record(s, at),
-        Record::Refused { number, place } => Record::Refused { number, place },
-    }
-}
-
-// The lines and figures from the offset of line 1 on, to the end: the next record stands at `at`, the lines end at `after`.
-fn read_blocks(s: &[u8], spec: Spec, first: usize) -> Reading
-    requires { ⌜ first ≤ 1000 ⌝ }
-    ensures { λ r. ⌜ r ≡ blocks (now (s .entry)) spec first 4201 0 0 0 ⌝ }
-{
-    let mut lines: usize = 0;
-    let mut figures: usize = 0;
-    let mut last: u32 = 0;
-    let mut at = first;
-    let mut after = first;
-    loop {
-        let found = record_in(s, at, true, lines, figures, last);
-        match found {
-            Record::Line(_l) => {
-                lines += 1;
-                at += 18;
-                after = at;
-            }
-            Record::Figure(f) => {
-                figures += 1;
-                at += 18;
-                last = f.cite;
-            }
-            Record::End => {
-                return Reading::Galley(Galley {
-                    spec,
-                    folio: 1,
-                    lastmin: 0,
-                    text: Stream {
-                        first,
-                        count: lines,
-                    },
-                    figures: Stream {
-                        first: after,
-                        count: figures,
-                    },
-                });
-            }
-            Record::Spec(_g) => {
-                return Reading::Refused {
-                    number: 2,
-                    place: at as u32,
-                };
-            }
-            Record::Refused { number, place } => {
-                return Reading::Refused {
-                    number,
-                    place: place as u32,
-                };
-            }
-        }
-    }
+    after(s, moved(so, kind), found, at)
 }
 
 // The galley that any bytes hold, or the first refusal with its place.
 pub fn read_galley(s: &[u8]) -> Reading
     ensures { λ r. ⌜ r ≡ galleyOf (now (s .entry)) ⌝ }
 {
-    let found = record_in(s, 0, false, 0, 0, 0);
-    match found {
-        Record::Spec(g) => read_blocks(s, g, 30),
-        Record::Line(_l) => Reading::Refused {
-            number: 2,
-            place: 0,
-        },
-        Record::Figure(_f) => Reading::Refused {
-            number: 2,
-            place: 0,
-        },
-        Record::End => Reading::Refused {
-            number: 2,
-            place: 0,
-        },
-        Record::Refused { number, place } => Reading::Refused {
-            number,
-            place: place as u32,
-        },
+    let mut so = beginning();
+    loop {
+        let step = step_from(s, so);
+        match step {
+            Step::On(next) => {
+                so = next;
+            }
+            Step::Done(reading) => {
+                return reading;
+            }
+        }
     }
 }

@@ -12,12 +12,12 @@ use Rattle.galley.specs.declared.Galley as galley
 use Rattle.galley.specs.declared.Reading.{Reading}
 use Rattle.galley.specs.declared.Reading.the-variants.{Galley, Refused}
 
--- The number and place of a refusal, or the specification and the counts after two zeros.
+-- The number and place of a refusal, or the specification, the first folio and the counts after two zeros.
 unfoldable pub wordsOf : Reading → List ℕ
 wordsOf (Galley g) =
     0 ∷ 0 ∷ g .spec .htmin ∷ g .spec .htmax ∷ g .spec .smin ∷ g .spec .smax ∷ g .spec .sides ∷ g .spec .alpha
-    ∷ g .spec .beta ∷ g .text .count ∷ g .figures .count ∷ []
-wordsOf (Refused number place) = number ∷ place ∷ 0 ∷ 0 ∷ 0 ∷ 0 ∷ 0 ∷ 0 ∷ 0 ∷ 0 ∷ 0 ∷ []
+    ∷ g .spec .beta ∷ g .folio ∷ g .text .count ∷ g .figures .count ∷ []
+wordsOf (Refused number place) = number ∷ place ∷ 0 ∷ 0 ∷ 0 ∷ 0 ∷ 0 ∷ 0 ∷ 0 ∷ 0 ∷ 0 ∷ 0 ∷ []
 
 -- The stream of a number: 0 is the text, any other the figures.
 abbrev pub streamAt : galley.Galley → ℕ → Stream

@@ -17,9 +17,9 @@ use Rattle.galley.specs.declared.Reading.{Reading}
 use Rattle.galley.specs.declared.Reading.the-variants as reads
 use Rattle.galley.specs.Whole.{galleyOf}
 use Rattle.galley.specs.Model.{modelOf}
+use Rattle.galley.specs.laws.Sound.{refusal-number}
 use Rattle.marking.specs.Mark.{markRead, markOf}
 use Rattle.making.specs.Make.{workNeeded, listNeeded, makeRead, makeOf}
-use Rattle.promises.specs.ReadNumbers.{Refusal, read-refusal}
 
 -- The numbers with which marking may refuse: those of a galley and those of a list (document 01, "Numbers that turn work away").
 abbrev pub ByMarking : ℕ → Type 0
@@ -39,22 +39,22 @@ module _ (P : Answer → Type 0) (bytes : List ℕ) where
   pub of-marking : (words : List ℕ) → ((n at : ℕ) → 1 ≤ n → n ≤ 8 → P (Refused n at))
       → ((g : Galley) → galleyOf bytes ≡ reads.Galley g → P (marked (modelOf bytes g) words)) → P (markOf bytes words)
   unfolding markOf markRead
-  of-marking words away read = go (galleyOf bytes) refl (read-refusal bytes)
+  of-marking words away read = go (galleyOf bytes) refl
     where
-      go : (r : Reading) → galleyOf bytes ≡ r → Refusal r → P (markRead bytes words r)
-      go (reads.Galley g) e h = read g e
-      go (reads.Refused n at) e h = away n at (h n at refl .0) (h n at refl .1)
+      go : (r : Reading) → galleyOf bytes ≡ r → P (markRead bytes words r)
+      go (reads.Galley g) e = read g e
+      go (reads.Refused n at) e = let h = refusal-number bytes n at e in away n at (h .0) (h .1)
 
   -- and of making.
   pub of-making : (work list : ℕ) → ((n at : ℕ) → ByMaking n → P (Refused n at))
       → ((g : Galley) → galleyOf bytes ≡ reads.Galley g → P (made (modelOf bytes g))) → P (makeOf bytes work list)
   unfolding makeOf makeRead
-  of-making work list away read = go (galleyOf bytes) refl (read-refusal bytes)
+  of-making work list away read = go (galleyOf bytes) refl
     where
-      go : (r : Reading) → galleyOf bytes ≡ r → Refusal r → P (makeRead bytes work list r)
-      go (reads.Galley g) e h =
+      go : (r : Reading) → galleyOf bytes ≡ r → P (makeRead bytes work list r)
+      go (reads.Galley g) e =
           picked P (ltb work (workNeeded g)) (Refused 9 (workNeeded g))
           (pick (ltb list (listNeeded g)) (Refused 10 (listNeeded g)) (made (modelOf bytes g))) (away 9 (workNeeded g) (omega arith, omega arith))
           (picked P (ltb list (listNeeded g)) (Refused 10 (listNeeded g)) (made (modelOf bytes g))
           (away 10 (listNeeded g) (omega arith, omega arith)) (read g e))
-      go (reads.Refused n at) e h = let l = h n at refl in away n at (l .0, omega (arith, l .1))
+      go (reads.Refused n at) e = let h = refusal-number bytes n at e in away n at (h .0, omega (arith, h .1))

@@ -1,5 +1,4 @@
 -- The demands that the engine is held to, each a theorem about the contracts of making and marking.
-pub mod ReadNumbers
 pub mod Answers
 pub mod FirstDemand
 pub mod SecondDemand

@@ -1,19 +1,36 @@
--- What is known of a mark that fits its place.
+-- What is known of a record that fits its place.
 use Prim.Native.Nat.{ℕ, _≤_, _<_}
 use native.Mathlib.Omega.{arith}
-use mathlib.Core.Bool.{Bool, true, false, true≢false}
-use mathlib.Core.Path.{_≡_, refl}
-use borrow.Author.Tests.{ltb-false, leb-false, eqb-false}
+use mathlib.Core.Bool.{Bool, true, false, _&&_}
+use mathlib.Core.Path.{_≡_, refl, sym}
+use lib.Dec.{eqb, ltb, leb}
+use borrow.Author.Tests.{ltb-true, ltb-false, leb-false, eqb-true, eqb-false, le-ltb, lt-ltb, lt-leb, eq-eqb, ne-eqb}
 use Rattle.model.specs.Gather.{pick}
-use Rattle.galley.specs.Place.{misplaced, tooEarly, tooMany, unfit}
-use Rattle.galley.specs.declared.Mark.{Mark}
-use Rattle.galley.specs.declared.Mark.the-variants.{Spec, Line, Figure, End}
+use Rattle.galley.specs.Place.{GS, FO, TL, FG, ED, line, kindOf, misplaced, tooEarly, tooMany, unfit}
+use Rattle.galley.specs.laws.Pick.{pick-has, or-false, and-false}
+use Rattle.galley.specs.declared.Kind.{Kind}
+use Rattle.galley.specs.declared.Sofar.{Sofar}
 
--- None of the three tests turns the mark away.
-pub record Fits (mark : Mark) (opened : Bool) (lines figures : ℕ) : Type 0 where
-  pub placed : misplaced mark opened figures ≡ false
-  pub timely : tooEarly mark lines ≡ false
-  pub few : tooMany mark lines figures ≡ false
+-- A record has a mark, and none is long.
+pub kind-sized : (mark : ℕ) → (2 ≤ kindOf mark .size) × (kindOf mark .size ≤ 100)
+unfolding kindOf
+kind-sized mark =
+    pick-has Sized (eqb mark GS) _ _ (λ _. omega arith) (λ _.
+    pick-has Sized (eqb mark FO) _ _ (λ _. omega arith) (λ _.
+    pick-has Sized (eqb mark TL) _ _ (λ _. omega arith) (λ _.
+    pick-has Sized (eqb mark FG) _ _ (λ _. omega arith) (λ _.
+    pick-has Sized (eqb mark ED) _ _ (λ _. omega arith) (λ _. omega arith)))))
+  where
+    Sized : Kind → Type 0
+    Sized kind = (2 ≤ kind .size) × (kind .size ≤ 100)
+
+-- A record of a kind fits: it comes neither too soon nor too late, after a line where it belongs after the lines, and there are
+-- fewer of its stage than there may be.
+pub record Fits (kind : Kind) (so : Sofar) : Type 0 where
+  pub soon : kind .earliest ≤ so .stage
+  pub late : so .stage ≤ kind .latest
+  pub timely : line < kind .stage → 1 ≤ so .galley .text .count
+  pub few : so .stage ≡ kind .stage → so .count < kind .most
 
 none-picked : (m e t : Bool) → _≡_ {A = ℕ} (pick m 2 (pick e 5 (pick t 4 0))) 0 → (m ≡ false) × (e ≡ false) × (t ≡ false)
 none-picked true e t h = absurd (omega arith)
@@ -21,43 +38,34 @@ none-picked false true t h = absurd (omega arith)
 none-picked false false true h = absurd (omega arith)
 none-picked false false false h = (refl, refl, refl)
 
--- A mark with the number 0 fits.
-pub unfit-zero : (mark : Mark) (opened : Bool) (lines figures : ℕ) → unfit mark opened lines figures ≡ 0
-    → Fits mark opened lines figures
-unfolding unfit
-unfit-zero mark opened lines figures h =
-    let t = none-picked (misplaced mark opened figures) (tooEarly mark lines) (tooMany mark lines figures) h in
-    record { placed = t .0; timely = t .1; few = t .2 }
+-- A record with the number 0 fits.
+pub unfit-fits : (kind : Kind) (so : Sofar) → unfit kind so ≡ 0 → Fits kind so
+unfit-fits kind so h =
+    let t = none-picked (misplaced kind so) (tooEarly kind so) (tooMany kind so) h in
+    let m = or-false (ltb (so .stage) (kind .earliest)) (ltb (kind .latest) (so .stage)) (t .0) in
+    record {
+      soon = ltb-false (so .stage) (kind .earliest) (m .0);
+      late = ltb-false (kind .latest) (so .stage) (m .1);
+      timely = λ l.
+          let none = and-false (ltb line (kind .stage)) (eqb (so .galley .text .count) 0) (t .1) (lt-ltb line (kind .stage) l) in
+          omega (arith, eqb-false (so .galley .text .count) 0 none);
+      few = λ e.
+          leb-false (kind .most) (so .count)
+          (and-false (eqb (kind .stage) (so .stage)) (leb (kind .most) (so .count)) (t .2) (eq-eqb (kind .stage) (so .stage) (sym e)));
+    }
 
--- A specification comes first.
-pub spec-fits : (opened : Bool) (lines figures : ℕ) → Fits Spec opened lines figures → opened ≡ false
-unfolding misplaced
-spec-fits opened lines figures fits = fits .placed
+and-not : (a b : Bool) → (a ≡ true → b ≡ false) → (a && b) ≡ false
+and-not true b h = h refl
+and-not false b h = refl
 
--- A line comes after the specification, before any figure, and is no more than the 4,000th.
-pub line-fits : (opened : Bool) (lines figures : ℕ) → Fits Line opened lines figures
-    → (opened ≡ true) × (figures ≡ 0) × (lines < 4000)
-unfolding misplaced tooMany
-line-fits false lines figures fits = absurd (true≢false (fits .placed))
-line-fits true lines figures fits = (
-  refl,
-  omega (arith, ltb-false 0 figures (fits .placed)),
-  leb-false 4000 lines (fits .few),
-)
-
--- A figure comes after a line, and is no more than the 200th.
-pub figure-fits : (opened : Bool) (lines figures : ℕ) → Fits Figure opened lines figures
-    → (opened ≡ true) × (1 ≤ lines) × (figures < 200)
-unfolding misplaced tooEarly tooMany
-figure-fits false lines figures fits = absurd (true≢false (fits .placed))
-figure-fits true lines figures fits = (
-  refl,
-  omega (arith, eqb-false lines 0 (fits .timely)),
-  leb-false 200 figures (fits .few),
-)
-
--- The end comes after a line.
-pub end-fits : (opened : Bool) (lines figures : ℕ) → Fits End opened lines figures → (opened ≡ true) × (1 ≤ lines)
-unfolding misplaced tooEarly
-end-fits false lines figures fits = absurd (true≢false (fits .placed))
-end-fits true lines figures fits = (refl, omega (arith, eqb-false lines 0 (fits .timely)))
+-- One that fits has the number 0.
+pub fits-unfit : (kind : Kind) (so : Sofar) → Fits kind so → unfit kind so ≡ 0
+fits-unfit kind so f =
+    simp (
+      le-ltb (so .stage) (kind .earliest) (f .soon),
+      le-ltb (kind .latest) (so .stage) (f .late),
+      and-not (ltb line (kind .stage)) (eqb (so .galley .text .count) 0)
+          (λ l. ne-eqb (so .galley .text .count) 0 (λ z. let some = f .timely (ltb-true line (kind .stage) l) in omega arith)),
+      and-not (eqb (kind .stage) (so .stage)) (leb (kind .most) (so .count))
+          (λ e. lt-leb (kind .most) (so .count) (f .few (sym (eqb-true (kind .stage) (so .stage) e)))),
+    )

@@ -1,9 +1,10 @@
 -- The ranges as inequalities are what the tests decide.
+use Prim.Native.Nat.{ℕ}
 use mathlib.Core.Bool.{Bool, true, false, _&&_, true≢false}
 use mathlib.Core.Path.{_≡_, refl, sym}
 use lib.Dec.{leb}
 use borrow.Author.Tests.{leb-true, le-leb}
-use Rattle.galley.specs.Range.{specInRange, blockInRange, lineInRange, SpecRanged, BlockRanged, LineRanged}
+use Rattle.galley.specs.Range.{specInRange, folioInRange, blockInRange, lineInRange, SpecRanged, FolioRanged, BlockRanged, LineRanged}
 use Rattle.galley.specs.declared.Spec.{Spec}
 use Rattle.galley.specs.declared.Block.{Block}
 use Rattle.galley.specs.declared.Line.{Line}
@@ -35,6 +36,11 @@ spec-ranged g h =
       betas = leb-true _ _ (a .1);
     }
 
+pub folio-ranged : (f : ℕ) → folioInRange f ≡ true → FolioRanged f
+folio-ranged f h =
+    let a = and-true (leb 1 f) (leb f 9999) h in
+    record { some = leb-true _ _ (a .0); few = leb-true _ _ (a .1) }
+
 pub block-ranged : (b : Block) → blockInRange b ≡ true → BlockRanged b
 unfolding blockInRange
 block-ranged b h =
@@ -43,7 +49,6 @@ block-ranged b h =
     record { heights = leb-true _ _ (c .0); leasts = leb-true _ _ (c .1); mosts = leb-true _ _ (l .1) }
 
 pub line-ranged : (l : Line) → lineInRange l ≡ true → LineRanged l
-unfolding lineInRange
 line-ranged l h =
     let a = and-true (blockInRange (l .block)) (leb (l .legal) 1) h in
     record { block = block-ranged (l .block) (a .0); legals = leb-true _ _ (a .1) }
@@ -63,6 +68,9 @@ ranged-spec g r =
       le-leb (g .beta) 1000 (r .betas),
     )
 
+pub ranged-folio : (f : ℕ) → FolioRanged f → folioInRange f ≡ true
+ranged-folio f r = simp (le-leb 1 f (r .some), le-leb f 9999 (r .few))
+
 pub ranged-block : (b : Block) → BlockRanged b → blockInRange b ≡ true
 unfolding blockInRange
 ranged-block b r =
@@ -73,5 +81,4 @@ ranged-block b r =
     )
 
 pub ranged-line : (l : Line) → LineRanged l → lineInRange l ≡ true
-unfolding lineInRange
 ranged-line l r = simp (ranged-block (l .block) (r .block), le-leb (l .legal) 1 (r .legals))

@@ -1,57 +1,92 @@
 -- What is known of the record at an offset once it was read.
 use Prim.Native.Nat.{ℕ, _+_, _-_, _≤_}
 use native.Mathlib.Omega.{arith}
-use mathlib.Core.Bool.{true}
+use mathlib.Core.Bool.{Bool, true}
 use mathlib.Core.List.{List}
 use mathlib.Core.Path.{_≡_, refl}
 use lib.ListN.{length}
-use lib.Dec.{ltb}
-use borrow.Author.Tests.{ltb-false}
-use Rattle.galley.specs.laws.Pick.{pick-has}
+use lib.Dec.{ltb, eqb}
+use borrow.Author.Tests.{ltb-false, eqb-true}
 use Rattle.galley.specs.Word.{markAt}
-use Rattle.galley.specs.Range.{inRange}
-use Rattle.galley.specs.Mark.{kindOf}
-use Rattle.galley.specs.Record.{specOf, lineOf, figureOf, sizeOf, fieldsOf, openedBy, recordAt}
-use Rattle.galley.specs.declared.Mark.{Mark}
-use Rattle.galley.specs.declared.Mark.the-variants as mark
+use Rattle.galley.specs.Range.{specInRange, folioInRange, blockInRange, lineInRange, SpecRanged, FolioRanged, BlockRanged, LineRanged}
+use Rattle.galley.specs.Place.{GS, FO, TL, FG, ED, kindOf}
+use Rattle.galley.specs.Record.{specOf, openingFolio, blockOf, lineOf, figureOf, ranged, fieldsOf, recordAt}
+use Rattle.galley.specs.laws.Pick.{pick-has}
+use Rattle.galley.specs.laws.Range.{spec-ranged, folio-ranged, block-ranged, line-ranged}
+use Rattle.galley.specs.declared.Figure.{Figure}
 use Rattle.galley.specs.declared.Record.{Record}
 use Rattle.galley.specs.declared.Record.the-variants as found
 
--- A record of some kind stands whole at an offset, its value is what its fields say, and it is in range.
-pub record Stands {A : Type 0} (bytes : List ℕ) (at : ℕ) (kind : Mark) (value fields : A) (r : Record) : Type 0 where
-  pub marked : kindOf (markAt bytes at) ≡ kind
-  pub there : at + sizeOf kind ≤ length bytes
+-- A record with some mark stands whole at an offset, its value is what its fields say, and it is in range.
+pub record Stands {A : Type 0} (Fine : A → Type 0) (bytes : List ℕ) (at mark : ℕ) (value fields : A) : Type 0 where
+  pub marked : markAt bytes at ≡ mark
+  pub there : at + kindOf mark .size ≤ length bytes
   pub same : value ≡ fields
-  pub ranged : inRange r ≡ true
+  pub fine : Fine fields
 
--- What a record that was read at an offset tells; a refusal stands at that offset.
+-- A figure whose heights are in range.
+abbrev pub FigureRanged : Figure → Type 0
+FigureRanged f = BlockRanged (f .block)
+
+-- The end has no field.
+abbrev pub Ending : Unit {0} → Type 0
+Ending none = Unit {0}
+
+-- A refusal stands at its record's offset, with one of three numbers.
+pub record RefusedAt (at number place : ℕ) : Type 0 where
+  pub low : 1 ≤ number
+  pub high : number ≤ 3
+  pub here : place ≡ at
+
+-- What a record that was read at an offset tells.
 unfoldable pub Found : List ℕ → ℕ → Record → Type 0
-Found bytes at (found.Spec g) = Stands bytes at mark.Spec g (specOf bytes at) (found.Spec g)
-Found bytes at (found.Line l) = Stands bytes at mark.Line l (lineOf bytes at) (found.Line l)
-Found bytes at (found.Figure f) = Stands bytes at mark.Figure f (figureOf bytes at) (found.Figure f)
-Found bytes at found.End = (kindOf (markAt bytes at) ≡ mark.End) × (at + 2 ≤ length bytes)
-Found bytes at (found.Refused number place) = place ≡ at
+Found bytes at (found.Spec g) = Stands SpecRanged bytes at GS g (specOf bytes at)
+Found bytes at (found.Folio f) = Stands FolioRanged bytes at FO f (openingFolio bytes at)
+Found bytes at (found.Line l) = Stands LineRanged bytes at TL l (lineOf bytes at)
+Found bytes at (found.Figure f) = Stands FigureRanged bytes at FG f (figureOf bytes at)
+Found bytes at found.End = Stands Ending bytes at ED tt tt
+Found bytes at (found.Refused number place) = RefusedAt at number place
 
-fields-found : (bytes : List ℕ) (at : ℕ) (kind : Mark) → kindOf (markAt bytes at) ≡ kind → at + sizeOf kind ≤ length bytes
-    → inRange (fieldsOf kind bytes at) ≡ true → Found bytes at (fieldsOf kind bytes at)
-unfolding fieldsOf sizeOf Found
-fields-found bytes at mark.Spec e there ranged = record { marked = e; there = there; same = refl; ranged = ranged }
-fields-found bytes at mark.Line e there ranged = record { marked = e; there = there; same = refl; ranged = ranged }
-fields-found bytes at mark.Figure e there ranged = record { marked = e; there = there; same = refl; ranged = ranged }
-fields-found bytes at mark.End e there ranged = (e, there)
-fields-found bytes at mark.Unknown e there ranged = refl
+module _ (bytes : List ℕ) (at : ℕ) where
+  refused-found : (number : ℕ) → 1 ≤ number → number ≤ 3 → Found bytes at (found.Refused number at)
+  unfolding Found
+  refused-found number low high = record { low = low; high = high; here = refl }
 
--- A record that is read is either refused where it starts or stands whole and in range.
-opened-found : (bytes : List ℕ) (at : ℕ) (kind : Mark) → kindOf (markAt bytes at) ≡ kind → at + 2 ≤ length bytes
-    → Found bytes at (openedBy kind bytes at)
-unfolding openedBy Found
-opened-found bytes at kind e two =
-    pick-has (Found bytes at) (ltb (length bytes - at) (sizeOf kind)) _ _ (λ _. refl) (λ fits.
-    pick-has (Found bytes at) (inRange (fieldsOf kind bytes at)) _ _
-    (λ ranged. fields-found bytes at kind e (omega (arith, ltb-false (length bytes - at) (sizeOf kind) fits)) ranged) (λ _. refl))
+  ranged-found : (fine : Bool) (r : Record) → (fine ≡ true → Found bytes at r) → Found bytes at (ranged fine r at)
+  ranged-found fine r h =
+      pick-has (Found bytes at) fine r (found.Refused 3 at) h (λ _. refused-found 3 (omega arith) (omega arith))
 
-pub found-at : (bytes : List ℕ) (at : ℕ) → Found bytes at (recordAt bytes at)
-unfolding recordAt Found
-found-at bytes at =
-    pick-has (Found bytes at) (ltb (length bytes - at) 2) _ _ (λ _. refl)
-    (λ fits. opened-found bytes at (kindOf (markAt bytes at)) refl (omega (arith, ltb-false (length bytes - at) 2 fits)))
+  stands : {A : Type 0} (Fine : A → Type 0) (mark : ℕ) (value : A) → eqb (markAt bytes at) mark ≡ true
+      → at + kindOf (markAt bytes at) .size ≤ length bytes → Fine value → Stands Fine bytes at mark value value
+  stands Fine mark value e there fine =
+      let is = eqb-true (markAt bytes at) mark e in
+      record { marked = is; there = rw is at there; same = refl; fine = fine }
+
+  fields-found : at + kindOf (markAt bytes at) .size ≤ length bytes → Found bytes at (fieldsOf (markAt bytes at) bytes at)
+  unfolding fieldsOf Found
+  fields-found there =
+      let mark = markAt bytes at in
+      pick-has (Found bytes at) (eqb mark GS) _ _ (λ e.
+      ranged-found (specInRange (specOf bytes at)) (found.Spec (specOf bytes at)) (λ r.
+      stands SpecRanged GS (specOf bytes at) e there (spec-ranged (specOf bytes at) r))) (λ _.
+      pick-has (Found bytes at) (eqb mark FO) _ _ (λ e.
+      ranged-found (folioInRange (openingFolio bytes at)) (found.Folio (openingFolio bytes at)) (λ r.
+      stands FolioRanged FO (openingFolio bytes at) e there (folio-ranged (openingFolio bytes at) r))) (λ _.
+      pick-has (Found bytes at) (eqb mark TL) _ _ (λ e.
+      ranged-found (lineInRange (lineOf bytes at)) (found.Line (lineOf bytes at)) (λ r.
+      stands LineRanged TL (lineOf bytes at) e there (line-ranged (lineOf bytes at) r))) (λ _.
+      pick-has (Found bytes at) (eqb mark FG) _ _ (λ e.
+      ranged-found (blockInRange (blockOf bytes at)) (found.Figure (figureOf bytes at)) (λ r.
+      stands FigureRanged FG (figureOf bytes at) e there (block-ranged (blockOf bytes at) r))) (λ _.
+      pick-has (Found bytes at) (eqb mark ED) _ _ (λ e. stands Ending ED tt e there tt)
+      (λ _. refused-found 2 (omega arith) (omega arith))))))
+
+  -- A record that is read is either refused where it starts or stands whole and in range.
+  pub found-at : Found bytes at (recordAt bytes at)
+  unfolding recordAt
+  found-at =
+      let mark = markAt bytes at in
+      pick-has (Found bytes at) (ltb (length bytes - at) 2) _ _ (λ _. refused-found 1 (omega arith) (omega arith)) (λ two.
+      pick-has (Found bytes at) (ltb (length bytes - at) (kindOf mark .size)) _ _ (λ _. refused-found 1 (omega arith) (omega arith)) (λ fits.
+      fields-found
+      (omega (arith, ltb-false (length bytes - at) 2 two, ltb-false (length bytes - at) (kindOf mark .size) fits))))

@@ -3,23 +3,20 @@ use Prim.Native.Nat.{ℕ, _+_, _-_, _*_, _/_, _%_, _≤_, _<_}
 use native.Mathlib.Omega.{arith}
 use native.Mathlib.Nat.{add-assoc}
 use mathlib.Core.List.{List, _∷_, _++_}
-use mathlib.Core.Bool.{true}
 use mathlib.Core.Path.{_≡_, refl, ap, _∙_}
 use lib.ListN.{length, getD, length-append}
 use lib.Seq.{getD-append-add}
 use borrow.Author.Tests.{le-ltb}
 use Rattle.galley.specs.Word.{wordAt, markAt}
-use Rattle.galley.specs.Mark.{kindOf}
-use Rattle.galley.specs.Range.{inRange, SpecRanged, BlockRanged, LineRanged}
-use Rattle.galley.specs.Record.{heightAt, leastAt, mostAt, citeAt, specOf, blockOf, lineOf, figureOf, sizeOf, fieldsOf, openedBy, recordAt}
-use Rattle.galley.specs.Write.{word, specBytes, blockBytes, lineBytes, figureBytes}
-use Rattle.galley.specs.laws.Range.{ranged-spec, ranged-block, ranged-line}
+use Rattle.galley.specs.Place.{GS, FO, TL, FG, ED, kindOf}
+use Rattle.galley.specs.Range.{SpecRanged, FolioRanged, BlockRanged, LineRanged}
+use Rattle.galley.specs.Record.{heightAt, leastAt, mostAt, citeAt, specOf, blockOf, lineOf, figureOf, fieldsOf, recordAt}
+use Rattle.galley.specs.Write.{word, specBytes, folioBytes, stated, blockBytes, lineBytes, figureBytes}
+use Rattle.galley.specs.laws.Range.{ranged-spec, ranged-folio, ranged-block, ranged-line}
 use Rattle.galley.specs.declared.Spec.{Spec}
 use Rattle.galley.specs.declared.Block.{Block}
 use Rattle.galley.specs.declared.Line.{Line}
 use Rattle.galley.specs.declared.Figure.{Figure}
-use Rattle.galley.specs.declared.Mark.{Mark}
-use Rattle.galley.specs.declared.Mark.the-variants as mark
 use Rattle.galley.specs.declared.Record.{Record}
 use Rattle.galley.specs.declared.Record.the-variants as found
 
@@ -47,107 +44,99 @@ mark-after before rest =
 left-after : (before rest : List ℕ) → length (before ++ rest) - length before ≡ length rest
 left-after before rest = simp length-append (omega arith)
 
--- A record that was written is read back: its mark and its fields are there, and the fields are in range.
-written : (before tail : List ℕ) (kind : Mark) (r : Record) → kindOf (markAt tail 0) ≡ kind → 2 ≤ length tail
-    → sizeOf kind ≤ length tail → fieldsOf kind (before ++ tail) (length before) ≡ r → inRange r ≡ true
+-- A record that was written is read back: its mark and its fields are there.
+written : (before tail : List ℕ) (mark : ℕ) (r : Record) → markAt tail 0 ≡ mark → 2 ≤ length tail
+    → kindOf mark .size ≤ length tail → fieldsOf mark (before ++ tail) (length before) ≡ r
     → recordAt (before ++ tail) (length before) ≡ r
-unfolding recordAt openedBy
-written before tail kind r marked two long fields ranged =
+unfolding recordAt
+written before tail mark r marked two long fields =
     simp (
       left-after before tail,
       le-ltb (length tail) 2 two,
-      ap kindOf (mark-after before tail) ∙ marked,
-      le-ltb (length tail) (sizeOf kind) long,
+      mark-after before tail ∙ marked,
+      le-ltb (length tail) (kindOf mark .size) long,
       fields,
-      ranged,
     )
 
--- A block that was written after some mark has its heights.
-block-fields : (before rest : List ℕ) (m n : ℕ) (b : Block) → BlockRanged b
-    → blockOf (before ++ m ∷ n ∷ blockBytes b rest) (length before) ≡ b
-unfolding wordAt
-block-fields before rest m n b r =
-    let tail = m ∷ n ∷ blockBytes b rest in
-    let height : wordAt (before ++ tail) (length before + heightAt) ≡ b .height
-    = word-after before tail heightAt ∙ bytes-word (b .height) (omega arith) in
-    let least : wordAt (before ++ tail) (length before + leastAt) ≡ b .least
-    = word-after before tail leastAt ∙ bytes-word (b .least) (omega arith) in
-    let most : wordAt (before ++ tail) (length before + mostAt) ≡ b .most
-    = word-after before tail mostAt ∙ bytes-word (b .most) (omega arith) in
-    simp (height, least, most)
+-- A word of what was written stands as many bytes after what came before.
+word-back : (before tail : List ℕ) (n w : ℕ) → w < 4294967296
+    → wordAt tail n ≡ w / 256 / 256 / 256 % 256 * 16777216 + w / 256 / 256 % 256 * 65536 + w / 256 % 256 * 256 + w % 256
+    → wordAt (before ++ tail) (length before + n) ≡ w
+word-back before tail n w small e = word-after before tail n ∙ e ∙ bytes-word w small
 
--- Its last field, of a line or a figure, stands after them.
-last-field : (before rest : List ℕ) (m n last : ℕ) (b : Block) → last ≤ 4000
-    → wordAt (before ++ m ∷ n ∷ blockBytes b (word last rest)) (length before + citeAt) ≡ last
+-- A block that was written after some mark has its heights, and its last field stands after them.
+block-back : (before rest : List ℕ) (m n last : ℕ) (b : Block) → BlockRanged b → last ≤ 4000
+    → let bytes = before ++ m ∷ n ∷ blockBytes b (word last rest) in
+    (blockOf bytes (length before) ≡ b) × (wordAt bytes (length before + citeAt) ≡ last)
 unfolding wordAt
-last-field before rest m n last b small =
-    word-after before (m ∷ n ∷ blockBytes b (word last rest)) citeAt ∙ bytes-word last (omega arith)
+block-back before rest m n last b r small =
+    let tail : List ℕ = m ∷ n ∷ blockBytes b (word last rest) in (
+      simp (
+        word-back before tail heightAt (b .height) (omega arith) refl,
+        word-back before tail leastAt (b .least) (omega arith) refl,
+        word-back before tail mostAt (b .most) (omega arith) refl,
+      ),
+      word-back before tail citeAt last (omega arith) refl,
+    )
 
 -- A line that was written has its fields, and it is read back.
 pub line-fields : (before rest : List ℕ) (l : Line) → LineRanged l
     → lineOf (before ++ lineBytes l rest) (length before) ≡ l
-unfolding lineOf
 line-fields before rest l r =
-    simp (
-      block-fields before (word (l .legal) rest) 84 76 (l .block) (r .block),
-      last-field before rest 84 76 (l .legal) (l .block) (omega arith),
-    )
+    let h = block-back before rest 84 76 (l .legal) (l .block) (r .block) (omega arith) in simp (h .0, h .1)
 
 pub line-after : (before rest : List ℕ) (l : Line) → LineRanged l
     → recordAt (before ++ lineBytes l rest) (length before) ≡ found.Line l
-unfolding kindOf markAt sizeOf fieldsOf inRange
+unfolding kindOf markAt fieldsOf
 line-after before rest l r =
-    written before (lineBytes l rest) mark.Line (found.Line l) refl (omega arith) (omega arith)
-    (ap found.Line (line-fields before rest l r)) (ranged-line l r)
+    let h = block-back before rest 84 76 (l .legal) (l .block) (r .block) (omega arith) in
+    written before (lineBytes l rest) TL (found.Line l) refl (omega arith) (omega arith) (simp (h .0, h .1, ranged-line l r))
 
 -- So has a figure, and so is it.
 pub figure-fields : (before rest : List ℕ) (f : Figure) → BlockRanged (f .block) → f .cite ≤ 4000
     → figureOf (before ++ figureBytes f rest) (length before) ≡ f
-unfolding figureOf
 figure-fields before rest f r small =
-    simp (
-      block-fields before (word (f .cite) rest) 70 71 (f .block) r,
-      last-field before rest 70 71 (f .cite) (f .block) small,
-    )
+    let h = block-back before rest 70 71 (f .cite) (f .block) r small in simp (h .0, h .1)
 
 pub figure-after : (before rest : List ℕ) (f : Figure) → BlockRanged (f .block) → f .cite ≤ 4000
     → recordAt (before ++ figureBytes f rest) (length before) ≡ found.Figure f
-unfolding kindOf markAt sizeOf fieldsOf inRange
+unfolding kindOf markAt fieldsOf
 figure-after before rest f r small =
-    written before (figureBytes f rest) mark.Figure (found.Figure f) refl (omega arith) (omega arith)
-    (ap found.Figure (figure-fields before rest f r small)) (ranged-block (f .block) r)
+    let h = block-back before rest 70 71 (f .cite) (f .block) r small in
+    written before (figureBytes f rest) FG (found.Figure f) refl (omega arith) (omega arith) (simp (h .0, h .1, ranged-block (f .block) r))
 
--- A specification that was written has its fields.
-spec-fields : (before rest : List ℕ) (g : Spec) → SpecRanged g
-    → specOf (before ++ specBytes g rest) (length before) ≡ g
-unfolding specOf wordAt
+-- A specification that was written has its fields, and it is read back.
+spec-fields : (before rest : List ℕ) (g : Spec) → SpecRanged g → specOf (before ++ specBytes g rest) (length before) ≡ g
+unfolding wordAt
 spec-fields before rest g r =
     let tail = specBytes g rest in
-    let at1 : wordAt (before ++ tail) (length before + 2) ≡ g .htmin
-    = word-after before tail 2 ∙ bytes-word (g .htmin) (omega arith) in
-    let at2 : wordAt (before ++ tail) (length before + 6) ≡ g .htmax
-    = word-after before tail 6 ∙ bytes-word (g .htmax) (omega arith) in
-    let at3 : wordAt (before ++ tail) (length before + 10) ≡ g .smin
-    = word-after before tail 10 ∙ bytes-word (g .smin) (omega arith) in
-    let at4 : wordAt (before ++ tail) (length before + 14) ≡ g .smax
-    = word-after before tail 14 ∙ bytes-word (g .smax) (omega arith) in
-    let at5 : wordAt (before ++ tail) (length before + 18) ≡ g .sides
-    = word-after before tail 18 ∙ bytes-word (g .sides) (omega arith) in
-    let at6 : wordAt (before ++ tail) (length before + 22) ≡ g .alpha
-    = word-after before tail 22 ∙ bytes-word (g .alpha) (omega arith) in
-    let at7 : wordAt (before ++ tail) (length before + 26) ≡ g .beta
-    = word-after before tail 26 ∙ bytes-word (g .beta) (omega arith) in
-    simp (at1, at2, at3, at4, at5, at6, at7)
+    simp (
+      word-back before tail 2 (g .htmin) (omega arith) refl,
+      word-back before tail 6 (g .htmax) (omega arith) refl,
+      word-back before tail 10 (g .smin) (omega arith) refl,
+      word-back before tail 14 (g .smax) (omega arith) refl,
+      word-back before tail 18 (g .sides) (omega arith) refl,
+      word-back before tail 22 (g .alpha) (omega arith) refl,
+      word-back before tail 26 (g .beta) (omega arith) refl,
+    )
 
--- It is read back.
 pub spec-after : (before rest : List ℕ) (g : Spec) → SpecRanged g
     → recordAt (before ++ specBytes g rest) (length before) ≡ found.Spec g
-unfolding kindOf markAt sizeOf fieldsOf inRange
+unfolding kindOf markAt fieldsOf
 spec-after before rest g r =
-    written before (specBytes g rest) mark.Spec (found.Spec g) refl (omega arith) (omega arith)
-    (ap found.Spec (spec-fields before rest g r)) (ranged-spec g r)
+    written before (specBytes g rest) GS (found.Spec g) refl (omega arith) (omega arith)
+    (simp (spec-fields before rest g r, ranged-spec g r))
+
+-- So is a folio.
+pub folio-after : (before rest : List ℕ) (f : ℕ) → FolioRanged f
+    → recordAt (before ++ folioBytes (stated f) rest) (length before) ≡ found.Folio f
+unfolding wordAt kindOf markAt fieldsOf
+folio-after before rest f r =
+    let tail = folioBytes (stated f) rest in
+    written before tail FO (found.Folio f) refl (omega arith) (omega arith)
+    (simp (word-back before tail 2 f (omega arith) refl, ranged-folio f r))
 
 -- The end is read back.
 pub end-after : (before rest : List ℕ) → recordAt (before ++ 69 ∷ 68 ∷ rest) (length before) ≡ found.End
-unfolding kindOf markAt sizeOf fieldsOf inRange
-end-after before rest = written before (69 ∷ 68 ∷ rest) mark.End found.End refl (omega arith) (omega arith) refl refl
+unfolding kindOf markAt fieldsOf
+end-after before rest = written before (69 ∷ 68 ∷ rest) ED found.End refl (omega arith) (omega arith) refl

@@ -63,18 +63,6 @@ has c at inside =
       field = inside;
     }
 
-field-requires : tie.Need-field-requires
-field-requires c κs = has c _ (omega arith)
-
-field-requires-2 : tie.Need-field-requires-2
-field-requires-2 c κs = has (c .before) _ (omega arith)
-
-field-requires-3 : tie.Need-field-requires-3
-field-requires-3 c κs = has (c .before .before) _ (omega arith)
-
-field-requires-4 : tie.Need-field-requires-4
-field-requires-4 c κs = has (c .before .before .before) _ (omega arith)
-
 returns-4 : tie.Need-returns-4
 unfolding blockWords
 returns-4 c =
@@ -92,16 +80,9 @@ returns-4 c =
 pub galley-probe-block-spec : {M : Type 1} → statement M
 galley-probe-block-spec =
     tie.close
-    (tie.spec
-    (λ c κs. search needs)
-    (λ c. search needs)
-    (λ c. search needs)
-    returns
-    (λ c κs. search needs)
-    returns-2
-    returns-3
-    field-requires
-    field-requires-2
-    field-requires-3
-    field-requires-4
+    (tie.spec (λ c κs. search needs) (λ c. search needs) (λ c. search needs) returns (λ c κs. search needs) returns-2 returns-3
+    (λ c κs. has c _ (omega arith))
+    (λ c κs. has (c .before) _ (omega arith))
+    (λ c κs. has (c .before .before) _ (omega arith))
+    (λ c κs. has (c .before .before .before) _ (omega arith))
     returns-4)

@@ -29,11 +29,4 @@ returns-2 c =
 pub galley-probe-read-spec : {M : Type 1} → statement M
 galley-probe-read-spec =
     tie.close
-    (tie.spec
-    (λ c κs. search needs)
-    (λ c. search needs)
-    cast-t8
-    cast-t9
-    (λ c. search needs)
-    returns
-    returns-2)
+    (tie.spec (λ c κs. search needs) (λ c. search needs) cast-t8 cast-t9 (λ c. search needs) returns returns-2)

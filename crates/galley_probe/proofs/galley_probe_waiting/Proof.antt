@@ -27,9 +27,6 @@ known-from-requires : tie.Need-known-from-requires
 known-from-requires c κs =
     (sound _ _ (sym (c .before .before .before .before .before .read-galley .ensures) ∙ c .before .before .before .reading .given .1) .figures, c .if1 .left)
 
-waiting-floats-requires : tie.Need-waiting-floats-requires
-waiting-floats-requires c κs = c .known-from .ensures
-
 cast-result : tie.Need-cast-result
 cast-result c =
     let a = c .before .before .before .before .before .before .before .before .before .args in
@@ -50,13 +47,5 @@ returns-3 c =
 pub galley-probe-waiting-spec : {M : Type 1} → statement M
 galley-probe-waiting-spec =
     tie.close
-    (tie.spec
-    (λ c κs. search needs)
-    (λ c. search needs)
-    (λ c. search needs)
-    returns
-    returns-2
-    known-from-requires
-    waiting-floats-requires
-    cast-result
-    returns-3)
+    (tie.spec (λ c κs. search needs) (λ c. search needs) (λ c. search needs) returns returns-2 known-from-requires
+    (λ c κs. c .known-from .ensures) cast-result returns-3)

@@ -1,45 +1,26 @@
--- `galley::place::kind_of` meets its contract. At each return the tests before it say which mark the two bytes are.
-use borrow.Author.Tests.{eq-eqb, ne-eqb}
-use Rattle.galley.specs.Mark.{kindOf}
+-- `galley::place::kind_of` meets its contract. Each arm says which mark it is, and its row is the definition's.
+use borrow.Author.Needs.{needs}
+use borrow.Author.Tests.{ne-eqb}
+use Rattle.galley.specs.Place.{kindOf}
 use Rattle.galley.proofs.place.kind_of.Statement.{statement}
 use Rattle.galley.proofs.place.kind_of.Tie as tie
 
-returns : tie.Need-returns
+unknown : tie.Need-returns-6
 unfolding kindOf
-returns c = simp (eq-eqb _ _ (c .if1 .taken))
-
-returns-2 : tie.Need-returns-2
-unfolding kindOf
-returns-2 c = simp (ne-eqb _ _ (c .before .if1 .left), eq-eqb _ _ (c .if2 .taken))
-
-returns-3 : tie.Need-returns-3
-unfolding kindOf
-returns-3 c =
-    simp (
-      ne-eqb _ _ (c .before .before .if1 .left),
-      ne-eqb _ _ (c .before .if2 .left),
-      eq-eqb _ _ (c .if3 .taken),
-    )
-
-returns-4 : tie.Need-returns-4
-unfolding kindOf
-returns-4 c =
-    simp (
-      ne-eqb _ _ (c .before .before .before .if1 .left),
-      ne-eqb _ _ (c .before .before .if2 .left),
-      ne-eqb _ _ (c .before .if3 .left),
-      eq-eqb _ _ (c .if4 .taken),
-    )
-
-returns-5 : tie.Need-returns-5
-unfolding kindOf
-returns-5 c =
-    simp (
-      ne-eqb _ _ (c .before .before .before .if1 .left),
-      ne-eqb _ _ (c .before .before .if2 .left),
-      ne-eqb _ _ (c .before .if3 .left),
-      ne-eqb _ _ (c .if4 .left),
-    )
+unknown c =
+    let no = c .before .match .rest in
+    simp (ne-eqb _ _ (no .0 .0 .0 .0 .1), ne-eqb _ _ (no .0 .0 .0 .1), ne-eqb _ _ (no .0 .0 .1), ne-eqb _ _ (no .0 .1), ne-eqb _ _ (no .1))
+    (c .row6 .ensures)
 
 pub kind-of-spec : {M : Type 1} → statement M
-kind-of-spec = tie.close (tie.spec returns returns-2 returns-3 returns-4 returns-5)
+unfolding kindOf
+kind-of-spec =
+    tie.close
+    (tie.spec
+    (λ c κs. search needs) (λ c κs. search needs) (λ c κs. search needs) (λ c κs. search needs) (λ c κs. search needs) (λ c κs. search needs)
+    (λ c. simp (c .before .match .keys1) (c .row .ensures))
+    (λ c. simp (c .before .match .keys2) (c .row2 .ensures))
+    (λ c. simp (c .before .match .keys3) (c .row3 .ensures))
+    (λ c. simp (c .before .match .keys4) (c .row4 .ensures))
+    (λ c. simp (c .before .match .keys5) (c .row5 .ensures))
+    unknown)

@@ -4,9 +4,6 @@ use Rattle.galley.specs.Range.{blockInRange}
 use Rattle.galley.proofs.range.block_in_range.Statement.{statement}
 use Rattle.galley.proofs.range.block_in_range.Tie as tie
 
-returns : tie.Need-returns
-unfolding blockInRange
-returns c = refl
-
 pub block-in-range-spec : {M : Type 1} → statement M
-block-in-range-spec = tie.close (tie.spec returns)
+unfolding blockInRange
+block-in-range-spec = tie.close (tie.spec (λ c. refl))

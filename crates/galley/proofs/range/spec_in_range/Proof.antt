@@ -4,9 +4,6 @@ use Rattle.galley.specs.Range.{specInRange}
 use Rattle.galley.proofs.range.spec_in_range.Statement.{statement}
 use Rattle.galley.proofs.range.spec_in_range.Tie as tie
 
-returns : tie.Need-returns
-unfolding specInRange
-returns c = refl
-
 pub spec-in-range-spec : {M : Type 1} → statement M
-spec-in-range-spec = tie.close (tie.spec returns)
+unfolding specInRange
+spec-in-range-spec = tie.close (tie.spec (λ c. refl))

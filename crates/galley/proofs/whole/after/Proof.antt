@@ -1,0 +1,22 @@
+-- `galley::whole::after` meets its contract. Each arm is the definition's clause for that record.
+use borrow.Author.Needs.{needs}
+use Rattle.galley.specs.Whole.{after}
+use Rattle.galley.proofs.whole.after.Statement.{statement}
+use Rattle.galley.proofs.whole.after.Tie as tie
+
+pub after-spec : {M : Type 1} → statement M
+unfolding after
+after-spec =
+    tie.close
+    (tie.spec
+    (λ c. search needs) (λ c κs. search needs) (λ c κs. search needs)
+    (λ c. search needs) (λ c κs. search needs) (λ c κs. search needs)
+    (λ c. search needs) (λ c κs. search needs) (λ c κs. search needs)
+    (λ c. search needs) (λ c κs. search needs) (λ c. search needs) (λ c κs. search needs)
+    (λ c. search needs) (λ c κs. search needs)
+    (λ c. simp (c .before .before .before .found .given .1) cc)
+    (λ c. simp (c .before .before .before .found2 .given .1) cc)
+    (λ c. simp (c .before .before .before .found3 .given .1) cc)
+    (λ c. simp (c .before .before .found4 .given .1) (c .cited .ensures))
+    (λ c. simp (c .before .enum-told .given .1) (c .closed .ensures))
+    (λ c. simp (c .before .before .found5 .given .1) (c .refused .ensures)))

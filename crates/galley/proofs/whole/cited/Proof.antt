@@ -1,0 +1,23 @@
+-- `galley::whole::cited` meets its contract. The two tests of a citation are the definition's.
+use borrow.Author.Needs.{needs}
+use Rattle.galley.specs.Whole.{cited}
+use Rattle.galley.proofs.whole.cited.Statement.{statement}
+use Rattle.galley.proofs.whole.cited.Tie as tie
+
+pub cited-spec : {M : Type 1} → statement M
+unfolding cited
+cited-spec =
+    tie.close
+    (tie.spec
+    (λ c κs. search needs)
+    (λ c κs. search needs)
+    (λ c. simp (← c .before .before .before .before .before .size .ensures, c .before .if1 .taken) (c .refused .ensures))
+    (λ c κs. search needs)
+    (λ c.
+    simp (← c .before .before .before .before .before .before .size .ensures, c .before .before .if1 .left, c .before .if2 .taken)
+    (c .refused2 .ensures))
+    (λ c κs. search needs)
+    (λ c κs. search needs)
+    (λ c.
+    simp (← c .before .before .before .before .before .before .before .size .ensures, c .before .before .before .if1 .left, c .before .before .if2 .left)
+    cc))

@@ -1,0 +1,12 @@
+-- `galley::whole::closed` meets its contract. By whether anything follows.
+use borrow.Author.Needs.{needs}
+use borrow.Author.Tests.{lt-ltb, le-ltb}
+use Rattle.galley.specs.Whole.{closed}
+use Rattle.galley.proofs.whole.closed.Statement.{statement}
+use Rattle.galley.proofs.whole.closed.Tie as tie
+
+pub closed-spec : {M : Type 1} → statement M
+unfolding closed
+closed-spec =
+    tie.close
+    (tie.spec (λ c κs. search needs) (λ c. simp (lt-ltb _ _ (c .before .if1 .taken)) (c .refused .ensures)) (λ c. simp (le-ltb _ _ (c .before .if1 .left))))

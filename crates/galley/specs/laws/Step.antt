@@ -1,0 +1,141 @@
+-- What one record more tells of a galley: reading goes on and is known so far, or its answer is right.
+use Prim.Native.Nat.{ℕ, _+_, _-_, _≤_, _<_}
+use native.Mathlib.Omega.{arith}
+use mathlib.Core.Bool.{_||_}
+use mathlib.Core.List.{List}
+use mathlib.Core.Path.{_≡_, refl}
+use lib.ListN.{length}
+use lib.Dec.{ltb, eqb}
+use borrow.Author.Tests.{ltb-true, ltb-false, eqb-false}
+use Rattle.galley.specs.Word.{markAt}
+use Rattle.galley.specs.Place.{line, GS, FO, TL, FG, ED, kindOf, misplaced, tooEarly, tooMany, unfit}
+use Rattle.galley.specs.Record.{lineOf, figureOf, recordAt}
+use Rattle.galley.specs.Whole.{moved, refused, cited, closed, after, stepFrom}
+use Rattle.galley.specs.Block.{offset}
+use Rattle.galley.specs.Range.{SpecRanged, BlockRanged, LineRanged}
+use Rattle.galley.specs.Sound.{Sound}
+use Rattle.galley.specs.laws.Pick.{pick-has, or-false}
+use Rattle.galley.specs.laws.Place.{kind-sized, Fits, unfit-fits}
+use Rattle.galley.specs.laws.Record.{Found, found-at}
+use Rattle.galley.specs.laws.Reached.{Reached}
+use Rattle.galley.specs.laws.More.{spec-reached, folio-reached, line-reached, figure-reached}
+use Rattle.galley.specs.declared.Kind.{Kind}
+use Rattle.galley.specs.declared.Spec.{Spec}
+use Rattle.galley.specs.declared.Line.{Line}
+use Rattle.galley.specs.declared.Figure.{Figure}
+use Rattle.galley.specs.declared.Record.{Record}
+use Rattle.galley.specs.declared.Record.the-variants as found
+use Rattle.galley.specs.declared.Sofar.{Sofar}
+use Rattle.galley.specs.declared.Reading.{Reading}
+use Rattle.galley.specs.declared.Reading.the-variants as reads
+use Rattle.galley.specs.declared.Step.{Step}
+use Rattle.galley.specs.declared.Step.the-variants.{On, Done}
+
+-- A galley is sound, and a refusal has a number from 1 to 8.
+unfoldable pub Right : List ℕ → Reading → Type 0
+Right bytes (reads.Galley g) = Sound bytes g
+Right bytes (reads.Refused number place) = (1 ≤ number) × (number ≤ 8)
+
+-- Where reading goes on, it has come farther, and what was read is known; where it is done, the answer is right.
+unfoldable pub Fine : List ℕ → Sofar → Step → Type 0
+Fine bytes so (On next) = (so .at < next .at) × Reached bytes next
+Fine bytes so (Done reading) = Right bytes reading
+
+-- A record that was read is in range.
+module _ (bytes : List ℕ) (at : ℕ) where
+  spec-read-ranged : {g : Spec} → recordAt bytes at ≡ found.Spec g → SpecRanged g
+  unfolding Found
+  spec-read-ranged e = let h = rw e at (found-at bytes at) in rw (h .same) (h .fine)
+
+  line-read-ranged : {l : Line} → recordAt bytes at ≡ found.Line l → LineRanged l
+  unfolding Found
+  line-read-ranged e = let h = rw e at (found-at bytes at) in rw (h .same) (h .fine)
+
+  figure-read-ranged : {f : Figure} → recordAt bytes at ≡ found.Figure f → BlockRanged (f .block)
+  unfolding Found
+  figure-read-ranged e = let h = rw e at (found-at bytes at) in rw (h .same) (h .fine)
+
+module _ (bytes : List ℕ) (so : Sofar) (r : Reached bytes so) where
+  refused-fine : (number at : ℕ) → 1 ≤ number → number ≤ 8 → Fine bytes so (refused number at)
+  unfolding Fine Right
+  refused-fine number at low high = (low, high)
+
+  -- A figure that is rightly cited is read, and any other is refused.
+  cited-fine : (f : Figure) → Fits (kindOf FG) so → recordAt bytes (so .at) ≡ found.Figure f → f ≡ figureOf bytes (so .at)
+      → so .at + kindOf FG .size ≤ length bytes → Fine bytes so (cited (moved so (kindOf FG)) f (so .at))
+  unfolding cited Fine kindOf
+  cited-fine f fits e same there =
+      let lines = so .galley .text .count in
+      pick-has (Fine bytes so) (eqb (f .cite) 0 || ltb lines (f .cite)) _ _ (λ _. refused-fine 6 (so .at) (omega arith) (omega arith)) (λ within.
+      pick-has (Fine bytes so) (ltb (f .cite) (so .last)) _ _ (λ _. refused-fine 7 (so .at) (omega arith) (omega arith)) (λ grows.
+      let w = or-false (eqb (f .cite) 0) (ltb lines (f .cite)) within in (
+        omega arith,
+        figure-reached bytes so r f fits e same there (omega (arith, eqb-false (f .cite) 0 (w .0))) (ltb-false lines (f .cite) (w .1))
+            (ltb-false (f .cite) (so .last) grows),
+      )))
+
+  -- At the end all is known.
+  closed-fine : Fits (kindOf ED) so → so .at + kindOf ED .size ≤ length bytes → Fine bytes so (closed bytes (moved so (kindOf ED)))
+  unfolding closed Fine Right kindOf
+  closed-fine fits there =
+      let g = so .galley in
+      pick-has (Fine bytes so) (ltb (so .at + 2) (length bytes)) _ _ (λ _. refused-fine 8 (so .at + 2) (omega arith) (omega arith)) (λ none.
+      let whole = ltb-false (so .at + 2) (length bytes) none in
+      let line : (k : ℕ) → 1 ≤ k → k ≤ g .text .count → LineRanged (lineOf bytes (offset (g .text) k))
+      = λ k one h. line-read-ranged bytes (offset (g .text) k) (r .textRead k one h) in
+      record {
+        someLines = fits .timely (omega arith);
+        fewLines = r .shape .fewLines;
+        fewFigures = r .shape .fewFigures;
+        specRanged = spec-read-ranged bytes 0 (r .head .specRead (fits .soon));
+        specRead = r .head .specRead (fits .soon);
+        someFolio = r .head .folio .some;
+        fewFolios = r .head .folio .few;
+        opens = r .head .opens (fits .soon);
+        text = record { within = omega arith; ranged = λ k one h. line k one h .block };
+        textRead = r .textRead;
+        legals = λ k one h. line k one h .legals;
+        figures =
+            record {
+              within = omega arith;
+              ranged = λ k one h. figure-read-ranged bytes (offset (g .figures) k) (r .figuresRead k one h);
+            };
+        figuresRead = r .figuresRead;
+        citations = r .citations;
+        follow = r .shape .follow;
+        ends = omega arith;
+      })
+
+  after-fine : (found : Record) → recordAt bytes (so .at) ≡ found → Found bytes (so .at) found
+      → Fits (kindOf (markAt bytes (so .at))) so
+      → Fine bytes so (after bytes (moved so (kindOf (markAt bytes (so .at)))) (so .at) found)
+  unfolding after Found Fine
+  after-fine (found.Spec g) e h fits =
+      rw (h .marked) (omega (arith, kind-sized GS), spec-reached bytes so r g (rw (h .marked) at fits) e (h .there))
+  after-fine (found.Folio f) e h fits =
+      rw (h .marked) (omega (arith, kind-sized FO), folio-reached bytes so r f (rw (h .marked) at fits) e (rw (h .same) (h .fine)) (h .there))
+  after-fine (found.Line l) e h fits =
+      rw (h .marked) (omega (arith, kind-sized TL), line-reached bytes so r l (rw (h .marked) at fits) e (h .same) (h .there))
+  after-fine (found.Figure f) e h fits =
+      rw (h .marked) (cited-fine f (rw (h .marked) at fits) e (h .same) (h .there))
+  after-fine found.End e h fits =
+      rw (h .marked) (closed-fine (rw (h .marked) at fits) (h .there))
+  after-fine (found.Refused number place) e h fits = refused-fine number (so .at) (h .low) (omega (arith, h .high))
+
+  unfit-low : (kind : Kind) → unfit kind so ≤ 5
+  unfit-low kind =
+      pick-has (_≤ 5) (misplaced kind so) _ _ (λ _. omega arith) (λ _.
+      pick-has (_≤ 5) (tooEarly kind so) _ _ (λ _. omega arith) (λ _.
+      pick-has (_≤ 5) (tooMany kind so) _ _ (λ _. omega arith) (λ _. omega arith)))
+
+  -- One record more.
+  pub step-fine : Fine bytes so (stepFrom bytes so)
+  unfolding stepFrom
+  step-fine =
+      let kind = kindOf (markAt bytes (so .at)) in
+      let number = unfit kind so in
+      pick-has (Fine bytes so) (ltb (length bytes - so .at) 2) _ _ (λ _. refused-fine 1 (so .at) (omega arith) (omega arith)) (λ two.
+      pick-has (Fine bytes so) (ltb 0 number) _ _
+      (λ some. refused-fine number (so .at) (ltb-true 0 number some) (omega (arith, unfit-low kind))) (λ none.
+      after-fine (recordAt bytes (so .at)) refl (found-at bytes (so .at))
+      (unfit-fits kind so (omega (arith, ltb-false 0 number none)))))
