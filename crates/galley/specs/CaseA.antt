@@ -29,9 +29,8 @@ caseA = specBytes ++ lineBytes ++ lineBytes ++ lineBytes ++ figureBytes ++ 69 âˆ
 abbrev galleyA : Galley
 galleyA =
     record {
-      spec = record { htmin = 30; htmax = 30; smin = 0; smax = 0; sides = 1; alpha = 1; beta = 1 };
+      spec = record { htmin = 30; htmax = 30; smin = 0; smax = 0; sides = 1; alpha = 1; beta = 1; edition = 1; lastmin = 0 };
       folio = 1;
-      lastmin = 0;
       text = record { first = 30; count = 3 };
       figures = record { first = 84; count = 1 };
     }

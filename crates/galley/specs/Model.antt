@@ -61,7 +61,7 @@ modelOf bytes g =
             sides = sidesIn g;
             alpha = g .spec .alpha;
             beta = g .spec .beta;
-            lastmin = g .lastmin;
+            lastmin = g .spec .lastmin;
           };
       floats = 1;
       stream = streamsOf bytes g;

@@ -10,6 +10,9 @@ use Rattle.galley.specs.declared.Sofar.{Sofar}
 abbrev pub GS : ℕ
 GS = 0x4753
 
+abbrev pub G2 : ℕ
+G2 = 0x4732
+
 abbrev pub FO : ℕ
 FO = 0x464f
 
@@ -47,17 +50,25 @@ abbrev pub rowOf : ℕ → ℕ → ℕ → ℕ → ℕ → Kind
 rowOf stage earliest latest most size =
     record { stage = stage; earliest = earliest; latest = latest; most = most; size = size }
 
--- The kind of record that a mark opens. The specification is first and comes once, a folio may stand straight after it (document
--- 02, S-1), figures follow all lines, and the end follows all of them; an unknown mark fits nowhere, and only its two bytes are
--- known.
+-- The kind of record that a mark opens. The specification, of either edition (document 02, S-11), is first and comes once, a folio
+-- may stand straight after it (S-1), figures follow all lines, and the end follows all of them; an unknown mark fits nowhere, and
+-- only its two bytes are known.
 unfoldable pub kindOf : ℕ → Kind
 kindOf mark =
     pick (eqb mark GS) (rowOf spec nothing nothing 1 30)
+    (pick (eqb mark G2) (rowOf spec nothing nothing 1 34)
     (pick (eqb mark FO) (rowOf folio spec spec 1 6)
     (pick (eqb mark TL) (rowOf line spec line 4000 18)
     (pick (eqb mark FG) (rowOf figure spec figure 200 18)
     (pick (eqb mark ED) (rowOf end spec figure 1 2)
-    (rowOf nothing spec nothing 0 2)))))
+    (rowOf nothing spec nothing 0 2))))))
+
+-- The mark of a specification of an edition, and its bytes (document 02, S-11).
+abbrev pub specMark : ℕ → ℕ
+specMark edition = pick (eqb edition 2) G2 GS
+
+abbrev pub specEnd : ℕ → ℕ
+specEnd edition = pick (eqb edition 2) 34 30
 
 -- A record that comes too soon or too late in the order of stages: number 2.
 abbrev pub misplaced : Kind → Sofar → Bool

@@ -1,6 +1,8 @@
 -- The ranges that number 3 guards: document 01, "The galley file".
 use Prim.Native.Nat.{ℕ, _≤_}
 use mathlib.Core.Bool.{Bool, _&&_}
+use mathlib.Core.Logic.{_⊎_}
+use mathlib.Core.Path.{_≡_}
 use lib.Dec.{leb}
 use Rattle.galley.specs.declared.Spec.{Spec}
 use Rattle.galley.specs.declared.Block.{Block}
@@ -18,6 +20,7 @@ specInRange g =
     && leb (g .sides) 2
     && leb (g .alpha) 1000
     && leb (g .beta) 1000
+    && leb (g .lastmin) (g .htmax)
 
 -- A first folio is 1 to 9,999 (document 02, S-1).
 abbrev pub folioInRange : ℕ → Bool
@@ -31,7 +34,11 @@ blockInRange b = leb (b .height) 100000 && leb (b .least) (b .most) && leb (b .m
 abbrev pub lineInRange : Line → Bool
 lineInRange l = blockInRange (l .block) && leb (l .legal) 1
 
--- The same as inequalities: a specification in range.
+-- A specification of the first edition, which holds the last page to no height, or of the second (document 02, S-11).
+abbrev pub Edition : Spec → Type 0
+Edition g = ((g .edition ≡ 1) × (g .lastmin ≡ 0)) ⊎ (g .edition ≡ 2)
+
+-- The same as inequalities: a specification in range, of one of the editions.
 pub record SpecRanged (g : Spec) : Type 0 where
   pub htmins : g .htmin ≤ g .htmax
   pub htmaxSome : 1 ≤ g .htmax
@@ -42,6 +49,8 @@ pub record SpecRanged (g : Spec) : Type 0 where
   pub sidesTwo : g .sides ≤ 2
   pub alphas : g .alpha ≤ 1000
   pub betas : g .beta ≤ 1000
+  pub lastmins : g .lastmin ≤ g .htmax
+  pub edition : Edition g
 
 -- A first folio in range.
 pub record FolioRanged (f : ℕ) : Type 0 where

@@ -7,7 +7,7 @@ use lib.Dec.{ltb, eqb}
 use Rattle.model.specs.Gather.{pick}
 use Rattle.galley.specs.Word.{wordAt, markAt}
 use Rattle.galley.specs.Range.{specInRange, folioInRange, blockInRange, lineInRange}
-use Rattle.galley.specs.Place.{GS, FO, TL, FG, ED, kindOf}
+use Rattle.galley.specs.Place.{GS, G2, FO, TL, FG, ED, kindOf}
 use Rattle.galley.specs.declared.Spec.{Spec}
 use Rattle.galley.specs.declared.Block.{Block}
 use Rattle.galley.specs.declared.Line.{Line}
@@ -15,9 +15,9 @@ use Rattle.galley.specs.declared.Figure.{Figure}
 use Rattle.galley.specs.declared.Record.{Record}
 use Rattle.galley.specs.declared.Record.the-variants as found
 
--- The fields after a `GS`.
-abbrev pub specOf : List ℕ → ℕ → Spec
-specOf bytes at =
+-- The fields after the mark of a specification of an edition, in which the last page is held to lastMin.
+abbrev pub specOf : ℕ → ℕ → List ℕ → ℕ → Spec
+specOf edition lastmin bytes at =
     record {
       htmin = wordAt bytes (at + 2);
       htmax = wordAt bytes (at + 6);
@@ -26,6 +26,8 @@ specOf bytes at =
       sides = wordAt bytes (at + 18);
       alpha = wordAt bytes (at + 22);
       beta = wordAt bytes (at + 26);
+      edition = edition;
+      lastmin = lastmin;
     }
 
 -- The field after an `FO`.
@@ -71,8 +73,9 @@ abbrev pub ranged : Bool → Record → ℕ → Record
 ranged fine r at = pick fine r (found.Refused 3 at)
 
 -- A specification in range.
-abbrev pub specAt : List ℕ → ℕ → Record
-specAt bytes at = ranged (specInRange (specOf bytes at)) (found.Spec (specOf bytes at)) at
+abbrev pub specAt : ℕ → ℕ → List ℕ → ℕ → Record
+specAt edition lastmin bytes at =
+    ranged (specInRange (specOf edition lastmin bytes at)) (found.Spec (specOf edition lastmin bytes at)) at
 
 -- A first folio in range.
 abbrev pub folioAt : List ℕ → ℕ → Record
@@ -86,15 +89,16 @@ lineAt bytes at = ranged (lineInRange (lineOf bytes at)) (found.Line (lineOf byt
 abbrev pub figureAt : List ℕ → ℕ → Record
 figureAt bytes at = ranged (blockInRange (blockOf bytes at)) (found.Figure (figureOf bytes at)) at
 
--- What the fields after a mark say; an unknown mark is 2.
+-- What the fields after a mark say: a `G2` has an eighth, lastMin, which is 0 under `GS` (document 02, S-11); an unknown mark is 2.
 unfoldable pub fieldsOf : ℕ → List ℕ → ℕ → Record
 fieldsOf mark bytes at =
-    pick (eqb mark GS) (specAt bytes at)
+    pick (eqb mark GS) (specAt 1 0 bytes at)
+    (pick (eqb mark G2) (specAt 2 (wordAt bytes (at + 30)) bytes at)
     (pick (eqb mark FO) (folioAt bytes at)
     (pick (eqb mark TL) (lineAt bytes at)
     (pick (eqb mark FG) (figureAt bytes at)
     (pick (eqb mark ED) found.End
-    (found.Refused 2 at)))))
+    (found.Refused 2 at))))))
 
 -- The record at an offset: its mark is there (1), its fields are there (1), the mark is known (2) and the fields are in range (3).
 unfoldable pub recordAt : List ℕ → ℕ → Record

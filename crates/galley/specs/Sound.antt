@@ -5,6 +5,7 @@ use mathlib.Core.Logic.{_⊎_}
 use mathlib.Core.Path.{_≡_}
 use lib.ListN.{length}
 use Rattle.galley.specs.Record.{legalAt, citeAt, blockOf, lineOf, figureOf, recordAt}
+use Rattle.galley.specs.Place.{specEnd}
 use Rattle.galley.specs.Block.{offset, fieldOf}
 use Rattle.galley.specs.Range.{SpecRanged, BlockRanged}
 use Rattle.galley.specs.declared.Stream.{Stream}
@@ -24,7 +25,9 @@ Reads bytes stream due = (k : ℕ) → 1 ≤ k → k ≤ stream .count → recor
 -- The first folio stands in an `FO` straight after the specification, or there is none and it is 1; line 1 follows.
 abbrev pub Opening : List ℕ → Galley → Type 0
 Opening bytes g =
-    ((g .folio ≡ 1) × (g .text .first ≡ 30)) ⊎ ((recordAt bytes 30 ≡ found.Folio (g .folio)) × (g .text .first ≡ 36))
+    let after = specEnd (g .spec .edition) in
+    ((g .folio ≡ 1) × (g .text .first ≡ after))
+    ⊎ ((recordAt bytes after ≡ found.Folio (g .folio)) × (g .text .first ≡ after + 6))
 
 -- Citations never decrease along the stream.
 abbrev pub Growing : List ℕ → Stream → Type 0

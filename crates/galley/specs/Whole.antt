@@ -48,7 +48,7 @@ withFigure g figures =
 abbrev pub beginning : Sofar
 beginning =
     record {
-      galley = opened (record { htmin = 0; htmax = 0; smin = 0; smax = 0; sides = 0; alpha = 0; beta = 0 }) 1 0;
+      galley = opened (record { htmin = 0; htmax = 0; smin = 0; smax = 0; sides = 0; alpha = 0; beta = 0; edition = 0; lastmin = 0 }) 1 0;
       stage = nothing;
       count = 0;
       last = 0;

@@ -7,7 +7,8 @@ mod records; // records.rt: the record at an offset
 pub mod whole; // whole.rt: a galley, record by record
 pub mod word; // word.rt: bytes, fields and marks
 
-// The page specification that `GS` holds.
+// The page specification that a `GS` holds, or a `G2`: then the edition is 2, and the last page is held to `lastmin`. In the first
+// edition that is 0.
 pub struct Spec {
     pub htmin: u32,
     pub htmax: u32,
@@ -16,6 +17,8 @@ pub struct Spec {
     pub sides: u32,
     pub alpha: u32,
     pub beta: u32,
+    pub edition: u32,
+    pub lastmin: u32,
 }
 
 // The height of a block, a line or a figure, and the least and the greatest height of the space after it.
@@ -69,7 +72,6 @@ pub struct Stream {
 pub struct Galley {
     pub spec: Spec,
     pub folio: u32,
-    pub lastmin: u32,
     pub text: Stream,
     pub figures: Stream,
 }

@@ -7,6 +7,8 @@ use crate::Sofar;
 // The marks, two bytes each.
 pub const GS: u32 = 0x4753;
 
+pub const G2: u32 = 0x4732;
+
 pub const FO: u32 = 0x464f;
 
 pub const TL: u32 = 0x544c;
@@ -47,6 +49,7 @@ pub fn kind_of(mark: u32) -> Kind
 {
     match mark {
         GS => row(SPEC, NOTHING, NOTHING, 1, 30),
+        G2 => row(SPEC, NOTHING, NOTHING, 1, 34),
         FO => row(FOLIO, SPEC, SPEC, 1, 6),
         TL => row(LINE, SPEC, LINE, 4000, 18),
         FG => row(FIGURE, SPEC, FIGURE, 200, 18),

@@ -17,6 +17,7 @@ pub fn spec_in_range(g: Spec) -> bool
         & (g.sides <= 2)
         & (g.alpha <= 1000)
         & (g.beta <= 1000)
+        & (g.lastmin <= g.htmax)
 }
 
 // Whether a block's heights are in range.

@@ -12,6 +12,7 @@ use crate::Spec;
 use crate::place::ED;
 use crate::place::FG;
 use crate::place::FO;
+use crate::place::G2;
 use crate::place::GS;
 use crate::place::TL;
 
@@ -29,10 +30,10 @@ fn ranged(fine: bool, found: Record, at: usize) -> Record
     }
 }
 
-// A specification.
-fn spec_at(s: &[u8], at: usize) -> Record
+// A specification of an edition, in which the last page is held to `lastmin`.
+fn spec_at(s: &[u8], at: usize, edition: u32, lastmin: u32) -> Record
     requires { ⌜ at + 30 ≤ length (now s) ⌝ }
-    ensures { λ r. ⌜ r ≡ specAt (now (s .entry)) at ⌝ }
+    ensures { λ r. ⌜ r ≡ specAt edition lastmin (now (s .entry)) at ⌝ }
 {
     let g = Spec {
         htmin: crate::word::word_at(s, at + 2),
@@ -42,6 +43,8 @@ fn spec_at(s: &[u8], at: usize) -> Record
         sides: crate::word::word_at(s, at + 18),
         alpha: crate::word::word_at(s, at + 22),
         beta: crate::word::word_at(s, at + 26),
+        edition,
+        lastmin,
     };
     ranged(crate::range::spec_in_range(g), Record::Spec(g), at)
 }
@@ -95,7 +98,8 @@ fn fields_of(mark: u32, s: &[u8], at: usize) -> Record
     ensures { λ r. ⌜ r ≡ fieldsOf mark (now (s .entry)) at ⌝ }
 {
     match mark {
-        GS => spec_at(s, at),
+        GS => spec_at(s, at, 1, 0),
+        G2 => spec_at(s, at, 2, crate::word::word_at(s, at + 30)),
         FO => folio_at(s, at),
         TL => line_at(s, at),
         FG => figure_at(s, at),

@@ -79,6 +79,8 @@ fn beginning() -> Sofar
         sides: 0,
         alpha: 0,
         beta: 0,
+        edition: 0,
+        lastmin: 0,
     };
     Sofar {
         galley: opened(spec, 1, 0),

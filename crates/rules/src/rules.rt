@@ -88,7 +88,7 @@ pub fn start_fault(s: &[u8], g: Galley, a: usize, b: usize, i: usize, j: usize) 
 pub fn floor_of(g: Galley, last: bool) -> u32
     ensures { λ r. ⌜ ((bytes : List ℕ) → r ≡ floor (modelOf bytes g) last) ⌝ }
 {
-    if last { g.lastmin } else { g.spec.htmin }
+    if last { g.spec.lastmin } else { g.spec.htmin }
 }
 
 // The first of 16 and 17 that a page of this loosest height breaks, or 0.

@@ -25,7 +25,7 @@ allPlaced g i j = eqb i (g .text .count) && eqb j (g .figures .count)
 
 -- A page from (a, b) to (i, j) of this loosest height is not empty, and as high as rule 16 asks.
 abbrev pub worth : Galley → ℕ → ℕ → ℕ → ℕ → ℕ → Bool
-worth g a b i j loose = (ltb a i || ltb b j) && leb (pick (allPlaced g i j) (g .lastmin) (g .spec .htmin)) loose
+worth g a b i j loose = (ltb a i || ltb b j) && leb (pick (allPlaced g i j) (g .spec .lastmin) (g .spec .htmin)) loose
 
 -- A start that an entry has room for.
 pub record Startable (a b : ℕ) : Type 0 where

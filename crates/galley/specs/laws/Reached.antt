@@ -11,7 +11,7 @@ use lib.Dec.{eqb}
 use borrow.Author.Tests.{eqb-true, eqb-false}
 use Rattle.model.specs.Gather.{pick}
 use Rattle.galley.specs.Word.{wordAt}
-use Rattle.galley.specs.Place.{spec, line, figure}
+use Rattle.galley.specs.Place.{spec, line, figure, specEnd}
 use Rattle.galley.specs.Record.{citeAt, lineOf, figureOf, recordAt}
 use Rattle.galley.specs.Whole.{beginning}
 use Rattle.galley.specs.Range.{FolioRanged}
@@ -41,7 +41,7 @@ counted-more stage n so c up = go (eqb stage (so .stage)) refl
 pub record Shape (bytes : List ℕ) (g : Galley) (at : ℕ) : Type 0 where
   pub fewLines : g .text .count ≤ 4000
   pub fewFigures : g .figures .count ≤ 200
-  pub first : g .text .first ≤ 36
+  pub first : g .text .first ≤ 40
   pub follow : g .figures .first ≡ g .text .first + g .text .count * 18
   pub due : at ≡ g .figures .first + g .figures .count * 18
   pub within : at ≤ length bytes
@@ -49,7 +49,7 @@ pub record Shape (bytes : List ℕ) (g : Galley) (at : ℕ) : Type 0 where
 -- What is known of what stands before line 1: the specification, and an `FO` or none.
 pub record Head (bytes : List ℕ) (so : Sofar) : Type 0 where
   pub starts : so .stage < spec → so .at ≡ 0
-  pub ends : so .stage ≡ spec → so .at ≡ 30
+  pub ends : so .stage ≡ spec → so .at ≡ specEnd (so .galley .spec .edition)
   pub specRead : spec ≤ so .stage → recordAt bytes 0 ≡ found.Spec (so .galley .spec)
   pub folio : FolioRanged (so .galley .folio)
   pub opens : spec ≤ so .stage → Opening bytes (so .galley)

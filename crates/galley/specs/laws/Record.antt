@@ -3,14 +3,15 @@ use Prim.Native.Nat.{ℕ, _+_, _-_, _≤_}
 use native.Mathlib.Omega.{arith}
 use mathlib.Core.Bool.{Bool, true}
 use mathlib.Core.List.{List}
+use mathlib.Core.Logic.{inl, inr}
 use mathlib.Core.Path.{_≡_, refl}
 use lib.ListN.{length}
 use lib.Dec.{ltb, eqb}
 use borrow.Author.Tests.{ltb-false, eqb-true}
-use Rattle.galley.specs.Word.{markAt}
-use Rattle.galley.specs.Range.{specInRange, folioInRange, blockInRange, lineInRange, SpecRanged, FolioRanged, BlockRanged, LineRanged}
-use Rattle.galley.specs.Place.{GS, FO, TL, FG, ED, kindOf}
-use Rattle.galley.specs.Record.{specOf, openingFolio, blockOf, lineOf, figureOf, ranged, fieldsOf, recordAt}
+use Rattle.galley.specs.Word.{wordAt, markAt}
+use Rattle.galley.specs.Range.{specInRange, folioInRange, blockInRange, lineInRange, Edition, SpecRanged, FolioRanged, BlockRanged, LineRanged}
+use Rattle.galley.specs.Place.{GS, G2, FO, TL, FG, ED, specMark, kindOf}
+use Rattle.galley.specs.Record.{specOf, openingFolio, blockOf, lineOf, figureOf, ranged, specAt, fieldsOf, recordAt}
 use Rattle.galley.specs.laws.Pick.{pick-has}
 use Rattle.galley.specs.laws.Range.{spec-ranged, folio-ranged, block-ranged, line-ranged}
 use Rattle.galley.specs.declared.Figure.{Figure}
@@ -40,7 +41,7 @@ pub record RefusedAt (at number place : ℕ) : Type 0 where
 
 -- What a record that was read at an offset tells.
 unfoldable pub Found : List ℕ → ℕ → Record → Type 0
-Found bytes at (found.Spec g) = Stands SpecRanged bytes at GS g (specOf bytes at)
+Found bytes at (found.Spec g) = Stands SpecRanged bytes at (specMark (g .edition)) g (specOf (g .edition) (g .lastmin) bytes at)
 Found bytes at (found.Folio f) = Stands FolioRanged bytes at FO f (openingFolio bytes at)
 Found bytes at (found.Line l) = Stands LineRanged bytes at TL l (lineOf bytes at)
 Found bytes at (found.Figure f) = Stands FigureRanged bytes at FG f (figureOf bytes at)
@@ -62,13 +63,23 @@ module _ (bytes : List ℕ) (at : ℕ) where
       let is = eqb-true (markAt bytes at) mark e in
       record { marked = is; there = rw is at there; same = refl; fine = fine }
 
+  -- A specification of an edition.
+  spec-found : (mark edition lastmin : ℕ) → Edition (specOf edition lastmin bytes at) → specMark edition ≡ mark
+      → eqb (markAt bytes at) mark ≡ true → at + kindOf (markAt bytes at) .size ≤ length bytes
+      → Found bytes at (specAt edition lastmin bytes at)
+  unfolding Found
+  spec-found mark edition lastmin either is e there =
+      let g = specOf edition lastmin bytes at in
+      ranged-found (specInRange g) (found.Spec g) (λ r.
+      rw is (stands SpecRanged mark g e there (spec-ranged g either r)))
+
   fields-found : at + kindOf (markAt bytes at) .size ≤ length bytes → Found bytes at (fieldsOf (markAt bytes at) bytes at)
   unfolding fieldsOf Found
   fields-found there =
       let mark = markAt bytes at in
       pick-has (Found bytes at) (eqb mark GS) _ _ (λ e.
-      ranged-found (specInRange (specOf bytes at)) (found.Spec (specOf bytes at)) (λ r.
-      stands SpecRanged GS (specOf bytes at) e there (spec-ranged (specOf bytes at) r))) (λ _.
+      spec-found GS 1 0 (inl (refl, refl)) refl e there) (λ _.
+      pick-has (Found bytes at) (eqb mark G2) _ _ (λ e. spec-found G2 2 (wordAt bytes (at + 30)) (inr refl) refl e there) (λ _.
       pick-has (Found bytes at) (eqb mark FO) _ _ (λ e.
       ranged-found (folioInRange (openingFolio bytes at)) (found.Folio (openingFolio bytes at)) (λ r.
       stands FolioRanged FO (openingFolio bytes at) e there (folio-ranged (openingFolio bytes at) r))) (λ _.
@@ -79,7 +90,7 @@ module _ (bytes : List ℕ) (at : ℕ) where
       ranged-found (blockInRange (blockOf bytes at)) (found.Figure (figureOf bytes at)) (λ r.
       stands FigureRanged FG (figureOf bytes at) e there (block-ranged (blockOf bytes at) r))) (λ _.
       pick-has (Found bytes at) (eqb mark ED) _ _ (λ e. stands Ending ED tt e there tt)
-      (λ _. refused-found 2 (omega arith) (omega arith))))))
+      (λ _. refused-found 2 (omega arith) (omega arith)))))))
 
   -- A record that is read is either refused where it starts or stands whole and in range.
   pub found-at : Found bytes at (recordAt bytes at)

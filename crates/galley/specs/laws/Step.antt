@@ -3,19 +3,19 @@ use Prim.Native.Nat.{ℕ, _+_, _-_, _≤_, _<_}
 use native.Mathlib.Omega.{arith}
 use mathlib.Core.Bool.{_||_}
 use mathlib.Core.List.{List}
-use mathlib.Core.Path.{_≡_, refl}
+use mathlib.Core.Path.{_≡_, refl, ap, _∙_}
 use lib.ListN.{length}
 use lib.Dec.{ltb, eqb}
 use borrow.Author.Tests.{ltb-true, ltb-false, eqb-false}
 use Rattle.galley.specs.Word.{markAt}
-use Rattle.galley.specs.Place.{line, GS, FO, TL, FG, ED, kindOf, misplaced, tooEarly, tooMany, unfit}
+use Rattle.galley.specs.Place.{line, FO, TL, FG, ED, kindOf, misplaced, tooEarly, tooMany, unfit}
 use Rattle.galley.specs.Record.{lineOf, figureOf, recordAt}
 use Rattle.galley.specs.Whole.{moved, refused, cited, closed, after, stepFrom}
 use Rattle.galley.specs.Block.{offset}
 use Rattle.galley.specs.Range.{SpecRanged, BlockRanged, LineRanged}
 use Rattle.galley.specs.Sound.{Sound}
 use Rattle.galley.specs.laws.Pick.{pick-has, or-false}
-use Rattle.galley.specs.laws.Place.{kind-sized, Fits, unfit-fits}
+use Rattle.galley.specs.laws.Place.{kind-sized, spec-kind, spec-end, Fits, unfit-fits}
 use Rattle.galley.specs.laws.Record.{Found, found-at}
 use Rattle.galley.specs.laws.Reached.{Reached}
 use Rattle.galley.specs.laws.More.{spec-reached, folio-reached, line-reached, figure-reached}
@@ -111,7 +111,8 @@ module _ (bytes : List ℕ) (so : Sofar) (r : Reached bytes so) where
       → Fine bytes so (after bytes (moved so (kindOf (markAt bytes (so .at)))) (so .at) found)
   unfolding after Found Fine
   after-fine (found.Spec g) e h fits =
-      rw (h .marked) (omega (arith, kind-sized GS), spec-reached bytes so r g (rw (h .marked) at fits) e (h .there))
+      let is = ap kindOf (h .marked) ∙ spec-kind (g .edition) in
+      rw is (omega (arith, spec-end (g .edition) .0), spec-reached bytes so r g (rw is at fits) e (rw (spec-kind (g .edition)) at (h .there)))
   after-fine (found.Folio f) e h fits =
       rw (h .marked) (omega (arith, kind-sized FO), folio-reached bytes so r f (rw (h .marked) at fits) e (rw (h .same) (h .fine)) (h .there))
   after-fine (found.Line l) e h fits =

@@ -2,16 +2,19 @@
 use Prim.Native.Nat.{ℕ, _+_, _-_, _*_, _/_, _%_, _≤_, _<_}
 use native.Mathlib.Omega.{arith}
 use native.Mathlib.Nat.{add-assoc}
+use mathlib.Core.Bool.{true, false}
 use mathlib.Core.List.{List, _∷_, _++_}
-use mathlib.Core.Path.{_≡_, refl, ap, _∙_}
+use mathlib.Core.Logic.{inl, inr}
+use mathlib.Core.Path.{_≡_, refl, sym, ap, _∙_}
 use lib.ListN.{length, getD, length-append}
 use lib.Seq.{getD-append-add}
+use lib.Dec.{eqb}
 use borrow.Author.Tests.{le-ltb}
 use Rattle.galley.specs.Word.{wordAt, markAt}
-use Rattle.galley.specs.Place.{GS, FO, TL, FG, ED, kindOf}
-use Rattle.galley.specs.Range.{SpecRanged, FolioRanged, BlockRanged, LineRanged}
+use Rattle.galley.specs.Place.{GS, G2, FO, TL, FG, ED, kindOf}
+use Rattle.galley.specs.Range.{Edition, SpecRanged, FolioRanged, BlockRanged, LineRanged}
 use Rattle.galley.specs.Record.{heightAt, leastAt, mostAt, citeAt, specOf, blockOf, lineOf, figureOf, fieldsOf, recordAt}
-use Rattle.galley.specs.Write.{word, specBytes, folioBytes, stated, blockBytes, lineBytes, figureBytes}
+use Rattle.galley.specs.Write.{word, fieldBytes, editionBytes, specBytes, folioBytes, stated, blockBytes, lineBytes, figureBytes}
 use Rattle.galley.specs.laws.Range.{ranged-spec, ranged-folio, ranged-block, ranged-line}
 use Rattle.galley.specs.declared.Spec.{Spec}
 use Rattle.galley.specs.declared.Block.{Block}
@@ -105,12 +108,14 @@ figure-after before rest f r small =
     let h = block-back before rest 70 71 (f .cite) (f .block) r small in
     written before (figureBytes f rest) FG (found.Figure f) refl (omega arith) (omega arith) (simp (h .0, h .1, ranged-block (f .block) r))
 
--- A specification that was written has its fields, and it is read back.
-spec-fields : (before rest : List ℕ) (g : Spec) → SpecRanged g → specOf (before ++ specBytes g rest) (length before) ≡ g
+-- A specification that was written has its fields, after either mark,
+spec-fields : (before rest : List ℕ) (n edition lastmin : ℕ) (g : Spec) → SpecRanged g → g .edition ≡ edition → g .lastmin ≡ lastmin
+    → specOf edition lastmin (before ++ 71 ∷ n ∷ fieldBytes g rest) (length before) ≡ g
 unfolding wordAt
-spec-fields before rest g r =
-    let tail = specBytes g rest in
-    simp (
+spec-fields before rest n edition lastmin g r e l =
+    let tail : List ℕ = 71 ∷ n ∷ fieldBytes g rest in
+    rw (← e, ← l)
+    (simp (
       word-back before tail 2 (g .htmin) (omega arith) refl,
       word-back before tail 6 (g .htmax) (omega arith) refl,
       word-back before tail 10 (g .smin) (omega arith) refl,
@@ -118,14 +123,29 @@ spec-fields before rest g r =
       word-back before tail 18 (g .sides) (omega arith) refl,
       word-back before tail 22 (g .alpha) (omega arith) refl,
       word-back before tail 26 (g .beta) (omega arith) refl,
-    )
+    ))
 
+-- and it is read back.
 pub spec-after : (before rest : List ℕ) (g : Spec) → SpecRanged g
     → recordAt (before ++ specBytes g rest) (length before) ≡ found.Spec g
-unfolding kindOf markAt fieldsOf
-spec-after before rest g r =
-    written before (specBytes g rest) GS (found.Spec g) refl (omega arith) (omega arith)
-    (simp (spec-fields before rest g r, ranged-spec g r))
+unfolding wordAt kindOf markAt fieldsOf
+spec-after before rest g r = go (r .edition)
+  where
+    by-edition : {n : ℕ} → g .edition ≡ n
+        → recordAt (before ++ specBytes g rest) (length before) ≡ recordAt (before ++ editionBytes (eqb n 2) g rest) (length before)
+    by-edition e = ap (λ n. recordAt (before ++ editionBytes (eqb n 2) g rest) (length before)) e
+
+    go : Edition g → recordAt (before ++ specBytes g rest) (length before) ≡ found.Spec g
+    go (inl (first, none)) =
+        by-edition first
+        ∙ written before (editionBytes false g rest) GS (found.Spec g) refl (omega arith) (omega arith)
+        (simp (spec-fields before rest 83 1 0 g r first none, ranged-spec g r))
+    go (inr second) =
+        let tail = editionBytes true g rest in
+        let last = word-back before tail 30 (g .lastmin) (omega arith) refl in
+        by-edition second
+        ∙ written before tail G2 (found.Spec g) refl (omega arith) (omega arith)
+        (simp (spec-fields before (word (g .lastmin) rest) 50 2 _ g r second (sym last), ranged-spec g r))
 
 -- So is a folio.
 pub folio-after : (before rest : List ℕ) (f : ℕ) → FolioRanged f

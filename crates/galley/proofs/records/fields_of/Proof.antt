@@ -1,15 +1,23 @@
 -- `galley::records::fields_of` meets its contract. Each arm says which mark it is, whose size leaves room for its fields.
+use native.Mathlib.Omega.{arith}
 use borrow.Author.Tests.{ne-eqb}
 use Rattle.galley.specs.Place.{kindOf}
 use Rattle.galley.specs.Record.{fieldsOf}
 use Rattle.galley.proofs.records.fields_of.Statement.{statement}
 use Rattle.galley.proofs.records.fields_of.Tie as tie
 
-unknown : tie.Need-returns-6
+unknown : tie.Need-returns-7
 unfolding fieldsOf
 unknown c =
     let no = c .match .rest in
-    simp (ne-eqb _ _ (no .0 .0 .0 .0 .1), ne-eqb _ _ (no .0 .0 .0 .1), ne-eqb _ _ (no .0 .0 .1), ne-eqb _ _ (no .0 .1), ne-eqb _ _ (no .1))
+    simp (
+      ne-eqb _ _ (no .0 .0 .0 .0 .0 .1),
+      ne-eqb _ _ (no .0 .0 .0 .0 .1),
+      ne-eqb _ _ (no .0 .0 .0 .1),
+      ne-eqb _ _ (no .0 .0 .1),
+      ne-eqb _ _ (no .0 .1),
+      ne-eqb _ _ (no .1),
+    )
 
 pub fields-of-spec : {M : Type 1} → statement M
 unfolding kindOf fieldsOf
@@ -17,12 +25,16 @@ fields-of-spec =
     tie.close
     (tie.spec
     (λ c κs. rw (c .match .keys1) at (c .before .before .pre))
-    (λ c κs. rw (c .match .keys2) at (c .before .before .pre))
+    (λ c. let there = rw (c .match .keys2) at (c .before .before .pre) in omega (arith, there))
+    (λ c κs. let there = rw (c .match .keys2) at (c .before .before .pre) in omega (arith, there))
+    (λ c κs. let there = rw (c .before .match .keys2) at (c .before .before .before .pre) in omega (arith, there))
     (λ c κs. rw (c .match .keys3) at (c .before .before .pre))
     (λ c κs. rw (c .match .keys4) at (c .before .before .pre))
+    (λ c κs. rw (c .match .keys5) at (c .before .before .pre))
     (λ c. simp (c .before .match .keys1) (c .spec-at .ensures))
-    (λ c. simp (c .before .match .keys2) (c .folio-at .ensures))
-    (λ c. simp (c .before .match .keys3) (c .line-at .ensures))
-    (λ c. simp (c .before .match .keys4) (c .figure-at .ensures))
-    (λ c. simp (c .match .keys5))
+    (λ c. simp (c .before .before .match .keys2, ← c .before .word-at .ensures) (c .spec-at2 .ensures))
+    (λ c. simp (c .before .match .keys3) (c .folio-at .ensures))
+    (λ c. simp (c .before .match .keys4) (c .line-at .ensures))
+    (λ c. simp (c .before .match .keys5) (c .figure-at .ensures))
+    (λ c. simp (c .match .keys6))
     unknown)
