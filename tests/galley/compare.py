@@ -30,7 +30,7 @@ def words(function, data, count, *number):
 
 
 def proved(data):
-    number, place, *rest = words(READER.galley_probe_read, data, 12)
+    number, place, *rest = words(READER.galley_probe_read, data, 14)
     if number:
         return ('refused', number, place)
     *spec, folio, lines, figures = rest
@@ -44,7 +44,8 @@ def due(data):
     if answer[0] == 'refused':
         return answer
     held = answer[1]
-    return ('galley', tuple(held.spec), held.folio, [tuple(line) for line in held.lines], [tuple(f) for f in held.figures])
+    spec = (*held.spec[:7], held.spec.edition, held.spec.lastmin or 0)
+    return ('galley', spec, held.folio, [tuple(line) for line in held.lines], [tuple(f) for f in held.figures])
 
 
 class Tally(counts.Tally):
@@ -55,24 +56,28 @@ class Tally(counts.Tally):
 
 
 SPEC = record(b'GS', 30, 30, 0, 0, 1, 1, 1)
+SECOND = record(b'G2', 30, 30, 0, 0, 1, 1, 1, 20)
 FOLIO = record(b'FO', 38)
 LINE = record(b'TL', 10, 0, 0, 1)
 FIGURE = record(b'FG', 20, 0, 0, 1)
 END = b'ED'
 A = SPEC + 3 * LINE + FIGURE + END
 A_FROM_38 = SPEC + FOLIO + 3 * LINE + FIGURE + END
+A_SECOND = SECOND + FOLIO + 3 * LINE + FIGURE + END
+FIRST_EDITION, SECOND_EDITION = (30, 30, 0, 0, 1, 1, 1, 1, 0), (30, 30, 0, 0, 1, 1, 1, 2, 20)
 
 
 def case_a(tally):
-    for what, data, folio in (('case A', A, 1), ('case A from folio 38', A_FROM_38, 38)):
-        tally.same(what, data, ('galley', (30, 30, 0, 0, 1, 1, 1), folio, 3 * [(10, 0, 0, 1)], [(20, 0, 0, 1)]))
+    for what, data, spec, folio in (('case A', A, FIRST_EDITION, 1), ('case A from folio 38', A_FROM_38, FIRST_EDITION, 38),
+                                    ('case A of the second edition', A_SECOND, SECOND_EDITION, 38)):
+        tally.same(what, data, ('galley', spec, folio, 3 * [(10, 0, 0, 1)], [(20, 0, 0, 1)]))
         for at in range(len(data)):
             for byte in range(256):
                 tally.same(f'{what} with byte {at} set to {byte}', data[:at] + bytes([byte]) + data[at + 1:])
 
 
 def cuts(tally):
-    for parts in (A, A_FROM_38, SPEC + 2 * LINE + 3 * FIGURE + END, SPEC + LINE + END):
+    for parts in (A, A_FROM_38, A_SECOND, SPEC + 2 * LINE + 3 * FIGURE + END, SPEC + LINE + END):
         for at in range(len(parts)):
             tally.same(f'cut at {at}', parts[:at], ('refused', 1))
             tally.same(f'two bytes lost at {at}', parts[:at] + parts[at + 2:])
@@ -81,14 +86,14 @@ def cuts(tally):
 
 
 def marks(tally):
-    for parts in ([SPEC, LINE, LINE, FIGURE, FIGURE, END], [SPEC, FOLIO, LINE, FIGURE, END]):
+    for parts in ([SPEC, LINE, LINE, FIGURE, FIGURE, END], [SPEC, FOLIO, LINE, FIGURE, END], [SECOND, LINE, FIGURE, END]):
         for at in range(len(parts)):
             before = b''.join(parts[:at])
             for mark in MARKS:
                 tally.same(f'mark {mark} in record {at}', before + mark + parts[at][2:] + b''.join(parts[at + 1:]))
                 for size in (0, 4, 16, 28):
                     tally.same(f'mark {mark} for record {at}', before + mark + bytes(size) + b''.join(parts[at + 1:]))
-            for put in (SPEC, FOLIO, LINE, FIGURE, END):
+            for put in (SPEC, SECOND, FOLIO, LINE, FIGURE, END):
                 tally.same(f'one record more at {at}', before + put + b''.join(parts[at:]))
             for mark in range(0, 65_536, 251):
                 tally.same(f'mark {mark} in record {at}', before + mark.to_bytes(2, 'big') + parts[at][2:])
@@ -96,6 +101,7 @@ def marks(tally):
 
 def ranges(tally):
     for kind, before, after, fields in ((b'GS', b'', LINE + END, (30, 40, 5, 6, 1, 1, 1)),
+                                        (b'G2', b'', LINE + END, (30, 40, 5, 6, 1, 1, 1, 35)),
                                         (b'FO', SPEC, LINE + END, (38,)),
                                         (b'TL', SPEC, END, (10, 5, 6, 1)),
                                         (b'FG', SPEC + 3 * LINE, END, (10, 5, 6, 2))):
@@ -122,8 +128,23 @@ def citations(tally):
     tally.same('3 before 6', two + record(b'FG', 100_001, 0, 0, 9) + END, ('refused', 3, 66))
 
 
+def editions(tally):
+    for last in (0, 29, 30):
+        held = record(b'G2', 30, 30, 0, 0, 1, 1, 1, last)
+        tally.same(f'lastMin {last}', held + LINE + END, ('galley', (30, 30, 0, 0, 1, 1, 1, 2, last), 1))
+    tally.same('lastMin above htMax', record(b'G2', 30, 30, 0, 0, 1, 1, 1, 31) + LINE + END, ('refused', 3, 0))
+    tally.same('a second edition cut short', SECOND[:33], ('refused', 1, 0))
+    tally.same('a specification after a second edition', SECOND + SPEC + LINE + END, ('refused', 2, 34))
+    tally.same('a second edition after a specification', SPEC + SECOND + LINE + END, ('refused', 2, 30))
+    tally.same('two second editions', 2 * SECOND + LINE + END, ('refused', 2, 34))
+    tally.same('a folio after a second edition', SECOND + FOLIO + LINE + END, ('galley', SECOND_EDITION, 38))
+    tally.same('a second edition after a folio', SPEC + FOLIO + SECOND + LINE + END, ('refused', 2, 36))
+    tally.same('no line after a second edition', SECOND + END, ('refused', 5, 34))
+    tally.same('4,001 lines after a second edition', SECOND + FOLIO + 4_001 * LINE + END, ('refused', 4, 72_040))
+
+
 def folios(tally):
-    tally.same('from folio 9,999', SPEC + record(b'FO', 9_999) + LINE + END, ('galley', (30, 30, 0, 0, 1, 1, 1), 9_999))
+    tally.same('from folio 9,999', SPEC + record(b'FO', 9_999) + LINE + END, ('galley', FIRST_EDITION, 9_999))
     tally.same('folio 0', SPEC + record(b'FO', 0) + LINE + END, ('refused', 3, 30))
     tally.same('folio 10,000', SPEC + record(b'FO', 10_000) + LINE + END, ('refused', 3, 30))
     tally.same('a folio cut short', SPEC + FOLIO[:5], ('refused', 1, 30))
@@ -154,13 +175,18 @@ def limits(tally):
     tally.same('one byte', b'G', ('refused', 1, 0))
 
 
+def specification(draw):
+    fields = [draw.randrange(40), draw.randrange(60), draw.randrange(3), draw.randrange(4), draw.randrange(1, 3), draw.randrange(1_002),
+              draw.randrange(1_002)]
+    return draw.choice((record(b'GS', *fields), record(b'G2', *fields, draw.randrange(60))))
+
+
 def chance(tally):
     draw = random.Random(SEED)
     for _ in range(RANDOM_GALLEYS):
         lines, figures = draw.randrange(6), draw.randrange(4)
         data = bytearray(
-            record(b'GS', draw.randrange(40), draw.randrange(60), draw.randrange(3), draw.randrange(4), draw.randrange(1, 3),
-                   draw.randrange(1_002), draw.randrange(1_002))
+            specification(draw)
             + draw.choice((b'', record(b'FO', draw.randrange(10_010))))
             + b''.join(record(b'TL', draw.randrange(100_001), draw.randrange(5), draw.randrange(3, 9), draw.randrange(2))
                        for _ in range(lines))
@@ -168,15 +194,15 @@ def chance(tally):
                        for cite in sorted(draw.randrange(1, 7) for _ in range(figures)))
             + END)
         for _ in range(draw.randrange(3)):
-            data[draw.randrange(len(data))] = draw.choice(b'\0\1GSTLFGEDFO\xff')
+            data[draw.randrange(len(data))] = draw.choice(b'\0\1GS2TLFGEDFO\xff')
         tally.same('a random galley', bytes(data))
     for _ in range(RANDOM_STRINGS):
-        tally.same('a random string', bytes(draw.choice(b'\0\1GSTLFGEDFO') for _ in range(draw.randrange(80))))
+        tally.same('a random string', bytes(draw.choice(b'\0\1GS2TLFGEDFO') for _ in range(draw.randrange(80))))
 
 
 def main():
     tally = Tally()
-    for group in (case_a, cuts, marks, ranges, citations, folios, limits, chance):
+    for group in (case_a, cuts, marks, ranges, citations, folios, editions, limits, chance):
         group(tally)
         tally.group(group.__name__)
     return tally.end()

@@ -16,8 +16,8 @@ use Rattle.galley.specs.declared.Reading.the-variants.{Galley, Refused}
 unfoldable pub wordsOf : Reading → List ℕ
 wordsOf (Galley g) =
     0 ∷ 0 ∷ g .spec .htmin ∷ g .spec .htmax ∷ g .spec .smin ∷ g .spec .smax ∷ g .spec .sides ∷ g .spec .alpha
-    ∷ g .spec .beta ∷ g .folio ∷ g .text .count ∷ g .figures .count ∷ []
-wordsOf (Refused number place) = number ∷ place ∷ 0 ∷ 0 ∷ 0 ∷ 0 ∷ 0 ∷ 0 ∷ 0 ∷ 0 ∷ 0 ∷ 0 ∷ []
+    ∷ g .spec .beta ∷ g .spec .edition ∷ g .spec .lastmin ∷ g .folio ∷ g .text .count ∷ g .figures .count ∷ []
+wordsOf (Refused number place) = number ∷ place ∷ 0 ∷ 0 ∷ 0 ∷ 0 ∷ 0 ∷ 0 ∷ 0 ∷ 0 ∷ 0 ∷ 0 ∷ 0 ∷ 0 ∷ []
 
 -- The stream of a number: 0 is the text, any other the figures.
 abbrev pub streamAt : galley.Galley → ℕ → Stream

@@ -12,7 +12,7 @@ use galley::Stream;
 // A refusal's number and place, or 0 and 0; then the specification, the first folio and the counts of lines and
 // figures.
 #[no_mangle]
-pub extern "C" fn galley_probe_read(bytes: &[u8], out: &mut [u32; 12])
+pub extern "C" fn galley_probe_read(bytes: &[u8], out: &mut [u32; 14])
     ensures { λ r. ⌜ now (out .exit) ≡ wordsOf (galleyOf (now (bytes .entry))) ⌝ }
 {
     let reading = galley::whole::read_galley(bytes);
@@ -29,13 +29,15 @@ pub extern "C" fn galley_probe_read(bytes: &[u8], out: &mut [u32; 12])
                 spec.sides,
                 spec.alpha,
                 spec.beta,
+                spec.edition,
+                spec.lastmin,
                 g.folio,
                 g.text.count as u32,
                 g.figures.count as u32,
             ];
         }
         Reading::Refused { number, place } => {
-            *out = [number, place, 0, 0, 0, 0, 0, 0, 0, 0, 0, 0];
+            *out = [number, place, 0, 0, 0, 0, 0, 0, 0, 0, 0, 0, 0, 0];
         }
     }
 }
