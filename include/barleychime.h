@@ -17,10 +17,14 @@
  * A galley's records, in this order; each has a mark of two ASCII bytes and then its fields, of 4 bytes each, unsigned, the most
  * significant first. Lengths are in hundredths of a point.
  *   GS  30 bytes  the page specification: htMin, htMax, sMin, sMax, sides (1 or 2), alpha, beta
+ *   G2  34 bytes  its second edition, which may stand for GS: the same fields and then lastMin, 0 to htMax
  *   FO   6 bytes  the folio of the first page, 1 to 9,999; the record may be absent, and the folio is then 1
  *   TL  18 bytes  a line: height, least and greatest space after it, 1 if a page may end in that space, else 0
  *   FG  18 bytes  a figure: height, least and greatest space after it, the number of the line that cites it, from 1
+ *   FK  18 bytes  a figure, too, with the same fields; no page may end between it and the next figure
  *   ED   2 bytes  the end
+ * A page has at least htMin of height, at its loosest, and at most htMax, at its tightest. Of the last page GS asks no least
+ * height, and G2 asks lastMin.
  * Double-sided (sides 2), an even folio and the next one face each other on a spread, so the first folio decides on spreads and
  * turns. Pages are counted from 1 all the same, in page lists, answers and places.
  *
@@ -44,9 +48,9 @@
  * number of pages.
  *   12  the list is empty, ends in half a page, or is longer than any of this galley can be
  *   13  the page goes backwards, goes past what the galley has, or is empty
- *   14  the page ends after a line that must not end a page
+ *   14  the page ends after a line that must not end a page, or between figures that are kept together
  *   15  the page is higher than htMax even at its tightest
- *   16  the page is lower than htMin even at its loosest, and it is not the last
+ *   16  the page is lower than htMin, or the last page lower than lastMin, even at its loosest
  *   17  a figure stands on a spread that ends before the line that cites it
  *   18  the list ends before everything is placed
  * Whoever handed in the marks can mend these, which only the report answers. Place: for 31, 0; for 32, the paper, counted
@@ -73,7 +77,7 @@
 #define BARLEYCHIME_MOST_LIST_WORDS BARLEYCHIME_LIST_WORDS(4000, 200)
 
 /* Bytes of the longest galley. Whatever is longer is refused, and its first bytes, one more than these, decide how. */
-#define BARLEYCHIME_LONGEST_GALLEY ((size_t)30 + 6 + 4200 * 18 + 2)
+#define BARLEYCHIME_LONGEST_GALLEY ((size_t)34 + 6 + 4200 * 18 + 2)
 
 /* Bytes of stack that a call takes below the frame of its caller, at most: either call, and marking alone. They are what the
  * archive's machine code takes, rounded up; the tests compare them. Making needs 4,096 bytes more where the dynamic linker

@@ -38,7 +38,7 @@ fn refuse_galley(
     say_why(name, refusal);
     hint_at_pack(name, bytes, refusal);
     if refusal.number == 11 {
-        say(&lower_ht_min(name, bytes, desk));
+        fill::advice(bytes, desk).iter().for_each(|advice| say(&format!("{}: {advice}", title(name))));
     }
     Ok(Outcome::Refused)
 }
@@ -52,20 +52,6 @@ fn hint_at_pack(name: &str, bytes: &[u8], refusal: Refusal) {
     let is_text = |text: &str| !text.is_empty() && text.chars().all(|c| c.is_whitespace() || !c.is_control());
     if refusal.number <= 8 && std::str::from_utf8(bytes).is_ok_and(is_text) {
         say(&format!("{}: this is a text; `barleychime pack` makes a galley of one", title(name)));
-    }
-}
-
-/// What would help where no pagination exists.
-fn lower_ht_min(name: &str, bytes: &[u8], desk: &mut Desk) -> String {
-    let title = title(name);
-    match (fill::greatest_ht_min(bytes, desk), Galley::decode(bytes)) {
-        (Some(found), Some(galley)) => {
-            let per_mille = u64::from(found) * 1_000 / u64::from(galley.spec.ht_max.max(1));
-            let fill = format!("{}.{} % of htMax", per_mille / 10, per_mille % 10);
-            let asked = galley.spec.ht_min;
-            format!("{title}: htMin is {asked}; the greatest at which a pagination exists is {found} ({fill})")
-        }
-        _ => format!("{title}: no pagination exists even at htMin 0"),
     }
 }
 

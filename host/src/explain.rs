@@ -2,7 +2,7 @@
 
 use crate::engine::{Desk, Measure, Refusal};
 use crate::galley::Galley;
-use crate::page::{folio, spread, Page};
+use crate::page::{folio, spread, Page, Place};
 use crate::record::Record;
 use crate::refusal::{mender, sentence};
 use crate::text::field_at_fault;
@@ -40,7 +40,7 @@ pub fn refused(galley: &Galley, list: &[u32], refusal: Refusal) -> String {
         text += &page_in_words(galley, &pages, page);
     }
     let numbers = match pages.get((refusal.place as usize).wrapping_sub(1)) {
-        Some(page) => broken_in_numbers(galley, page, refusal.number),
+        Some(page) => broken_in_numbers(galley, page, page.number == pages.len(), refusal.number),
         None => broken_length(galley, list),
     };
     text + &format!("refused, {refusal}: {}\n{numbers}\n", sentence(refusal))
@@ -56,12 +56,13 @@ pub fn refused_galley(bytes: &[u8], refusal: Refusal) -> String {
 fn opening(galley: &Galley) -> String {
     let spec = &galley.spec;
     format!(
-        "galley: {}, {}{}; height {} to {}, separation {} to {}; {}; alpha {}, beta {}\n",
+        "galley: {}, {}{}; height {} to {}{}, separation {} to {}; {}; alpha {}, beta {}\n",
         counted(galley.lines.len(), "line"),
         counted(galley.figures.len(), "figure"),
         if galley.folio == 1 { String::new() } else { format!("; the first folio is {}", galley.folio) },
         spec.ht_min,
         spec.ht_max,
+        spec.last_min.map_or(String::new(), |last_min| format!(", of the last page {last_min} to {}", spec.ht_max)),
         spec.s_min,
         spec.s_max,
         if spec.double_sided { "double-sided" } else { "single-sided" },
@@ -78,10 +79,11 @@ fn page_in_words(galley: &Galley, pages: &[Page], page: &Page) -> String {
     text += &holdings(page);
     let (tight, loose) = page.heights(galley);
     let spec = &galley.spec;
-    let last = page.number == pages.len();
-    text += &match last {
-        true => format!("\n    height {tight} to {loose}; at most {} is asked of the last page\n", spec.ht_max),
-        false => format!("\n    height {tight} to {loose}; {} to {} is asked\n", spec.ht_min, spec.ht_max),
+    text += &format!("\n    height {tight} to {loose}; ");
+    text += &match (page.number == pages.len(), spec.last_min) {
+        (false, _) => format!("{} to {} is asked\n", spec.ht_min, spec.ht_max),
+        (true, None) => format!("at most {} is asked of the last page\n", spec.ht_max),
+        (true, Some(last_min)) => format!("{last_min} to {} is asked of the last page\n", spec.ht_max),
     };
     for figure in page.start.1 + 1..=page.end.1 {
         text += &figure_in_words(galley, pages, page, figure);
@@ -119,13 +121,27 @@ fn range(kind: &str, before: usize, last: usize) -> Option<String> {
     }
 }
 
+/// What forbids a page end after line i and figure j: either or both.
+fn forbidden_end(galley: &Galley, (i, j): Place) -> String {
+    let line = (0 < i && i < galley.lines.len() && !galley.lines[i - 1].page_end)
+        .then(|| format!("    line {i} forbids a page end in the space after it"));
+    let figure = kept_with(galley, j).map(|next| format!("    figure {j} is kept with figure {next}"));
+    line.into_iter().chain(figure).collect::<Vec<_>>().join("\n")
+}
+
+/// The figure that figure j is kept with, if it is, and there is one.
+fn kept_with(galley: &Galley, j: usize) -> Option<usize> {
+    (0 < j && j < galley.figures.len() && galley.figures[j - 1].kept).then_some(j + 1)
+}
+
 /// The turns that a figure costs: from the spread of its citation to its own.
 fn figure_in_words(galley: &Galley, pages: &[Page], page: &Page, figure: usize) -> String {
     let citation = galley.figures[figure - 1].citation;
     let cited_on = pages.iter().find(|page| page.end.0 >= citation).map(|page| page.number);
     let opening = format!("    figure {figure}, cited by line {citation}");
+    let kept = kept_with(galley, figure).map_or(String::new(), |next| format!("; kept with figure {next}"));
     let Some(cited_on) = cited_on else {
-        return format!("{opening}, which no page places\n");
+        return format!("{opening}, which no page places{kept}\n");
     };
     let (there, here) = (spread(galley, cited_on), spread(galley, page.number));
     let cost = match here.checked_sub(there) {
@@ -137,11 +153,11 @@ fn figure_in_words(galley: &Galley, pages: &[Page], page: &Page, figure: usize) 
             format!("{}, costs {alpha}·{turns} = {}", counted(turns, "turn"), alpha * turns as u64)
         }
     };
-    format!("{opening} on {}: {cost}\n", numbered(galley, cited_on))
+    format!("{opening} on {}: {cost}{kept}\n", numbered(galley, cited_on))
 }
 
 /// The numbers by which the page breaks the rule.
-fn broken_in_numbers(galley: &Galley, page: &Page, rule: u32) -> String {
+fn broken_in_numbers(galley: &Galley, page: &Page, last: bool, rule: u32) -> String {
     let ((a, b), (i, j)) = (page.start, page.end);
     let (m, n) = (galley.lines.len(), galley.figures.len());
     let spec = &galley.spec;
@@ -151,14 +167,15 @@ fn broken_in_numbers(galley: &Galley, page: &Page, rule: u32) -> String {
         13 if i > m => format!("    it claims {i} lines, but the galley has {m}"),
         13 if j > n => format!("    it claims {j} figures, but the galley has {n}"),
         13 => format!("    it ends where it starts, after {} and {}", counted(i, "line"), counted(j, "figure")),
-        14 => format!("    line {i} forbids a page end in the space after it"),
+        14 => forbidden_end(galley, page.end),
         15 => {
             let (tight, _) = page.heights(galley);
             format!("    {tight} is above htMax {} by {}", spec.ht_max, tight.saturating_sub(spec.ht_max.into()))
         }
         16 => {
             let (_, loose) = page.heights(galley);
-            format!("    {loose} is below htMin {} by {}", spec.ht_min, u64::from(spec.ht_min).saturating_sub(loose))
+            let (name, least) = if last { ("lastMin", spec.last_min.unwrap_or(0)) } else { ("htMin", spec.ht_min) };
+            format!("    {loose} is below {name} {least} by {}", u64::from(least).saturating_sub(loose))
         }
         17 => {
             let citation = galley.figures[j - 1].citation;

@@ -10,6 +10,8 @@ pub struct Spec {
     pub double_sided: bool,
     pub alpha: u32,
     pub beta: u32,
+    /// The least height of the last page, which the second edition alone has.
+    pub last_min: Option<u32>,
 }
 
 /// A line or a figure, without its fourth field.
@@ -27,6 +29,8 @@ pub struct Line {
 pub struct Figure {
     pub block: Block,
     pub citation: usize,
+    /// Whether no page may end between it and the next one.
+    pub kept: bool,
 }
 
 pub struct Galley {
@@ -50,8 +54,9 @@ impl Galley {
                 ("TL", &[height, least, most, end]) => {
                     lines.push(Line { block: Block { height, least, most }, page_end: end == 1 })
                 }
-                ("FG", &[height, least, most, citation]) => {
-                    figures.push(Figure { block: Block { height, least, most }, citation: citation as usize })
+                (mark @ ("FG" | "FK"), &[height, least, most, citation]) => {
+                    let block = Block { height, least, most };
+                    figures.push(Figure { block, citation: citation as usize, kept: mark == "FK" })
                 }
                 ("ED", _) => break,
                 _ => return None,
@@ -62,6 +67,7 @@ impl Galley {
 }
 
 fn spec_of(fields: &[u32]) -> Option<Spec> {
-    let &[ht_min, ht_max, s_min, s_max, sides, alpha, beta] = fields else { return None };
-    Some(Spec { ht_min, ht_max, s_min, s_max, double_sided: sides == 2, alpha, beta })
+    let &[ht_min, ht_max, s_min, s_max, sides, alpha, beta, ref last_min @ ..] = fields else { return None };
+    let last_min = last_min.first().copied();
+    Some(Spec { ht_min, ht_max, s_min, s_max, double_sided: sides == 2, alpha, beta, last_min })
 }

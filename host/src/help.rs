@@ -27,7 +27,8 @@ barleychime make GALLEY
 
 Prints `p X Y T` (pages, turns to figures, turns from first page to last, weighted turns), then `q i j` for each page q:
 lines and figures placed so far. A refusal is printed as `R number place`, and in words on standard error. Where no
-pagination exists (11) the greatest htMin at which one does is printed there too; the galley is not changed.
+pagination exists (11) the greatest htMin at which one does is printed there too, and under G2 the greatest lastMin; the
+galley is not changed.
 ";
 
 pub const MARK: &str = "\
@@ -52,12 +53,15 @@ barleychime pack TEXT > GALLEY
 Writes a galley file from a text with one record a line; `#` opens a comment. Lengths are in hundredths of a point.
 
   GS htMin htMax sMin sMax sides alpha beta    page heights, separation of text and figures, 1 or 2 sides, weights
+  G2 htMin ... beta lastMin                    the same, and a least height of the last page, 0 to htMax
   FO folio                                     the folio of the first page, 1 to 9,999; without this record it is 1
   TL height least most end                     a line, the space after it, 1 if a page may end there (else 0)
   FG height least most line                    a figure, the space after it, the line that cites it (from 1)
+  FK height least most line                    the same, and no page may end between it and the next figure
   ED                                           the end
 
-First GS, then FO if there is one, then all lines, then all figures. Nothing is written if the galley would be refused.
+First GS or G2, then FO if there is one, then all lines, then all figures. Nothing is written if the galley would be
+refused.
 ";
 
 pub const UNPACK: &str = "\

@@ -8,13 +8,16 @@ pub struct Kind {
 }
 
 pub const SPEC: Kind = Kind { mark: "GS", fields: &["htMin", "htMax", "sMin", "sMax", "sides", "alpha", "beta"] };
+pub const SECOND_SPEC: Kind =
+    Kind { mark: "G2", fields: &["htMin", "htMax", "sMin", "sMax", "sides", "alpha", "beta", "lastMin"] };
 pub const FOLIO: Kind = Kind { mark: "FO", fields: &["folio"] };
 pub const LINE: Kind = Kind { mark: "TL", fields: &["height", "least space", "greatest space", "page end"] };
 pub const FIGURE: Kind = Kind { mark: "FG", fields: &["height", "least space", "greatest space", "citation"] };
+pub const KEPT_FIGURE: Kind = Kind { mark: "FK", fields: FIGURE.fields };
 pub const END: Kind = Kind { mark: "ED", fields: &[] };
 
 /// All of them, in the order in which they come.
-pub const KINDS: [&Kind; 5] = [&SPEC, &FOLIO, &LINE, &FIGURE, &END];
+pub const KINDS: [&Kind; 7] = [&SPEC, &SECOND_SPEC, &FOLIO, &LINE, &FIGURE, &KEPT_FIGURE, &END];
 
 pub fn kind_of(mark: &[u8]) -> Option<&'static Kind> {
     KINDS.into_iter().find(|kind| kind.mark.as_bytes() == mark)
@@ -47,12 +50,12 @@ impl Record {
     pub fn out_of_range(&self) -> Option<(usize, String)> {
         const LONGEST: u32 = 100_000;
         let ranges: Vec<(u32, u32)> = match (self.kind.mark, self.fields.as_slice()) {
-            ("GS", &[_, ht_max, _, s_max, ..]) => {
-                vec![(0, ht_max), (1, LONGEST), (0, s_max), (0, LONGEST), (1, 2), (0, 1_000), (0, 1_000)]
+            ("GS" | "G2", &[_, ht_max, _, s_max, ..]) => {
+                vec![(0, ht_max), (1, LONGEST), (0, s_max), (0, LONGEST), (1, 2), (0, 1_000), (0, 1_000), (0, ht_max)]
             }
             ("FO", _) => vec![(1, 9_999)],
             ("TL", &[_, _, most, _]) => vec![(0, LONGEST), (0, most), (0, LONGEST), (0, 1)],
-            ("FG", &[_, _, most, _]) => vec![(0, LONGEST), (0, most), (0, LONGEST)],
+            ("FG" | "FK", &[_, _, most, _]) => vec![(0, LONGEST), (0, most), (0, LONGEST)],
             _ => vec![],
         };
         let outside = |(&field, &(least, most)): (&u32, &(u32, u32))| field < least || field > most;

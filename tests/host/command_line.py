@@ -1,5 +1,6 @@
 """The command end to end: options, names, standard input, statuses, bad files, lists with junk, help where 11 is due."""
 
+import collections
 import re
 import subprocess
 
@@ -148,7 +149,7 @@ def making(tally, command, folder):
 
 def full_size(tally, command, folder):
     """The longest galley, and what may come after its last figure: no more than one byte past its length is read."""
-    spec = Spec(50_000, 55_000, 1_600, 2_200, 2, 1, 1)
+    spec = Spec(50_000, 55_000, 1_600, 2_200, 2, 1, 1, 20_000)
     lines = tuple(Line(1_200, 0, 20 + 600 * (k % 5 == 0), int(k % 5 > 1)) for k in range(1, 4_001))
     figures = tuple(Figure(9_000 + 1_000 * (k % 13), 1_000, 1_400, 20 * k) for k in range(1, 201))
     largest = Galley(spec, (lines, figures), 9_999)
@@ -162,10 +163,10 @@ def full_size(tally, command, folder):
     status, text, _ = command.text('explain', path, '-', given=output.encode())
     tally.same('explained', (status, text.endswith('no list has fewer turns\n')), (0, True))
     open_end = data[:-2]
-    for name, after, due in [('no end', b'', 'R 1 75636'), ('half a mark', b'E', 'R 1 75636'),
-                             ('a byte', b'ED?', 'R 8 75638'), ('many bytes', b'ED' + bytes(100_000), 'R 8 75638'),
-                             ('an unknown mark', b'??', 'R 2 75636'), ('a line', open_end[36:54], 'R 2 75636'),
-                             ('figure 201', open_end[-18:], 'R 4 75636'), ('half of it', b'FG\0', 'R 4 75636')]:
+    for name, after, due in [('no end', b'', 'R 1 75640'), ('half a mark', b'E', 'R 1 75640'),
+                             ('a byte', b'ED?', 'R 8 75642'), ('many bytes', b'ED' + bytes(100_000), 'R 8 75642'),
+                             ('an unknown mark', b'??', 'R 2 75640'), ('a line', open_end[40:58], 'R 2 75640'),
+                             ('figure 201', open_end[-18:], 'R 4 75640'), ('half of it', b'FG\0', 'R 4 75640')]:
         status, output, _ = command.text('make', '-', given=open_end + after)
         tally.same(f'the longest galley with {name}', (status, output), (1, due + '\n'))
     tally.group('command: full size')
@@ -190,24 +191,51 @@ def outputs(tally, command, folder):
     tally.group('command: outputs')
 
 
-def greatest_ht_min(galley):
-    """By trying every value; None if there is no pagination at any."""
-    tried = (ht for ht in range(galley.spec.htmin, -1, -1) if search.best_by_table(cases.respec(galley, htmin=ht)))
-    return next(tried, None)
+def greatest(galley, field):
+    """By trying every value of htmin or lastmin; None if there is no pagination at any."""
+    asked = getattr(galley.spec, field) or 0
+    return next((value for value in range(asked, -1, -1) if search.best_by_table(cases.respec(galley, **{field: value}))), None)
+
+
+def filled(galley, height):
+    return f'{height} ({height * 1_000 // galley.spec.htmax / 10} % of htMax)'
+
+
+def advice(galley):
+    """What would help, a remark each, and which kind of advice it is."""
+    spec, one = galley.spec, greatest(galley, 'htmin')
+    two = greatest(galley, 'lastmin') if spec.lastmin else None
+    words = 'is {}; the greatest at which a pagination exists is'
+    by_ht_min = f'htMin {words.format(spec.htmin)} {one is not None and filled(galley, one)}'
+    by_last_min = f'lastMin {words.format(spec.lastmin)} {two is not None and filled(galley, two)}'
+    if one is not None and two is not None:
+        return [by_ht_min, f'or {by_last_min}'], 'either'
+    if one is not None:
+        return [by_ht_min + ('; no lastMin is low enough by itself' if spec.lastmin else '')], 'htMin'
+    if two is not None:
+        return [by_last_min + ('; no htMin is low enough by itself' if spec.htmin else '')], 'lastMin'
+    if not spec.lastmin:
+        return ['no pagination exists even at htMin 0'], 'none'
+    one = greatest(cases.respec(galley, lastmin=0), 'htmin')
+    if one is None:
+        return ['no pagination exists even at htMin 0 and lastMin 0'], 'none of both'
+    two = greatest(cases.respec(galley, htmin=one), 'lastmin')
+    return [f'neither htMin nor lastMin is low enough by itself; a pagination exists at htMin {filled(galley, one)} '
+            f'and lastMin {filled(galley, two)}'], 'both'
 
 
 def help_with_11(tally, command, folder):
-    some = [galley for galley in sample.galleys(104, 400, 6, 3) if not search.best_by_table(galley)][:60]
-    kinds = set()
-    for galley in [cases.A_TALL, cases.respec(cases.B, htmin=21), *some]:
-        path, due = file(folder, 'none.galley', write(galley)), greatest_ht_min(galley)
+    some = [galley for galley in sample.galleys(104, 700, 6, 3) if not search.best_by_table(galley)]
+    met = collections.Counter()
+    for galley in [cases.A_TALL, cases.respec(cases.B, htmin=21), cases.respec(cases.A, lastmin=21), *some]:
+        path, (due, kind) = file(folder, 'none.galley', write(galley)), advice(galley)
         status, output, remarks = command.text('make', path)
-        told = 'even at htMin 0' if due is None else f'a pagination exists is {due} ('
-        tally.same(f'help with {galley}', (status, output, told in remarks), (1, 'R 11 0\n', True))
+        told = [f'barleychime: {path}: {remark}' for remark in due]
+        tally.same(f'help with {galley}', (status, output, remarks.splitlines()[1:]), (1, 'R 11 0\n', told))
         tally.same('the galley is as before', path.read_bytes(), write(galley))
-        kinds.add(due is None)
-    tally.same('both kinds of help', kinds, {True, False})
-    tally.group('command: help where no pagination exists')
+        met[kind] += 1
+    tally.same('every kind of help', {*met}, {'either', 'htMin', 'lastMin', 'both', 'none', 'none of both'})
+    tally.group('command: help where no pagination exists', f' ({dict(met)})')
 
 
 def run(tally, command, root, folder):

@@ -3,13 +3,14 @@
 import random
 import re
 
+import kinds
 from reference import marking, sample, search
 from reference.galley import write
 
 PAGE = re.compile(r'^page (\d+)(?:, folio (\d+))?, (?:spread (\d+), (left|right)|a spread by itself): ', re.M)
-HEIGHT = re.compile(r'    height (\d+) to (\d+); ')
+HEIGHT = re.compile(r'    height (\d+) to (\d+); (.*)')
 FIGURE = re.compile(r'    figure (\d+), cited by line (\d+) on page (\d+)(?:, folio (\d+))?: '
-                    r'(?:(\d+) turns?, costs (\d+)·\d+ = (\d+)|the same )')
+                    r'(?:(\d+) turns?, costs (\d+)·\d+ = (\d+)|the same [^;\n]*)(?:; kept with figure (\d+))?\n')
 
 
 def listed(galley, words):
@@ -28,6 +29,26 @@ def heading(galley, page):
     return (str(page), folio(galley, page), *spread)
 
 
+def asked(galley, last):
+    """The heights that are asked of a page, as they are told."""
+    spec = galley.spec
+    if not last:
+        return f'{spec.htmin} to {spec.htmax} is asked'
+    return f'{"at most" if spec.edition == 1 else f"{spec.lastmin} to"} {spec.htmax} is asked of the last page'
+
+
+def kept_with(galley, number):
+    """The figure that a figure is told to be kept with."""
+    return str(number + 1) if 0 < number < len(galley.figures) and galley.figures[number - 1].kept else ''
+
+
+def forbidden(galley, i, j):
+    """What is told of a page end that is forbidden after line i and figure j: the line, the figure, or both."""
+    line = 0 < i < len(galley.lines) and not galley.lines[i - 1].legal
+    told = [f'    line {i} forbids a page end in the space after it'] if line else []
+    return told + ([f'    figure {j} is kept with figure {j + 1}'] if kept_with(galley, j) else [])
+
+
 def accepted(galley, words, text):
     """Whether every number in the text is the reference's."""
     ends, spec = marking.places(galley, words), galley.spec
@@ -37,9 +58,11 @@ def accepted(galley, words, text):
     _, p, x, y, t = marking.mark(galley, words)
     return (pages == [heading(galley, q) for q in range(1, len(ends) + 1)]
             and ('the first folio is' in text) == (galley.folio != 1)
-            and all(figure[3] == folio(galley, int(figure[2])) for figure in figures)
-            and heights == [(str(marking.tightest(galley, *page)), str(marking.loosest(galley, *page)))
-                            for page in zip(starts, ends)]
+            and [figure[3] for figure in figures] == [folio(galley, int(figure[2])) for figure in figures]
+            and [figure[7] for figure in figures] == [kept_with(galley, int(figure[0])) for figure in figures]
+            and heights == [(str(marking.tightest(galley, *page)), str(marking.loosest(galley, *page)), asked(galley, q == p))
+                            for q, page in enumerate(zip(starts, ends), 1)]
+            and (f', of the last page {spec.lastmin} to {spec.htmax}, separation' in text) == (spec.edition == 2)
             and [int(figure[0]) for figure in figures] == list(range(1, len(galley.figures) + 1))
             and turns == x and sum(int(figure[6] or 0) for figure in figures) == spec.alpha * x
             and f'X {x}, Y {y}, T = alpha·X + beta·Y = {spec.alpha}·{x} + {spec.beta}·{y} = {t}\n' in text)
@@ -59,13 +82,15 @@ def refused(galley, words, number, page, text):
                 or 'claims' in said and numbers in ([i, m], [j, n]) and numbers[0] > numbers[1]
                 or 'ends where it starts' in said and (a, b) == (i, j) and numbers == [i, j])
     if number == 14:
-        return numbers == [i] and galley.lines[i - 1].legal == 0
+        told = forbidden(galley, i, j)
+        return told != [] and text.splitlines()[-len(told):] == told
     if number == 15:
         height = marking.tightest(galley, (a, b), (i, j))
         return numbers == [height, galley.spec.htmax, height - galley.spec.htmax] and numbers[2] > 0
     if number == 16:
-        height = marking.loosest(galley, (a, b), (i, j))
-        return numbers == [height, galley.spec.htmin, galley.spec.htmin - height] and numbers[2] > 0
+        height, last = marking.loosest(galley, (a, b), (i, j)), page == len(ends) - 1
+        least, name = galley.spec.floor(last), 'lastMin' if last else 'htMin'
+        return numbers == [height, least, least - height] and numbers[2] > 0 and name in said
     if number == 17:
         return numbers == [j, galley.figures[j - 1].cite, i] and numbers[1] > i
     return number == 18 and numbers == [i, j, m, n] and (i, j) != (m, n)
@@ -83,7 +108,7 @@ def run(tally, command, folder):
                 continue
             status, text, remarks = command.text('explain', path, '-', given=listed(galley, words))
             marked = marking.mark(galley, words)
-            met.add(marked[1] if marked[0] == 'refused' else 0)
+            met.update([marked[1], *kinds.of_refusal(galley, words, *marked[1:])] if marked[0] == 'refused' else [0])
             if marked[0] == 'accepted':
                 fewest = marking.mark(galley, best)[4]
                 more = ('no list has fewer turns' if fewest == marked[4]
@@ -94,5 +119,5 @@ def run(tally, command, folder):
                 told = (f'refused, R {marked[1]} {marked[2]}: ' in text and refused(galley, words, *marked[1:], text)
                         and 'whoever handed in the list can mend it' in text)
                 tally.same(f'{words} for {galley}: {text}', (status, told, remarks), (1, True, ''))
-    tally.same('rules explained', met, {0, *range(12, 19)})
+    tally.same('rules explained', met, {0, *range(12, 19), *kinds.OF_REFUSALS})
     tally.group('lists explained')

@@ -1,7 +1,7 @@
 """Galleys as text and back without loss, and texts with errors, each named by line and field."""
 
 from reference import cases, refusals, sample
-from reference.galley import STREAMS, Figure, Galley, Line, Spec, write
+from reference.galley import Figure, Galley, Line, Spec, write
 
 SPEC, LINE = 'GS 30 30 0 0 1 1 1\n', 'TL 10 0 0 1\n'
 GOOD = SPEC + LINE
@@ -9,7 +9,7 @@ GOOD = SPEC + LINE
 # Text, exit status, and what the remark must say.
 ERRORS = [
     ('GX 1\n', 2, 'line 1: mark: `GX`'),
-    ('gs 30 30 0 0 1 1 1\n', 2, 'line 1: mark: `gs` is none of GS, FO, TL, FG, ED'),
+    ('gs 30 30 0 0 1 1 1\n', 2, 'line 1: mark: `gs` is none of GS, G2, FO, TL, FG, FK, ED'),
     ('GS 30 30 0 0 1 1\n', 2, 'line 1: field 7 (beta): missing'),
     ('# one\nGS 30 x 0 0 1 1 1\n', 2, 'line 2: field 2 (htMax): `x`'),
     ('GS 30 30 0 0 1 1 1 1\n', 2, 'line 1: `1` stands after'),
@@ -30,10 +30,20 @@ ERRORS = [
     ('GS 31 30 0 0 1 1 1\n' + 'TL 1 0 0 1\nED\n', 1, 'line 1: field 1 (htMin): 31, but it must be 0 to 30'),
     ('GS 0 0 0 0 1 1 1\n', 1, 'line 1: field 2 (htMax): 0, but it must be 1 to 100000'),
     ('GS 30 30 0 0 3 1 1\n', 1, 'line 1: field 5 (sides): 3, but it must be 1 to 2'),
+    ('G2 30 30 0 0 1 1 1\n' + LINE + 'ED\n', 2, 'line 1: field 8 (lastMin): missing; G2 has 8 fields'),
+    ('GS 30 30 0 0 1 1 1 20\n' + LINE + 'ED\n', 2, 'line 1: `20` stands after the last field of GS'),
+    ('G2 30 40 0 0 1 1 1 41\n' + LINE + 'ED\n', 1, 'line 1: field 8 (lastMin): 41, but it must be 0 to 40'),
+    ('G2 41 40 0 0 1 1 1 41\n' + LINE + 'ED\n', 1, 'line 1: field 1 (htMin): 41, but it must be 0 to 40'),
+    ('G2 30 30 0 0 1 1 1 20\n' + GOOD + 'ED\n', 1, 'line 2: at byte 34: a mark is unknown, or known but out of place'),
+    ('G2 30 30 0 0 1 1 1 20\nFO 0\n' + LINE + 'ED\n', 1, 'line 2: field 1 (folio): 0'),
     (GOOD + '\nTL 10 5 4 1\nED\n', 1, 'line 4: field 2 (least space): 5, but it must be 0 to 4'),
     (GOOD + 'TL 10 0 0 2\nED\n', 1, 'line 3: field 4 (page end): 2, but it must be 0 to 1'),
     (GOOD + 'FG 100001 0 0 1\nED\n', 1, 'line 3: field 1 (height): 100001'),
     (GOOD + 'FG 1 0 0 2\nED\n', 1, 'line 3: field 4 (citation): 2'),
+    (GOOD + 'FK 1 0 0 2\nED\n', 1, 'line 3: field 4 (citation): 2'),
+    (GOOD + 'FK 1 5 4 1\nED\n', 1, 'line 3: field 2 (least space): 5, but it must be 0 to 4'),
+    (GOOD + 'FK 1 0 0\nED\n', 2, 'line 3: field 4 (citation): missing; FK has 4 fields'),
+    (GOOD + 'FK 1 0 0 1\nTL 1 0 0 1\nED\n', 1, 'line 4: '),
     (GOOD + 'TL 1 0 0 1\nFG 1 0 0 2\nFG 1 0 0 1\nED\n', 1, 'line 5: field 4 (citation): 1'),
     (GOOD + 'FG 1 0 0 1\nTL 1 0 0 1\nED\n', 1, 'line 4: '),
     ('GS 30 30 0 0 1 1 1\nED\n', 1, 'line 2: '),
@@ -43,14 +53,15 @@ ERRORS = [
 
 
 def text_of(galley):
-    blocks = [(stream.mark.decode(), *block) for stream, held in zip(STREAMS, galley.streams) for block in held]
+    blocks = [(block.mark.decode(), *block[:4]) for held in galley.streams for block in held]
     folio = [] if galley.stated is None else [('FO', galley.stated)]
-    records = [('GS', *galley.spec), *folio, *blocks, ('ED',)]
+    spec = galley.spec[:7] if galley.spec.edition == 1 else galley.spec
+    records = [(galley.spec.mark.decode(), *spec), *folio, *blocks, ('ED',)]
     return ''.join(' '.join(map(str, record)) + '\n' for record in records)
 
 
 def there_and_back(tally, command, root, folder):
-    edge = Spec(100_000, 100_000, 100_000, 100_000, 2, 1_000, 1_000)
+    edge = Spec(100_000, 100_000, 100_000, 100_000, 2, 1_000, 1_000, 100_000)
     largest = Galley(edge, (4_000 * (Line(100_000, 100_000, 100_000, 0),), 200 * (Figure(100_000, 0, 100_000, 4_000),)), 9_999)
     for galley in [cases.A, cases.C, largest, *sample.galleys(105, 60, 12, 6)]:
         data, text = write(galley), text_of(galley)

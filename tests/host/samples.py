@@ -3,7 +3,8 @@
 from reference import marking, search
 from reference.galley import read
 
-CASES = {'a': 'case-a', 'c': 'case-c', 'left': 'left-hand'}  # a galley as text, by what its lists' names begin with
+# A galley as text, by what its lists' names begin with.
+CASES = {'a': 'case-a', 'c': 'case-c', 'left': 'left-hand', 'kept': 'kept', 'close': 'full-close'}
 SMALL = 6_000  # bytes of a galley that the reference makes in a moment
 
 

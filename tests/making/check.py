@@ -73,8 +73,11 @@ def main():
             try_all(name, g, words)
     for number, g in enumerate([*sample.galleys(SEED, GALLEYS, 5, 3), *sample.left_galleys(SEED + 5, LEFT)]):
         lists = list(search.every(g))
-        tally.kind(*kinds.of_choice(g, lists))
-        try_all(f'galley {number}', g, search.first(g, lists))
+        best = search.first(g, lists)
+        tally.kind(*kinds.of_choice(g, lists, best))
+        try_all(f'galley {number}', g, best)
+        if g.spec.edition == 1 and number % 4 == 0:
+            try_all(f'galley {number} with lastMin 0', cases.respec(g, lastmin=0), best)
     for number, g in enumerate(sample.galleys(SEED + 1, LARGER, 40, 8)):
         try_all(f'larger galley {number}', g, search.best_by_table(g))
     for name, g, best in long(LONG):

@@ -38,13 +38,16 @@ def main():
         tally.kind(*kinds.of_galley(g))
         for words in lists_for(rng, g):
             expected = marking.mark(g, words)
-            tally.kind(*[expected[1]] if expected[0] == 'refused' else [f'sides {g.spec.sides}', *kinds.of_list(g, words)])
+            if expected[0] == 'refused':
+                tally.kind(expected[1], *kinds.of_refusal(g, words, *expected[1:]))
+            else:
+                tally.kind(f'sides {g.spec.sides}', *kinds.of_list(g, words))
             tally.same(f'galley {number}, {words}', mark(data, words), expected)
         broken = sample.broken(rng, data)
         read = galley.read(broken)
         if read[0] == 'refused':
             tally.same(f'galley {number}, broken', mark(broken, (1, 0)), read)
-    tally.enough([*range(12, 19), 'sides 1', 'sides 2', *kinds.OF_GALLEYS, *kinds.OF_LISTS], 20)
+    tally.enough([*range(12, 19), 'sides 1', 'sides 2', *kinds.OF_GALLEYS, *kinds.OF_LISTS, *kinds.OF_REFUSALS], 20)
     data = galley.write(cases.LONGEST)
     began = time.perf_counter()
     mark(data, cases.ONE_A_PAGE)

@@ -32,9 +32,9 @@ def block(height, least, most, legal, cite):
 def galley_text(g):
     s = g.spec
     spec = (f'record {{ htmin = {s.htmin}; htmax = {s.htmax}; smin = {s.smin}; smax = {s.smax}; '
-            f'sides = {f"double {g.folio}" if s.sides == 2 else "single"}; alpha = {s.alpha}; beta = {s.beta} }}')
+            f'sides = {f"double {g.folio}" if s.sides == 2 else "single"}; alpha = {s.alpha}; beta = {s.beta}; lastmin = {s.lastmin or 0} }}')
     lines = listed(block(*line[:3], line.legal, 0) for line in g.lines)
-    figures = listed(block(*figure[:3], True, figure.cite) for figure in g.figures)
+    figures = listed(block(*figure[:3], figure.legal, figure.cite) for figure in g.figures)
     return f'galleyOf ({spec}) {lines} {figures}'
 
 
@@ -59,10 +59,10 @@ def marked(g, words):
     if answer[0] == 'accepted':
         return f'(marks {" ".join(map(str, answer[1:]))})', 'marked: accepted' + ('' if words[0] else ' with figures alone on page 1')
     number, place = answer[1:]
-    return f'(refuses {number} {place})', f'marked: {number}{where(g, number, place)}'
+    return f'(refuses {number} {place})', f'marked: {number}{where(g, words, number, place)}'
 
 
-def where(g, number, place):
+def where(g, words, number, place):
     """Where a list is refused, as far as the kinds tell it apart."""
     if number == 12:
         return ''
@@ -70,7 +70,16 @@ def where(g, number, place):
         return ' after page 1' if place == 1 else ' after a later page'
     if number == 17 and g.spec.sides == 2 and (g.folio - 1 + place) % 2 == 0:
         return ' on a page that opens a spread, the last of its list'
+    if number == 16 and 2 * place == len(words):
+        return ' on the last page of its list'
+    if number == 14 and not parts_lines(g, words[2 * place - 2]):
+        return ' after a kept figure'
     return ' on page 1' if place == 1 else ' on a later page'
+
+
+def parts_lines(g, i):
+    """Line i's space forbids the page end."""
+    return 0 < i < len(g.lines) and not g.lines[i - 1].legal
 
 
 def binding(g):
@@ -83,6 +92,7 @@ def kinds(bound):
     yield from ('made: none (11)', 'made: a tie decides', 'made: the turns decide', 'marked: accepted', 'marked: 12')
     for number in range(13, 18):
         yield from (f'marked: {number} on page 1', f'marked: {number} on a later page')[bound == EVEN and number == 17:]
+    yield from ('marked: 14 after a kept figure', 'marked: 16 on the last page of its list')
     if bound != SINGLE:
         yield 'marked: 17 on a page that opens a spread, the last of its list'
     if bound == EVEN:

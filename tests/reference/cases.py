@@ -21,6 +21,12 @@ def opening(galley, folio):
     return replace(galley, stated=folio)
 
 
+def keep(galley, *numbers):
+    """The galley with just these figures kept with the next one."""
+    figures = tuple(figure._replace(kept=int(k in numbers)) for k, figure in enumerate(galley.figures, 1))
+    return replace(galley, streams=(galley.lines, figures))
+
+
 def high(galley, height):
     """The galley with pages of one height."""
     return respec(galley, htmin=height, htmax=height)
@@ -42,6 +48,11 @@ PAIR = plain(A.spec._replace(htmin=0, alpha=0, beta=0), (10,), [(10, 1), (10, 1)
 SPACED = Galley(A.spec._replace(htmin=28), (3 * (Line(10, 5, 8, 1),), ()))
 # The figure fills page 1, and its line is too low for any page but the last: page 2 must lie on the same spread.
 FIGURE_FIRST = plain(Spec(20, 20, 0, 0, 2, 1, 1), (10,), [(20, 1)])
+# A drawing of 10 and its legend of 20, both cited by line 1: apart they fit beside the lines, together they fill a page.
+LEGEND = plain(A.spec._replace(htmin=0), (10, 10, 10), [(10, 1), (20, 1)])
+CHAIN = plain(A.spec._replace(htmin=0), (10,), [(10, 1), (10, 1), (10, 1)])
+# Two pages: the later start of the last one leaves it a single line.
+TWO_PAGES = plain(A.spec._replace(htmin=20), (10, 10, 10, 10), [])
 # Galleys F, G and H of the table that is proved (crates/cases): every space and the separation stretch; every other line forbids
 # a page end; a page may end after lines 255 and 300 alone.
 F = Galley(Spec(0, 100_000, 4, 40, 1, 2, 3),
@@ -82,6 +93,27 @@ MADE = [
     ('a figure opens the galley', opening(FIGURE_FIRST, 2), (0, 1, 1, 1), (2, 0, 0, 0)),
     ('a figure cannot open a right-hand page', opening(FIGURE_FIRST, 3), None, None),
     ('a figure cannot open it single-sided', opening(respec(FIGURE_FIRST, sides=1), 2), None, None),
+    ('a drawing and its legend, not kept', LEGEND, (2, 1, 3, 2), (2, 1, 1, 2)),
+    ('a drawing and its legend, kept', keep(LEGEND, 1), (3, 0, 3, 2), (2, 2, 1, 3)),
+    ('a kept last figure', keep(LEGEND, 2), (2, 1, 3, 2), (2, 1, 1, 2)),
+    ('A with a kept figure', keep(A, 1), (1, 1, 3, 1), (2, 0, 1, 1)),
+    ('C with a kept figure, from folio 2', opening(keep(C, 1), 2), (2, 0, 3, 0, 4, 0, 4, 1), (4, 0, 1, 1)),
+    ('a chain of kept figures', keep(CHAIN, 1, 2), (1, 0, 1, 3), (2, 3, 1, 4)),
+    ('a chain of kept figures that fits no page', keep(respec(CHAIN, htmax=29), 1, 2), None, None),
+    ('one link of it', keep(respec(CHAIN, htmax=29), 2), (1, 1, 1, 3), (2, 2, 1, 3)),
+    ('A closing on as much as is asked', respec(A, lastmin=20), (1, 1, 3, 1), (2, 0, 1, 1)),
+    ('A closing on too little', respec(A, lastmin=21), None, None),
+    ('A with lastMin 0', respec(A, lastmin=0), (1, 1, 3, 1), (2, 0, 1, 1)),
+    ('a last page of one line', TWO_PAGES, (3, 0, 4, 0), (2, 0, 1, 1)),
+    ('the same with lastMin 0', respec(TWO_PAGES, lastmin=0), (3, 0, 4, 0), (2, 0, 1, 1)),
+    ('a last page of two lines', respec(TWO_PAGES, lastmin=11), (2, 0, 4, 0), (2, 0, 1, 1)),
+    ('lastMin above htMin', respec(TWO_PAGES, htmin=10, lastmin=30), (1, 0, 4, 0), (2, 0, 1, 1)),
+    ('lastMin above htMin, and no page may end before', forbid(respec(TWO_PAGES, htmin=10, lastmin=30), 1), None, None),
+    ('the first page is the last', respec(EVEN, htmax=30, lastmin=30), (3, 0), (1, 0, 0, 0)),
+    ('the first page is the last, and too low', respec(EVEN, htmin=20, htmax=40, lastmin=31), None, None),
+    ('a turn more for a fuller last page', respec(A, htmin=0, lastmin=25), (2, 0, 3, 1), (2, 1, 1, 2)),
+    ('C closing on as much as is asked, from folio 2', opening(respec(C, lastmin=20), 2), (2, 0, 3, 0, 4, 0, 4, 1), (4, 0, 1, 1)),
+    ('kept figures fill the last page', keep(respec(LEGEND, lastmin=30), 1), (3, 0, 3, 2), (2, 2, 1, 3)),
     ('a figure alone without separation', plain(A.spec._replace(smin=1, smax=1), (10, 10, 10), [(30, 1)]),
      (3, 0, 3, 1), (2, 1, 1, 2)),
 ]
@@ -147,6 +179,31 @@ MARKED = [
     ('a figure opens the galley, without a folio', FIGURE_FIRST, (0, 1, 1, 1), ('refused', 17, 1)),
     ('a figure opens the galley and its list ends there', opening(FIGURE_FIRST, 2), (0, 1), ('refused', 17, 1)),
     ('A2 from folio 38', opening(A, 38), (3, 0, 3, 1), ('accepted', 2, 1, 1, 2)),
+    ('a page ends between kept figures', keep(LEGEND, 1), (2, 1, 3, 2), ('refused', 14, 1)),
+    ('a page ends between kept figures, all lines placed', keep(LEGEND, 1), (3, 0, 3, 1, 3, 2), ('refused', 14, 2)),
+    ('a list ends between kept figures', keep(LEGEND, 1), (3, 0, 3, 1), ('refused', 14, 2)),
+    ('kept figures on one page', keep(LEGEND, 1), (3, 0, 3, 2), ('accepted', 2, 2, 1, 3)),
+    ('a kept last figure forbids nothing', keep(LEGEND, 2), (3, 0, 3, 1, 3, 2), ('accepted', 3, 3, 2, 5)),
+    ('a page ends after the last figure, which is kept', keep(LEGEND, 1, 2), (1, 0, 1, 2, 3, 2), ('accepted', 3, 2, 2, 4)),
+    ('no figure placed, the first one kept', keep(LEGEND, 1), (1, 0, 3, 0, 3, 2), ('accepted', 3, 4, 2, 6)),
+    ('the second link of a chain', keep(CHAIN, 1, 2), (1, 0, 1, 2, 1, 3), ('refused', 14, 2)),
+    ('13 before 14 of a figure', keep(LEGEND, 1), (3, 0, 2, 1), ('refused', 13, 2)),
+    ('14 of a figure before 15', keep(LEGEND, 1), (3, 1, 3, 2), ('refused', 14, 1)),
+    ('14 of a figure before 16', keep(high(LEGEND, 30), 1), (1, 1, 3, 2), ('refused', 14, 1)),
+    ('14 of a figure before 17', keep(plain(LEGEND.spec, (10, 10), [(10, 2), (10, 2)]), 1), (1, 1, 2, 2), ('refused', 14, 1)),
+    ('a last page just high enough', respec(A, lastmin=20), (3, 0, 3, 1), ('accepted', 2, 1, 1, 2)),
+    ('a last page too low', respec(A, lastmin=21), (3, 0, 3, 1), ('refused', 16, 2)),
+    ('a last page between htMin and lastMin', respec(TWO_PAGES, htmin=10, lastmin=30), (2, 0, 4, 0), ('refused', 16, 2)),
+    ('a last page between lastMin and htMin', respec(A, lastmin=10), (3, 0, 3, 1), ('accepted', 2, 1, 1, 2)),
+    ('a page between htMin and lastMin that is not the last', respec(TWO_PAGES, htmin=10, lastmin=30), (1, 0, 4, 0),
+     ('accepted', 2, 0, 1, 1)),
+    ('a low page that is not the last, with lastMin 0', respec(A, lastmin=0), (1, 0, 3, 1), ('refused', 16, 1)),
+    ('16 before 18 on the last page of a short list', respec(A, lastmin=11), (1, 0), ('refused', 16, 1)),
+    ('18 where the last page of a short list is high enough', respec(A, lastmin=10), (1, 0), ('refused', 18, 1)),
+    ('15 before 16 on the last page', respec(A, lastmin=30), (2, 1), ('refused', 15, 1)),
+    ('16 before 17 on the last page', respec(G, lastmin=20), (2, 0, 2, 1), ('refused', 16, 2)),
+    ('the last page stretches to lastMin', respec(SPACED, htmax=50, lastmin=46), (3, 0), ('accepted', 1, 0, 0, 0)),
+    ('the last page stretches no further', respec(SPACED, htmax=50, lastmin=47), (3, 0), ('refused', 16, 1)),
     ('more figures than there are, on page 2', A, (3, 0, 3, 2), ('refused', 13, 2)),
 ]
 

@@ -50,11 +50,11 @@ def turned_away(tally):
 
 
 def round_trips(tally):
-    edge = Spec(100_000, 100_000, 100_000, 100_000, 2, 1_000, 1_000)
+    edge = Spec(100_000, 100_000, 100_000, 100_000, 2, 1_000, 1_000, 100_000)
     largest = Galley(edge, (4_000 * (Line(100_000, 100_000, 100_000, 0),), 200 * (Figure(100_000, 0, 100_000, 4_000),)), 9_999)
     for galley in [largest, *sample.galleys(1, 300, 8, 5)]:
         tally.same(f'round trip of {galley}', read(write(galley)), ('galley', galley))
-        begins = 30 if galley.stated is None else 36
+        begins = (30 if galley.spec.edition == 1 else 34) + (0 if galley.stated is None else 6)
         tally.same('line 1 begins', (galley.first, write(galley)[galley.first:][:2]), (begins, b'TL'))
     tally.group('galleys written and read')
     for galley in sample.galleys(2, 20, 4, 3):
@@ -65,7 +65,7 @@ def round_trips(tally):
 def damaged(tally, galley):
     """Cut short: 1 where the broken record began. One byte changed: refused inside the file, or still what it says."""
     data = write(galley)
-    begins = [0, 30, *range(galley.first, len(data), 18)]
+    begins = [0, 30 if galley.spec.edition == 1 else 34, *range(galley.first, len(data), 18)]
     cuts = [(read(data[:cut]), ('refused', 1, max(at for at in begins if at <= cut)))
             for cut in range(len(data))]
     tally.same('cut short', [cut for cut, (got, due) in enumerate(cuts) if got != due], [])
@@ -92,7 +92,7 @@ def all_lists(tally):
         tally.same(f'accepted lists of {galley}', found, due)
         tally.same(f'every list of {galley}', sorted(search.every(galley)), sorted(due))
     tally.group('all lists of words against all maps', f' ({several} galleys have several paginations)')
-    for galley in sample.galleys(12, 100, 2, 1):
+    for galley in [*sample.galleys(12, 100, 2, 1), *sample.galleys(14, 40, 1, 2)]:
         wrong = [words for words in lists_of_words(galley) if marking.mark(galley, words) != by_paper(galley, words)]
         tally.same(f'lists marked differently for {galley}', wrong, [])
     tally.group('all lists of words, refusals included, against the paper')
@@ -143,11 +143,25 @@ def searches(tally):
         lists = list(search.every(galley))
         ranks = sorted(search.rank(galley, words) for words in lists)
         solved += bool(ranks)
-        met.update(kinds.of_galley(galley), kinds.of_choice(galley, lists), *(kinds.of_list(galley, words) for words in lists))
+        best = search.first(galley, lists)
+        met.update(kinds.of_galley(galley), kinds.of_choice(galley, lists, best))
+        met.update(*(kinds.of_list(galley, words) for words in lists))
         tied += len(ranks) > 1 and ranks[0][0] == ranks[1][0]
-        tally.same(f'best of {galley}', search.best_by_table(galley), search.first(galley, lists))
+        tally.same(f'best of {galley}', search.best_by_table(galley), best)
     tally.same('every kind of galley, list and choice', met, {*kinds.OF_GALLEYS, *kinds.OF_LISTS, *kinds.OF_CHOICES})
     tally.group('table against search of all lists', f' ({solved} galleys have a valid list, {tied} a tie)')
+
+
+def editions(tally):
+    """A second edition with lastMin 0 accepts the lists of the first, with the same answers, and is another galley nonetheless."""
+    for galley in sample.galleys(15, 150, 4, 2):
+        first, second = (cases.respec(galley, lastmin=lastmin) for lastmin in (None, 0))
+        lists = list(search.every(first))
+        tally.same(f'lists of {galley}', (list(search.every(second)), search.best(second)), (lists, search.first(first, lists)))
+        tally.same(f'marks of {galley}', [marking.mark(second, words) for words in lists],
+                   [marking.mark(first, words) for words in lists])
+        tally.same(f'editions of {galley}', (first == second, read(write(second))), (False, ('galley', second)))
+    tally.group('lastMin 0 against the first edition')
 
 
 def larger(tally):
@@ -166,7 +180,7 @@ def larger(tally):
 
 def main():
     tally = Tally()
-    for group in (made, marked, turned_away, round_trips, all_lists, random_lists, searches, larger):
+    for group in (made, marked, turned_away, round_trips, all_lists, random_lists, searches, editions, larger):
         group(tally)
     for number in [*range(1, 9), *range(12, 19)]:
         tally.same(f'refusal {number} is reached', number in tally.refusals, True)

@@ -2,7 +2,7 @@
 
 import struct
 from dataclasses import dataclass
-from typing import NamedTuple, Optional
+from typing import Callable, NamedTuple, Optional
 
 LONGEST = 100_000  # any length, in hundredths of a point
 HEAVIEST = 1_000  # either weight
@@ -17,6 +17,19 @@ class Spec(NamedTuple):
     sides: int
     alpha: int
     beta: int
+    lastmin: Optional[int] = None  # of the second edition alone
+
+    @property
+    def edition(self):
+        return 1 if self.lastmin is None else 2
+
+    @property
+    def mark(self):
+        return (b'GS', b'G2')[self.edition - 1]
+
+    def floor(self, last):
+        """What rule 16 asks of a page; of the last one nothing in the first edition."""
+        return (self.lastmin or 0) if last else self.htmin
 
 
 class Folio(NamedTuple):
@@ -29,24 +42,45 @@ class Line(NamedTuple):
     most: int
     legal: int  # 1 if a page may end in that space
 
+    @property
+    def mark(self):
+        return b'TL'
+
 
 class Figure(NamedTuple):
     height: int
     least: int
     most: int
     cite: int  # the citing line, counted from 1
+    kept: int = 0  # 1 if it is kept with the next one
+
+    @property
+    def mark(self):
+        return b'FK' if self.kept else b'FG'
+
+    @property
+    def legal(self):
+        return 1 - self.kept
+
+
+class Kind(NamedTuple):
+    """What a mark opens: so many fields, and the record that they make."""
+    fields: int
+    record: Callable
+
+
+KINDS = {b'GS': Kind(7, Spec), b'G2': Kind(8, Spec), b'FO': Kind(1, Folio), b'TL': Kind(4, Line), b'FG': Kind(4, Figure),
+         b'FK': Kind(4, lambda *fields: Figure(*fields, kept=1))}
+SPECS = (b'GS', b'G2')  # either edition
 
 
 class Stream(NamedTuple):
-    """A kind of record that makes up a stream of its own."""
-    mark: bytes
-    kind: type
+    marks: tuple
     most: int  # of its blocks in a galley
 
 
 # In the order in which they follow one another in a file; the first is the text, the others are cited by its lines.
-STREAMS = (Stream(b'TL', Line, 4_000), Stream(b'FG', Figure, 200))
-KINDS = {b'GS': Spec, b'FO': Folio, **{stream.mark: stream.kind for stream in STREAMS}}
+STREAMS = (Stream((b'TL',), 4_000), Stream((b'FG', b'FK'), 200))
 
 
 @dataclass(frozen=True)
@@ -99,10 +133,10 @@ def read(data):
         if mark == b'ED':
             break
         kind, number = KINDS[mark], stream_of(mark)
-        after = at + 2 + 4 * len(kind._fields)
+        after = at + 2 + 4 * kind.fields
         if after > len(data):
             return ('refused', 1, at)
-        record = kind(*struct.unpack(f'>{len(kind._fields)}I', data[at + 2:after]))
+        record = kind.record(*struct.unpack(f'>{kind.fields}I', data[at + 2:after]))
         fault = record_fault(record, number, streams)
         if fault:
             return ('refused', fault, at)
@@ -116,7 +150,7 @@ def read(data):
 
 def stream_of(mark):
     """The number of the stream that a record belongs to; None for those that stand alone, before all streams."""
-    return next((number for number, stream in enumerate(STREAMS) if stream.mark == mark), None)
+    return next((number for number, stream in enumerate(STREAMS) if mark in stream.marks), None)
 
 
 def mark_fault(mark, alone, streams):
@@ -124,9 +158,9 @@ def mark_fault(mark, alone, streams):
     if len(mark) < 2:
         return 1
     # The specification opens the file and stands nowhere else.
-    if (mark == b'GS') != (not alone) or mark not in (*KINDS, b'ED'):
+    if (mark in SPECS) != (not alone) or mark not in (*KINDS, b'ED'):
         return 2
-    if mark == b'GS':
+    if mark in SPECS:
         return None
     # A folio stands straight after it and nowhere else.
     if mark == b'FO':
@@ -164,18 +198,19 @@ def alone_in_range(record):
 def spec_in_range(spec):
     return (1 <= spec.htmax <= LONGEST and spec.htmin <= spec.htmax
             and spec.smin <= spec.smax <= LONGEST and spec.sides in (1, 2)
-            and spec.alpha <= HEAVIEST and spec.beta <= HEAVIEST)
+            and spec.alpha <= HEAVIEST and spec.beta <= HEAVIEST
+            and (spec.edition == 1 or spec.lastmin <= spec.htmax))
 
 
 def write(galley):
     """The bytes of a galley. Ranges are not tested, so that refused files can be written too."""
-    blocks = (record(stream.mark, *block) for stream, held in zip(STREAMS, galley.streams) for block in held)
-    return opening(galley) + b''.join(blocks) + b'ED'
+    return opening(galley) + b''.join(record(block.mark, *block[:4]) for held in galley.streams for block in held) + b'ED'
 
 
 def opening(galley):
     """The bytes before line 1."""
-    return record(b'GS', *galley.spec) + (b'' if galley.stated is None else record(b'FO', galley.stated))
+    fields = galley.spec[:KINDS[galley.spec.mark].fields]
+    return record(galley.spec.mark, *fields) + (b'' if galley.stated is None else record(b'FO', galley.stated))
 
 
 def record(mark, *fields):

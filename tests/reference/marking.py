@@ -44,7 +44,7 @@ def page_fault(galley, start, end, page, last):
         return 14
     if tightest(galley, start, end) > spec.htmax:
         return 15
-    if not last and loosest(galley, start, end) < spec.htmin:
+    if loosest(galley, start, end) < spec.floor(last):
         return 16
     ends_leaf = leaf(spec.sides, galley.folio, page) != leaf(spec.sides, galley.folio, page + 1)
     if (ends_leaf or last) and any(j > 0 and floats[j - 1].cite > end[0] for floats, j in zip(galley.floats, end[1:])):
@@ -53,7 +53,8 @@ def page_fault(galley, start, end, page, last):
 
 
 def may_end(galley, end):
-    return not 0 < end[0] < len(galley.lines) or galley.lines[end[0] - 1].legal == 1
+    """Whether the last block of each stream so far, if there is one and more are to come, allows a page end after it."""
+    return all(not 0 < count < len(stream) or stream[count - 1].legal == 1 for stream, count in zip(galley.streams, end))
 
 
 def tightest(galley, start, end):
@@ -96,12 +97,13 @@ def waiting(galley, place):
 
 
 def is_pagination(galley, maps, p):
-    """Whether the map onto p pages meets the four constraints of the paper's section 2."""
+    """Whether the map onto p pages meets the four constraints of the paper's section 2, the last page held to lastMin."""
     return (set().union(*maps) == set(range(1, p + 1))
             and all(map(never_falls, maps))
             and all(not_overfull(galley, maps, page) for page in range(1, p + 1))
-            and all(not_underfull(galley, maps, page) for page in range(1, p))
-            and ends_are_legal(galley, maps[0])
+            and all(not_underfull(galley, maps, page, galley.spec.htmin) for page in range(1, p))
+            and not_underfull(galley, maps, p, galley.spec.lastmin or 0)
+            and ends_are_legal(galley, maps)
             and citations_come_first(galley, maps))
 
 
@@ -113,8 +115,8 @@ def not_overfull(galley, maps, page):
     return page_height(galley, maps, page, 'least', galley.spec.smin) <= galley.spec.htmax
 
 
-def not_underfull(galley, maps, page):
-    return page_height(galley, maps, page, 'most', galley.spec.smax) >= galley.spec.htmin
+def not_underfull(galley, maps, page, least):
+    return page_height(galley, maps, page, 'most', galley.spec.smax) >= least
 
 
 def page_height(galley, maps, page, space, separation):
@@ -135,10 +137,10 @@ def stream_height(stream, page_of, page, space):
     return total
 
 
-def ends_are_legal(galley, page_of_line):
-    """A space between lines that lie on different pages vanishes there, so it must allow a page end."""
-    return all(line.legal or here == there
-               for line, here, there in zip(galley.lines, page_of_line, page_of_line[1:]))
+def ends_are_legal(galley, maps):
+    """A space between blocks of a stream that lie on different pages vanishes there, so it must allow a page end."""
+    return all(block.legal or here == there for stream, page_of in zip(galley.streams, maps)
+               for block, here, there in zip(stream, page_of, page_of[1:]))
 
 
 def citations_come_first(galley, maps):

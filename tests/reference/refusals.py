@@ -28,15 +28,16 @@ def of_page(galley, words, last):
     if found is None or set().union(*found[0]) != {*range(1, page + 1)}:
         return 13
     maps = found[0]
-    # Lines still to come go to the next page at the earliest, and to no page that could be seen if there is none.
-    text = maps[0] + [page + 2 if last else page + 1] * (len(galley.lines) - end[0])
-    if not marking.ends_are_legal(galley, text):
+    # What is still to come goes to the next page at the earliest, and to no page that could be seen if there is none.
+    later = page + 2 if last else page + 1
+    ahead = [page_of + [later] * (size - len(page_of)) for page_of, size in zip(maps, galley.sizes)]
+    if not marking.ends_are_legal(galley, ahead):
         return 14
     if not marking.not_overfull(so_far, maps, page):
         return 15
-    if not last and not marking.not_underfull(so_far, maps, page):
+    if not marking.not_underfull(so_far, maps, page, (galley.spec.lastmin or 0) if last else galley.spec.htmin):
         return 16
-    if not marking.citations_come_first(galley, (text, *maps[1:])):
+    if not marking.citations_come_first(galley, ahead):
         return 17
     return None
 
@@ -78,6 +79,8 @@ def files():
     yield 'a byte after the end', opened + b'EDx', 8, 50
     yield 'a second end', opened + figure + b'EDED', 8, 68
     yield from folios(spec, line, figure)
+    yield from kept(opened, line, figure)
+    yield from editions(spec, line, figure)
     yield from out_of_range(opened)
 
 
@@ -110,14 +113,64 @@ def folios(spec, line, figure):
         yield f'folio {first}', spec + record(b'FO', first) + line + b'ED', 3, 30
 
 
+def kept(opened, line, figure):
+    """`FK` is turned away where `FG` is; both count as figures, in one order of citations."""
+    spec, keeps = opened[:30], record(b'FK', 20, 0, 0, 1)
+    mixed = opened + 100 * figure + 100 * keeps
+    yield 'kept figure first', keeps, 2, 0
+    yield 'kept figure before any line', spec + keeps, 5, 30
+    yield 'kept figure before any line, cut short', spec + b'FK', 5, 30
+    yield 'line after a kept figure', opened + keeps + line, 2, 66
+    yield 'folio after a kept figure', opened + keeps + record(b'FO', 38), 2, 66
+    yield 'figure 201, after 100 kept ones', mixed + figure, 4, 48 + 200 * 18
+    yield 'kept figure 201', mixed + keeps, 4, 48 + 200 * 18
+    yield 'kept figure 201, cut short', mixed + b'FK', 4, 48 + 200 * 18
+    yield 'half a kept figure', opened + keeps[:17], 1, 48
+    yield 'no end after a kept figure', opened + keeps, 1, 66
+    yield 'kept figure, citation 0', opened + record(b'FK', 1, 0, 0, 0) + b'ED', 6, 48
+    yield 'kept figure, citation above m', opened + record(b'FK', 1, 0, 0, 2) + b'ED', 6, 48
+    for one, two in ((b'FK', b'FG'), (b'FG', b'FK'), (b'FK', b'FK')):
+        yield f'citations fall from {one} to {two}', opened + line + record(one, 1, 0, 0, 2) + record(two, 1, 0, 0, 1), 7, 84
+    yield 'a byte after the end, after a kept figure', opened + keeps + b'ED?', 8, 68
+
+
+def editions(first, line, figure):
+    """`G2` is turned away where `GS` is, and where its eighth field is out of range; what comes after one."""
+    spec, folio = record(b'G2', 30, 30, 0, 0, 1, 1, 1, 20), record(b'FO', 38)
+    opened, full = spec + line, spec + 4_000 * line
+    yield 'half a second edition', spec[:33], 1, 0
+    yield 'a second edition without its eighth field', spec[:30], 1, 0
+    yield 'nothing after a second edition', spec, 1, 34
+    yield 'second edition after the first', first + spec, 2, 30
+    yield 'first edition after the second', spec + first, 2, 34
+    yield 'second edition twice', spec + spec, 2, 34
+    yield 'second edition twice, cut short', spec + b'G2', 2, 34
+    yield 'second edition after a folio', first + folio + spec, 2, 36
+    yield 'second edition after a line', opened + spec, 2, 52
+    yield 'second edition after a figure, out of range', opened + figure + record(b'G2', *8 * (2**32 - 1,)), 2, 70
+    yield 'second folio in a second edition', spec + folio + folio, 2, 40
+    yield 'half a folio in a second edition', (spec + folio)[:39], 1, 34
+    yield 'folio out of range in a second edition', spec + record(b'FO', 0), 3, 34
+    yield 'end straight after a second edition', spec + b'ED', 5, 34
+    yield 'figure straight after a second edition', spec + figure, 5, 34
+    yield 'end straight after a folio in a second edition', spec + folio + b'ED', 5, 40
+    yield 'line 4,001 in a second edition', full + line, 4, 34 + 4_000 * 18
+    yield 'citation above m in a second edition', opened + record(b'FG', 1, 0, 0, 2), 6, 52
+    yield 'a byte after the end of a second edition', opened + b'ED?', 8, 54
+    for last in (31, 100_000, 2**32 - 1):
+        yield f'lastMin {last} above htMax', record(b'G2', 0, 30, 0, 0, 1, 1, 1, last) + line + b'ED', 3, 0
+
+
 def out_of_range(opened):
     """One field at a time just outside its range, the others inside."""
     for fields in [(2, 1, 0, 0, 1, 1, 1), (0, 0, 0, 0, 1, 1, 1), (0, 100_001, 0, 0, 1, 1, 1), (0, 1, 2, 1, 1, 1, 1),
                    (0, 1, 0, 100_001, 1, 1, 1), (0, 1, 0, 0, 0, 1, 1), (0, 1, 0, 0, 3, 1, 1),
                    (0, 1, 0, 0, 1, 1_001, 1), (0, 1, 0, 0, 1, 1, 1_001), (2**32 - 1, 1, 0, 0, 1, 1, 1)]:
         yield f'specification {fields}', record(b'GS', *fields) + opened[30:] + b'ED', 3, 0
+        yield f'second edition {fields}', record(b'G2', *fields, 0) + opened[30:] + b'ED', 3, 0
     for sizes in [(100_001, 0, 0), (0, 1, 0), (0, 0, 100_001), (0, 100_001, 100_001), (2**32 - 1, 0, 0)]:
         yield f'line {sizes}', opened + record(b'TL', *sizes, 1) + b'ED', 3, 48
         yield f'figure {sizes}', opened + record(b'FG', *sizes, 1) + b'ED', 3, 48
+        yield f'kept figure {sizes}', opened + record(b'FK', *sizes, 1) + b'ED', 3, 48
     for legal in (2, 256, 2**32 - 1):
         yield f'page end {legal}', opened + record(b'TL', 1, 0, 0, legal) + b'ED', 3, 48

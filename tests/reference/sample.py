@@ -17,10 +17,10 @@ def one_galley(rng, max_lines, max_figures, sides):
     # A low least height keeps most pages possible; a high one now and then exercises 16 and 11.
     htmin = rng.choice((0, htmax // 4, htmax // 2, rng.randint(0, htmax)))
     smin = rng.choice((0, 0, 1, 3))
-    spec = Spec(htmin, htmax, smin, smin + rng.choice((0, 2, 10)), sides, weight(rng), weight(rng))
+    spec = Spec(htmin, htmax, smin, smin + rng.choice((0, 2, 10)), sides, weight(rng), weight(rng), lastmin(rng, htmin, htmax))
     lines = tuple(Line(*sized(rng, htmax), int(rng.random() < 0.85)) for _ in range(rng.randint(1, max_lines)))
     cites = citations(rng, len(lines), rng.randint(0, max_figures))
-    figures = tuple(Figure(*sized(rng, htmax), cite) for cite in cites)
+    figures = tuple(Figure(*sized(rng, htmax), cite, kept(rng)) for cite in cites)
     return Galley(spec, (lines, figures), folio(rng))
 
 
@@ -36,16 +36,26 @@ def one_fine_galley(rng, lines, max_figures, htmax, sides):
     htmin = rng.choice((htmax // 2, 2 * htmax // 3, htmax - 1, rng.randint(1, htmax)))
     smin = rng.choice((0, 0, 1, 2))
     # Weights of 0 make ties, which the latest starts decide.
-    spec = Spec(htmin, htmax, smin, smin + rng.choice((0, 1, 5)), sides, rng.choice((0, 0, 1, 3)), rng.choice((0, 0, 1, 2)))
+    spec = Spec(htmin, htmax, smin, smin + rng.choice((0, 1, 5)), sides, rng.choice((0, 0, 1, 3)), rng.choice((0, 0, 1, 2)),
+                lastmin(rng, htmin, htmax))
     barred = forbidden_ends(rng, lines)
     cites = citations(rng, lines, rng.randint(0, max_figures))
     text = tuple(Line(*fine(rng, htmax, 1.5 / lines), int(k not in barred)) for k in range(1, lines + 1))
-    return Galley(spec, (text, tuple(Figure(*fine(rng, htmax, 0.2), cite) for cite in cites)), folio(rng))
+    return Galley(spec, (text, tuple(Figure(*fine(rng, htmax, 0.2), cite, kept(rng)) for cite in cites)), folio(rng))
 
 
 def folio(rng):
     """A first folio as `FO` states it: none, even or odd, and some after which folios pass 9,999."""
     return rng.choice((None, None, 1, 2, 38, 39, 9_998, 9_999, rng.randint(1, 9_999)))
+
+
+def lastmin(rng, htmin, htmax):
+    """The eighth field of a second edition, low, as a part of htMin or above it; None for the first edition."""
+    return rng.choice((None, None, 0, 1, htmin // 2, htmin, rng.randint(htmin, htmax)))
+
+
+def kept(rng):
+    return int(rng.random() < 0.25)
 
 
 def left_galleys(seed, count):
@@ -54,10 +64,11 @@ def left_galleys(seed, count):
     rng = random.Random(seed)
     for _ in range(count):
         htmax = rng.randint(8, 40)
-        spec = Spec(rng.randint(htmax // 2, htmax), htmax, 0, rng.choice((0, 2)), 2, weight(rng), weight(rng))
+        htmin = rng.randint(htmax // 2, htmax)
+        spec = Spec(htmin, htmax, 0, rng.choice((0, 2)), 2, weight(rng), weight(rng), lastmin(rng, 0, htmin))
         lines = tuple(Line(rng.randint(0, htmax // 2), 0, 2, rng.randint(0, 1)) for _ in range(rng.randint(1, 5)))
         cites = citations(rng, min(2, len(lines)), rng.randint(1, 3))
-        figures = tuple(Figure(rng.randint(spec.htmin, htmax), 0, 0, cite) for cite in cites)
+        figures = tuple(Figure(rng.randint(spec.htmin, htmax), 0, 0, cite, kept(rng)) for cite in cites)
         yield Galley(spec, (lines, figures), rng.choice((2, 38, 9_998)))
 
 

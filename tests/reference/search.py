@@ -93,7 +93,7 @@ def page_ends(galley, start):
         tight, loose = (sum(heights) for heights in zip(*(heights for _, heights in blocks)))
         if kinds == 0 or not marking.may_end(galley, end) or tight + (kinds - 1) * spec.smin > spec.htmax:
             continue
-        if end == galley.sizes or loose + (kinds - 1) * spec.smax >= spec.htmin:
+        if loose + (kinds - 1) * spec.smax >= spec.floor(end == galley.sizes):
             yield end
 
 

@@ -1,6 +1,7 @@
 //! The marking: rules 12 to 18, then the turns.
 
 use crate::page::{ends_leaf, height_of, leaf};
+use crate::places::{may_end, may_part};
 use crate::read::{read, Galley};
 use crate::Answer;
 
@@ -42,14 +43,14 @@ fn broken_rule(galley: &Galley, start: (usize, usize), end: (usize, usize), page
     if i < start.0 || j < start.1 || i > galley.m || j > galley.n || start == end {
         return 13;
     }
-    if 0 < i && i < galley.m && galley.line(i).last == 0 {
+    if !may_end(galley, i) || !may_part(galley, j) {
         return 14;
     }
     let height = height_of(galley, start, end);
     if height.tight > galley.spec.ht_max {
         return 15;
     }
-    if !last && height.loose < galley.spec.ht_min {
+    if height.loose < if last { galley.spec.last_min } else { galley.spec.ht_min } {
         return 16;
     }
     if (last || ends_leaf(galley, page)) && j > 0 && galley.figure(j).last as usize > i {

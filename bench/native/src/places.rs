@@ -77,6 +77,11 @@ pub fn may_end(galley: &Galley, i: usize) -> bool {
     i == 0 || i == galley.m || galley.line(i).last == 1
 }
 
+/// Whether a page may end after figure j.
+pub fn may_part(galley: &Galley, j: usize) -> bool {
+    j == 0 || j == galley.n || !galley.figure(j).kept
+}
+
 /// The number of figures that are cited by line i or earlier, counted on from those of an earlier line.
 pub fn cited_through(galley: &Galley, i: usize, mut cited: usize) -> usize {
     while cited < galley.n && galley.figure(cited + 1).last as usize <= i {

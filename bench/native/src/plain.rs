@@ -2,8 +2,8 @@
 
 use crate::page::Height;
 use crate::places::{
-    cited_through, first_side, least, may_end, origin_side, price, side_before, store, Least, Place, ENDS, OPENS,
-    ORIGIN,
+    cited_through, first_side, least, may_end, may_part, origin_side, price, side_before, store, Least, Place, ENDS,
+    OPENS, ORIGIN,
 };
 use crate::read::Galley;
 
@@ -22,7 +22,7 @@ fn fill_place(galley: &Galley, work: &mut [u32], place: Place, cited: usize) {
     let mut best = [None; 2];
     if place == (0, 0) {
         best[origin_side(galley)] = Some(ORIGIN);
-    } else if may_end(galley, i) && (galley.spec.sides == 2 || j <= cited) {
+    } else if may_end(galley, i) && may_part(galley, j) && (galley.spec.sides == 2 || j <= cited) {
         best = best_starts(galley, work, place);
         // A figure cited further on may not stand on a spread that ends before its citation.
         if j > cited {
@@ -40,7 +40,7 @@ fn fill_place(galley: &Galley, work: &mut [u32], place: Place, cited: usize) {
 /// smaller cost changes the choice.
 pub fn best_starts(galley: &Galley, work: &[u32], (i, j): Place) -> [Option<Least>; 2] {
     let spec = &galley.spec;
-    let ht_min = if (i, j) == (galley.m, galley.n) { 0 } else { spec.ht_min };
+    let ht_min = if (i, j) == (galley.m, galley.n) { spec.last_min } else { spec.ht_min };
     let mut best: [Option<Least>; 2] = [None; 2];
     let mut lines = Height::default();
     for a in (0..=i).rev() {

@@ -8,7 +8,9 @@ const LONGEST: u32 = 100_000;
 const HEAVIEST: u32 = 1_000;
 const HIGHEST_FOLIO: u32 = 9_999;
 
+/// Bytes of the specification in its first edition and in its second.
 const SPEC_BYTES: usize = 30;
+const SECOND_BYTES: usize = 34;
 const FOLIO_BYTES: usize = 6;
 const BLOCK_BYTES: usize = 18;
 
@@ -20,15 +22,19 @@ pub struct Spec {
     pub sides: u32,
     pub alpha: u32,
     pub beta: u32,
+    /// The least height of the last page: 0 in the first edition.
+    pub last_min: u32,
 }
 
 /// A line or a figure. `last` is the fourth field: whether a page may end after the line, or the line citing the figure.
+/// `kept` is for a figure that no page may end after.
 #[derive(Clone, Copy)]
 pub struct Block {
     pub height: u32,
     pub least: u32,
     pub most: u32,
     pub last: u32,
+    pub kept: bool,
 }
 
 /// A galley that reads without refusal; its lines and figures stay where they are in the lent bytes.
@@ -61,12 +67,13 @@ fn field(record: &[u8], number: usize) -> u32 {
 
 fn block(record: &[u8]) -> Block {
     let record = &record[..BLOCK_BYTES];
-    Block { height: field(record, 0), least: field(record, 1), most: field(record, 2), last: field(record, 3) }
+    let kept = record.starts_with(b"FK");
+    Block { height: field(record, 0), least: field(record, 1), most: field(record, 2), last: field(record, 3), kept }
 }
 
 pub fn read(bytes: &[u8]) -> Result<Galley<'_>, Answer> {
-    let spec = read_spec(bytes)?;
-    let (folio, lines_at) = read_folio(bytes, SPEC_BYTES)?;
+    let (spec, spec_end) = read_spec(bytes)?;
+    let (folio, lines_at) = read_folio(bytes, spec_end)?;
     let Counts { m, n, .. } = read_blocks(bytes, lines_at)?;
     let figures_at = lines_at + m * BLOCK_BYTES;
     let end = figures_at + n * BLOCK_BYTES;
@@ -76,15 +83,20 @@ pub fn read(bytes: &[u8]) -> Result<Galley<'_>, Answer> {
     Ok(Galley { spec, folio, m, n, lines: &bytes[lines_at..figures_at], figures: &bytes[figures_at..end] })
 }
 
-fn read_spec(bytes: &[u8]) -> Result<Spec, Answer> {
-    let spec = match bytes {
+/// The specification of either edition, and where it ends.
+fn read_spec(bytes: &[u8]) -> Result<(Spec, usize), Answer> {
+    let size = match bytes {
         [] | [_] => return Err(Answer::refused(1, 0)),
-        [b'G', b'S', ..] if bytes.len() < SPEC_BYTES => return Err(Answer::refused(1, 0)),
-        [b'G', b'S', ..] => spec_of(bytes),
+        [b'G', b'S', ..] => SPEC_BYTES,
+        [b'G', b'2', ..] => SECOND_BYTES,
         _ => return Err(Answer::refused(2, 0)),
     };
+    if bytes.len() < size {
+        return Err(Answer::refused(1, 0));
+    }
+    let spec = spec_of(&bytes[..size]);
     if spec_in_range(&spec) {
-        Ok(spec)
+        Ok((spec, size))
     } else {
         Err(Answer::refused(3, 0))
     }
@@ -127,10 +139,10 @@ fn read_blocks(bytes: &[u8], lines_at: usize) -> Result<Counts, Answer> {
         match &mark {
             b"TL" if counts.n > 0 => return refused(2),
             b"TL" if counts.m == MOST_LINES => return refused(4),
-            b"FG" | b"ED" if counts.m == 0 => return refused(5),
-            b"FG" if counts.n == MOST_FIGURES => return refused(4),
-            b"TL" | b"FG" if rest.len() < BLOCK_BYTES => return refused(1),
-            b"TL" | b"FG" => {}
+            b"FG" | b"FK" | b"ED" if counts.m == 0 => return refused(5),
+            b"FG" | b"FK" if counts.n == MOST_FIGURES => return refused(4),
+            b"TL" | b"FG" | b"FK" if rest.len() < BLOCK_BYTES => return refused(1),
+            b"TL" | b"FG" | b"FK" => {}
             b"ED" => return Ok(counts),
             _ => return refused(2),
         }
@@ -173,6 +185,7 @@ fn spec_of(record: &[u8]) -> Spec {
         sides: field(record, 4),
         alpha: field(record, 5),
         beta: field(record, 6),
+        last_min: if record.len() == SECOND_BYTES { field(record, 7) } else { 0 },
     }
 }
 
@@ -184,4 +197,5 @@ fn spec_in_range(spec: &Spec) -> bool {
         && (1..=2).contains(&spec.sides)
         && spec.alpha <= HEAVIEST
         && spec.beta <= HEAVIEST
+        && spec.last_min <= spec.ht_max
 }

@@ -6,8 +6,8 @@
 
 use crate::page::Height;
 use crate::places::{
-    cited_through, clear_column, first_side, least, may_end, origin_side, price, side_before, store, Least, ENDS,
-    OPENS, ORIGIN,
+    cited_through, clear_column, first_side, least, may_end, may_part, origin_side, price, side_before, store, Least,
+    ENDS, OPENS, ORIGIN,
 };
 use crate::plain::best_starts;
 use crate::queue::Queue;
@@ -28,6 +28,9 @@ pub fn fill(galley: &Galley, work: &mut [u32]) {
         while figures.between(earliest, j).tight > galley.spec.ht_max {
             earliest += 1;
         }
+        if !may_part(galley, j) {
+            continue;
+        }
         if j == 0 {
             store(galley, work, (0, 0), origin_side(galley), Some(ORIGIN));
         }
@@ -36,7 +39,7 @@ pub fn fill(galley: &Galley, work: &mut [u32]) {
             sweep(galley, work, &lines, &mut queues, &Pages { b, j, figures: figures.between(b, j) });
         }
     }
-    // The last page may be low, so its starts are no such window.
+    // The last page is held to a height of its own, so its starts are another window.
     let best = best_starts(galley, work, (m, n));
     store(galley, work, (m, n), OPENS, best[OPENS]);
     store(galley, work, (m, n), ENDS, best[ENDS]);

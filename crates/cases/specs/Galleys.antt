@@ -1,14 +1,17 @@
 -- The galleys of the table: those of document 01, "Galleys to try", under their letters there, then those for what they leave
 -- open. What the cases vary of a galley is left open in it.
-use mathlib.Core.Bool.{Bool, true, false}
+use mathlib.Core.Bool.{Bool, true, false, _&&_}
 use mathlib.Core.List.{List, [], _∷_, _++_}
 use Prim.Native.Nat.{ℕ}
 use lib.ListN.{replicate}
+use lib.Dec.{eqb}
+use Rattle.model.specs.Gather.{pick}
 use Rattle.model.specs.Galley.{Sides, single, double, Spec, Galley}
 use Rattle.cases.specs.Case.{Block, galleyOf}
 
+-- A specification of the first edition.
 unfoldable pub spec : ℕ → ℕ → ℕ → ℕ → Sides → ℕ → ℕ → Spec
-spec a b c d sides α β = record { htmin = a; htmax = b; smin = c; smax = d; sides = sides; alpha = α; beta = β }
+spec a b c d sides α β = record { htmin = a; htmax = b; smin = c; smax = d; sides = sides; alpha = α; beta = β; lastmin = 0 }
 
 -- A line with no space after it, and a page end allowed or not.
 unfoldable pub line : ℕ → Bool → Block
@@ -79,3 +82,42 @@ galleyH =
 -- Galley I: a line that cites a figure of 25 and one of 10, which do not fit on one page, double-sided from a folio on.
 unfoldable pub galleyI : ℕ → Galley
 galleyI folio = galleyOf (spec 0 30 0 0 (double folio) 1 1) (line 20 true ∷ []) (figure 25 1 ∷ figure 10 1 ∷ [])
+
+-- Galley J: two lines of 10, and figures of 10, 20 and 20 that line 1 cites, with pages from 20 to 30.
+unfoldable pub galleyJ : Galley
+galleyJ =
+    galleyOf (spec 20 30 0 0 single 1 1) (line 10 true ∷ line 10 true ∷ []) (figure 10 1 ∷ figure 20 1 ∷ figure 20 1 ∷ [])
+
+-- A galley in which figure k is kept with the one after it.
+unfoldable pub keeping : ℕ → Galley → Galley
+keeping k g =
+    record {
+      spec = g .spec;
+      floats = g .floats;
+      stream = λ s. record {
+        size = g .stream s .size;
+        ht = g .stream s .ht;
+        least = g .stream s .least;
+        most = g .stream s .most;
+        legal = λ j. pick (eqb s 1 && eqb j k) false (g .stream s .legal j);
+        cite = g .stream s .cite;
+      };
+    }
+
+-- A galley under the second edition, which holds its last page to a height.
+unfoldable pub closing : ℕ → Galley → Galley
+closing least g =
+    record {
+      spec = record {
+        htmin = g .spec .htmin;
+        htmax = g .spec .htmax;
+        smin = g .spec .smin;
+        smax = g .spec .smax;
+        sides = g .spec .sides;
+        alpha = g .spec .alpha;
+        beta = g .spec .beta;
+        lastmin = least;
+      };
+      floats = g .floats;
+      stream = g .stream;
+    }

@@ -1,8 +1,8 @@
 -- The cases of the requests of document 02 that change what is valid or what a list is worth.
 use mathlib.Core.List.{List, [], _∷_}
-use Rattle.model.specs.Galley.{double}
+use Rattle.model.specs.Galley.{single, double}
 use Rattle.cases.specs.Case.{Case, making, marking, makes, marks, refuses, asks}
-use Rattle.cases.specs.Galleys.{galleyC, galleyD, galleyI}
+use Rattle.cases.specs.Galleys.{galleyA, galleyC, galleyD, galleyI, galleyJ, keeping, closing}
 
 -- S-1: double-sided work from another folio than 1.
 unfoldable pub folios : List Case
@@ -24,4 +24,34 @@ folios =
     ∷ asks (galleyI 2) making (makes 2 0 0 0 (0 ∷ 1 ∷ 1 ∷ 2 ∷ []))
     ∷ asks (galleyI 3) (marking (0 ∷ 1 ∷ 1 ∷ 2 ∷ [])) (refuses 17 1)
     ∷ asks (galleyI 3) making (makes 3 2 1 3 (1 ∷ 0 ∷ 1 ∷ 1 ∷ 1 ∷ 2 ∷ []))
+    ∷ []
+
+-- S-3: figures that are kept with the one after them.
+unfoldable pub keepings : List Case
+keepings =
+    -- figure 1 stands with the lines, and the others follow on a page each; kept with figure 2 it goes with it, which costs a turn
+    asks galleyJ making (makes 3 3 2 5 (2 ∷ 1 ∷ 2 ∷ 2 ∷ 2 ∷ 3 ∷ []))
+    ∷ asks (keeping 1 galleyJ) making (makes 3 4 2 6 (2 ∷ 0 ∷ 2 ∷ 2 ∷ 2 ∷ 3 ∷ []))
+    ∷ asks (keeping 1 galleyJ) (marking (2 ∷ 1 ∷ 2 ∷ 2 ∷ 2 ∷ 3 ∷ [])) (refuses 14 1)
+    ∷ asks (keeping 2 galleyJ) (marking (2 ∷ 1 ∷ 2 ∷ 2 ∷ 2 ∷ 3 ∷ [])) (refuses 14 2)
+    -- all three kept together fit on no page
+    ∷ asks (keeping 2 (keeping 1 galleyJ)) making (refuses 11 0)
+    -- after the last figure there is nothing to keep it with
+    ∷ asks (keeping 3 galleyJ) making (makes 3 3 2 5 (2 ∷ 1 ∷ 2 ∷ 2 ∷ 2 ∷ 3 ∷ []))
+    ∷ asks (keeping 1 (galleyA 0 20 1 1)) making (makes 2 0 1 1 (1 ∷ 1 ∷ 3 ∷ 1 ∷ []))
+    ∷ []
+
+-- S-11: the second edition, whose last page is held to lastMin.
+unfoldable pub closings : List Case
+closings =
+    -- the last page of A1 is 20 high: it stays where that is enough, though htMin is 30; else no list of A closes on more
+    asks (closing 20 (galleyA 0 20 1 1)) making (makes 2 0 1 1 (1 ∷ 1 ∷ 3 ∷ 1 ∷ []))
+    ∷ asks (closing 21 (galleyA 0 20 1 1)) making (refuses 11 0)
+    ∷ asks (closing 21 (galleyA 0 20 1 1)) (marking (1 ∷ 1 ∷ 3 ∷ 1 ∷ [])) (refuses 16 2)
+    -- lastMin above htMin: the list of D that closes on one line gives way to that which closes on two, and its first page is 10 high
+    ∷ asks (closing 11 (galleyD single 1)) making (makes 2 0 1 1 (1 ∷ 0 ∷ 3 ∷ 0 ∷ []))
+    ∷ asks (closing 11 (galleyD single 1)) (marking (2 ∷ 0 ∷ 3 ∷ 0 ∷ [])) (refuses 16 2)
+    -- a list that stops short is held to lastMin on its last page, before 18; page 1 of A6 is high enough
+    ∷ asks (closing 11 (galleyA 0 20 1 1)) (marking (1 ∷ 1 ∷ 2 ∷ 1 ∷ [])) (refuses 16 2)
+    ∷ asks (closing 30 (galleyA 0 20 1 1)) (marking (1 ∷ 1 ∷ [])) (refuses 18 1)
     ∷ []

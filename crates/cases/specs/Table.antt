@@ -3,7 +3,7 @@ use mathlib.Core.List.{List, _++_}
 use Rattle.cases.specs.Case.{Case}
 use Rattle.cases.specs.Starred.{starred}
 use Rattle.cases.specs.Further.{makings, heights, refusals}
-use Rattle.cases.specs.Requests.{folios}
+use Rattle.cases.specs.Requests.{folios, keepings, closings}
 
 unfoldable pub table : List Case
-table = starred ++ makings ++ heights ++ refusals ++ folios
+table = starred ++ makings ++ heights ++ refusals ++ folios ++ keepings ++ closings

@@ -31,6 +31,7 @@ galleyA =
     record {
       spec = record { htmin = 30; htmax = 30; smin = 0; smax = 0; sides = 1; alpha = 1; beta = 1 };
       folio = 1;
+      lastmin = 0;
       text = record { first = 30; count = 3 };
       figures = record { first = 84; count = 1 };
     }

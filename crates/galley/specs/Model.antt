@@ -1,12 +1,14 @@
 -- A galley that was read, as the page model has it: the text is stream 0, the figures are stream 1.
 use Prim.Native.Nat.{ℕ, zero, suc}
-use mathlib.Core.Bool.{Bool, true}
+use mathlib.Core.Bool.{Bool, not}
 use mathlib.Core.List.{List}
 use lib.Dec.{eqb}
+use Rattle.model.specs.Gather.{pick}
 use Rattle.model.specs.Leaf.{sidesOf}
 use Rattle.model.specs.Galley as model
 use Rattle.galley.specs.Record.{heightAt, leastAt, mostAt, legalAt, citeAt}
-use Rattle.galley.specs.Block.{fieldOf}
+use Rattle.galley.specs.Word.{markAt}
+use Rattle.galley.specs.Block.{offset, fieldOf}
 use Rattle.galley.specs.declared.Stream.{Stream}
 use Rattle.galley.specs.declared.Galley.{Galley}
 
@@ -22,13 +24,20 @@ streamOf bytes stream legal cite =
       cite = cite;
     }
 
--- Lines: a page may end in the space after one whose last field is 1, and nothing cites a line.
-abbrev pub textOf : List ℕ → Stream → model.Stream
-textOf bytes text = streamOf bytes text (λ k. eqb (fieldOf bytes text legalAt k) 1) (λ k. 0)
+-- A page may end in the space after block k: after a line (`TL`) whose last field is 1, and after a float that is not kept (`FK`)
+-- with the next (document 02, S-3).
+unfoldable pub legalOf : List ℕ → Stream → ℕ → Bool
+legalOf bytes stream k =
+    let mark = markAt bytes (offset stream k) in
+    pick (eqb mark 0x544c) (eqb (fieldOf bytes stream legalAt k) 1) (not (eqb mark 0x464b))
 
--- Floats, figures today: a page may end in the space after any of them, and the last field is the citation.
+-- Lines: nothing cites a line.
+abbrev pub textOf : List ℕ → Stream → model.Stream
+textOf bytes text = streamOf bytes text (legalOf bytes text) (λ k. 0)
+
+-- Floats, figures today: the last field is the citation.
 abbrev pub floatsOf : List ℕ → Stream → model.Stream
-floatsOf bytes floats = streamOf bytes floats (λ k. true) (fieldOf bytes floats citeAt)
+floatsOf bytes floats = streamOf bytes floats (legalOf bytes floats) (fieldOf bytes floats citeAt)
 
 -- The stream of a number: the text is 0.
 abbrev pub streamsOf : List ℕ → Galley → ℕ → model.Stream
@@ -52,6 +61,7 @@ modelOf bytes g =
             sides = sidesIn g;
             alpha = g .spec .alpha;
             beta = g .spec .beta;
+            lastmin = g .lastmin;
           };
       floats = 1;
       stream = streamsOf bytes g;

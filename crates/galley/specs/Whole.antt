@@ -22,7 +22,7 @@ use Rattle.galley.specs.declared.Step.the-variants.{On, Done}
 
 -- The galley of a specification and a first folio (document 02, S-1): its streams are still to come, at an offset.
 abbrev pub opened : Spec → ℕ → ℕ → Galley
-opened g f at = record { spec = g; folio = f; text = record { first = at; count = 0 }; figures = record { first = at; count = 0 } }
+opened g f at = record { spec = g; folio = f; lastmin = 0; text = record { first = at; count = 0 }; figures = record { first = at; count = 0 } }
 
 -- The galley with so many lines, the figures being still to come.
 abbrev pub withLine : Galley → ℕ → ℕ → Galley
@@ -30,6 +30,7 @@ withLine g lines at =
     record {
       spec = g .spec;
       folio = g .folio;
+      lastmin = g .lastmin;
       text = record { first = g .text .first; count = lines };
       figures = record { first = at; count = 0 };
     }
@@ -40,6 +41,7 @@ withFigure g figures =
     record {
       spec = g .spec;
       folio = g .folio;
+      lastmin = g .lastmin;
       text = g .text;
       figures = record { first = g .figures .first; count = figures };
     }

@@ -69,6 +69,7 @@ pub struct Stream {
 pub struct Galley {
     pub spec: Spec,
     pub folio: u32,
+    pub lastmin: u32,
     pub text: Stream,
     pub figures: Stream,
 }

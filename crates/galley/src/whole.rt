@@ -20,6 +20,7 @@ fn opened(spec: Spec, folio: u32, at: usize) -> Galley
     Galley {
         spec,
         folio,
+        lastmin: 0,
         text: Stream {
             first: at,
             count: 0,
@@ -39,6 +40,7 @@ fn with_line(g: Galley, lines: usize, at: usize) -> Galley
     Galley {
         spec,
         folio: g.folio,
+        lastmin: g.lastmin,
         text: Stream {
             first: g.text.first,
             count: lines,
@@ -59,6 +61,7 @@ fn with_figure(g: Galley, figures: usize) -> Galley
     Galley {
         spec,
         folio: g.folio,
+        lastmin: g.lastmin,
         text,
         figures: Stream {
             first: g.figures.first,

@@ -12,7 +12,8 @@ pub data Sides : Type 0 where
   single : Sides
   double : ℕ → Sides
 
--- The page specification: page height, separation between kinds, sidedness (paper, section 2) and weights (section 3).
+-- The page specification: page height, separation between kinds, sidedness (paper, section 2) and weights (section 3); and the
+-- least height of the last page, which is 0 in the first edition (document 02, S-11).
 pub record Spec : Type 0 where
   pub htmin : ℕ
   pub htmax : ℕ
@@ -21,6 +22,7 @@ pub record Spec : Type 0 where
   pub sides : Sides
   pub alpha : ℕ
   pub beta : ℕ
+  pub lastmin : ℕ
 
 -- A stream of blocks numbered from 1 (paper, section 2): of block k its height, the least and greatest height of the space
 -- after it, whether a page may end in that space, and, for a float, the line that cites it.

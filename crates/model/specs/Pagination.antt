@@ -8,6 +8,7 @@ use lib.Dec.{eqb, leb, ltb}
 use Rattle.model.specs.Gather.{pick, one, sum, total, row}
 use Rattle.model.specs.Galley.{Stream, Galley, Place, Block, streams}
 use Rattle.model.specs.Leaf.{leaf}
+use Rattle.model.specs.Rules.{floor}
 
 -- A map from blocks to pages (paper, section 2).
 abbrev pub Map : Type 0
@@ -39,8 +40,8 @@ pub record Pagination (g : Galley) (p : ℕ) (P : Map) : Type 0 where
   pub order : (s k : ℕ) → Block g s k → Block g s (suc k) → P s k ≤ P s (suc k)
   -- second constraint: no page is overfull
   pub over : (q : ℕ) → 1 ≤ q → q ≤ p → heightOn g (λ st. st .least) (g .spec .smin) P q ≤ g .spec .htmax
-  -- second constraint: no page but the last is underfull
-  pub under : (q : ℕ) → 1 ≤ q → q < p → g .spec .htmin ≤ heightOn g (λ st. st .most) (g .spec .smax) P q
+  -- second constraint: no page is underfull, the last by a height of its own (document 02, S-11)
+  pub under : (q : ℕ) → 1 ≤ q → q ≤ p → floor g (eqb q p) ≤ heightOn g (λ st. st .most) (g .spec .smax) P q
   -- third constraint: a space that vanishes between two pages is a legal page end
   pub legal : (s k : ℕ) → Block g s k → Block g s (suc k) → P s k < P s (suc k) → g .stream s .legal k ≡ true
   -- fourth constraint: no float is on a leaf before that of the line that cites it

@@ -3,7 +3,7 @@
 use Prim.Native.Nat.{ℕ}
 use mathlib.Core.Bool.{Bool, true, false, _&&_, _||_}
 use lib.Dec.{leb, ltb}
-use Rattle.model.specs.Gather.{implies, each, every}
+use Rattle.model.specs.Gather.{pick, implies, each, every}
 use Rattle.model.specs.Galley.{Stream, Galley, Place, count}
 use Rattle.model.specs.Height.{kinds, tightest, loosest}
 use Rattle.model.specs.Leaf.{ends}
@@ -14,7 +14,7 @@ forward g u v =
     every (g .floats) (λ s. leb (count u s) (count v s) && leb (count v s) (g .stream s .size)) && ltb 0 (kinds g u v)
 
 -- A page may end after block k of a stream: before its first block, after its last, or in a legal space (document 01, rule 14;
--- every space between figures is legal).
+-- document 02, S-3, by which the space after a kept figure is not).
 unfoldable pub mayEnd : Stream → ℕ → Bool
 mayEnd st k = implies (ltb 0 k && ltb k (st .size)) (st .legal k)
 
@@ -26,9 +26,13 @@ closes g v = every (g .floats) (λ s. mayEnd (g .stream s) (count v s))
 unfoldable pub fits : Galley → Place → Place → Bool
 fits g u v = leb (tightest g u v) (g .spec .htmax)
 
--- 16: the loosest height is at least htMin, unless the page is the last (document 01, rule 16).
+-- What a page's loosest height is held to: htMin, and of the last page lastMin (document 01, rule 16; document 02, S-11).
+abbrev pub floor : Galley → Bool → ℕ
+floor g last = pick last (g .spec .lastmin) (g .spec .htmin)
+
+-- 16: the loosest height is at least that (document 01, rule 16).
 unfoldable pub fills : Galley → Bool → Place → Place → Bool
-fills g last u v = last || leb (g .spec .htmin) (loosest g u v)
+fills g last u v = leb (floor g last) (loosest g u v)
 
 -- 17: where the page ends its leaf or is the last, the last float placed of each stream is cited by a line already placed
 -- (document 01, rule 17); so are those before it, since citations never fall.

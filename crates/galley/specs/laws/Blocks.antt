@@ -28,6 +28,7 @@ galleyWith head first lines figures =
     record {
       spec = head .spec;
       folio = head .folio;
+      lastmin = head .lastmin;
       text = record { first = first; count = lines };
       figures = record { first = first + lines * 18; count = figures };
     }

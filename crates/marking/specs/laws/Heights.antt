@@ -4,7 +4,7 @@ use native.Mathlib.Nat.{le-refl}
 use native.Mathlib.Decide.{ℕ-discrete}
 use native.Mathlib.Omega.{arith}
 use mathlib.Core.Path.{_≡_, _∙_, ap}
-use mathlib.Core.Bool.{Bool, true, false, _||_}
+use mathlib.Core.Bool.{Bool, true, false}
 use lib.Dec.{leb}
 use lib.ListN.{length, set}
 use lib.Seq.{getD-set-same, getD-set-other}
@@ -12,7 +12,7 @@ use borrow.Author.Tests.{le-leb, lt-leb}
 use Rattle.model.specs.Gather.{total}
 use Rattle.model.specs.Galley.{Stream, Galley, Place, count, blocks}
 use Rattle.model.specs.Height.{kinds, stacked, height, tightest, loosest}
-use Rattle.model.specs.Rules.{fits, fills}
+use Rattle.model.specs.Rules.{floor, fits, fills}
 use Rattle.model.specs.laws.Gather.{sum-zero, total-ext, total-le, total-but}
 use Rattle.model.specs.laws.Height.{stacked-grows}
 use Rattle.model.specs.laws.Rules.{Forward, placed}
@@ -147,6 +147,6 @@ module _ (M : Galley) (u w : Place) where
           let same = p .tight ∙ all (λ st. st .least) (M .spec .smin) in
           le-leb (tightest M u w) (M .spec .htmax) (omega arith)
 
-      pub page-fills : (last : Bool) → fills M last u w ≡ (last || leb (M .spec .htmin) (h .loose))
+      pub page-fills : (last : Bool) → fills M last u w ≡ leb (floor M last) (h .loose)
       unfolding fills loosest
       page-fills last = rw (p .loose, all (λ st. st .most) (M .spec .smax))

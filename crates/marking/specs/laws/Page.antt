@@ -2,13 +2,13 @@
 use Prim.Native.Nat.{ℕ, zero, suc, _+_, _-_, _*_, _/_, _≤_, _<_}
 use native.Mathlib.Omega.{arith}
 use mathlib.Core.Path.{_≡_, refl, sym, _∙_}
-use mathlib.Core.Bool.{_&&_, _||_}
+use mathlib.Core.Bool.{_&&_}
 use mathlib.Core.List.{List, [], _∷_}
 use lib.ListN.{length, getD}
 use lib.Dec.{eqb, leb, ltb}
 use Rattle.model.specs.declared.answer.Answer.the-variants.{Refused}
 use Rattle.model.specs.Galley.{Place, count}
-use Rattle.model.specs.Rules.{cited, broken}
+use Rattle.model.specs.Rules.{floor, cited, broken}
 use Rattle.model.specs.laws.Rules.{Forward, forward-at}
 use Rattle.galley.specs.declared.Galley.{Galley}
 use Rattle.galley.specs.declared.Stream.{Stream}
@@ -156,14 +156,14 @@ module _ {bytes : List ℕ} {g : Galley} {ws : List ℕ} {done a b w x i j start
 
   module _ (low : h .tight ≤ g .spec .htmax) (whole : (s : ℕ) → s ≤ 1 → count (i ∷ j ∷ []) s ≤ count v s) (n : ℕ)
       (e : n
-      ≡ faultFrom 16 (eqb (done + 1) (length ws / 2) || leb (g .spec .htmin) (h .loose))
+      ≡ faultFrom 16 (leb (floor (modelOf bytes g) (eqb (done + 1) (length ws / 2))) (h .loose))
       (cited (modelOf bytes g) (done + 1) (eqb (done + 1) (length ws / 2)) (i ∷ j ∷ []))) where
     at-end : n ≡ broken (modelOf bytes g) (done + 1) (eqb (done + 1) (length ws / 2)) (a ∷ b ∷ []) (i ∷ j ∷ [])
     at-end =
         e
         ∙ broken-end (modelOf bytes g) (done + 1) (eqb (done + 1) (length ws / 2)) (a ∷ b ∷ []) (i ∷ j ∷ []) start
         (u .begun .fault) (u .fine) (page-fits (modelOf bytes g) _ _ (u .soFar) whole low)
-        (eqb (done + 1) (length ws / 2) || leb (g .spec .htmin) (h .loose))
+        (leb (floor (modelOf bytes g) (eqb (done + 1) (length ws / 2))) (h .loose))
         (page-fills (modelOf bytes g) _ _ (u .soFar) whole (eqb (done + 1) (length ws / 2)))
 
     -- 16 or 17 ends the run.

@@ -2,13 +2,14 @@
 use Prim.Native.Nat.{ℕ, _≤_, _<_}
 use native.Mathlib.Omega.{arith}
 use mathlib.Core.Path.{_≡_, refl}
-use mathlib.Core.Bool.{Bool, true, false, _&&_}
-use lib.Dec.{leb, ltb}
-use borrow.Author.Tests.{eqb-true, leb-true, le-leb, ltb-true, lt-ltb}
-use Rattle.model.specs.Gather.{one, total, every}
+use mathlib.Core.Logic.{_↔_}
+use mathlib.Core.Bool.{Bool, true, false, _&&_, _||_}
+use lib.Dec.{eqb, leb, ltb}
+use borrow.Author.Tests.{eqb-true, eqb-false, ne-eqb, leb-true, le-leb, ltb-true, lt-ltb}
+use Rattle.model.specs.Gather.{pick, one, total, every}
 use Rattle.model.specs.Galley.{Galley, Place, count}
-use Rattle.model.specs.Height.{has, kinds}
-use Rattle.model.specs.Rules.{forward, closes, fits, fills, cited, firstBroken, broken}
+use Rattle.model.specs.Height.{has, kinds, loosest}
+use Rattle.model.specs.Rules.{forward, closes, fits, floor, fills, cited, firstBroken, broken}
 use Rattle.model.specs.Best.{allowed}
 use Rattle.model.specs.laws.Gather.{and-left, and-right, and-both, every-at, every-of, total-some, total-has, total-lt}
 
@@ -41,6 +42,26 @@ kept {g} {q} {last} {u} {v} h =
 pub kept-allowed : {g : Galley} {q : ℕ} {last : Bool} {u v : Place} → Kept g q last u v → allowed g q last u v ≡ true
 unfolding allowed broken firstBroken
 kept-allowed k = simp (k .rule13, k .rule14, k .rule15, k .rule16, k .rule17)
+
+-- In the first edition rule 16 asks nothing of the last page, and of every other htMin.
+pub fills-first : (g : Galley) (last : Bool) (u v : Place) → g .spec .lastmin ≡ 0
+    → fills g last u v ≡ (last || leb (g .spec .htmin) (loosest g u v))
+unfolding fills
+fills-first g true u v first = le-leb (g .spec .lastmin) (loosest g u v) (omega arith)
+fills-first g false u v first = refl
+
+-- Nor does the second constraint of a pagination on p pages, which is then the paper's own.
+pub under-first : (g : Galley) (p : ℕ) (height : ℕ → ℕ) → g .spec .lastmin ≡ 0
+    → ((q : ℕ) → 1 ≤ q → q ≤ p → floor g (eqb q p) ≤ height q) ↔ ((q : ℕ) → 1 ≤ q → q < p → g .spec .htmin ≤ height q)
+under-first g p height first = (
+  λ h q a b. rw (ne-eqb q p (λ e. omega arith)) at (h q a (omega arith)),
+  λ h q a b. go q (eqb q p) refl a b (h q a),
+)
+  where
+    go : (q : ℕ) (last : Bool) → eqb q p ≡ last → 1 ≤ q → q ≤ p → (q < p → g .spec .htmin ≤ height q)
+        → pick last (g .spec .lastmin) (g .spec .htmin) ≤ height q
+    go q true e a b h = omega arith
+    go q false e a b h = let n = eqb-false q p e in h (omega arith)
 
 -- What rule 13 says: no count falls, none passes its stream, and some count grows.
 pub record Forward (g : Galley) (u v : Place) : Type 0 where

@@ -25,10 +25,6 @@ and-true : (a : Bool) → (a && true) ≡ a
 and-true true = refl
 and-true false = refl
 
-implies-true : (a : Bool) → implies a true ≡ true
-implies-true true = refl
-implies-true false = refl
-
 implies-and : (a b c : Bool) → implies a (implies b c) ≡ implies (a && b) c
 implies-and true b c = refl
 implies-and false b c = refl
@@ -47,10 +43,11 @@ module _ (bytes : List ℕ) (g : Galley) where
   unfolding forward every each kinds has total sum count
   forward-two a b i j = simp (some-kind (ltb a i) (ltb b j))
 
-  -- Rule 14: a page may end after any figure.
-  pub closes-two : (i j : ℕ) → closes (modelOf bytes g) (i ∷ j ∷ []) ≡ mayEnd (textOf bytes (g .text)) i
-  unfolding closes every each mayEnd count
-  closes-two i j = simp (implies-true, and-true)
+  -- Rule 14.
+  pub closes-two : (i j : ℕ)
+      → closes (modelOf bytes g) (i ∷ j ∷ []) ≡ (mayEnd (textOf bytes (g .text)) i && mayEnd (floatsOf bytes (g .figures)) j)
+  unfolding closes every each count
+  closes-two i j = refl
 
   -- The separations of a page.
   pub separation-two : (s a b i j : ℕ)

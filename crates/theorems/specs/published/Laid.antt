@@ -2,14 +2,14 @@
 use Prim.Native.Nat.{ℕ, zero, suc, pred, _≤_, _<_}
 use native.Mathlib.Nat.{le-refl, le-trans, le-of-eq}
 use native.Mathlib.Omega.{arith}
-use mathlib.Core.Path.{_≡_, refl, sym, subst}
-use mathlib.Core.Bool.{Bool, true, false, _||_}
-use lib.Dec.{leb, eqb}
-use borrow.Author.Tests.{leb-true, le-leb, eq-eqb, eqb-false, ne-eqb}
+use mathlib.Core.Path.{_≡_, sym, subst}
+use mathlib.Core.Bool.{true}
+use lib.Dec.{eqb}
+use borrow.Author.Tests.{leb-true, le-leb, eq-eqb}
 use Rattle.model.specs.Galley.{Stream, Galley, Place, count, Block, Sane}
 use Rattle.model.specs.Height.{height, tightest, loosest}
 use Rattle.model.specs.Leaf.{leaf}
-use Rattle.model.specs.Rules.{fits, fills}
+use Rattle.model.specs.Rules.{floor, fits, fills}
 use Rattle.model.specs.Pagination.{Map, Pagination, heightOn}
 use Rattle.model.specs.laws.Rules.{Kept, Forward, forward-at, forward-of}
 use Rattle.theorems.specs.published.Fits.{fits-page, fits-none, fits-all, fits-up, fits-last}
@@ -32,15 +32,7 @@ module _ (g : Galley) (sane : Sane g) (p : ℕ) (w : ℕ → Place) (P : Map) (a
   pub laid-pagination : Laid g p w → Pagination g p P
   unfolding fits fills tightest loosest
   laid-pagination l =
-      record {
-        into = into;
-        onto = onto;
-        order = order;
-        over = over;
-        under = under;
-        legal = legal;
-        fourth = fourth;
-      }
+      record { into = into; onto = onto; order = order; over = over; under = under; legal = legal; fourth = fourth }
     where
       kept : (e : ℕ) → 1 ≤ e → e ≤ p → Kept g e (eqb e p) (w (pred e)) (w e)
       kept zero a c = absurd (omega arith)
@@ -77,11 +69,9 @@ module _ (g : Galley) (sane : Sane g) (p : ℕ) (w : ℕ → Place) (P : Map) (a
       over zero a c = absurd (omega arith)
       over (suc q) a c = le-trans (le-of-eq (heights _ _ q c)) (leb-true _ _ (l .page q c .rule15))
 
-      under : (q : ℕ) → 1 ≤ q → q < p → g .spec .htmin ≤ heightOn g (λ st. st .most) (g .spec .smax) P q
+      under : (q : ℕ) → 1 ≤ q → q ≤ p → floor g (eqb q p) ≤ heightOn g (λ st. st .most) (g .spec .smax) P q
       under zero a c = absurd (omega arith)
-      under (suc q) a c =
-          let fills-it = rw (ne-eqb (suc q) p (λ e. omega arith)) at (l .page q (omega arith) .rule16) in
-          le-trans (leb-true _ _ fills-it) (le-of-eq (sym (heights _ _ q (omega arith))))
+      under (suc q) a c = le-trans (leb-true _ _ (l .page q c .rule16)) (le-of-eq (sym (heights _ _ q c)))
 
       legal : (s k : ℕ) → Block g s k → Block g s (suc k) → P s k < P s (suc k) → g .stream s .legal k ≡ true
       legal s k b c m =
@@ -118,7 +108,7 @@ module _ (g : Galley) (sane : Sane g) (p : ℕ) (w : ℕ → Place) (P : Map) (a
             rule13 = forward-of g (w q) (w (suc q)) forth;
             rule14 = closes-of g (w (suc q)) legal;
             rule15 = le-leb _ _ (le-trans (le-of-eq (sym (heights _ _ q c))) (m .over (suc q) (omega arith) c));
-            rule16 = fill (eqb (suc q) p) refl;
+            rule16 = le-leb _ _ (le-trans (m .under (suc q) (omega arith) c) (le-of-eq (heights _ _ q c)));
             rule17 = cited-on g sane p w P after (m .fourth) (λ k b. m .into 0 k b .1) (suc q) (omega arith) c;
           }
         where
@@ -146,9 +136,3 @@ module _ (g : Galley) (sane : Sane g) (p : ℕ) (w : ℕ → Place) (P : Map) (a
               let here = G s d .early k i (le-refl k) in
               let not-next : ¬ (P s (suc k) ≤ suc q) = λ n. (let r = G s d .late (suc k) (omega arith) j n in omega arith) in
               m .legal s k (omega arith) (omega arith) (omega arith)
-
-          fill : (t : Bool) → eqb (suc q) p ≡ t → t || leb (g .spec .htmin) (loosest g (w q) (w (suc q))) ≡ true
-          fill true e = refl
-          fill false e =
-              let other = eqb-false (suc q) p e in
-              le-leb _ _ (le-trans (m .under (suc q) (omega arith) (omega arith)) (le-of-eq (heights _ _ q c)))

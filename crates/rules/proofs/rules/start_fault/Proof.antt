@@ -1,8 +1,7 @@
--- `start_fault` meets its contract: its two tests are those of rules 13 and 14 for two streams.
+-- `start_fault` meets its contract: its two tests are those of rules 13 and 14.
 use borrow.Author.Needs.{needs}
 use denote.Ref.{now}
 use mathlib.Core.Path.{_∙_}
-use Rattle.rules.specs.laws.Two.{closes-two}
 use Rattle.rules.proofs.rules.start_fault.Statement.{statement}
 use Rattle.rules.proofs.rules.start_fault.Tie as tie
 
@@ -10,7 +9,7 @@ returns : tie.Need-returns
 returns c =
     let a = c .before .before .before .before .args in
     c .first-fault .ensures
-    ∙ rw (c .before .before .is-forward .ensures (now (a .s)), closes-two (now (a .s)) (a .g) (a .i) (a .j), c .before .may-end .ensures)
+    ∙ rw (c .before .before .is-forward .ensures (now (a .s)), c .before .may-close .ensures)
 
 pub start-fault-spec : {M : Type 1} → statement M
 start-fault-spec = tie.close (tie.spec (λ c κs. search needs) (λ c κs. search needs) (λ c κs. search needs) returns)
