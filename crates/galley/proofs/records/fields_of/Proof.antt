@@ -5,11 +5,11 @@ use Rattle.galley.specs.Record.{fieldsOf}
 use Rattle.galley.proofs.records.fields_of.Statement.{statement}
 use Rattle.galley.proofs.records.fields_of.Tie as tie
 
-unknown : tie.Need-returns-6
+unknown : tie.Need-returns-7
 unfolding fieldsOf
 unknown c =
     let no = c .match .rest in
-    simp (ne-eqb _ _ (no .0 .0 .0 .0 .1), ne-eqb _ _ (no .0 .0 .0 .1), ne-eqb _ _ (no .0 .0 .1), ne-eqb _ _ (no .0 .1), ne-eqb _ _ (no .1))
+    simp (ne-eqb _ _ (no .0 .0 .0 .0 .0 .1), ne-eqb _ _ (no .0 .0 .0 .0 .1), ne-eqb _ _ (no .0 .0 .0 .1), ne-eqb _ _ (no .0 .0 .1), ne-eqb _ _ (no .0 .1), ne-eqb _ _ (no .1))
 
 pub fields-of-spec : {M : Type 1} → statement M
 unfolding kindOf fieldsOf
@@ -20,9 +20,11 @@ fields-of-spec =
     (λ c κs. rw (c .match .keys2) at (c .before .before .pre))
     (λ c κs. rw (c .match .keys3) at (c .before .before .pre))
     (λ c κs. rw (c .match .keys4) at (c .before .before .pre))
+    (λ c κs. rw (c .match .keys5) at (c .before .before .pre))
     (λ c. simp (c .before .match .keys1) (c .spec-at .ensures))
     (λ c. simp (c .before .match .keys2) (c .folio-at .ensures))
     (λ c. simp (c .before .match .keys3) (c .line-at .ensures))
     (λ c. simp (c .before .match .keys4) (c .figure-at .ensures))
-    (λ c. simp (c .match .keys5))
+    (λ c. simp (c .before .match .keys5) (c .figure-at2 .ensures))
+    (λ c. simp (c .match .keys6))
     unknown)
