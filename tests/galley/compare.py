@@ -35,7 +35,7 @@ def proved(data):
         return ('refused', number, place)
     *spec, folio, lines, figures = rest
     return ('galley', tuple(spec), folio, *(
-        [words(READER.galley_probe_block, data, 4, stream, k) for k in range(1, count + 1)]
+        [words(READER.galley_probe_block, data, 5, stream, k) for k in range(1, count + 1)]
         for stream, count in enumerate((lines, figures))))
 
 
@@ -45,7 +45,7 @@ def due(data):
         return answer
     held = answer[1]
     spec = (*held.spec[:7], held.spec.edition, held.spec.lastmin or 0)
-    return ('galley', spec, held.folio, [tuple(line) for line in held.lines], [tuple(f) for f in held.figures])
+    return ('galley', spec, held.folio, *([(*block[:4], block.legal) for block in blocks] for blocks in held.streams))
 
 
 class Tally(counts.Tally):
@@ -60,6 +60,7 @@ SECOND = record(b'G2', 30, 30, 0, 0, 1, 1, 1, 20)
 FOLIO = record(b'FO', 38)
 LINE = record(b'TL', 10, 0, 0, 1)
 FIGURE = record(b'FG', 20, 0, 0, 1)
+KEPT = record(b'FK', 20, 0, 0, 1)
 END = b'ED'
 A = SPEC + 3 * LINE + FIGURE + END
 A_FROM_38 = SPEC + FOLIO + 3 * LINE + FIGURE + END
@@ -70,14 +71,14 @@ FIRST_EDITION, SECOND_EDITION = (30, 30, 0, 0, 1, 1, 1, 1, 0), (30, 30, 0, 0, 1,
 def case_a(tally):
     for what, data, spec, folio in (('case A', A, FIRST_EDITION, 1), ('case A from folio 38', A_FROM_38, FIRST_EDITION, 38),
                                     ('case A of the second edition', A_SECOND, SECOND_EDITION, 38)):
-        tally.same(what, data, ('galley', spec, folio, 3 * [(10, 0, 0, 1)], [(20, 0, 0, 1)]))
+        tally.same(what, data, ('galley', spec, folio, 3 * [(10, 0, 0, 1, 1)], [(20, 0, 0, 1, 1)]))
         for at in range(len(data)):
             for byte in range(256):
                 tally.same(f'{what} with byte {at} set to {byte}', data[:at] + bytes([byte]) + data[at + 1:])
 
 
 def cuts(tally):
-    for parts in (A, A_FROM_38, A_SECOND, SPEC + 2 * LINE + 3 * FIGURE + END, SPEC + LINE + END):
+    for parts in (A, A_FROM_38, A_SECOND, SPEC + 2 * LINE + FIGURE + KEPT + FIGURE + END, SPEC + LINE + END):
         for at in range(len(parts)):
             tally.same(f'cut at {at}', parts[:at], ('refused', 1))
             tally.same(f'two bytes lost at {at}', parts[:at] + parts[at + 2:])
@@ -86,14 +87,14 @@ def cuts(tally):
 
 
 def marks(tally):
-    for parts in ([SPEC, LINE, LINE, FIGURE, FIGURE, END], [SPEC, FOLIO, LINE, FIGURE, END], [SECOND, LINE, FIGURE, END]):
+    for parts in ([SPEC, LINE, LINE, FIGURE, FIGURE, END], [SPEC, FOLIO, LINE, KEPT, FIGURE, END], [SECOND, LINE, FIGURE, END]):
         for at in range(len(parts)):
             before = b''.join(parts[:at])
             for mark in MARKS:
                 tally.same(f'mark {mark} in record {at}', before + mark + parts[at][2:] + b''.join(parts[at + 1:]))
                 for size in (0, 4, 16, 28):
                     tally.same(f'mark {mark} for record {at}', before + mark + bytes(size) + b''.join(parts[at + 1:]))
-            for put in (SPEC, SECOND, FOLIO, LINE, FIGURE, END):
+            for put in (SPEC, SECOND, FOLIO, LINE, FIGURE, KEPT, END):
                 tally.same(f'one record more at {at}', before + put + b''.join(parts[at:]))
             for mark in range(0, 65_536, 251):
                 tally.same(f'mark {mark} in record {at}', before + mark.to_bytes(2, 'big') + parts[at][2:])
@@ -104,7 +105,8 @@ def ranges(tally):
                                         (b'G2', b'', LINE + END, (30, 40, 5, 6, 1, 1, 1, 35)),
                                         (b'FO', SPEC, LINE + END, (38,)),
                                         (b'TL', SPEC, END, (10, 5, 6, 1)),
-                                        (b'FG', SPEC + 3 * LINE, END, (10, 5, 6, 2))):
+                                        (b'FG', SPEC + 3 * LINE, END, (10, 5, 6, 2)),
+                                        (b'FK', SPEC + 3 * LINE, END, (10, 5, 6, 2))):
         for at in range(len(fields)):
             for word in WORDS:
                 changed = fields[:at] + (word,) + fields[at + 1:]
@@ -159,6 +161,24 @@ def folios(tally):
     tally.same('4,001 lines after a folio', SPEC + FOLIO + 4_001 * LINE + END, ('refused', 4, 72_036))
 
 
+def kept(tally):
+    held = [(20, 0, 0, 1, legal) for legal in (0, 1, 0)]
+    tally.same('kept, not kept, kept last', SPEC + LINE + KEPT + FIGURE + KEPT + END, ('galley', (30, 30, 0, 0, 1, 1, 1), 1, [(10, 0, 0, 1, 1)], held))
+    for n in range(1, 201, 33):
+        data = SPEC + LINE + n * KEPT + (200 - n) * FIGURE
+        tally.same(f'{n} kept of 200', data + END, ('galley',))
+        for mark in (b'FG', b'FK'):
+            tally.same(f'{n} kept, and a mark {mark} for figure 201', data + mark, ('refused', 4, 3_648))
+    tally.same('a kept figure before any line', SPEC + KEPT + END, ('refused', 5, 30))
+    tally.same('a line after a kept figure', SPEC + LINE + KEPT + LINE + END, ('refused', 2, 66))
+    tally.same('a kept figure cut short', SPEC + LINE + KEPT[:17], ('refused', 1, 48))
+    tally.same('a kept figure out of range', SPEC + LINE + record(b'FK', 0, 2, 1, 1) + END, ('refused', 3, 48))
+    tally.same('a kept figure cited by no line', SPEC + LINE + record(b'FK', 1, 0, 0, 2) + END, ('refused', 6, 48))
+    for first, second in ((b'FG', b'FK'), (b'FK', b'FG'), (b'FK', b'FK')):
+        figures = record(first, 1, 0, 0, 2) + record(second, 1, 0, 0, 1)
+        tally.same(f'{second} cited before {first}', SPEC + 2 * LINE + figures + END, ('refused', 7, 84))
+
+
 def limits(tally):
     full = SPEC + 4_000 * LINE
     tally.same('4,000 lines', full + END, ('galley',))
@@ -190,19 +210,19 @@ def chance(tally):
             + draw.choice((b'', record(b'FO', draw.randrange(10_010))))
             + b''.join(record(b'TL', draw.randrange(100_001), draw.randrange(5), draw.randrange(3, 9), draw.randrange(2))
                        for _ in range(lines))
-            + b''.join(record(b'FG', draw.randrange(100_001), 0, draw.randrange(9), cite)
+            + b''.join(record(draw.choice((b'FG', b'FK')), draw.randrange(100_001), 0, draw.randrange(9), cite)
                        for cite in sorted(draw.randrange(1, 7) for _ in range(figures)))
             + END)
         for _ in range(draw.randrange(3)):
-            data[draw.randrange(len(data))] = draw.choice(b'\0\1GS2TLFGEDFO\xff')
+            data[draw.randrange(len(data))] = draw.choice(b'\0\1GS2TLFGEDFOK\xff')
         tally.same('a random galley', bytes(data))
     for _ in range(RANDOM_STRINGS):
-        tally.same('a random string', bytes(draw.choice(b'\0\1GS2TLFGEDFO') for _ in range(draw.randrange(80))))
+        tally.same('a random string', bytes(draw.choice(b'\0\1GS2TLFGEDFOK') for _ in range(draw.randrange(80))))
 
 
 def main():
     tally = Tally()
-    for group in (case_a, cuts, marks, ranges, citations, folios, editions, limits, chance):
+    for group in (case_a, cuts, marks, ranges, citations, folios, kept, editions, limits, chance):
         group(tally)
         tally.group(group.__name__)
     return tally.end()

@@ -21,8 +21,8 @@ pub fn is_legal(s: &[u8], stream: Stream, k: usize) -> bool
     ensures { λ r. ⌜ r ≡ legalOf (now (s .entry)) stream k ⌝ }
 {
     let mark = galley::word::mark_at(s, stream.first + (k - 1) * 18);
-    if mark == 0x544c {
+    if mark == galley::place::TL {
         return field(s, stream, k, galley::LEGAL) == 1;
     }
-    !(mark == 0x464b)
+    !(mark == galley::place::FK)
 }

@@ -1,5 +1,6 @@
 -- The galley of case A, byte by byte, read by computation: document 01, "Galleys to try".
 use Prim.Native.Nat.{ℕ}
+use mathlib.Core.Bool.{false}
 use mathlib.Core.Path.{_≡_, refl}
 use mathlib.Core.List.{List, [], _∷_, _++_}
 use Rattle.galley.specs.Whole.{galleyOf}
@@ -45,6 +46,6 @@ a-line : lineOf caseA (offset (galleyA .text) 3) ≡ record { block = record { h
 unfolding wordAt
 a-line = refl
 
-a-figure : figureOf caseA (offset (galleyA .figures) 1) ≡ record { block = record { height = 20; least = 0; most = 0 }; cite = 1 }
+a-figure : figureOf false caseA (offset (galleyA .figures) 1) ≡ record { block = record { height = 20; least = 0; most = 0 }; cite = 1; kept = false }
 unfolding wordAt
 a-figure = refl

@@ -6,7 +6,8 @@ use lib.Dec.{eqb}
 use Rattle.model.specs.Gather.{pick}
 use Rattle.model.specs.Leaf.{sidesOf}
 use Rattle.model.specs.Galley as model
-use Rattle.galley.specs.Record.{heightAt, leastAt, mostAt, legalAt, citeAt}
+use Rattle.galley.specs.Record.{heightAt, leastAt, mostAt, legalAt, citeAt, isKept}
+use Rattle.galley.specs.Place.{TL}
 use Rattle.galley.specs.Word.{markAt}
 use Rattle.galley.specs.Block.{offset, fieldOf}
 use Rattle.galley.specs.declared.Stream.{Stream}
@@ -28,8 +29,7 @@ streamOf bytes stream legal cite =
 -- with the next (document 02, S-3).
 unfoldable pub legalOf : List ℕ → Stream → ℕ → Bool
 legalOf bytes stream k =
-    let mark = markAt bytes (offset stream k) in
-    pick (eqb mark 0x544c) (eqb (fieldOf bytes stream legalAt k) 1) (not (eqb mark 0x464b))
+    pick (eqb (markAt bytes (offset stream k)) TL) (eqb (fieldOf bytes stream legalAt k) 1) (not (isKept bytes (offset stream k)))
 
 -- Lines: nothing cites a line.
 abbrev pub textOf : List ℕ → Stream → model.Stream

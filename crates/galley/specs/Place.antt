@@ -22,8 +22,15 @@ TL = 0x544c
 abbrev pub FG : ℕ
 FG = 0x4647
 
+abbrev pub FK : ℕ
+FK = 0x464b
+
 abbrev pub ED : ℕ
 ED = 0x4544
+
+-- The mark of a figure: another one where it is kept with the next.
+abbrev pub figureMark : Bool → ℕ
+figureMark kept = pick kept FK FG
 
 -- The stages of a galley, in the order in which its records come: before the first record, then what was read last.
 abbrev pub nothing : ℕ
@@ -51,8 +58,8 @@ rowOf stage earliest latest most size =
     record { stage = stage; earliest = earliest; latest = latest; most = most; size = size }
 
 -- The kind of record that a mark opens. The specification, of either edition (document 02, S-11), is first and comes once, a folio
--- may stand straight after it (S-1), figures follow all lines, and the end follows all of them; an unknown mark fits nowhere, and
--- only its two bytes are known.
+-- may stand straight after it (S-1), figures, kept with the next one or not (S-3), follow all lines, and the end follows all of them;
+-- an unknown mark fits nowhere, and only its two bytes are known.
 unfoldable pub kindOf : ℕ → Kind
 kindOf mark =
     pick (eqb mark GS) (rowOf spec nothing nothing 1 30)
@@ -60,8 +67,9 @@ kindOf mark =
     (pick (eqb mark FO) (rowOf folio spec spec 1 6)
     (pick (eqb mark TL) (rowOf line spec line 4000 18)
     (pick (eqb mark FG) (rowOf figure spec figure 200 18)
+    (pick (eqb mark FK) (rowOf figure spec figure 200 18)
     (pick (eqb mark ED) (rowOf end spec figure 1 2)
-    (rowOf nothing spec nothing 0 2))))))
+    (rowOf nothing spec nothing 0 2)))))))
 
 -- The mark of a specification of an edition, and its bytes (document 02, S-11).
 abbrev pub specMark : ℕ → ℕ

@@ -2,12 +2,12 @@
 use Prim.Native.Nat.{ℕ, _+_, _-_}
 use mathlib.Core.List.{List}
 use lib.ListN.{length}
-use mathlib.Core.Bool.{Bool}
+use mathlib.Core.Bool.{Bool, true, false}
 use lib.Dec.{ltb, eqb}
 use Rattle.model.specs.Gather.{pick}
 use Rattle.galley.specs.Word.{wordAt, markAt}
 use Rattle.galley.specs.Range.{specInRange, folioInRange, blockInRange, lineInRange}
-use Rattle.galley.specs.Place.{GS, G2, FO, TL, FG, ED, kindOf}
+use Rattle.galley.specs.Place.{GS, G2, FO, TL, FG, ED, kindOf, FK}
 use Rattle.galley.specs.declared.Spec.{Spec}
 use Rattle.galley.specs.declared.Block.{Block}
 use Rattle.galley.specs.declared.Line.{Line}
@@ -64,9 +64,13 @@ blockOf bytes at =
 abbrev pub lineOf : List ℕ → ℕ → Line
 lineOf bytes at = record { block = blockOf bytes at; legal = wordAt bytes (at + legalAt) }
 
--- The fields after an `FG`.
-abbrev pub figureOf : List ℕ → ℕ → Figure
-figureOf bytes at = record { block = blockOf bytes at; cite = wordAt bytes (at + citeAt) }
+-- The fields after an `FG`, or after an `FK`, which is kept with the next figure.
+abbrev pub figureOf : Bool → List ℕ → ℕ → Figure
+figureOf kept bytes at = record { block = blockOf bytes at; cite = wordAt bytes (at + citeAt); kept = kept }
+
+-- Whether the record at an offset is an `FK`: the space after it forbids a page end (document 02, S-3).
+abbrev pub isKept : List ℕ → ℕ → Bool
+isKept bytes at = eqb (markAt bytes at) FK
 
 -- A record whose fields are in range, or 3.
 abbrev pub ranged : Bool → Record → ℕ → Record
@@ -86,8 +90,8 @@ abbrev pub lineAt : List ℕ → ℕ → Record
 lineAt bytes at = ranged (lineInRange (lineOf bytes at)) (found.Line (lineOf bytes at)) at
 
 -- A figure in range; its citation is tested where its place is known.
-abbrev pub figureAt : List ℕ → ℕ → Record
-figureAt bytes at = ranged (blockInRange (blockOf bytes at)) (found.Figure (figureOf bytes at)) at
+abbrev pub figureAt : Bool → List ℕ → ℕ → Record
+figureAt kept bytes at = ranged (blockInRange (blockOf bytes at)) (found.Figure (figureOf kept bytes at)) at
 
 -- What the fields after a mark say: a `G2` has an eighth, lastMin, which is 0 under `GS` (document 02, S-11); an unknown mark is 2.
 unfoldable pub fieldsOf : ℕ → List ℕ → ℕ → Record
@@ -96,9 +100,10 @@ fieldsOf mark bytes at =
     (pick (eqb mark G2) (specAt 2 (wordAt bytes (at + 30)) bytes at)
     (pick (eqb mark FO) (folioAt bytes at)
     (pick (eqb mark TL) (lineAt bytes at)
-    (pick (eqb mark FG) (figureAt bytes at)
+    (pick (eqb mark FG) (figureAt false bytes at)
+    (pick (eqb mark FK) (figureAt true bytes at)
     (pick (eqb mark ED) found.End
-    (found.Refused 2 at))))))
+    (found.Refused 2 at)))))))
 
 -- The record at an offset: its mark is there (1), its fields are there (1), the mark is known (2) and the fields are in range (3).
 unfoldable pub recordAt : List ℕ → ℕ → Record

@@ -4,7 +4,7 @@ use mathlib.Core.List.{List}
 use mathlib.Core.Logic.{_⊎_}
 use mathlib.Core.Path.{_≡_}
 use lib.ListN.{length}
-use Rattle.galley.specs.Record.{legalAt, citeAt, blockOf, lineOf, figureOf, recordAt}
+use Rattle.galley.specs.Record.{legalAt, citeAt, blockOf, lineOf, figureOf, recordAt, isKept}
 use Rattle.galley.specs.Place.{specEnd}
 use Rattle.galley.specs.Block.{offset, fieldOf}
 use Rattle.galley.specs.Range.{SpecRanged, BlockRanged}
@@ -59,7 +59,7 @@ pub record Sound (bytes : List ℕ) (g : Galley) : Type 0 where
   pub textRead : Reads bytes (g .text) (λ at. found.Line (lineOf bytes at))
   pub legals : (k : ℕ) → 1 ≤ k → k ≤ g .text .count → fieldOf bytes (g .text) legalAt k ≤ 1
   pub figures : SoundStream bytes (g .figures)
-  pub figuresRead : Reads bytes (g .figures) (λ at. found.Figure (figureOf bytes at))
+  pub figuresRead : Reads bytes (g .figures) (λ at. found.Figure (figureOf (isKept bytes at) bytes at))
   pub citations : SoundCitations bytes (g .figures) (g .text .count)
   pub follow : g .figures .first ≡ g .text .first + g .text .count * 18
   pub ends : g .figures .first + g .figures .count * 18 + 2 ≡ length bytes

@@ -2,6 +2,7 @@
 use Prim.Native.Nat.{ℕ, _/_, _%_, _≤_}
 use mathlib.Core.Bool.{Bool, true, false}
 use mathlib.Core.List.{List, [], _∷_}
+use Rattle.model.specs.Gather.{pick}
 use lib.ListN.{length}
 use lib.Dec.{eqb}
 use Rattle.galley.specs.Range.{SpecRanged, FolioRanged, LineRanged, BlockRanged}
@@ -36,9 +37,9 @@ blockBytes b rest = word (b .height) (word (b .least) (word (b .most) rest))
 abbrev pub lineBytes : Line → List ℕ → List ℕ
 lineBytes l rest = 84 ∷ 76 ∷ blockBytes (l .block) (word (l .legal) rest)
 
--- An `FG` with its fields.
+-- An `FG` with its fields, or an `FK` where it is kept with the next figure.
 abbrev pub figureBytes : Figure → List ℕ → List ℕ
-figureBytes f rest = 70 ∷ 71 ∷ blockBytes (f .block) (word (f .cite) rest)
+figureBytes f rest = 70 ∷ pick (f .kept) 75 71 ∷ blockBytes (f .block) (word (f .cite) rest)
 
 -- Records one after the other.
 unfoldable pub each : {A : Type 0} → (A → List ℕ → List ℕ) → List A → List ℕ → List ℕ

@@ -34,10 +34,11 @@ pub struct Line {
     pub legal: u32,
 }
 
-// A figure, and the number of the line that cites it.
+// A figure, the number of the line that cites it, and whether it is kept with the next one.
 pub struct Figure {
     pub block: Block,
     pub cite: u32,
+    pub kept: bool,
 }
 
 // Where the fields of a line or a figure stand, counted from its mark.

@@ -15,6 +15,8 @@ pub const TL: u32 = 0x544c;
 
 pub const FG: u32 = 0x4647;
 
+pub const FK: u32 = 0x464b;
+
 pub const ED: u32 = 0x4544;
 
 // The stages of a galley, in the order in which its records come.
@@ -53,6 +55,7 @@ pub fn kind_of(mark: u32) -> Kind
         FO => row(FOLIO, SPEC, SPEC, 1, 6),
         TL => row(LINE, SPEC, LINE, 4000, 18),
         FG => row(FIGURE, SPEC, FIGURE, 200, 18),
+        FK => row(FIGURE, SPEC, FIGURE, 200, 18),
         ED => row(END, SPEC, FIGURE, 1, 2),
         _ => row(NOTHING, SPEC, NOTHING, 0, 2),
     }

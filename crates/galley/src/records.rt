@@ -11,6 +11,7 @@ use crate::Record;
 use crate::Spec;
 use crate::place::ED;
 use crate::place::FG;
+use crate::place::FK;
 use crate::place::FO;
 use crate::place::G2;
 use crate::place::GS;
@@ -81,14 +82,14 @@ fn line_at(s: &[u8], at: usize) -> Record
     ranged(fine, Record::Line(Line { block, legal }), at)
 }
 
-// A figure; its citation is tested where its place is known.
-fn figure_at(s: &[u8], at: usize) -> Record
+// A figure, kept with the next one or not; its citation is tested where its place is known.
+fn figure_at(s: &[u8], at: usize, kept: bool) -> Record
     requires { ⌜ at + 18 ≤ length (now s) ⌝ }
-    ensures { λ r. ⌜ r ≡ figureAt (now (s .entry)) at ⌝ }
+    ensures { λ r. ⌜ r ≡ figureAt kept (now (s .entry)) at ⌝ }
 {
     let block = block_fields(s, at);
     let cite = crate::word::word_at(s, at + crate::CITE);
-    let found = Record::Figure(Figure { block, cite });
+    let found = Record::Figure(Figure { block, cite, kept });
     ranged(crate::range::block_in_range(block), found, at)
 }
 
@@ -102,7 +103,8 @@ fn fields_of(mark: u32, s: &[u8], at: usize) -> Record
         G2 => spec_at(s, at, 2, crate::word::word_at(s, at + 30)),
         FO => folio_at(s, at),
         TL => line_at(s, at),
-        FG => figure_at(s, at),
+        FG => figure_at(s, at, false),
+        FK => figure_at(s, at, true),
         ED => Record::End,
         _ => Record::Refused {
             number: 2,

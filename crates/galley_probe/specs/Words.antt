@@ -5,7 +5,7 @@ use lib.Dec.{ltb, eqb}
 use Rattle.model.specs.Gather.{pick}
 use Rattle.galley.specs.Record.{heightAt, leastAt, mostAt, citeAt}
 use Rattle.galley.specs.Block.{fieldOf}
-use Rattle.galley.specs.Model.{floatsOf}
+use Rattle.galley.specs.Model.{legalOf, floatsOf}
 use Rattle.rules.specs.Waiting.{waits}
 use Rattle.galley.specs.declared.Stream.{Stream}
 use Rattle.galley.specs.declared.Galley as galley
@@ -24,15 +24,16 @@ abbrev pub streamAt : galley.Galley → ℕ → Stream
 streamAt g number = pick (eqb number 0) (g .text) (g .figures)
 
 abbrev zeros : List ℕ
-zeros = 0 ∷ 0 ∷ 0 ∷ 0 ∷ []
+zeros = 0 ∷ 0 ∷ 0 ∷ 0 ∷ 0 ∷ []
 
--- The four fields of block k of a stream, or zeros where there is none.
+-- The four fields of block k of a stream and whether a page may end after it, or zeros where there is none.
 unfoldable pub blockWords : List ℕ → ℕ → ℕ → Reading → List ℕ
 blockWords bytes number k (Galley g) =
     let stream = streamAt g number in
     pick (ltb k 1) zeros
     (pick (ltb (stream .count) k) zeros
-    (fieldOf bytes stream heightAt k ∷ fieldOf bytes stream leastAt k ∷ fieldOf bytes stream mostAt k ∷ fieldOf bytes stream citeAt k ∷ []))
+    (fieldOf bytes stream heightAt k ∷ fieldOf bytes stream leastAt k ∷ fieldOf bytes stream mostAt k ∷ fieldOf bytes stream citeAt k
+    ∷ pick (legalOf bytes stream k) 1 0 ∷ []))
 blockWords bytes number k (Refused refusal place) = zeros
 
 -- How many figures wait with i lines and j figures placed, or 0 where the galley is refused.

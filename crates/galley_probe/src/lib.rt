@@ -1,6 +1,7 @@
 // The reader of galleys, and the walk over the figures that wait, for tests in another language: what they find, as words.
 ghost use mathlib.Core.Path.{_≡_};
 ghost use Prim.Native.Nat.{_≤_};
+ghost use Rattle.model.specs.Gather.{pick};
 ghost use Rattle.galley.specs.Whole.{galleyOf};
 ghost use Rattle.galley.specs.Sound.{SoundStream};
 ghost use Rattle.rules.specs.Waiting.{Walked};
@@ -42,6 +43,13 @@ pub extern "C" fn galley_probe_read(bytes: &[u8], out: &mut [u32; 14])
     }
 }
 
+// A test as a word.
+fn flag(test: bool) -> u32
+    ensures { λ r. ⌜ r ≡ pick test 1 0 ⌝ }
+{
+    if test { 1 } else { 0 }
+}
+
 // The stream of a number: 0 is the text, any other the figures.
 fn stream_at(g: Galley, number: usize) -> Stream
     ensures { λ r. ⌜ r ≡ streamAt g number ⌝ }
@@ -52,30 +60,32 @@ fn stream_at(g: Galley, number: usize) -> Stream
     g.figures
 }
 
-// The four fields of block k of a stream, or zeros where there is none.
+// The four fields of block k of a stream and whether a page may end after it, or zeros where there is none.
 #[no_mangle]
-pub extern "C" fn galley_probe_block(bytes: &[u8], number: usize, k: usize, out: &mut [u32; 4])
+pub extern "C" fn galley_probe_block(bytes: &[u8], number: usize, k: usize, out: &mut [u32; 5])
     ensures { λ r. ⌜ now (out .exit) ≡ blockWords (now (bytes .entry)) number k (galleyOf (now (bytes .entry))) ⌝ }
 {
     let reading = galley::whole::read_galley(bytes);
     let Reading::Galley(g) = reading else {
-        *out = [0, 0, 0, 0];
+        *out = [0, 0, 0, 0, 0];
         return;
     };
     let stream = stream_at(g, number);
     if k < 1 {
-        *out = [0, 0, 0, 0];
+        *out = [0, 0, 0, 0, 0];
         return;
     }
     if stream.count < k {
-        *out = [0, 0, 0, 0];
+        *out = [0, 0, 0, 0, 0];
         return;
     }
+    let legal = flag(blocks::is_legal(bytes, stream, k));
     *out = [
         blocks::field(bytes, stream, k, galley::HEIGHT),
         blocks::field(bytes, stream, k, galley::LEAST),
         blocks::field(bytes, stream, k, galley::MOST),
         blocks::field(bytes, stream, k, galley::CITE),
+        legal,
     ];
 }
 

@@ -5,7 +5,7 @@ use mathlib.Core.List.{List, [], _∷_, _++_, append-assoc}
 use mathlib.Core.Path.{_≡_, refl, sym, ap, _∙_}
 use lib.ListN.{length, getD, length-append}
 use Rattle.galley.specs.Range.{BlockRanged, LineRanged}
-use Rattle.galley.specs.Record.{lineOf, figureOf}
+use Rattle.galley.specs.Record.{lineOf, figureOf, isKept}
 use Rattle.galley.specs.Block.{offset}
 use Rattle.galley.specs.Write.{lineBytes, figureBytes, each, Stated, headBytes, bytesOf, LinesRanged, FiguresRanged, InRange}
 use Rattle.galley.specs.laws.Each.{each-append, each-at}
@@ -44,7 +44,9 @@ module _ (g : Spec) (o : Stated) (ls : List Line) (fs : List Figure) (r : InRang
 
   -- Each figure that was written is read back.
   pub figure-back : (k : ℕ) → k < length fs → (d : Figure)
-      → figureOf (bytesOf g o ls fs) (offset (galleyFrom g o ls fs .figures) (k + 1)) ≡ getD fs k d
+      → let bytes = bytesOf g o ls fs in
+      let at = offset (galleyFrom g o ls fs .figures) (k + 1) in
+      figureOf (isKept bytes at) bytes at ≡ getD fs k d
   unfolding bytesOf
   figure-back k h d =
       let end : List ℕ = each figureBytes fs (69 ∷ 68 ∷ []) in
@@ -56,6 +58,6 @@ module _ (g : Spec) (o : Stated) (ls : List Line) (fs : List Figure) (r : InRang
       let long : length before ≡ length head + length ls * 18 = simp length-append (omega (arith, lines-length ls [])) in
       let here : length head + length ls * 18 + (k + 1 - 1) * 18 ≡ length before + k * 18 = omega arith in
       rw here
-      (each-at figureBytes figureOf (λ f. BlockRanged (f .block) × (f .cite ≤ 4000)) (λ f. refl) (λ f rest. refl)
+      (each-at figureBytes (λ bytes at. figureOf (isKept bytes at) bytes at) (λ f. BlockRanged (f .block) × (f .cite ≤ 4000)) (λ f. refl) (λ f rest. refl)
       (λ before rest f fine. figure-fields before rest f (fine .0) (fine .1)) (bytesOf g o ls fs) before (69 ∷ 68 ∷ []) fs split k h d
       (figures-ranged (length ls) 0 fs k d (r .blocks .fewLines) (r .blocks .figures) h))

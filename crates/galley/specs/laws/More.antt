@@ -8,8 +8,8 @@ use lib.ListN.{length}
 use lib.Dec.{eqb}
 use borrow.Author.Tests.{eqb-true}
 use Rattle.galley.specs.Word.{wordAt}
-use Rattle.galley.specs.Place.{nothing, spec, line, figure, FO, TL, FG, rowOf, kindOf, specEnd}
-use Rattle.galley.specs.Record.{citeAt, lineOf, figureOf, recordAt}
+use Rattle.galley.specs.Place.{nothing, spec, line, figure, FO, TL, FG, rowOf, kindOf, specEnd, GS}
+use Rattle.galley.specs.Record.{citeAt, lineOf, figureOf, recordAt, isKept}
 use Rattle.galley.specs.Whole.{opened, withLine, withFigure, moved, holding, cited}
 use Rattle.galley.specs.Range.{FolioRanged}
 use Rattle.galley.specs.laws.Pick.{pick-has}
@@ -117,7 +117,7 @@ module _ (bytes : List ℕ) (so : Sofar) (r : Reached bytes so) where
       })
 
   -- A figure comes after a line.
-  pub figure-reached : (f : Figure) → Fits (kindOf FG) so → recordAt bytes (so .at) ≡ found.Figure f → f ≡ figureOf bytes (so .at)
+  pub figure-reached : (f : Figure) → Fits (kindOf FG) so → recordAt bytes (so .at) ≡ found.Figure f → f ≡ figureOf (isKept bytes (so .at)) bytes (so .at)
       → so .at + kindOf FG .size ≤ length bytes → 1 ≤ f .cite → f .cite ≤ so .galley .text .count → so .last ≤ f .cite
       → let next = moved so (kindOf FG) in Reached bytes (holding next (withFigure (so .galley) (next .count)) (f .cite))
   unfolding kindOf
@@ -147,7 +147,7 @@ module _ (bytes : List ℕ) (so : Sofar) (r : Reached bytes so) where
         head = head-kept _ (fits .soon) (omega arith) refl refl refl;
         textRead = r .textRead;
         figuresRead =
-            reads-more bytes (λ at. found.Figure (figureOf bytes at)) (g .figures .first) (g .figures .count) (so .at) (r .figuresRead)
+            reads-more bytes (λ at. found.Figure (figureOf (isKept bytes at) bytes at)) (g .figures .first) (g .figures .count) (so .at) (r .figuresRead)
             (r .shape .due) (e ∙ ap found.Figure same);
         citations = cited .0;
         citesLast = cited .1;

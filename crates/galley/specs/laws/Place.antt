@@ -6,7 +6,7 @@ use mathlib.Core.Path.{_≡_, refl, sym}
 use lib.Dec.{eqb, ltb, leb}
 use borrow.Author.Tests.{ltb-true, ltb-false, leb-false, eqb-true, eqb-false, le-ltb, lt-ltb, lt-leb, eq-eqb, ne-eqb}
 use Rattle.model.specs.Gather.{pick}
-use Rattle.galley.specs.Place.{GS, G2, FO, TL, FG, ED, nothing, spec, folio, line, rowOf, kindOf, specMark, specEnd, misplaced, tooEarly, tooMany, unfit}
+use Rattle.galley.specs.Place.{GS, G2, FO, TL, FG, ED, nothing, spec, folio, line, rowOf, kindOf, specMark, specEnd, misplaced, tooEarly, tooMany, unfit, FK, figureMark}
 use Rattle.galley.specs.laws.Pick.{pick-has, or-false, and-false}
 use Rattle.galley.specs.declared.Kind.{Kind}
 use Rattle.galley.specs.declared.Sofar.{Sofar}
@@ -20,7 +20,8 @@ kind-sized mark =
     pick-has Sized (eqb mark FO) _ _ (λ _. omega arith) (λ _.
     pick-has Sized (eqb mark TL) _ _ (λ _. omega arith) (λ _.
     pick-has Sized (eqb mark FG) _ _ (λ _. omega arith) (λ _.
-    pick-has Sized (eqb mark ED) _ _ (λ _. omega arith) (λ _. omega arith))))))
+    pick-has Sized (eqb mark FK) _ _ (λ _. omega arith) (λ _.
+    pick-has Sized (eqb mark ED) _ _ (λ _. omega arith) (λ _. omega arith)))))))
   where
     Sized : Kind → Type 0
     Sized kind = (2 ≤ kind .size) × (kind .size ≤ 100)
@@ -46,6 +47,12 @@ spec-end edition = go (eqb edition 2)
     go : (b : Bool) → (30 ≤ pick b 34 30) × (pick b 34 30 ≤ 34)
     go true = omega arith
     go false = omega arith
+
+-- A kept figure is a figure.
+pub figure-kind : (kept : Bool) → kindOf (figureMark kept) ≡ kindOf FG
+unfolding kindOf
+figure-kind true = refl
+figure-kind false = refl
 
 -- A record of a kind fits: it comes neither too soon nor too late, after a line where it belongs after the lines, and there are
 -- fewer of its stage than there may be.

@@ -12,7 +12,7 @@ use borrow.Author.Tests.{eqb-true, eqb-false}
 use Rattle.model.specs.Gather.{pick}
 use Rattle.galley.specs.Word.{wordAt}
 use Rattle.galley.specs.Place.{spec, line, figure, specEnd}
-use Rattle.galley.specs.Record.{citeAt, lineOf, figureOf, recordAt}
+use Rattle.galley.specs.Record.{citeAt, lineOf, figureOf, recordAt, isKept}
 use Rattle.galley.specs.Whole.{beginning}
 use Rattle.galley.specs.Range.{FolioRanged}
 use Rattle.galley.specs.Block.{fieldOf}
@@ -62,7 +62,7 @@ pub record Reached (bytes : List ℕ) (so : Sofar) : Type 0 where
   pub figures : Counted figure (so .galley .figures .count) so
   pub head : Head bytes so
   pub textRead : Reads bytes (so .galley .text) (λ at. found.Line (lineOf bytes at))
-  pub figuresRead : Reads bytes (so .galley .figures) (λ at. found.Figure (figureOf bytes at))
+  pub figuresRead : Reads bytes (so .galley .figures) (λ at. found.Figure (figureOf (isKept bytes at) bytes at))
   pub citations : SoundCitations bytes (so .galley .figures) (so .galley .text .count)
   pub citesLast : (k : ℕ) → 1 ≤ k → k ≤ so .galley .figures .count → fieldOf bytes (so .galley .figures) citeAt k ≤ so .last
 

@@ -1,7 +1,7 @@
 -- What is known of the record at an offset once it was read.
 use Prim.Native.Nat.{ℕ, _+_, _-_, _≤_}
 use native.Mathlib.Omega.{arith}
-use mathlib.Core.Bool.{Bool, true}
+use mathlib.Core.Bool.{Bool, true, false}
 use mathlib.Core.List.{List}
 use mathlib.Core.Logic.{inl, inr}
 use mathlib.Core.Path.{_≡_, refl}
@@ -10,8 +10,8 @@ use lib.Dec.{ltb, eqb}
 use borrow.Author.Tests.{ltb-false, eqb-true}
 use Rattle.galley.specs.Word.{wordAt, markAt}
 use Rattle.galley.specs.Range.{specInRange, folioInRange, blockInRange, lineInRange, Edition, SpecRanged, FolioRanged, BlockRanged, LineRanged}
-use Rattle.galley.specs.Place.{GS, G2, FO, TL, FG, ED, specMark, kindOf}
-use Rattle.galley.specs.Record.{specOf, openingFolio, blockOf, lineOf, figureOf, ranged, specAt, fieldsOf, recordAt}
+use Rattle.galley.specs.Place.{GS, G2, FO, TL, FG, ED, specMark, kindOf, FK, figureMark}
+use Rattle.galley.specs.Record.{specOf, openingFolio, blockOf, lineOf, figureOf, ranged, specAt, fieldsOf, recordAt, isKept, figureAt}
 use Rattle.galley.specs.laws.Pick.{pick-has}
 use Rattle.galley.specs.laws.Range.{spec-ranged, folio-ranged, block-ranged, line-ranged}
 use Rattle.galley.specs.declared.Figure.{Figure}
@@ -44,9 +44,14 @@ unfoldable pub Found : List ℕ → ℕ → Record → Type 0
 Found bytes at (found.Spec g) = Stands SpecRanged bytes at (specMark (g .edition)) g (specOf (g .edition) (g .lastmin) bytes at)
 Found bytes at (found.Folio f) = Stands FolioRanged bytes at FO f (openingFolio bytes at)
 Found bytes at (found.Line l) = Stands LineRanged bytes at TL l (lineOf bytes at)
-Found bytes at (found.Figure f) = Stands FigureRanged bytes at FG f (figureOf bytes at)
+Found bytes at (found.Figure f) = Stands FigureRanged bytes at (figureMark (f .kept)) f (figureOf (isKept bytes at) bytes at)
 Found bytes at found.End = Stands Ending bytes at ED tt tt
 Found bytes at (found.Refused number place) = RefusedAt at number place
+
+-- The mark of a figure tells whether it is kept.
+pub kept-mark : (kept : Bool) → eqb (figureMark kept) FK ≡ kept
+kept-mark true = refl
+kept-mark false = refl
 
 module _ (bytes : List ℕ) (at : ℕ) where
   refused-found : (number : ℕ) → 1 ≤ number → number ≤ 3 → Found bytes at (found.Refused number at)
@@ -73,6 +78,20 @@ module _ (bytes : List ℕ) (at : ℕ) where
       ranged-found (specInRange g) (found.Spec g) (λ r.
       rw is (stands SpecRanged mark g e there (spec-ranged g either r)))
 
+  -- A figure is kept where its mark says so.
+  figure-found : (kept : Bool) → eqb (markAt bytes at) (figureMark kept) ≡ true → at + kindOf (markAt bytes at) .size ≤ length bytes
+      → Found bytes at (figureAt kept bytes at)
+  unfolding Found
+  figure-found kept e there =
+      ranged-found (blockInRange (blockOf bytes at)) (found.Figure (figureOf kept bytes at)) (λ r.
+      let marked = eqb-true (markAt bytes at) (figureMark kept) e in
+      record {
+        marked = marked;
+        there = rw marked at there;
+        same = rw (marked, kept-mark kept);
+        fine = block-ranged (blockOf bytes at) r;
+      })
+
   fields-found : at + kindOf (markAt bytes at) .size ≤ length bytes → Found bytes at (fieldsOf (markAt bytes at) bytes at)
   unfolding fieldsOf Found
   fields-found there =
@@ -86,11 +105,10 @@ module _ (bytes : List ℕ) (at : ℕ) where
       pick-has (Found bytes at) (eqb mark TL) _ _ (λ e.
       ranged-found (lineInRange (lineOf bytes at)) (found.Line (lineOf bytes at)) (λ r.
       stands LineRanged TL (lineOf bytes at) e there (line-ranged (lineOf bytes at) r))) (λ _.
-      pick-has (Found bytes at) (eqb mark FG) _ _ (λ e.
-      ranged-found (blockInRange (blockOf bytes at)) (found.Figure (figureOf bytes at)) (λ r.
-      stands FigureRanged FG (figureOf bytes at) e there (block-ranged (blockOf bytes at) r))) (λ _.
+      pick-has (Found bytes at) (eqb mark FG) _ _ (λ e. figure-found false e there) (λ _.
+      pick-has (Found bytes at) (eqb mark FK) _ _ (λ e. figure-found true e there) (λ _.
       pick-has (Found bytes at) (eqb mark ED) _ _ (λ e. stands Ending ED tt e there tt)
-      (λ _. refused-found 2 (omega arith) (omega arith)))))))
+      (λ _. refused-found 2 (omega arith) (omega arith))))))))
 
   -- A record that is read is either refused where it starts or stands whole and in range.
   pub found-at : Found bytes at (recordAt bytes at)

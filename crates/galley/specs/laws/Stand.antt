@@ -6,10 +6,10 @@ use mathlib.Core.Path.{_≡_, _∙_}
 use lib.ListN.{length}
 use borrow.Author.Tests.{le-ltb, ne-eqb}
 use Rattle.galley.specs.Word.{markAt}
-use Rattle.galley.specs.Place.{FO, TL, FG, ED, specMark, kindOf}
+use Rattle.galley.specs.Place.{FO, TL, FG, ED, specMark, kindOf, GS, figureMark}
 use Rattle.galley.specs.Record.{recordAt}
 use Rattle.galley.specs.Whole.{opened, withLine, withFigure, moved, holding, cited, closed, after, stepFrom}
-use Rattle.galley.specs.laws.Place.{kind-sized, Fits, fits-unfit}
+use Rattle.galley.specs.laws.Place.{kind-sized, figure-kind, Fits, fits-unfit}
 use Rattle.galley.specs.laws.Record.{Found, found-at}
 use Rattle.galley.specs.declared.Spec.{Spec}
 use Rattle.galley.specs.declared.Line.{Line}
@@ -52,7 +52,7 @@ module _ (bytes : List ℕ) (so : Sofar) where
   unfolding Found after cited
   figure-step f e fits one within grows =
       let h = rw e at (found-at bytes (so .at)) in
-      fit-step FG (h .marked) (h .there) fits
+      rw (figure-kind (f .kept)) at (fit-step (figureMark (f .kept)) (h .marked) (h .there) (rw (figure-kind (f .kept)) fits))
       ∙ simp (
         e,
         ne-eqb (f .cite) 0 (λ z. omega arith),

@@ -8,14 +8,14 @@ use lib.ListN.{length}
 use lib.Dec.{ltb, eqb}
 use borrow.Author.Tests.{ltb-true, ltb-false, eqb-false}
 use Rattle.galley.specs.Word.{markAt}
-use Rattle.galley.specs.Place.{line, FO, TL, FG, ED, kindOf, misplaced, tooEarly, tooMany, unfit}
-use Rattle.galley.specs.Record.{lineOf, figureOf, recordAt}
+use Rattle.galley.specs.Place.{line, FO, TL, FG, ED, kindOf, misplaced, tooEarly, tooMany, unfit, GS}
+use Rattle.galley.specs.Record.{lineOf, figureOf, recordAt, isKept}
 use Rattle.galley.specs.Whole.{moved, refused, cited, closed, after, stepFrom}
 use Rattle.galley.specs.Block.{offset}
 use Rattle.galley.specs.Range.{SpecRanged, BlockRanged, LineRanged}
 use Rattle.galley.specs.Sound.{Sound}
 use Rattle.galley.specs.laws.Pick.{pick-has, or-false}
-use Rattle.galley.specs.laws.Place.{kind-sized, spec-kind, spec-end, Fits, unfit-fits}
+use Rattle.galley.specs.laws.Place.{kind-sized, spec-kind, spec-end, Fits, unfit-fits, figure-kind}
 use Rattle.galley.specs.laws.Record.{Found, found-at}
 use Rattle.galley.specs.laws.Reached.{Reached}
 use Rattle.galley.specs.laws.More.{spec-reached, folio-reached, line-reached, figure-reached}
@@ -61,7 +61,7 @@ module _ (bytes : List ℕ) (so : Sofar) (r : Reached bytes so) where
   refused-fine number at low high = (low, high)
 
   -- A figure that is rightly cited is read, and any other is refused.
-  cited-fine : (f : Figure) → Fits (kindOf FG) so → recordAt bytes (so .at) ≡ found.Figure f → f ≡ figureOf bytes (so .at)
+  cited-fine : (f : Figure) → Fits (kindOf FG) so → recordAt bytes (so .at) ≡ found.Figure f → f ≡ figureOf (isKept bytes (so .at)) bytes (so .at)
       → so .at + kindOf FG .size ≤ length bytes → Fine bytes so (cited (moved so (kindOf FG)) f (so .at))
   unfolding cited Fine kindOf
   cited-fine f fits e same there =
@@ -118,7 +118,8 @@ module _ (bytes : List ℕ) (so : Sofar) (r : Reached bytes so) where
   after-fine (found.Line l) e h fits =
       rw (h .marked) (omega (arith, kind-sized TL), line-reached bytes so r l (rw (h .marked) at fits) e (h .same) (h .there))
   after-fine (found.Figure f) e h fits =
-      rw (h .marked) (cited-fine f (rw (h .marked) at fits) e (h .same) (h .there))
+      let same = figure-kind (f .kept) in
+      rw (h .marked, same) (cited-fine f (rw (h .marked, same) at fits) e (h .same) (rw same at (h .there)))
   after-fine found.End e h fits =
       rw (h .marked) (closed-fine (rw (h .marked) at fits) (h .there))
   after-fine (found.Refused number place) e h fits = refused-fine number (so .at) (h .low) (omega (arith, h .high))

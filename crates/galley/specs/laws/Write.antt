@@ -6,15 +6,19 @@ use mathlib.Core.Bool.{true, false}
 use mathlib.Core.List.{List, _∷_, _++_}
 use mathlib.Core.Logic.{inl, inr}
 use mathlib.Core.Path.{_≡_, refl, sym, ap, _∙_}
+use mathlib.Core.Bool.{Bool, true, false}
 use lib.ListN.{length, getD, length-append}
 use lib.Seq.{getD-append-add}
 use lib.Dec.{eqb}
 use borrow.Author.Tests.{le-ltb}
+use Rattle.model.specs.Gather.{pick}
 use Rattle.galley.specs.Word.{wordAt, markAt}
-use Rattle.galley.specs.Place.{GS, G2, FO, TL, FG, ED, kindOf}
+use Rattle.galley.specs.Place.{GS, G2, FO, TL, FG, ED, kindOf, figureMark}
 use Rattle.galley.specs.Range.{Edition, SpecRanged, FolioRanged, BlockRanged, LineRanged}
-use Rattle.galley.specs.Record.{heightAt, leastAt, mostAt, citeAt, specOf, blockOf, lineOf, figureOf, fieldsOf, recordAt}
+use Rattle.galley.specs.Record.{heightAt, leastAt, mostAt, citeAt, specOf, blockOf, lineOf, figureOf, fieldsOf, recordAt, isKept, figureAt}
 use Rattle.galley.specs.Write.{word, fieldBytes, editionBytes, specBytes, folioBytes, stated, blockBytes, lineBytes, figureBytes}
+use Rattle.galley.specs.laws.Place.{figure-kind}
+use Rattle.galley.specs.laws.Record.{kept-mark}
 use Rattle.galley.specs.laws.Range.{ranged-spec, ranged-folio, ranged-block, ranged-line}
 use Rattle.galley.specs.declared.Spec.{Spec}
 use Rattle.galley.specs.declared.Block.{Block}
@@ -95,18 +99,35 @@ line-after before rest l r =
     let h = block-back before rest 84 76 (l .legal) (l .block) (r .block) (omega arith) in
     written before (lineBytes l rest) TL (found.Line l) refl (omega arith) (omega arith) (simp (h .0, h .1, ranged-line l r))
 
+-- The mark that was written for a figure.
+marked-figure : (f : Figure) (rest : List ℕ) → markAt (figureBytes f rest) 0 ≡ figureMark (f .kept)
+unfolding markAt
+marked-figure f rest = go (f .kept)
+  where
+    go : (kept : Bool) → 70 * 256 + pick kept 75 71 ≡ figureMark kept
+    go true = refl
+    go false = refl
+
+figure-read : (kept : Bool) (bytes : List ℕ) (at : ℕ) → fieldsOf (figureMark kept) bytes at ≡ figureAt kept bytes at
+unfolding fieldsOf
+figure-read true bytes at = refl
+figure-read false bytes at = refl
+
 -- So has a figure, and so is it.
 pub figure-fields : (before rest : List ℕ) (f : Figure) → BlockRanged (f .block) → f .cite ≤ 4000
-    → figureOf (before ++ figureBytes f rest) (length before) ≡ f
+    → let bytes = before ++ figureBytes f rest in figureOf (isKept bytes (length before)) bytes (length before) ≡ f
 figure-fields before rest f r small =
-    let h = block-back before rest 70 71 (f .cite) (f .block) r small in simp (h .0, h .1)
+    let h = block-back before rest 70 (pick (f .kept) 75 71) (f .cite) (f .block) r small in
+    simp (mark-after before (figureBytes f rest), marked-figure f rest, kept-mark (f .kept), h .0, h .1)
 
 pub figure-after : (before rest : List ℕ) (f : Figure) → BlockRanged (f .block) → f .cite ≤ 4000
     → recordAt (before ++ figureBytes f rest) (length before) ≡ found.Figure f
-unfolding kindOf markAt fieldsOf
+unfolding kindOf
 figure-after before rest f r small =
-    let h = block-back before rest 70 71 (f .cite) (f .block) r small in
-    written before (figureBytes f rest) FG (found.Figure f) refl (omega arith) (omega arith) (simp (h .0, h .1, ranged-block (f .block) r))
+    let h = block-back before rest 70 (pick (f .kept) 75 71) (f .cite) (f .block) r small in
+    written before (figureBytes f rest) (figureMark (f .kept)) (found.Figure f) (marked-figure f rest) (omega arith)
+    (rw (figure-kind (f .kept)) (omega arith))
+    (figure-read (f .kept) _ _ ∙ simp (h .0, h .1, ranged-block (f .block) r))
 
 -- A specification that was written has its fields, after either mark,
 spec-fields : (before rest : List ℕ) (n edition lastmin : ℕ) (g : Spec) → SpecRanged g → g .edition ≡ edition → g .lastmin ≡ lastmin

@@ -67,10 +67,12 @@ returns-4 : tie.Need-returns-4
 unfolding blockWords
 returns-4 c =
     simp (
-      sym (c .before .before .before .before .before .before .before .before .before .before .before .before .read-galley .ensures) ∙ c .before .before .before .before .before .before .before .before .before .before .reading .given .1,
-      le-ltb _ _ (c .before .before .before .before .before .before .before .if1 .left),
-      ← c .before .before .before .before .before .before .before .before .stream-at .ensures,
-      le-ltb _ _ (c .before .before .before .before .before .if2 .left),
+      sym (c .before .before .before .before .before .before .before .before .before .before .before .before .before .before .read-galley .ensures) ∙ c .before .before .before .before .before .before .before .before .before .before .before .before .reading .given .1,
+      le-ltb _ _ (c .before .before .before .before .before .before .before .before .before .if1 .left),
+      ← c .before .before .before .before .before .before .before .before .before .before .stream-at .ensures,
+      le-ltb _ _ (c .before .before .before .before .before .before .before .if2 .left),
+      ← c .before .before .before .before .before .before .is-legal .ensures,
+      ← c .before .before .before .before .before .flag .ensures,
       ← c .before .before .before .before .field .ensures,
       ← c .before .before .before .field2 .ensures,
       ← c .before .before .field3 .ensures,
@@ -81,8 +83,9 @@ pub galley-probe-block-spec : {M : Type 1} → statement M
 galley-probe-block-spec =
     tie.close
     (tie.spec (λ c κs. search needs) (λ c. search needs) (λ c. search needs) returns (λ c κs. search needs) returns-2 returns-3
-    (λ c κs. has c _ (omega arith))
-    (λ c κs. has (c .before) _ (omega arith))
+    (λ c κs. has c _ (omega arith)) (λ c κs. search needs)
     (λ c κs. has (c .before .before) _ (omega arith))
     (λ c κs. has (c .before .before .before) _ (omega arith))
+    (λ c κs. has (c .before .before .before .before) _ (omega arith))
+    (λ c κs. has (c .before .before .before .before .before) _ (omega arith))
     returns-4)

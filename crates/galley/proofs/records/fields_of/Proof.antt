@@ -6,11 +6,12 @@ use Rattle.galley.specs.Record.{fieldsOf}
 use Rattle.galley.proofs.records.fields_of.Statement.{statement}
 use Rattle.galley.proofs.records.fields_of.Tie as tie
 
-unknown : tie.Need-returns-7
+unknown : tie.Need-returns-8
 unfolding fieldsOf
 unknown c =
     let no = c .match .rest in
     simp (
+      ne-eqb _ _ (no .0 .0 .0 .0 .0 .0 .1),
       ne-eqb _ _ (no .0 .0 .0 .0 .0 .1),
       ne-eqb _ _ (no .0 .0 .0 .0 .1),
       ne-eqb _ _ (no .0 .0 .0 .1),
@@ -31,10 +32,12 @@ fields-of-spec =
     (λ c κs. rw (c .match .keys3) at (c .before .before .pre))
     (λ c κs. rw (c .match .keys4) at (c .before .before .pre))
     (λ c κs. rw (c .match .keys5) at (c .before .before .pre))
+    (λ c κs. rw (c .match .keys6) at (c .before .before .pre))
     (λ c. simp (c .before .match .keys1) (c .spec-at .ensures))
     (λ c. simp (c .before .before .match .keys2, ← c .before .word-at .ensures) (c .spec-at2 .ensures))
     (λ c. simp (c .before .match .keys3) (c .folio-at .ensures))
     (λ c. simp (c .before .match .keys4) (c .line-at .ensures))
     (λ c. simp (c .before .match .keys5) (c .figure-at .ensures))
-    (λ c. simp (c .match .keys6))
+    (λ c. simp (c .before .match .keys6) (c .figure-at2 .ensures))
+    (λ c. simp (c .match .keys7))
     unknown)
