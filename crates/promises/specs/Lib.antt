@@ -3,5 +3,6 @@ pub mod Answers
 pub mod FirstDemand
 pub mod SecondDemand
 pub mod ThirdDemand
+pub mod Editions
 pub mod Limit
 pub mod Waiting
