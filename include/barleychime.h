@@ -15,13 +15,13 @@
  * the figures placed so far. A word is 32 bits in the machine's own byte order; the galley's bytes are the same everywhere.
  *
  * A galley's records, in this order; each has a mark of two ASCII bytes and then its fields, of 4 bytes each, unsigned, the most
- * significant first. Lengths are in hundredths of a point.
- *   GS  30 bytes  the page specification: htMin, htMax, sMin, sMax, sides (1 or 2), alpha, beta
+ * significant first. Lengths are in hundredths of a point, 0 to 100,000, and a least one is not above its greatest one.
+ *   GS  30 bytes  the page specification: htMin, htMax (not 0), sMin, sMax, sides (1 or 2), alpha, beta (0 to 1,000 each)
  *   G2  34 bytes  its second edition, which may stand for GS: the same fields and then lastMin, 0 to htMax
  *   FO   6 bytes  the folio of the first page, 1 to 9,999; the record may be absent, and the folio is then 1
  *   TL  18 bytes  a line: height, least and greatest space after it, 1 if a page may end in that space, else 0
  *   FG  18 bytes  a figure: height, least and greatest space after it, the number of the line that cites it, from 1
- *   FK  18 bytes  a figure, too, with the same fields; no page may end between it and the next figure
+ *   FK  18 bytes  a figure among the others, with the same fields; no page may end between it and the next one
  *   ED   2 bytes  the end
  * A page has at least htMin of height, at its loosest, and at most htMax, at its tightest. Of the last page GS asks no least
  * height, and G2 asks lastMin.

@@ -1,5 +1,6 @@
 /* Case A through the C interface: makes it, prints what the program prints, marks two lists, and tries too little memory.
- * Then two sections, one of a size that there is none of, and two reports, one with a paper below its engine. */
+ * Then two sections, one of a size that there is none of, and two reports, one with a paper below its engine. At last case A with
+ * every record that it can have: double-sided from folio 38, the last page held to lastMin, the figure kept. */
 #include <barleychime.h>
 #include <stdio.h>
 #include <string.h>
@@ -9,7 +10,7 @@
 #define WORK BARLEYCHIME_WORK_WORDS(LINES, FIGURES)
 #define LIST BARLEYCHIME_LIST_WORDS(LINES, FIGURES)
 
-static uint8_t galley[30 + (LINES + FIGURES) * 18 + 2];
+static uint8_t galley[34 + 6 + (LINES + FIGURES) * 18 + 2];
 static size_t galley_len = 0;
 
 static void put(const char *mark, const uint32_t *fields, size_t count)
@@ -23,15 +24,30 @@ static void put(const char *mark, const uint32_t *fields, size_t count)
     }
 }
 
-static void write_case_a(void)
+static void put_blocks(const char *figure_mark)
 {
-    const uint32_t spec[7] = {30, 30, 0, 0, 1, 1, 1}, line[4] = {10, 0, 0, 1}, figure[4] = {20, 0, 0, 1};
-    put("GS", spec, 7);
+    const uint32_t line[4] = {10, 0, 0, 1}, figure[4] = {20, 0, 0, 1};
     for (int k = 0; k < LINES; k++) {
         put("TL", line, 4);
     }
-    put("FG", figure, 4);
+    put(figure_mark, figure, 4);
     put("ED", NULL, 0);
+}
+
+static void write_case_a(void)
+{
+    const uint32_t spec[7] = {30, 30, 0, 0, 1, 1, 1};
+    put("GS", spec, 7);
+    put_blocks("FG");
+}
+
+static void write_every_record(uint32_t last_min)
+{
+    const uint32_t spec[8] = {30, 30, 0, 0, 2, 1, 1, last_min}, folio[1] = {38};
+    galley_len = 0;
+    put("G2", spec, 8);
+    put("FO", folio, 1);
+    put_blocks("FK");
 }
 
 static void print_answer(const uint32_t answer[6])
@@ -71,7 +87,7 @@ static void print_report(struct barleychime_paper papers[2])
 int main(void)
 {
     static uint32_t work[WORK + 1], pages[LIST + 1];
-    const uint32_t too_long[4] = {3, 0, 3, 1}, too_high[4] = {2, 1, 3, 1};
+    const uint32_t too_long[4] = {3, 0, 3, 1}, too_high[4] = {2, 1, 3, 1}, last_mins[3] = {20, 21, 31};
     struct barleychime_paper papers[2] = {{2, 0, 1, 1, 1}, {2, 1, 1, 0xffffffffu, 1}};
     uint32_t answer[6];
 
@@ -106,5 +122,10 @@ int main(void)
     print_report(papers);
     papers[1].turns = 0;
     print_report(papers);
+    for (int k = 0; k < 3; k++) {
+        write_every_record(last_mins[k]);
+        barleychime_make(galley, galley_len, work, WORK, pages, LIST, answer);
+        print_answer(answer);
+    }
     return 0;
 }
