@@ -8,7 +8,7 @@ use lib.ListN.{length}
 use lib.Dec.{eqb}
 use borrow.Author.Tests.{eqb-true}
 use Rattle.galley.specs.Word.{wordAt}
-use Rattle.galley.specs.Place.{nothing, spec, line, figure, FO, TL, FG, rowOf, kindOf, specEnd, GS}
+use Rattle.galley.specs.Place.{nothing, spec, line, figure, FO, TL, FG, rowOf, kindOf, specEnd}
 use Rattle.galley.specs.Record.{citeAt, lineOf, figureOf, recordAt, isKept}
 use Rattle.galley.specs.Whole.{opened, withLine, withFigure, moved, holding, cited}
 use Rattle.galley.specs.Range.{FolioRanged}

@@ -6,7 +6,7 @@ use mathlib.Core.Path.{_≡_, _∙_}
 use lib.ListN.{length}
 use borrow.Author.Tests.{le-ltb, ne-eqb}
 use Rattle.galley.specs.Word.{markAt}
-use Rattle.galley.specs.Place.{FO, TL, FG, ED, specMark, kindOf, GS, figureMark}
+use Rattle.galley.specs.Place.{FO, TL, FG, ED, specMark, kindOf, figureMark}
 use Rattle.galley.specs.Record.{recordAt}
 use Rattle.galley.specs.Whole.{opened, withLine, withFigure, moved, holding, cited, closed, after, stepFrom}
 use Rattle.galley.specs.laws.Place.{kind-sized, figure-kind, Fits, fits-unfit}

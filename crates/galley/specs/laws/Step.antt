@@ -8,7 +8,7 @@ use lib.ListN.{length}
 use lib.Dec.{ltb, eqb}
 use borrow.Author.Tests.{ltb-true, ltb-false, eqb-false}
 use Rattle.galley.specs.Word.{markAt}
-use Rattle.galley.specs.Place.{line, FO, TL, FG, ED, kindOf, misplaced, tooEarly, tooMany, unfit, GS}
+use Rattle.galley.specs.Place.{line, FO, TL, FG, ED, kindOf, misplaced, tooEarly, tooMany, unfit}
 use Rattle.galley.specs.Record.{lineOf, figureOf, recordAt, isKept}
 use Rattle.galley.specs.Whole.{moved, refused, cited, closed, after, stepFrom}
 use Rattle.galley.specs.Block.{offset}

@@ -13,7 +13,7 @@ use lib.Dec.{eqb}
 use borrow.Author.Tests.{le-ltb}
 use Rattle.model.specs.Gather.{pick}
 use Rattle.galley.specs.Word.{wordAt, markAt}
-use Rattle.galley.specs.Place.{GS, G2, FO, TL, FG, ED, kindOf, figureMark}
+use Rattle.galley.specs.Place.{GS, G2, FO, TL, ED, kindOf, figureMark}
 use Rattle.galley.specs.Range.{Edition, SpecRanged, FolioRanged, BlockRanged, LineRanged}
 use Rattle.galley.specs.Record.{heightAt, leastAt, mostAt, citeAt, specOf, blockOf, lineOf, figureOf, fieldsOf, recordAt, isKept, figureAt}
 use Rattle.galley.specs.Write.{word, fieldBytes, editionBytes, specBytes, folioBytes, stated, blockBytes, lineBytes, figureBytes}
