@@ -8,7 +8,7 @@ use Rattle.galley.specs.Model.{textOf}
 use Rattle.window.specs.declared.slide.Load.{Load}
 use Rattle.window.specs.declared.queue.Queue.{Queue}
 use Rattle.window.specs.Sums.{reach, Row}
-use Rattle.window.specs.Queue.{lineAt, costAt, columnOf, tailed, Held, Beside}
+use Rattle.window.specs.Queue.{lineAt, costAt, linesOf, tailed, Held, Beside}
 
 -- From `from` on and before a no page to line i fits.
 pub record FittingRun (sums : List ℕ) (load : Load) (from i a : ℕ) : Type 0 where
@@ -58,5 +58,5 @@ pub record FeedRun (work : List ℕ) (tall b side : ℕ) (words₀ words : List 
   pub short : tail ≤ queue .base + a
   pub beside : Beside words₀ words (queue .base) (queue .base + to)
   pub sized : length words ≡ length words₀
-  pub held : (low : ℕ) → Held (columnOf work tall b side) words₀ queue low from
-      → Held (columnOf work tall b side) words (tailed queue tail) low a
+  pub held : (low : ℕ) → Held (linesOf work tall b side) words₀ queue low from
+      → Held (linesOf work tall b side) words (tailed queue tail) low a

@@ -7,6 +7,7 @@ use native.Mathlib.Nat.{suc-mul, mul-comm, mul-le-mul, mul-le-mul-right}
 use native.Mathlib.Omega.{arith}
 use lib.Dec.{ltb}
 use borrow.Author.Tests.{ltb-true, ltb-false}
+use Rattle.places.specs.declared.Place.{Place}
 use Rattle.places.specs.Address.{address, wordsNeeded, Inside, Small, Earlier, Apart}
 
 -- Numbers are in one of three orders.
@@ -89,8 +90,8 @@ unfolding wordsNeeded
 address-in m n i j side h l s = address-in-columns (m + 1) i j side n (omega arith) l s
 
 -- The product in an address is small.
-pub column-small : (tall i j side : ℕ) → Inside tall i j side → j * tall ≤ 800200
-column-small tall i j side r = mul-le-mul (r .column) (r .high)
+pub column-small : (tall : ℕ) (place : Place) (side : ℕ) → Inside tall place side → place .column * tall ≤ 800200
+column-small tall place side r = mul-le-mul (r .wide) (r .high)
 
 -- The product in the words needed is small.
 pub words-small : (m n : ℕ) → Small m n → (m + 1) * (n + 1) ≤ 804201

@@ -7,10 +7,10 @@ use native.Mathlib.Omega.{arith}
 use lib.ListN.{length, getD, set, drop, length-set}
 use lib.Dec.{eqb}
 use lib.Seq.{getD-set-same, getD-set-other, drop-set-lt}
-use Rattle.places.specs.declared.Start.{Start}
+use Rattle.places.specs.declared.Place.{Place}
 use Rattle.places.specs.declared.Entry.{Entry}
 use Rattle.places.specs.declared.Entry.the-variants.{Unreached, Least}
-use Rattle.places.specs.Entry.{entryOf, entryAt, put, nowhere, stored}
+use Rattle.places.specs.Entry.{tagged, entryAt, put, nowhere, stored}
 use Rattle.places.specs.Address.{Apart}
 
 -- An entry is known by its four words.
@@ -24,7 +24,7 @@ entryAt-same v w at h =
     let d = h (at + 3) (omega arith) (omega arith) in
     cc
 
-module _ (w : List ℕ) (at tag cost : ℕ) (start : Start) where
+module _ (w : List ℕ) (at tag cost : ℕ) (start : Place) where
   put-length : length (put w at tag cost start) ≡ length w
   unfolding put
   put-length = simp length-set
@@ -48,7 +48,7 @@ module _ (w : List ℕ) (at tag cost : ℕ) (start : Start) where
       entryAt-same _ w at′ (λ k a b. put-other k (omega arith) (omega arith) (omega arith) (omega arith))
 
   -- The four words of the place itself are those that were written.
-  put-own : at + 4 ≤ length w → entryAt (put w at tag cost start) at ≡ entryOf (eqb tag 1) cost start
+  put-own : at + 4 ≤ length w → entryAt (put w at tag cost start) at ≡ tagged (eqb tag 1) cost start
   unfolding entryAt put
   put-own h =
       let w₁ = set w at tag in
@@ -57,16 +57,16 @@ module _ (w : List ℕ) (at tag cost : ℕ) (start : Start) where
       let n₁ : length w₁ ≡ length w = simp length-set in
       let n₂ : length w₂ ≡ length w = simp length-set in
       let n₃ : length w₃ ≡ length w = simp length-set in
-      let a = getD-set-other w₃ (at + 3) at (start .figure) 0 (omega arith)
+      let a = getD-set-other w₃ (at + 3) at (start .column) 0 (omega arith)
       ∙ getD-set-other w₂ (at + 2) at (start .line) 0 (omega arith)
       ∙ getD-set-other w₁ (at + 1) at cost 0 (omega arith)
       ∙ getD-set-same w at tag 0 (omega arith) in
-      let b = getD-set-other w₃ (at + 3) (at + 1) (start .figure) 0 (omega arith)
+      let b = getD-set-other w₃ (at + 3) (at + 1) (start .column) 0 (omega arith)
       ∙ getD-set-other w₂ (at + 2) (at + 1) (start .line) 0 (omega arith)
       ∙ getD-set-same w₁ (at + 1) cost 0 (omega arith) in
-      let c = getD-set-other w₃ (at + 3) (at + 2) (start .figure) 0 (omega arith)
+      let c = getD-set-other w₃ (at + 3) (at + 2) (start .column) 0 (omega arith)
       ∙ getD-set-same w₂ (at + 2) (start .line) 0 (omega arith) in
-      let d = getD-set-same w₃ (at + 3) (start .figure) 0 (omega arith) in
+      let d = getD-set-same w₃ (at + 3) (start .column) 0 (omega arith) in
       rw (a, b, c, d)
 
 -- A store leaves the length as it is.

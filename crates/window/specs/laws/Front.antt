@@ -8,7 +8,7 @@ use mathlib.Core.List.{List}
 use lib.Dec.{ltb}
 use borrow.Author.Tests.{ltb-true, ltb-false}
 use Rattle.model.specs.Gather.{pick}
-use Rattle.places.specs.declared.Start.{Start}
+use Rattle.places.specs.declared.Place.{Place}
 use Rattle.places.specs.declared.Entry.{Entry}
 use Rattle.places.specs.declared.Entry.the-variants.{Unreached, Least}
 use Rattle.window.specs.declared.queue.Queue.{Queue}
@@ -37,26 +37,26 @@ rises-to f head tail up k l m =
     omega arith
 
 -- An entry that is a start, from what is known of that start.
-cheapest-of : (col : ℕ → Entry) (low high b x : ℕ) (s : Start) → low ≤ s .line → s .line < high → s .figure ≡ b
-    → (q : Start) × (col (s .line) ≡ Least x q)
-    → ((a y : ℕ) (q : Start) → low ≤ a → a < high → col a ≡ Least y q → x ≤ y)
-    → ((a : ℕ) (q : Start) → low ≤ a → a < high → col a ≡ Least x q → a ≤ s .line)
+cheapest-of : (col : ℕ → Entry) (low high b x : ℕ) (s : Place) → low ≤ s .line → s .line < high → s .column ≡ b
+    → (q : Place) × (col (s .line) ≡ Least x q)
+    → ((a y : ℕ) (q : Place) → low ≤ a → a < high → col a ≡ Least y q → x ≤ y)
+    → ((a : ℕ) (q : Place) → low ≤ a → a < high → col a ≡ Least x q → a ≤ s .line)
     → Cheapest col low high b (Least x s)
-cheapest-of col low high b x s from to figure reached least latest =
+cheapest-of col low high b x s from to column reached least latest =
     record {
-      from = λ y r e. let p : s ≡ r = cc in subst (λ (t : Start). low ≤ t .line) p from;
-      to = λ y r e. let p : s ≡ r = cc in subst (λ (t : Start). t .line < high) p to;
-      figure = λ y r e. let p : s ≡ r = cc in subst (λ (t : Start). t .figure ≡ b) p figure;
+      from = λ y r e. let p : s ≡ r = cc in subst (λ (t : Place). low ≤ t .line) p from;
+      to = λ y r e. let p : s ≡ r = cc in subst (λ (t : Place). t .line < high) p to;
+      column = λ y r e. let p : s ≡ r = cc in subst (λ (t : Place). t .column ≡ b) p column;
       reached = λ y r e.
           let p : s ≡ r = cc in
           let c : x ≡ y = cc in
-          (reached .0, ap (λ (t : Start). col (t .line)) (sym p) ∙ reached .1 ∙ ap (λ (n : ℕ). Least n (reached .0)) c);
+          (reached .0, ap (λ (t : Place). col (t .line)) (sym p) ∙ reached .1 ∙ ap (λ (n : ℕ). Least n (reached .0)) c);
       none = λ e. let z : _≡_ {A = ℕ} 0 1 = cc in absurd (omega arith);
       least = λ y r e a n q l m f. let c : x ≡ y = cc in let k = least a n q l m f in omega arith;
       latest = λ y r e a q l m f.
           let p : s ≡ r = cc in
           let c : x ≡ y = cc in
-          subst (λ (t : Start). a ≤ t .line) p (latest a q l m (f ∙ ap (λ (n : ℕ). Least n q) (sym c)));
+          subst (λ (t : Place). a ≤ t .line) p (latest a q l m (f ∙ ap (λ (n : ℕ). Least n q) (sym c)));
     }
 
 -- Where no line is reached, the unreached entry.
@@ -66,7 +66,7 @@ cheapest-none col low high b none =
     record {
       from = λ y r e. let z : _≡_ {A = ℕ} 0 1 = cc in absurd (omega arith);
       to = λ y r e. let z : _≡_ {A = ℕ} 0 1 = cc in absurd (omega arith);
-      figure = λ y r e. let z : _≡_ {A = ℕ} 0 1 = cc in absurd (omega arith);
+      column = λ y r e. let z : _≡_ {A = ℕ} 0 1 = cc in absurd (omega arith);
       reached = λ y r e. let z : _≡_ {A = ℕ} 0 1 = cc in absurd (omega arith);
       none = λ e. none;
       least = λ y r e. let z : _≡_ {A = ℕ} 0 1 = cc in absurd (omega arith);
@@ -78,9 +78,9 @@ module _ (col : ℕ → Entry) (words : List ℕ) (queue : Queue) (low high b : 
     (fresh : queue .head < queue .tail → low ≤ lineAt words (queue .head)) where
   front-some : queue .head < queue .tail
       → Cheapest col low high b
-      (Least (costAt words (queue .head)) (record { line = lineAt words (queue .head); figure = b }))
+      (Least (costAt words (queue .head)) (record { line = lineAt words (queue .head); column = b }))
   front-some some =
-      cheapest-of col low high b (costAt words (queue .head)) (record { line = lineAt words (queue .head); figure = b })
+      cheapest-of col low high b (costAt words (queue .head)) (record { line = lineAt words (queue .head); column = b })
       (fresh some) (h .before (queue .head) (omega arith) some) refl (h .reached (queue .head) (omega arith) some)
       (λ a y q l m e.
       let k = h .covered a y q l m e in
@@ -112,6 +112,6 @@ module _ (col : ℕ → Entry) (words : List ℕ) (queue : Queue) (low high b : 
     where
       go : (t : Bool) → ltb (queue .head) (queue .tail) ≡ t
           → Cheapest col low high b
-          (pick t (Least (costAt words (queue .head)) (record { line = lineAt words (queue .head); figure = b })) Unreached)
+          (pick t (Least (costAt words (queue .head)) (record { line = lineAt words (queue .head); column = b })) Unreached)
       go true e = front-some (ltb-true _ _ e)
       go false e = front-none (ltb-false _ _ e)
