@@ -36,21 +36,21 @@ pub record SideAsked (bytes : List ℕ) (g : Galley) (w : List ℕ) (i j c waiti
   pub room : wordsNeeded (g .text .count) (g .figures .count) ≤ length w
   pub found : waiting ≡ waits (floatsOf bytes (g .figures)) i j
   pub side : Side (modelOf bytes g .spec .sides) c
-  pub filled : Filled (modelOf bytes g) (tableOf (suc (g .text .count)) w) i j
+  pub filled : Filled (modelOf bytes g) (tableIn g w) i j
 
 -- The entries before (i, j) are filled, and its sides come next.
 pub record PlaceAsked (bytes : List ℕ) (g : Galley) (w : List ℕ) (i j waiting : ℕ) : Type 0 where
   pub placed : Placed bytes g i j
   pub room : wordsNeeded (g .text .count) (g .figures .count) ≤ length w
   pub found : waiting ≡ waits (floatsOf bytes (g .figures)) i j
-  pub filled : Filled (modelOf bytes g) (tableOf (suc (g .text .count)) w) i j
+  pub filled : Filled (modelOf bytes g) (tableIn g w) i j
 
 -- The columns before j are filled.
 pub record ColumnAsked (bytes : List ℕ) (g : Galley) (w : List ℕ) (j : ℕ) : Type 0 where
   pub sound : Sound bytes g
   pub column : j ≤ g .figures .count
   pub room : wordsNeeded (g .text .count) (g .figures .count) ≤ length w
-  pub filled : Filled (modelOf bytes g) (tableOf (suc (g .text .count)) w) 0 j
+  pub filled : Filled (modelOf bytes g) (tableIn g w) 0 j
 
 -- A galley that was read, and a work area as long as document 01 asks.
 pub record FillAsked (bytes : List ℕ) (g : Galley) (w : List ℕ) : Type 0 where

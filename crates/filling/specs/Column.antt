@@ -14,7 +14,7 @@ use Rattle.window.specs.declared.slide.Load.{Load}
 use Rattle.window.specs.declared.slide.Window.{Window}
 use Rattle.window.specs.declared.queue.Queue.{Queue}
 use Rattle.window.specs.Slide.{Ends, Open}
-use Rattle.window.specs.Queue.{columnOf, queueOf, Held, Advanced}
+use Rattle.window.specs.Queue.{linesOf, queueOf, Held, Advanced}
 use Rattle.starts.specs.Choice.{Between}
 use Rattle.starts.specs.Sweep.{sideOf, loadOf, Knows, Known, Lent, Summed, StartAsked}
 use Rattle.filling.specs.declared.side.End.{End}
@@ -46,7 +46,7 @@ pub record SideMoved (bytes : List ℕ) (g : Galley) (w words : List ℕ) (queue
   pub lent : Lent bytes g w words (end .column)
   pub turned : Turned bytes g windows (end .line)
   pub based : queue .base ≤ 4000
-  pub held : Held (columnOf w (g .text .count + 1) (end .column) (sideOf g (end .side))) words queue (windows .from .low)
+  pub held : Held (linesOf w (g .text .count + 1) (end .column) (sideOf g (end .side))) words queue (windows .from .low)
       (windows .from .high)
   pub known : Knows bytes g w (end .line) (end .column) (end .side) (Between 0 (end .column))
 
@@ -60,7 +60,7 @@ pub record SideFilled (bytes : List ℕ) (g : Galley) (w v words words′ : List
 -- The queue of side c holds the starts with b figures in a window.
 abbrev pub Holds : Galley → List ℕ → List ℕ → List ℕ → ℕ → Window → ℕ → Type 0
 Holds g w words ends b window c =
-    Held (columnOf w (g .text .count + 1) b (sideOf g c)) words (queueOf ends c) (window .low) (window .high)
+    Held (linesOf w (g .text .count + 1) b (sideOf g c)) words (queueOf ends c) (window .low) (window .high)
 
 -- The queues of the sides before n are those of the window `new`, the others those of `old`.
 pub record Queues (g : Galley) (w words ends : List ℕ) (b : ℕ) (old new : Window) (n : ℕ) : Type 0 where
@@ -93,7 +93,7 @@ pub record SidesRun (bytes : List ℕ) (g : Galley) (w₀ w words₀ words ends�
   pub wordsSized : length words ≡ length words₀
   pub endsSized : length ends ≡ length ends₀
   pub filled : w ≡ fillSides (modelOf bytes g) (end .line) (end .column) c w₀
-  pub entries : Filled (modelOf bytes g) (tableOf (suc (g .text .count)) w) (end .line) (end .column)
+  pub entries : Filled (modelOf bytes g) (tableIn g w) (end .line) (end .column)
   pub queued : Queues g w words ends (end .column) (windows .from) (windows .to) c
   pub waits : Waits bytes g w (end .column) (2 * end .line + c)
 

@@ -15,12 +15,12 @@ pub record ColumnRun (bytes : List ℕ) (g : Galley) (w₀ w : List ℕ) (j wait
   pub within : i ≤ suc (g .text .count)
   pub sized : length w ≡ length w₀
   pub walked : Walked bytes (g .figures) i j waiting
-  pub entries : Filled (modelOf bytes g) (tableOf (suc (g .text .count)) w) i j
+  pub entries : Filled (modelOf bytes g) (tableIn g w) i j
   pub run : fillColumn (modelOf bytes g) j (suc (g .text .count) - i) i w ≡ fillColumn (modelOf bytes g) j (suc (g .text .count)) 0 w₀
 
 -- The columns before j are filled.
 pub record TableRun (bytes : List ℕ) (g : Galley) (w₀ w : List ℕ) (j : ℕ) : Type 0 where
   pub within : j ≤ suc (g .figures .count)
   pub sized : length w ≡ length w₀
-  pub entries : Filled (modelOf bytes g) (tableOf (suc (g .text .count)) w) 0 j
+  pub entries : Filled (modelOf bytes g) (tableIn g w) 0 j
   pub run : fillColumns (modelOf bytes g) (suc (g .figures .count) - j) j w ≡ filled (modelOf bytes g) w₀

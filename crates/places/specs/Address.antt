@@ -1,5 +1,4 @@
 -- Where a place stands in the work area, and how many words a galley needs (document 01, "Making").
-use mathlib.Core.Path.{_≡_}
 use mathlib.Core.Logic.{_⊎_}
 use mathlib.Core.List.{List}
 use Prim.Native.Nat.{ℕ, _+_, _*_, _<_, _≤_}
@@ -30,10 +29,6 @@ pub record Stands (w : List ℕ) (tall : ℕ) (place : Place) (side : ℕ) : Typ
 pub record Small (m n : ℕ) : Type 0 where
   pub lines : m ≤ 4000
   pub figures : n ≤ 200
-
--- Place (i, j) stands before (i′, j′): in an earlier column, or in the same column and higher (document 01, "Making").
-abbrev pub Earlier : ℕ → ℕ → ℕ → ℕ → Type 0
-Earlier i j i′ j′ = (j < j′) ⊎ ((j ≡ j′) × (i < i′))
 
 -- The four words from one offset on and the four from another have none in common (document 01, "Making").
 abbrev pub Apart : ℕ → ℕ → Type 0

@@ -9,6 +9,7 @@ use Rattle.model.specs.Gather.{pick}
 use Rattle.places.specs.declared.Place.{Place}
 use Rattle.places.specs.declared.Entry.{Entry}
 use Rattle.places.specs.declared.Entry.the-variants.{Unreached, Least}
+use Rattle.places.specs.Best.{Reached}
 use Rattle.places.specs.Address.{Stands}
 use Rattle.places.specs.Table.{tableOf}
 use Rattle.window.specs.declared.slide.Window.{Window}
@@ -58,19 +59,12 @@ pub record Held (col : ℕ → Entry) (words : List ℕ) (queue : Queue) (low hi
   pub lines : (k : ℕ) → queue .head ≤ k → suc k < queue .tail → lineAt words k < lineAt words (suc k)
   pub costs : (k : ℕ) → queue .head ≤ k → suc k < queue .tail → costAt words k < costAt words (suc k)
   pub before : (k : ℕ) → queue .head ≤ k → k < queue .tail → lineAt words k < high
-  pub reached : (k : ℕ) → queue .head ≤ k → k < queue .tail → (r : Place) × (col (lineAt words k) ≡ Least (costAt words k) r)
+  pub reached : (k : ℕ) → queue .head ≤ k → k < queue .tail → Reached (col (lineAt words k)) (costAt words k)
   pub covered : (a x : ℕ) (r : Place) → low ≤ a → a < high → col a ≡ Least x r → Cover words queue a x
 
--- Of the reached lines from `low` on and before `high`, e is the cheapest, and the latest of those that cost the same, as a
--- start in column b; it is unreached where they all are.
-pub record Cheapest (col : ℕ → Entry) (low high b : ℕ) (e : Entry) : Type 0 where
-  pub from : (x : ℕ) (r : Place) → e ≡ Least x r → low ≤ r .line
-  pub to : (x : ℕ) (r : Place) → e ≡ Least x r → r .line < high
-  pub column : (x : ℕ) (r : Place) → e ≡ Least x r → r .column ≡ b
-  pub reached : (x : ℕ) (r : Place) → e ≡ Least x r → (q : Place) × (col (r .line) ≡ Least x q)
-  pub none : e ≡ Unreached → (a : ℕ) → low ≤ a → a < high → col a ≡ Unreached
-  pub least : (x : ℕ) (r : Place) → e ≡ Least x r → (a y : ℕ) (q : Place) → low ≤ a → a < high → col a ≡ Least y q → x ≤ y
-  pub latest : (x : ℕ) (r : Place) → e ≡ Least x r → (a : ℕ) (q : Place) → low ≤ a → a < high → col a ≡ Least x q → a ≤ r .line
+-- The reached lines from `low` on and before `high`, as starts in column b.
+abbrev pub Lines : (ℕ → Entry) → ℕ → ℕ → ℕ → ℕ → ℕ → ℕ → Type 0
+Lines col low high b a b′ x = (low ≤ a) × (a < high) × (b′ ≡ b) × Reached (col a) x
 
 -- A queue of so many entries lies in the words.
 pub record Entries (words : List ℕ) (head tail : ℕ) : Type 0 where

@@ -20,7 +20,7 @@ use Rattle.places.specs.Table.{tableOf}
 use Rattle.window.specs.declared.slide.Window.{Window}
 use Rattle.window.specs.declared.queue.Queue.{Queue}
 use Rattle.window.specs.Slide.{Slidable, Open, Slid}
-use Rattle.window.specs.Queue.{columnOf, frontOf, queueOf, pushed, FeedAsked, Advanced}
+use Rattle.window.specs.Queue.{linesOf, frontOf, queueOf, pushed, FeedAsked, Advanced}
 use Rattle.window.specs.laws.Slide.{ends-first, ends-next}
 use Rattle.window.specs.laws.Front.{front-cheapest}
 use Rattle.window.specs.laws.Pushed.{pushed-length}
@@ -93,7 +93,7 @@ module _ {bytes : List ℕ} {g : Galley} {w words : List ℕ} {queue : Queue} {w
               same = λ inner.
                   let none = le-ltb (end .column) (end .column) (le-refl (end .column)) in
                   let held = advanced .held (windows .from .low) (moved .turned .low) (moved .held) in
-                  let cheapest = front-cheapest (columnOf w (g .text .count + 1) (end .column) (sideOf g (end .side))) words′ next
+                  let cheapest = front-cheapest (linesOf w (g .text .count + 1) (end .column) (sideOf g (end .side))) words′ next
                   (windows .to .low) (windows .to .high) (end .column) held (advanced .fresh) in
                   window-best bytes g w (end .line) (end .column) (sideOf g (end .side)) (end .column)
                   noHeights (no-figures bytes g (end .column)) inner (le-refl (end .column))
@@ -237,11 +237,11 @@ module _ {bytes : List ℕ} {g : Galley} {w₀ words₀ ends₀ : List ℕ} {win
                   omega (arith, q .0, q .1)) (run .waits k d l m (omega arith));
             }
           where
-            changed : Changed g w v (end .line) (end .column) c (entryOf (modelOf bytes g) (tableOf (suc (g .text .count)) w)
+            changed : Changed g w v (end .line) (end .column) c (entryOf (modelOf bytes g) (tableIn g w)
                 (end .line) (end .column) c)
             changed =
                 stored-changes g w (end .line) (end .column) c here (asked .lent .column) occurs two room
-                (entryOf (modelOf bytes g) (tableOf (suc (g .text .count)) w) (end .line) (end .column) c) v (done .filled)
+                (entryOf (modelOf bytes g) (tableIn g w) (end .line) (end .column) c) v (done .filled)
 
 -- One line after another.
 module _ {bytes : List ℕ} {g : Galley} {w₀ sums words₀ : List ℕ} {j : ℕ} (asked : LastAsked bytes g w₀ sums words₀ j) where

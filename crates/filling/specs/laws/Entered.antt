@@ -16,7 +16,7 @@ use Rattle.model.specs.laws.Gather.{and-left, or-cases}
 use Rattle.theorems.specs.turns.Waiting.{pageCost}
 use Rattle.theorems.specs.pages.Graph.{full}
 use Rattle.theorems.specs.turns.Bounds.{dearest, cost-le}
-use Rattle.places.specs.declared.Start.{Start}
+use Rattle.places.specs.declared.Place.{Place}
 use Rattle.places.specs.declared.Entry.{Entry}
 use Rattle.places.specs.declared.Entry.the-variants.{Unreached, Least}
 use Rattle.places.specs.Address.{Earlier}
@@ -24,15 +24,15 @@ use Rattle.starts.specs.Search.{place, Table, before, better, Search, offered, 
 use Rattle.filling.specs.Filled.{Entered, Side, Filled}
 
 -- A start found for (i, j): it lies before, and its own cost is small.
-pub record Found (i j x : ℕ) (r : Start) : Type 0 where
+pub record Found (i j x : ℕ) (r : Place) : Type 0 where
   pub line : r .line ≤ i
-  pub figure : r .figure ≤ j
-  pub less : r .line + r .figure < i + j
-  pub dear : x ≤ (r .line + r .figure) * 201000
+  pub column : r .column ≤ j
+  pub less : r .line + r .column < i + j
+  pub dear : x ≤ (r .line + r .column) * 201000
 
 -- The best so far, if any, is a start found.
 abbrev pub Good : ℕ → ℕ → Entry → Type 0
-Good i j e = (x : ℕ) (r : Start) → e ≡ Least x r → Found i j x r
+Good i j e = (x : ℕ) (r : Place) → e ≡ Least x r → Found i j x r
 
 good-unreached : (i j : ℕ) → Good i j Unreached
 good-unreached i j x r e = let z : _≡_ {A = ℕ} 0 1 = cc in absurd (omega arith)
@@ -44,13 +44,13 @@ good-pick i j false e f p q = q refl
 
 good-start : (i j a b x : ℕ) → a ≤ i → b ≤ j → a + b < i + j → x ≤ (a + b) * 201000 → Good i j (Least x (record {
   line = a;
-  figure = b;
+  column = b;
 }))
 good-start i j a b x h k l d y r e =
     let p : x ≡ y = cc in
     let q : a ≡ r .line = ap line-of e in
-    let s : b ≡ r .figure = ap figure-of e in
-    record { line = omega arith; figure = omega arith; less = omega arith; dear = rw (← q, ← s, ← p) d }
+    let s : b ≡ r .column = ap figure-of e in
+    record { line = omega arith; column = omega arith; less = omega arith; dear = rw (← q, ← s, ← p) d }
   where
     line-of : Entry → ℕ
     line-of Unreached = 0
@@ -58,15 +58,15 @@ good-start i j a b x h k l d y r e =
 
     figure-of : Entry → ℕ
     figure-of Unreached = 0
-    figure-of (Least x r) = r .figure
+    figure-of (Least x r) = r .column
 
 good-better : (i j a b : ℕ) (f e : Entry) → a ≤ i → b ≤ j → a + b < i + j
-    → ((x : ℕ) (s : Start) → f ≡ Least x s → x ≤ (a + b) * 201000) → Good i j e → Good i j (better f a b e)
+    → ((x : ℕ) (s : Place) → f ≡ Least x s → x ≤ (a + b) * 201000) → Good i j e → Good i j (better f a b e)
 unfolding better
 good-better i j a b Unreached e h k l d g = g
 good-better i j a b (Least x s) Unreached h k l d g = good-start i j a b x h k l (d x s refl)
 good-better i j a b (Least x s) (Least y r) h k l d g =
-    good-pick i j (ltb x y) (Least x (record { line = a; figure = b })) (Least y r) (λ e. good-start i j a b x h k l (d x s
+    good-pick i j (ltb x y) (Least x (record { line = a; column = b })) (Least y r) (λ e. good-start i j a b x h k l (d x s
     refl)) (λ e. g)
 
 module _ (s : Search) (fill : Filled (s .galley) (s .table) (s .i) (s .j)) (high : s .i ≤ s .galley .stream 0 .size)
@@ -111,7 +111,7 @@ module _ (s : Search) (fill : Filled (s .galley) (s .table) (s .i) (s .j)) (high
       (λ t. g)
 
   -- The best start, if there is one, lies before the place, and its cost is small.
-  pub best-entered : (x : ℕ) (r : Start) → bestStart s ≡ Least x r → Found (s .i) (s .j) x r
+  pub best-entered : (x : ℕ) (r : Place) → bestStart s ≡ Least x r → Found (s .i) (s .j) x r
   unfolding bestStart
   best-entered = good-rows (suc (s .i)) Unreached (le-refl (suc (s .i))) (good-unreached (s .i) (s .j))
 
@@ -132,7 +132,7 @@ module _ (g : Galley) (light : dearest g ≤ 201000) (t : Table) (i j c : ℕ) (
   search : Search
   search = record { galley = g; table = t; i = i; j = j; side = before (g .spec .sides) c }
 
-  priced-entered : (e : Entry) → Good i j e → (x : ℕ) (r : Start) → priced (pageCost g c (full g (place i j)) (place i j)) e ≡
+  priced-entered : (e : Entry) → Good i j e → (x : ℕ) (r : Place) → priced (pageCost g c (full g (place i j)) (place i j)) e ≡
       Least x r
       → Entered i j x r
   unfolding priced
@@ -144,22 +144,22 @@ module _ (g : Galley) (light : dearest g ≤ 201000) (t : Table) (i j c : ℕ) (
       let cost = cost-le g c (full g (place i j)) (place i j) in
       let most = mul-le-mul-right 201000 (here .less) in
       let d = here .dear in
-      let e = suc-mul (r .line + r .figure) 201000 in
-      record { line = here .line; figure = here .figure; less = λ _. here .less; dear = omega arith }
+      let e = suc-mul (r .line + r .column) 201000 in
+      record { line = here .line; column = here .column; less = λ _. here .less; dear = omega arith }
 
   -- The entry of a place keeps what entries keep, if those before it do.
-  pub entry-entered : (x : ℕ) (r : Start) → entryOf g t i j c ≡ Least x r → Entered i j x r
+  pub entry-entered : (x : ℕ) (r : Place) → entryOf g t i j c ≡ Least x r → Entered i j x r
   unfolding entryOf search
   entry-entered x r q = go (eqb (i + j + c) 0) (mayStop g i j c) q
     where
-      least-start : (x : ℕ) (r : Start) → Least 0 (record { line = 0; figure = 0 }) ≡ Least x r → Entered i j x r
+      least-start : (x : ℕ) (r : Place) → Least 0 (record { line = 0; column = 0 }) ≡ Least x r → Entered i j x r
       least-start x r q =
           let zero-cost : 0 ≡ x = cc in
-          let from : record { line = 0; figure = 0 } ≡ r = cc in
-          rw (← from, ← zero-cost) (record { line = omega arith; figure = omega arith; less = λ h. h; dear = omega arith })
+          let from : record { line = 0; column = 0 } ≡ r = cc in
+          rw (← from, ← zero-cost) (record { line = omega arith; column = omega arith; less = λ h. h; dear = omega arith })
 
       go : (a b : Bool)
-          → pick a (Least 0 (record { line = 0; figure = 0 }))
+          → pick a (Least 0 (record { line = 0; column = 0 }))
           (pick b (priced (pageCost g c (full g (place i j)) (place i j)) (bestStart search)) Unreached)
           ≡ Least x r → Entered i j x r
       go true b q = least-start x r q

@@ -9,7 +9,7 @@ use lib.ListN.{length}
 use Rattle.model.specs.Galley.{Sides, single, double, Galley}
 use Rattle.model.specs.Order.{oddly}
 use Rattle.theorems.specs.turns.Bounds.{dearest}
-use Rattle.places.specs.declared.Start.{Start}
+use Rattle.places.specs.declared.Place.{Place}
 use Rattle.places.specs.declared.Entry.the-variants.{Least}
 use Rattle.places.specs.Address.{address, wordsNeeded, Earlier}
 use Rattle.places.specs.Table.{tableOf}
@@ -108,7 +108,7 @@ module _ (g : Galley) (light : dearest g ≤ 201000) where
         }
 
     -- and the new one is such a one too.
-    filled-here : (c : ℕ) (w : Words) → Room g w → Side (g .spec .sides) c → Filled g (held g w) i j → (x : ℕ) (s : Start)
+    filled-here : (c : ℕ) (w : Words) → Room g w → Side (g .spec .sides) c → Filled g (held g w) i j → (x : ℕ) (s : Place)
         → held g (fillSide g i j c w) i j c ≡ Least x s → Entered i j x s
     filled-here c w room k f x s e =
         entry-entered g light (held g w) i j c f high k x s
@@ -116,11 +116,11 @@ module _ (g : Galley) (light : dearest g ≤ 201000) where
 
     -- A place filled on all its sides.
     all-sides : (w : Words) → Filled g (held g w) i j
-        → ((c x : ℕ) (s : Start) → Side (g .spec .sides) c → held g w i j c ≡ Least x s → Entered i j x s)
+        → ((c x : ℕ) (s : Place) → Side (g .spec .sides) c → held g w i j c ≡ Least x s → Entered i j x s)
         → Filled g (held g w) (suc i) j
     all-sides w f own = record { entered = λ a b c x s l h k e. go a b c x s (earlier-next a b i j l) h k e }
       where
-        go : (a b c x : ℕ) (s : Start) → Earlier a b i j ⊎ ((a ≡ i) × (b ≡ j)) → a ≤ g .stream 0 .size → Side (g .spec .sides) c
+        go : (a b c x : ℕ) (s : Place) → Earlier a b i j ⊎ ((a ≡ i) × (b ≡ j)) → a ≤ g .stream 0 .size → Side (g .spec .sides) c
             → held g w a b c ≡ Least x s → Entered a b x s
         go a b c x s (inl l) h k e = f .entered a b c x s l h k e
         go a b c x s (inr (p, q)) h k e = rw (p, q) (own c x s k (rw (p, q) at e))
@@ -131,7 +131,7 @@ module _ (g : Galley) (light : dearest g ≤ 201000) where
     unfolding oddly
     filled-single w room e f = all-sides (fillSide g i j 0 w) (filled-keeps 0 w room (omega arith) f) own
       where
-        own : (c x : ℕ) (s : Start) → Side (g .spec .sides) c → held g (fillSide g i j 0 w) i j c ≡ Least x s → Entered i j x s
+        own : (c x : ℕ) (s : Place) → Side (g .spec .sides) c → held g (fillSide g i j 0 w) i j c ≡ Least x s → Entered i j x s
         own c x s k q = let z : c ≡ 0 = sym (rw e at k) in filled-here 0 w room (rw z at k) f x s (rw z at q)
 
     -- and in double-sided work.
@@ -152,7 +152,7 @@ module _ (g : Galley) (light : dearest g ≤ 201000) where
         side : (c : ℕ) → c < 2 → Side (g .spec .sides) c
         side c l = rw e (omega arith)
 
-        own : (c x : ℕ) (s : Start) → Side (g .spec .sides) c → held g (fillSide g i j 1 left) i j c ≡ Least x s → Entered i j
+        own : (c x : ℕ) (s : Place) → Side (g .spec .sides) c → held g (fillSide g i j 1 left) i j c ≡ Least x s → Entered i j
             x s
         own zero x s k q =
             filled-here 0 w room k f x s

@@ -16,7 +16,7 @@ use Rattle.galley.specs.declared.Galley.{Galley}
 use Rattle.galley.specs.Model.{floatsOf, modelOf}
 use Rattle.rules.specs.Waiting.{waits}
 use Rattle.rules.specs.laws.Walked.{walked-none, walked-here, walked-on}
-use Rattle.places.specs.declared.Start.{Start}
+use Rattle.places.specs.declared.Place.{Place}
 use Rattle.places.specs.declared.Entry.the-variants.{Unreached, Least}
 use Rattle.places.specs.Table.{tableOf}
 use Rattle.starts.specs.Search.{place, Table, before, bestStart, priced, mayStop, entryOf}
@@ -31,7 +31,7 @@ use Rattle.filling.specs.laws.Price.{dearest-light}
 
 -- Nothing is placed at the cost of nothing.
 pub entry-nothing : (g : model.Galley) (t : Table) (i j c : ℕ) → i + j + c ≡ 0
-    → entryOf g t i j c ≡ Least 0 (record { line = 0; figure = 0 })
+    → entryOf g t i j c ≡ Least 0 (record { line = 0; column = 0 })
 unfolding entryOf
 entry-nothing g t i j c e = rw (eq-eqb (i + j + c) 0 e)
 
@@ -56,7 +56,7 @@ module _ (g : model.Galley) (t : Table) (i j c : ℕ) (some : i + j + c ≡ 0 �
     entry-unreached b = found ∙ ap (priced (pageCost g c (full g (place i j)) (place i j))) b
 
     -- Else it costs what its best start does and the price of the page.
-    pub entry-least : (x : ℕ) (r : Start)
+    pub entry-least : (x : ℕ) (r : Place)
         → bestStart (record { galley = g; table = t; i = i; j = j; side = before (g .spec .sides) c }) ≡ Least x r
         → entryOf g t i j c ≡ Least (x + pageCost g c (full g (place i j)) (place i j)) r
     unfolding priced
@@ -64,12 +64,12 @@ module _ (g : model.Galley) (t : Table) (i j c : ℕ) (some : i + j + c ≡ 0 �
 
 -- The cost of a start and the price of the page are a word.
 pub cost-low : (bytes : List ℕ) (g : Galley) (w : List ℕ) (i j c waiting : ℕ) → SideAsked bytes g w i j c waiting
-    → (x : ℕ) (r : Start)
+    → (x : ℕ) (r : Place)
     → bestStart (searchOf bytes g w i j (before (sidesOf (g .spec .sides)) c)) ≡ Least x r
     → x + pageCost (modelOf bytes g) c (full (modelOf bytes g) (place i j)) (place i j) ≤ 1000000000
 cost-low bytes g w i j c waiting asked x r e =
     let line = asked .placed .line in
-    let figure = asked .placed .figure in
+    let column = asked .placed .column in
     let lines = asked .placed .sound .fewLines in
     let figures = asked .placed .sound .fewFigures in
     let start =
@@ -115,7 +115,7 @@ module _ (bytes : List ℕ) (g : Galley) (w₀ : List ℕ) where
     column-place asked w waiting i waiting′ r l found =
         let long = r .sized in
         record {
-          placed = record { sound = asked .sound; line = l; figure = asked .column };
+          placed = record { sound = asked .sound; line = l; column = asked .column };
           room = omega (arith, asked .room);
           found = found;
           filled = r .entries;
@@ -162,7 +162,7 @@ module _ (bytes : List ℕ) (g : Galley) (w₀ : List ℕ) where
       record {
         within = omega arith;
         sized = refl;
-        entries = filled-start (modelOf bytes g) (dearest-light bytes g (asked .sound)) (tableOf (suc (g .text .count)) w₀);
+        entries = filled-start (modelOf bytes g) (dearest-light bytes g (asked .sound)) (tableIn g w₀);
         run = let e : suc (g .figures .count) - 0 ≡ suc (g .figures .count) = omega arith in rw e;
       }
 
@@ -186,7 +186,7 @@ module _ (bytes : List ℕ) (g : Galley) (w₀ : List ℕ) where
       let whole =
       filled-to (modelOf bytes g) light j l (suc (g .text .count)) 0 w (omega arith) (omega (arith, asked .room)) (r .entries) in
       let next = filled-column (modelOf bytes g) light
-      (tableOf (suc (g .text .count)) (fillColumn (modelOf bytes g) j (suc (g .text .count)) 0 w)) j whole in
+      (tableIn g (fillColumn (modelOf bytes g) j (suc (g .text .count)) 0 w)) j whole in
       record { within = omega arith; sized = omega arith; entries = rw (s, e) next; run = rw (s, e) (rw n at (r .run)) }
 
   -- After the last column the table is filled.

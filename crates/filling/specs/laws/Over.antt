@@ -17,7 +17,7 @@ use Rattle.model.specs.Galley.{Sides, single, double}
 use Rattle.model.specs.Leaf.{sidesOf}
 use Rattle.galley.specs.declared.Galley.{Galley}
 use Rattle.galley.specs.Model.{modelOf}
-use Rattle.places.specs.declared.Start.{Start}
+use Rattle.places.specs.declared.Place.{Place}
 use Rattle.places.specs.declared.Entry.{Entry}
 use Rattle.places.specs.declared.Entry.the-variants.{Unreached, Least}
 use Rattle.places.specs.Entry.{put, nowhere, stored}
@@ -49,7 +49,7 @@ four k at l m = go (ℕ-discrete k at) (ℕ-discrete k (at + 1)) (ℕ-discrete k
     go (no p) (no q) (yes r) = inr (inr (inl r))
     go (no p) (no q) (no r) = inr (inr (inr (omega arith)))
 
-module _ (at tag cost : ℕ) (start : Start) where
+module _ (at tag cost : ℕ) (start : Place) where
   put-other : (w : List ℕ) (k : ℕ) → k ≢ at → k ≢ at + 1 → k ≢ at + 2 → k ≢ at + 3
       → getD (put w at tag cost start) k 0 ≡ getD w k 0
   unfolding put
@@ -72,7 +72,7 @@ module _ (at tag cost : ℕ) (start : Start) where
     put-first : getD (put u at tag cost start) at 0 ≡ tag
     unfolding put
     put-first =
-        getD-set-other u₃ (at + 3) at (start .figure) 0 (omega arith)
+        getD-set-other u₃ (at + 3) at (start .column) 0 (omega arith)
         ∙ getD-set-other u₂ (at + 2) at (start .line) 0 (omega arith)
         ∙ getD-set-other u₁ (at + 1) at cost 0 (omega arith)
         ∙ getD-set-same u at tag 0 (omega arith)
@@ -81,7 +81,7 @@ module _ (at tag cost : ℕ) (start : Start) where
     unfolding put
     put-second =
         let e : length u₁ ≡ length u = simp length-set in
-        getD-set-other u₃ (at + 3) (at + 1) (start .figure) 0 (omega arith)
+        getD-set-other u₃ (at + 3) (at + 1) (start .column) 0 (omega arith)
         ∙ getD-set-other u₂ (at + 2) (at + 1) (start .line) 0 (omega arith)
         ∙ getD-set-same u₁ (at + 1) cost 0 (omega arith)
 
@@ -89,14 +89,14 @@ module _ (at tag cost : ℕ) (start : Start) where
     unfolding put
     put-third =
         let e : length u₂ ≡ length u = simp length-set in
-        getD-set-other u₃ (at + 3) (at + 2) (start .figure) 0 (omega arith)
+        getD-set-other u₃ (at + 3) (at + 2) (start .column) 0 (omega arith)
         ∙ getD-set-same u₂ (at + 2) (start .line) 0 (omega arith)
 
-    put-fourth : getD (put u at tag cost start) (at + 3) 0 ≡ start .figure
+    put-fourth : getD (put u at tag cost start) (at + 3) 0 ≡ start .column
     unfolding put
     put-fourth =
         let e : length u₃ ≡ length u = simp length-set in
-        getD-set-same u₃ (at + 3) (start .figure) 0 (omega arith)
+        getD-set-same u₃ (at + 3) (start .column) 0 (omega arith)
 
   put-word : (w : List ℕ) (k : ℕ) → at + 4 ≤ length w → at ≤ k → k < at + 4
       → (v : List ℕ) → at + 4 ≤ length v → getD (put w at tag cost start) k 0 ≡ getD (put v at tag cost start) k 0
@@ -106,7 +106,7 @@ module _ (at tag cost : ℕ) (start : Start) where
       value (inl p) = tag
       value (inr (inl p)) = cost
       value (inr (inr (inl p))) = start .line
-      value (inr (inr (inr p))) = start .figure
+      value (inr (inr (inr p))) = start .column
 
       word : (u : List ℕ) → at + 4 ≤ length u → (q : (k ≡ at) ⊎ ((k ≡ at + 1) ⊎ ((k ≡ at + 2) ⊎ (k ≡ at + 3))))
           → getD (put u at tag cost start) k 0 ≡ value q
@@ -204,18 +204,18 @@ Short i j a b = (a < i) ⊎ (b < j)
 module _ (bytes : List ℕ) (g : Galley) (j : ℕ) (column : j ≤ g .figures .count) (two : g .spec .sides ≤ 2) where
   module _ (w : List ℕ) (i c : ℕ) (e : Entry) (line : i ≤ g .text .count) (side : c ≤ 1) where
     abbrev over : List ℕ
-    over = stored w (address (suc (g .text .count)) i j c) e
+    over = stored w (address (g .text .count + 1) i j c) e
 
     -- A store in the column leaves the entry of every place from its line up.
-    entry-same : (i′ d : ℕ) → i′ ≤ i → entryOf (modelOf bytes g) (tableOf (suc (g .text .count)) over) i′ j d
-        ≡ entryOf (modelOf bytes g) (tableOf (suc (g .text .count)) w) i′ j d
+    entry-same : (i′ d : ℕ) → i′ ≤ i → entryOf (modelOf bytes g) (tableIn g over) i′ j d
+        ≡ entryOf (modelOf bytes g) (tableIn g w) i′ j d
     unfolding entryOf
     entry-same i′ d l = let s = start-same in rw s
       where
-        other : (a b : ℕ) → Short i′ j a b → a ≤ i′ → tableOf (suc (g .text .count)) over a b (sideOf g d)
-            ≡ tableOf (suc (g .text .count)) w a b (sideOf g d)
+        other : (a b : ℕ) → Short i′ j a b → a ≤ i′ → tableIn g over a b (sideOf g d)
+            ≡ tableIn g w a b (sideOf g d)
         other a b p h =
-            table-other (suc (g .text .count)) i j c a b (sideOf g d) w e (omega arith) (omega arith) side (side-either g d)
+            table-other (g .text .count + 1) i j c a b (sideOf g d) w e (omega arith) (omega arith) side (side-either g d)
             (λ q. differ p (q .0) (q .1))
           where
             differ : Short i′ j a b → i ≡ a → j ≡ b → ⊥
@@ -239,7 +239,7 @@ module _ (bytes : List ℕ) (g : Galley) (j : ℕ) (column : j ≤ g .figures .c
             (best-as s Any (Short i′ j) (bestStart s) (λ a b x k p. short w a b x k) (λ a b x k p. tt) (best-start s refl))))
 
     module _ (room : wordsNeeded (g .text .count) (g .figures .count) ≤ length w) where
-      inside : (a d : ℕ) → a ≤ g .text .count → d ≤ 1 → address (suc (g .text .count)) a j d + 4 ≤ length w
+      inside : (a d : ℕ) → a ≤ g .text .count → d ≤ 1 → address (g .text .count + 1) a j d + 4 ≤ length w
       inside a d l m =
           let p = address-in (g .text .count) (g .figures .count) a j d l column m in
           let q = ap (λ h. address h a j d) (add-one (g .text .count)) in
@@ -250,27 +250,27 @@ module _ (bytes : List ℕ) (g : Galley) (j : ℕ) (column : j ≤ g .figures .c
       unfolding fillSide tall
       side-over =
           let s = entry-same i c (omega arith) in
-          let at = address (suc (g .text .count)) i j c in
+          let at = address (g .text .count + 1) i j c in
           ap (stored over at) s
-          ∙ stored-twice w at e (entryOf (modelOf bytes g) (tableOf (suc (g .text .count)) w) i j c) (inside i c line side)
+          ∙ stored-twice w at e (entryOf (modelOf bytes g) (tableIn g w) i j c) (inside i c line side)
 
       -- Another filled before: the store comes after it.
       side-later : (i′ d : ℕ) → i′ ≤ i → d ≤ 1 → ((i ≡ i′) × (c ≡ d) → ⊥)
-          → fillSide (modelOf bytes g) i′ j d over ≡ stored (fillSide (modelOf bytes g) i′ j d w) (address (suc (g .text .count)) i j c)
+          → fillSide (modelOf bytes g) i′ j d over ≡ stored (fillSide (modelOf bytes g) i′ j d w) (address (g .text .count + 1) i j c)
           e
       unfolding fillSide tall
       side-later i′ d l m n =
           let s = entry-same i′ d l in
-          let to = address (suc (g .text .count)) i′ j d in
+          let to = address (g .text .count + 1) i′ j d in
           ap (stored over to) s
-          ∙ stored-swap w (address (suc (g .text .count)) i j c) to e (entryOf (modelOf bytes g) (tableOf (suc (g .text .count)) w) i′ j d)
-          (address-apart (suc (g .text .count)) i j c i′ j d (omega arith) (omega arith) side m (λ q. n (q .0, q .2)))
+          ∙ stored-swap w (address (g .text .count + 1) i j c) to e (entryOf (modelOf bytes g) (tableIn g w) i′ j d)
+          (address-apart (g .text .count + 1) i j c i′ j d (omega arith) (omega arith) side m (λ q. n (q .0, q .2)))
           (inside i c line side) (inside i′ d (omega arith) m)
 
   module _ (w : List ℕ) (i c : ℕ) (e : Entry) (line : i ≤ g .text .count) (occurs : c < g .spec .sides)
       (room : wordsNeeded (g .text .count) (g .figures .count) ≤ length w) where
     abbrev at : ℕ
-    at = address (suc (g .text .count)) i j c
+    at = address (g .text .count + 1) i j c
 
     low : c ≤ 1
     low = omega (arith, two)
@@ -314,7 +314,7 @@ module _ (bytes : List ℕ) (g : Galley) (j : ℕ) (column : j ≤ g .figures .c
   -- A store in the column before it is filled changes nothing.
   column-over : (k i₀ : ℕ) (w : List ℕ) (i c : ℕ) (e : Entry) → k + i₀ ≡ suc (g .text .count) → i₀ ≤ i → i ≤ g .text .count
       → c < g .spec .sides → wordsNeeded (g .text .count) (g .figures .count) ≤ length w
-      → fillColumn (modelOf bytes g) j k i₀ (stored w (address (suc (g .text .count)) i j c) e) ≡ fillColumn (modelOf bytes g) j k i₀ w
+      → fillColumn (modelOf bytes g) j k i₀ (stored w (address (g .text .count + 1) i j c) e) ≡ fillColumn (modelOf bytes g) j k i₀ w
   unfolding fillColumn
   column-over zero i₀ w i c e n l line occurs room = absurd (omega arith)
   column-over (suc k) i₀ w i c e n l line occurs room =
@@ -325,10 +325,10 @@ module _ (bytes : List ℕ) (g : Galley) (j : ℕ) (column : j ≤ g .figures .c
       go : Dec (i₀ ≡ i)
           → (i₀ < i
           → fillColumn (modelOf bytes g) j k (suc i₀) (stored (fillPlace (sidesOf (g .spec .sides)) (modelOf bytes g) i₀ j w)
-          (address (suc (g .text .count)) i j c) e)
+          (address (g .text .count + 1) i j c) e)
           ≡ fillColumn (modelOf bytes g) j k (suc i₀) (fillPlace (sidesOf (g .spec .sides)) (modelOf bytes g) i₀ j w))
           → fillColumn (modelOf bytes g) j k (suc i₀) (fillPlace (sidesOf (g .spec .sides)) (modelOf bytes g) i₀ j (stored w
-          (address (suc (g .text .count)) i j c) e))
+          (address (g .text .count + 1) i j c) e))
           ≡ fillColumn (modelOf bytes g) j k (suc i₀) (fillPlace (sidesOf (g .spec .sides)) (modelOf bytes g) i₀ j w)
       go (yes q) below =
           ap (fillColumn (modelOf bytes g) j k (suc i₀))
@@ -350,10 +350,10 @@ module _ (bytes : List ℕ) (g : Galley) (j : ℕ) (column : j ≤ g .figures .c
 
   -- and leave the columns before.
   pub scratched-other : (w v : List ℕ) → Scratched g j w v → (a b d : ℕ) → a ≤ g .text .count → b < j → d ≤ 1
-      → tableOf (suc (g .text .count)) v a b d ≡ tableOf (suc (g .text .count)) w a b d
+      → tableIn g v a b d ≡ tableIn g w a b d
   scratched-other w v fresh a b d l h k = refl
   scratched-other w v (more x y i c e s p m q) a b d l h k =
-      ap (λ u. tableOf (suc (g .text .count)) u a b d) q
-      ∙ table-other (suc (g .text .count)) i j c a b d x e (omega arith) (omega arith) (omega (arith, two)) k
+      ap (λ u. tableIn g u a b d) q
+      ∙ table-other (g .text .count + 1) i j c a b d x e (omega arith) (omega arith) (omega (arith, two)) k
       (λ r. omega (arith, r .1))
       ∙ scratched-other w x s a b d l h k

@@ -9,7 +9,7 @@ use lib.ListN.{length}
 use Rattle.galley.specs.declared.Galley.{Galley}
 use Rattle.window.specs.declared.slide.Window.{Window}
 use Rattle.window.specs.declared.queue.Queue.{Queue}
-use Rattle.window.specs.Queue.{columnOf, queueOf, pushed, Advanced}
+use Rattle.window.specs.Queue.{linesOf, queueOf, pushed, Advanced}
 use Rattle.window.specs.laws.Held.{held-none, held-same, held-beside}
 use Rattle.window.specs.laws.Pushed.{pushed-length, pushed-own-line, pushed-own-cost, other-line, other-cost}
 use Rattle.starts.specs.Sweep.{sideOf}
@@ -25,8 +25,8 @@ queues-none g w words b two =
     record { pair = refl; moved = λ c l m. absurd (omega arith); still = λ c l m. still c m }
   where
     still : (c : ℕ) → c < g .spec .sides → Holds g w words (0 ∷ 0 ∷ 4000 ∷ 4000 ∷ []) b nothing c
-    still zero m = held-none (columnOf w (g .text .count + 1) b (sideOf g 0)) words 0
-    still (suc zero) m = held-none (columnOf w (g .text .count + 1) b (sideOf g 1)) words 4000
+    still zero m = held-none (linesOf w (g .text .count + 1) b (sideOf g 0)) words 0
+    still (suc zero) m = held-none (linesOf w (g .text .count + 1) b (sideOf g 1)) words 4000
     still (suc (suc c)) m = absurd (omega arith)
 
 -- The rooms of two queues are apart.
@@ -45,7 +45,7 @@ module _ {g : Galley} {w words ends : List ℕ} {b : ℕ} {old new : Window} {n 
 
   -- They hold the same of columns that are the same above the line where both windows end.
   pub queues-same : (v : List ℕ) (i : ℕ) → old .high ≤ i → new .high ≤ i
-      → ((a c : ℕ) → a < i → columnOf v (g .text .count + 1) b (sideOf g c) a ≡ columnOf w (g .text .count + 1) b (sideOf g c) a)
+      → ((a c : ℕ) → a < i → linesOf v (g .text .count + 1) b (sideOf g c) a ≡ linesOf w (g .text .count + 1) b (sideOf g c) a)
       → Queues g v words ends b old new n
   queues-same v i k m same =
       record {
@@ -56,7 +56,7 @@ module _ {g : Galley} {w words ends : List ℕ} {b : ℕ} {old new : Window} {n 
     where
       kept : (c : ℕ) (window : Window) → window .high ≤ i → Holds g w words ends b window c → Holds g v words ends b window c
       kept c window l h =
-          held-same (columnOf w (g .text .count + 1) b (sideOf g c)) (columnOf v (g .text .count + 1) b (sideOf g c)) words (queueOf ends
+          held-same (linesOf w (g .text .count + 1) b (sideOf g c)) (linesOf v (g .text .count + 1) b (sideOf g c)) words (queueOf ends
           c) (window .low) (window .high) (λ a p. same a c (omega arith)) h
 
   -- The queue of the next side moved on.
@@ -88,7 +88,7 @@ module _ {g : Galley} {w words ends : List ℕ} {b : ℕ} {old new : Window} {n 
       kept : (d : ℕ) (window : Window) → ¬ (d ≡ n) → window .high ≤ g .text .count → Holds g w words ends b window d
           → Holds g w words′ ends b window d
       kept d window e k h =
-          held-beside (columnOf w (g .text .count + 1) b (sideOf g d)) words words′ (queueOf ends d) (window .low) (window .high)
+          held-beside (linesOf w (g .text .count + 1) b (sideOf g d)) words words′ (queueOf ends d) (window .low) (window .high)
           (4000 * n) (4000 * n + new .high) (advanced .beside) (rooms-apart n d (window .high) (new .high) e (omega arith)
           (omega arith)) h
 

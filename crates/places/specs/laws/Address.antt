@@ -8,7 +8,8 @@ use native.Mathlib.Omega.{arith}
 use lib.Dec.{ltb}
 use borrow.Author.Tests.{ltb-true, ltb-false}
 use Rattle.places.specs.declared.Place.{Place}
-use Rattle.places.specs.Address.{address, wordsNeeded, Inside, Small, Earlier, Apart}
+use Rattle.places.specs.Address.{address, wordsNeeded, Inside, Small, Apart}
+use Rattle.places.specs.Order.{Earlier}
 
 -- Numbers are in one of three orders.
 compared : (a b : ℕ) → (a < b) ⊎ ((a ≡ b) ⊎ (b < a))

@@ -1,6 +1,5 @@
 -- What is lent for a column is enough for the window, the queue and the best starts.
-use Prim.Native.Nat.{ℕ, suc, _+_, _-_, _≤_}
-use native.Mathlib.Numerals.{add-one}
+use Prim.Native.Nat.{ℕ, _+_, _-_, _≤_, _<_}
 use native.Mathlib.Omega.{arith}
 use mathlib.Core.Path.{_≡_}
 use mathlib.Core.Bool.{Bool}
@@ -10,17 +9,19 @@ use Rattle.model.specs.Galley.{Sides, single, double}
 use Rattle.model.specs.Leaf.{sidesOf}
 use Rattle.galley.specs.declared.Galley.{Galley}
 use Rattle.galley.specs.Model.{textOf, floatsOf}
+use Rattle.blocks.specs.declared.heights.Heights.{Heights}
+use Rattle.blocks.specs.Heights.{noHeights, Addable, Stacked}
+use Rattle.blocks.specs.laws.Heights.{separation-most, Low, stacked-small}
+use Rattle.places.specs.Address.{Stands}
 use Rattle.places.specs.laws.Address.{address-in}
 use Rattle.window.specs.declared.slide.Window.{Window}
 use Rattle.window.specs.declared.queue.Queue.{Queue}
 use Rattle.window.specs.Slide.{Reachable, Slidable, Ends}
-use Rattle.window.specs.Queue.{columnOf, FeedAsked, FrontAsked}
+use Rattle.window.specs.Queue.{FeedAsked, FrontAsked}
 use Rattle.window.specs.laws.Sums.{sums-small}
-use Rattle.blocks.specs.declared.heights.Heights.{Heights}
-use Rattle.blocks.specs.Heights.{noHeights, Addable, Stacked}
-use Rattle.blocks.specs.laws.Heights.{separation-most, Low, stacked-small}
 use Rattle.starts.specs.Search.{before}
-use Rattle.starts.specs.Sweep.{sideOf, loadOf, Lent, Summed, AloneAsked}
+use Rattle.starts.specs.Read.{sideOf, loadOf, Placed}
+use Rattle.starts.specs.Sweep.{Lent, Scratch, Summed}
 
 -- The page before is on side 0 or 1.
 pub side-either : (g : Galley) (c : ℕ) → sideOf g c ≤ 1
@@ -31,18 +32,31 @@ side-either g c = go (sidesOf (g .spec .sides))
     go single = omega arith
     go double = omega arith
 
--- What is lent for a column is the same while the lengths are.
-pub lent-sized : {bytes : List ℕ} {g : Galley} {w words : List ℕ} {j : ℕ} (w′ words′ : List ℕ) → length w′ ≡ length w
-    → length words′ ≡ length words → Lent bytes g w words j → Lent bytes g w′ words′ j
-lent-sized w′ words′ p q l =
-    record {
-      sound = l .sound;
-      column = l .column;
-      room = omega (arith, l .room);
-      wordsRoom = omega (arith, l .wordsRoom);
-    }
+-- What is lent for a column is the same while the length is.
+pub lent-sized : {bytes : List ℕ} {g : Galley} {w : List ℕ} {j : ℕ} (w′ : List ℕ) → length w′ ≡ length w → Lent bytes g w j
+    → Lent bytes g w′ j
+lent-sized w′ p l = record { sound = l .sound; column = l .column; room = omega (arith, l .room) }
 
-module _ {bytes : List ℕ} {g : Galley} {w words : List ℕ} {j : ℕ} (lent : Lent bytes g w words j) where
+module _ {bytes : List ℕ} {g : Galley} {w : List ℕ} {j : ℕ} (lent : Lent bytes g w j) where
+  -- A line of the column is a place.
+  pub lent-placed : (i : ℕ) → i ≤ g .text .count → Placed bytes g i j
+  lent-placed i h = record { sound = lent .sound; line = h; column = lent .column }
+
+  -- A place stands in the work area.
+  pub can-stand : (i b side : ℕ) → i ≤ g .text .count → b ≤ g .figures .count → side ≤ 1
+      → Stands w (g .text .count + 1) (record { line = i; column = b }) side
+  can-stand i b side h k l =
+      record {
+        inside =
+            record {
+              high = omega (arith, lent .sound .fewLines);
+              row = omega arith;
+              wide = omega (arith, lent .sound .fewFigures);
+              either = l;
+            };
+        room = omega (arith, address-in (g .text .count) (g .figures .count) i b side h k l, lent .room);
+      }
+
   -- The figures of a page can be added to its lines.
   figures-low : (b : ℕ) (figures : Heights) → Stacked (floatsOf bytes (g .figures)) b j figures → Low 40000000 figures
   figures-low b figures floats =
@@ -65,15 +79,15 @@ module _ {bytes : List ℕ} {g : Galley} {w words : List ℕ} {j : ℕ} (lent : 
       }
 
   -- Both ends of a window can be moved on to line i.
-  pub can-slide : {sums : List ℕ} → Summed bytes g sums → (mixed : Bool) (b : ℕ) (figures : Heights) → Stacked (floatsOf bytes (g .figures)) b j figures
-      → (window : Window) (i : ℕ) → i ≤ g .text .count
-      → Ends (textOf bytes (g .text)) (loadOf g mixed figures) window i → Slidable sums (loadOf g mixed figures) window i
-  can-slide {sums} summed mixed b figures floats window i h ends =
-      record { low = from (window .low) (ends .low); high = from (window .high) (ends .high) }
+  pub can-slide : {sums : List ℕ} → Summed bytes g sums → (mixed : Bool) (b : ℕ) (figures : Heights)
+      → Stacked (floatsOf bytes (g .figures)) b j figures → (least : ℕ) → least ≤ g .spec .htmin → (window : Window) (i : ℕ)
+      → i ≤ g .text .count → window .low ≤ i → window .high ≤ i → Slidable sums (loadOf g mixed figures least) window i
+  can-slide {sums} summed mixed b figures floats least under window i h low high =
+      record { low = from (window .low) low; high = from (window .high) high }
     where
-      from : (a : ℕ) → a ≤ i → Reachable sums (loadOf g mixed figures) a i
+      from : (a : ℕ) → a ≤ i → Reachable sums (loadOf g mixed figures least) a i
       from a l =
-          let low = figures-low b figures floats in
+          let few = figures-low b figures floats in
           let spec = lent .sound .specRanged in
           let p = separation-most mixed (g .spec .smin) (omega (arith, spec .smins, spec .smaxs)) in
           let q = separation-most mixed (g .spec .smax) (spec .smaxs) in
@@ -81,55 +95,33 @@ module _ {bytes : List ℕ} {g : Galley} {w words : List ℕ} {j : ℕ} (lent : 
             start = l;
             room = omega (arith, summed .room);
             small = sums-small bytes (g .text) (lent .sound .text) (lent .sound .fewLines) sums (summed .rows) i h;
-            tight = omega (arith, low .tight);
-            loose = omega (arith, low .loose);
+            tight = omega (arith, few .tight);
+            loose = omega (arith, few .loose);
             htmin = omega (arith, spec .htmins, spec .htmaxs);
             htmax = omega (arith, spec .htmaxs);
           }
 
-  -- A queue of starts with b figures can be moved on to a window that ends by line i.
-  pub can-feed : (b : ℕ) → b ≤ g .figures .count → (queue : Queue) (c from to i : ℕ) → i ≤ g .text .count → from ≤ to → to ≤ i
-      → queue .base ≤ 4000 → queue .base ≤ queue .head → queue .head ≤ queue .tail → queue .tail ≤ queue .base + from
-      → FeedAsked w (g .text .count + 1) b (sideOf g c) words queue from to
-  can-feed b k queue c from to i h rises inside low based order short =
+  -- A queue of the lines of column b can be moved on to a window that ends by line i.
+  pub can-feed : {words : List ℕ} → Scratch words → (b : ℕ) → b ≤ g .figures .count → (queue : Queue) (c from to i : ℕ)
+      → i ≤ g .text .count → from ≤ to → to ≤ i → queue .base ≤ 4000 → queue .base ≤ queue .head → queue .head ≤ queue .tail
+      → queue .tail ≤ queue .base + from → FeedAsked w (g .text .count + 1) b (sideOf g c) words queue from to
+  can-feed scratch b k queue c from to i h rises inside low based order short =
       record {
-        high = omega (arith, lent .sound .fewLines);
-        row = omega arith;
-        column = omega (arith, lent .sound .fewFigures);
-        either = side-either g c;
-        stands = λ a l.
-            let within = address-in (g .text .count) (g .figures .count) a b (sideOf g c) (omega arith) k (side-either g c) in
-            omega (arith, lent .room);
+        stands = λ a l. can-stand a b (sideOf g c) (omega arith) k (side-either g c);
         based = based;
         order = order;
         short = short;
         start = rises;
-        room = omega (arith, lent .wordsRoom, lent .sound .fewLines);
+        room = omega (arith, scratch, lent .sound .fewLines);
       }
 
   -- The first entry of the queue of such a window can be read.
-  pub can-front : (b : ℕ) → b ≤ g .figures .count → (queue : Queue) (high : ℕ) → high ≤ g .text .count → queue .base ≤ 4000
-      → queue .head ≤ queue .tail → queue .tail ≤ queue .base + high → FrontAsked words queue b
-  can-front b k queue high l low order short =
+  pub can-front : {words : List ℕ} → Scratch words → (b : ℕ) → b ≤ g .figures .count → (queue : Queue) (high : ℕ)
+      → high ≤ g .text .count → queue .base ≤ 4000 → queue .head ≤ queue .tail → queue .tail ≤ queue .base + high
+      → FrontAsked words queue b
+  can-front scratch b k queue high l low order short =
       record {
         order = order;
-        room = omega (arith, lent .wordsRoom, lent .sound .fewLines);
+        room = omega (arith, scratch, lent .sound .fewLines);
         column = omega (arith, lent .sound .fewFigures);
       }
-
-  -- (i, b) is a place.
-  pub can-alone : (i b c : ℕ) → i ≤ g .text .count → b ≤ g .figures .count → AloneAsked g w i b (sideOf g c)
-  can-alone i b c h k =
-      record {
-        few = lent .sound .fewLines;
-        line = h;
-        figure = omega (arith, lent .sound .fewFigures);
-        within = k;
-        either = side-either g c;
-        room = lent .room;
-      }
-
--- The column that a queue reads, by one name of its height or the other.
-pub column-named : (w : List ℕ) (g : Galley) (b side : ℕ) → columnOf w (g .text .count + 1) b side ≡ columnOf w (suc (g .text .count)) b
-    side
-column-named w g b side = rw add-one

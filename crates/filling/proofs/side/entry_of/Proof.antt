@@ -18,7 +18,7 @@ returns c =
     let start = c .before .before .before .before .before .before in
     let a = start .args in
     let e = a .end in
-    sym (entry-nothing (modelOf (a .s .now) (a .g)) (tableOf (suc (a .g .text .count)) (a .work .now)) (e .line) (e .column) (e .side)
+    sym (entry-nothing (modelOf (a .s .now) (a .g)) (tableIn (a .g) (a .work .now)) (e .line) (e .column) (e .side)
     (c .if1 .taken))
 
 returns-2 : tie.Need-returns-2
@@ -27,7 +27,7 @@ returns-2 c =
     let a = start .args in
     let e = a .end in
     let forbidden = sym (c .before .may-stop .ensures) ∙ not-true (c .before .may-stop .result) (c .if2 .taken) in
-    sym (entry-forbidden (modelOf (a .s .now) (a .g)) (tableOf (suc (a .g .text .count)) (a .work .now)) (e .line) (e .column) (e .side)
+    sym (entry-forbidden (modelOf (a .s .now) (a .g)) (tableIn (a .g) (a .work .now)) (e .line) (e .column) (e .side)
     (c .before .before .if1 .left) forbidden)
 
 returns-3 : tie.Need-returns-3
@@ -39,7 +39,7 @@ returns-3 c =
     let e = a .end in
     let allowed = sym (may .may-stop .ensures) ∙ not-false (may .may-stop .result) (found .before .if2 .left) in
     let best = sym (found .start-of .ensures) ∙ c .enum-told .given .1 in
-    sym (entry-unreached (modelOf (a .s .now) (a .g)) (tableOf (suc (a .g .text .count)) (a .work .now)) (e .line) (e .column) (e .side)
+    sym (entry-unreached (modelOf (a .s .now) (a .g)) (tableIn (a .g) (a .work .now)) (e .line) (e .column) (e .side)
     (may .before .if1 .left) allowed best)
 
 price-requires : tie.Need-price-requires
@@ -77,7 +77,7 @@ returns-4 c =
     let allowed = sym (may .may-stop .ensures) ∙ not-false (may .may-stop .result) (found .before .if2 .left) in
     let best = sym (found .start-of .ensures) ∙ c .before .before .start .given .1 in
     rw (c .price .ensures (a .s .now) (sound-sane (a .s .now) (a .g) (start .pre .asked .placed .sound)) (start .pre .asked .found))
-    (sym (entry-least (modelOf (a .s .now) (a .g)) (tableOf (suc (a .g .text .count)) (a .work .now)) (e .line) (e .column) (e .side)
+    (sym (entry-least (modelOf (a .s .now) (a .g)) (tableIn (a .g) (a .work .now)) (e .line) (e .column) (e .side)
     (may .before .if1 .left) allowed _ _ best))
 
 pub entry-of-spec : {M : Type 1} → statement M
