@@ -8,3 +8,6 @@ pub mod One
 pub mod Lines
 pub mod Lending
 pub mod Cells
+pub mod Pass
+pub mod Side
+pub mod Sweeping

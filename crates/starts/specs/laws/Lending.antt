@@ -80,7 +80,7 @@ module _ {bytes : List ℕ} {g : Galley} {w : List ℕ} {j : ℕ} (lent : Lent b
 
   -- Both ends of a window can be moved on to line i.
   pub can-slide : {sums : List ℕ} → Summed bytes g sums → (mixed : Bool) (b : ℕ) (figures : Heights)
-      → Stacked (floatsOf bytes (g .figures)) b j figures → (least : ℕ) → least ≤ g .spec .htmin → (window : Window) (i : ℕ)
+      → Stacked (floatsOf bytes (g .figures)) b j figures → (least : ℕ) → least ≤ g .spec .htmax → (window : Window) (i : ℕ)
       → i ≤ g .text .count → window .low ≤ i → window .high ≤ i → Slidable sums (loadOf g mixed figures least) window i
   can-slide {sums} summed mixed b figures floats least under window i h low high =
       record { low = from (window .low) low; high = from (window .high) high }
@@ -97,7 +97,7 @@ module _ {bytes : List ℕ} {g : Galley} {w : List ℕ} {j : ℕ} (lent : Lent b
             small = sums-small bytes (g .text) (lent .sound .text) (lent .sound .fewLines) sums (summed .rows) i h;
             tight = omega (arith, few .tight);
             loose = omega (arith, few .loose);
-            htmin = omega (arith, spec .htmins, spec .htmaxs);
+            htmin = omega (arith, spec .htmaxs);
             htmax = omega (arith, spec .htmaxs);
           }
 
