@@ -1,7 +1,8 @@
 -- The window of starting lines: its definitions first, then the laws about them.
+pub mod First
+pub mod Queue
 pub mod Sums
 pub mod Slide
-pub mod Queue
 pub mod Windows
 pub mod Run
 pub mod laws

@@ -12,6 +12,7 @@ use Rattle.places.specs.declared.Entry.the-variants.{Unreached, Least}
 use Rattle.places.specs.Best.{Reached}
 use Rattle.places.specs.Address.{Stands}
 use Rattle.places.specs.Table.{tableOf}
+use Rattle.window.specs.First.{First}
 use Rattle.window.specs.declared.slide.Window.{Window}
 use Rattle.window.specs.declared.queue.Queue.{Queue}
 
@@ -79,11 +80,8 @@ pub record Dropped (words : List ℕ) (head tail x r : ℕ) : Type 0 where
   pub cheaper : (k : ℕ) → head ≤ k → suc k ≡ r → costAt words k < x
 
 -- Before r every entry's line is before `low`; that of r, if there is one, is not.
-pub record Passed (words : List ℕ) (head tail low r : ℕ) : Type 0 where
-  pub from : head ≤ r
-  pub to : r ≤ tail
-  pub passed : (k : ℕ) → head ≤ k → k < r → lineAt words k < low
-  pub kept : r < tail → low ≤ lineAt words r
+abbrev pub Passed : List ℕ → ℕ → ℕ → ℕ → ℕ → Type 0
+Passed words head tail low r = First (lineAt words) low head tail r
 
 -- The lines before `to` of column b stand in the work area, and the queue has room for all of them.
 pub record FeedAsked (work : List ℕ) (tall b side : ℕ) (words : List ℕ) (queue : Queue) (from to : ℕ) : Type 0 where

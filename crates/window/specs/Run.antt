@@ -1,38 +1,19 @@
 -- What holds at each turn of the loops of the window and its queue.
-use Prim.Native.Nat.{ℕ, _+_, _*_, _≤_, _<_}
+use Prim.Native.Nat.{ℕ, _+_, _≤_, _<_}
 use mathlib.Core.Path.{_≡_}
 use mathlib.Core.List.{List}
-use lib.ListN.{length, getD}
+use lib.ListN.{length}
 use Rattle.galley.specs.declared.Stream.{Stream}
 use Rattle.galley.specs.Model.{textOf}
-use Rattle.window.specs.declared.slide.Load.{Load}
 use Rattle.window.specs.declared.queue.Queue.{Queue}
 use Rattle.window.specs.Sums.{reach, Row}
-use Rattle.window.specs.Queue.{lineAt, costAt, linesOf, tailed, Held, Beside}
-
--- From `from` on and before a no page to line i fits.
-pub record FittingRun (sums : List ℕ) (load : Load) (from i a : ℕ) : Type 0 where
-  pub after : from ≤ a
-  pub within : a ≤ i
-  pub passed : (k : ℕ) → from ≤ k → k < a → load .htmax + getD sums (4 * k) 0 < getD sums (4 * i + 1) 0 + load .tight
-
--- From `from` on and before a every page to line i is full enough.
-pub record ShortRun (sums : List ℕ) (load : Load) (from i a : ℕ) : Type 0 where
-  pub after : from ≤ a
-  pub within : a ≤ i
-  pub passed : (k : ℕ) → from ≤ k → k < a → load .htmin + getD sums (4 * k + 2) 0 ≤ getD sums (4 * i + 3) 0 + load .loose
+use Rattle.window.specs.Queue.{costAt, linesOf, tailed, Held, Beside}
 
 -- From t on every entry costs x or more.
 pub record DearerRun (words : List ℕ) (head tail x t : ℕ) : Type 0 where
   pub from : head ≤ t
   pub to : t ≤ tail
   pub dearer : (k : ℕ) → t ≤ k → k < tail → x ≤ costAt words k
-
--- Before h every entry's line is before `low`.
-pub record PassedRun (words : List ℕ) (head tail low h : ℕ) : Type 0 where
-  pub from : head ≤ h
-  pub to : h ≤ tail
-  pub passed : (k : ℕ) → head ≤ k → k < h → lineAt words k < low
 
 -- The sums up to line k are those of the text, and those of line k are in hand.
 pub record SumsRun (bytes : List ℕ) (text : Stream) (sums₀ sums : List ℕ) (tight loose k : ℕ) : Type 0 where
@@ -41,14 +22,6 @@ pub record SumsRun (bytes : List ℕ) (text : Stream) (sums₀ sums : List ℕ) 
   pub tights : tight ≡ reach (textOf bytes text) (textOf bytes text .least) k
   pub looses : loose ≡ reach (textOf bytes text) (textOf bytes text .most) k
   pub rows : (q : ℕ) → q ≤ k → Row (textOf bytes text) sums q
-
--- The sums in hand and what the next line adds are small enough to be added in a word.
-pub record SumsFit (tight loose height least most : ℕ) : Type 0 where
-  pub tights : tight ≤ 800000000
-  pub looses : loose ≤ 800000000
-  pub heights : height ≤ 100000
-  pub leasts : least ≤ 100000
-  pub mosts : most ≤ 100000
 
 -- What was held of the lines before `from` is held of those before a.
 pub record FeedRun (work : List ℕ) (tall b side : ℕ) (words₀ words : List ℕ) (queue : Queue) (from to tail a : ℕ) : Type 0 where

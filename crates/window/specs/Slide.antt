@@ -1,50 +1,46 @@
 -- The window of starting lines: the lines a from which a page to line i is neither too tall nor too short. With its figures
 -- fixed, a page grows with i and shrinks as a rises, so that neither end of the window falls.
-use Prim.Native.Nat.{ℕ, _+_, _*_, _≤_, _<_}
+use Prim.Native.Nat.{ℕ, suc, _+_, _*_, _≤_, _<_}
 use mathlib.Core.List.{List}
-use lib.ListN.{length, getD}
+use lib.ListN.{length}
 use Rattle.model.specs.Galley.{Stream}
 use Rattle.model.specs.Height.{stacked}
 use Rattle.window.specs.declared.slide.Load.{Load}
 use Rattle.window.specs.declared.slide.Window.{Window}
-use Rattle.window.specs.Sums.{Sums}
+use Rattle.window.specs.First.{First}
+use Rattle.window.specs.Queue.{lineAt, costAt}
+use Rattle.window.specs.Sums.{SmallPair, Sums}
 
--- Sums, limits and what a page has beside its lines are small enough to be added in a word.
-pub record Reachable (sums : List ℕ) (load : Load) (from i : ℕ) : Type 0 where
+-- The sums up to line i, what a page has beside its lines and its limit are small enough to be added in a word.
+pub record Reachable (sums : List ℕ) (space beside limit from i : ℕ) : Type 0 where
   pub start : from ≤ i
+  pub either : space ≤ 1
   pub room : 4 * i + 4 ≤ length sums
-  pub small : (k : ℕ) → k < 4 * i + 4 → getD sums k 0 ≤ 1000000000
-  pub tight : load .tight ≤ 1000000000
-  pub loose : load .loose ≤ 1000000000
-  pub htmin : load .htmin ≤ 1000000000
-  pub htmax : load .htmax ≤ 1000000000
+  pub small : (k : ℕ) → k ≤ i → SmallPair sums (2 * k + space)
+  pub lightly : beside ≤ 1000000000
+  pub limited : limit ≤ 1000000001
 
 -- The same for both ends of a window.
 pub record Slidable (sums : List ℕ) (load : Load) (window : Window) (i : ℕ) : Type 0 where
-  pub low : Reachable sums load (window .low) i
-  pub high : Reachable sums load (window .high) i
+  pub low : Reachable sums 0 (load .tight) (load .htmax + 1) (window .low) i
+  pub high : Reachable sums 1 (load .loose) (load .htmin) (window .high) i
 
--- r is the first line from `from` on whose page to line i is not too tall, or i.
-pub record FirstFitting (sums : List ℕ) (load : Load) (from i r : ℕ) : Type 0 where
-  pub after : from ≤ r
-  pub within : r ≤ i
-  pub passed : (a : ℕ) → from ≤ a → a < r → load .htmax + getD sums (4 * a) 0 < getD sums (4 * i + 1) 0 + load .tight
-  pub found : r < i → getD sums (4 * i + 1) 0 + load .tight ≤ load .htmax + getD sums (4 * r) 0
+-- r is the first line from `from` on whose page to line i stays below the limit, or i.
+abbrev pub FirstBelow : List ℕ → ℕ → ℕ → ℕ → ℕ → ℕ → ℕ → Type 0
+FirstBelow sums space beside limit from i r =
+    First (λ a. limit + lineAt sums (2 * a + space)) (suc (costAt sums (2 * i + space) + beside)) from i r
 
--- r is the first line from `from` on whose page to line i is not full enough, or i.
-pub record FirstShort (sums : List ℕ) (load : Load) (from i r : ℕ) : Type 0 where
-  pub after : from ≤ r
-  pub within : r ≤ i
-  pub passed : (a : ℕ) → from ≤ a → a < r → load .htmin + getD sums (4 * a + 2) 0 ≤ getD sums (4 * i + 3) 0 + load .loose
-  pub found : r < i → getD sums (4 * i + 3) 0 + load .loose < load .htmin + getD sums (4 * r + 2) 0
+-- A page of lines a + 1 to i, a before i, with these spaces and so much beside reaches the limit.
+abbrev pub Reaches : Stream → (ℕ → ℕ) → ℕ → ℕ → ℕ → ℕ → Type 0
+Reaches st gap beside limit a i = limit ≤ stacked st gap a i + beside
 
--- A page of lines a + 1 to i, a before i, with this load is too tall.
+-- Such a page is too tall: it passes htMax even at its tightest.
 abbrev pub Tall : Stream → Load → ℕ → ℕ → Type 0
-Tall st load a i = load .htmax < stacked st (st .least) a i + load .tight
+Tall st load a i = Reaches st (st .least) (load .tight) (load .htmax + 1) a i
 
 -- Such a page is full enough.
 abbrev pub Enough : Stream → Load → ℕ → ℕ → Type 0
-Enough st load a i = load .htmin ≤ stacked st (st .most) a i + load .loose
+Enough st load a i = Reaches st (st .most) (load .loose) (load .htmin) a i
 
 -- Whatever starts before `low` is too tall by line i and stays so, and whatever starts before `high` is full enough.
 pub record Ends (st : Stream) (load : Load) (window : Window) (i : ℕ) : Type 0 where

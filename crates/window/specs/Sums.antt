@@ -2,28 +2,35 @@
 use Prim.Native.Nat.{ℕ, _+_, _*_, _≤_}
 use mathlib.Core.Path.{_≡_}
 use mathlib.Core.List.{List}
-use lib.ListN.{length, getD, set}
+use lib.ListN.{length}
 use Rattle.model.specs.Gather.{sum}
 use Rattle.model.specs.Galley.{Stream}
 use Rattle.model.specs.Height.{stacked}
 use Rattle.galley.specs.declared.Stream as galley
 use Rattle.galley.specs.Sound.{SoundStream}
+use Rattle.window.specs.Queue.{lineAt, costAt, pushed}
 
 -- The height of blocks 1 to k with the space after each of them, the last among them.
 unfoldable pub reach : Stream → (ℕ → ℕ) → ℕ → ℕ
 reach st gap k = sum k (st .ht) + sum k gap
 
--- The four sums of line k: with the space after it at its least, without that space, and the same at the greatest.
+-- The words with the two pairs of line k written: at the least spaces, and at the greatest.
 unfoldable pub rowPut : List ℕ → ℕ → ℕ → ℕ → ℕ → ℕ → List ℕ
-rowPut sums k tight high loose wide =
-    set (set (set (set sums (4 * k) tight) (4 * k + 1) high) (4 * k + 2) loose) (4 * k + 3) wide
+rowPut sums k tight high loose wide = pushed (pushed sums (2 * k + 0) tight high) (2 * k + 1) loose wide
 
--- The sums of line k are those of the stream.
+-- Pair e is that of line k at these spaces: with the space after the line, and without it.
+pub record Pair (st : Stream) (gap : ℕ → ℕ) (sums : List ℕ) (e k : ℕ) : Type 0 where
+  pub spaced : lineAt sums e ≡ reach st gap k
+  pub bare : costAt sums e ≡ stacked st gap 0 k
+
+-- Both sums of pair e are small enough for others to be added to them in a word.
+abbrev pub SmallPair : List ℕ → ℕ → Type 0
+SmallPair sums e = (lineAt sums e ≤ 1000000000) × (costAt sums e ≤ 1000000000)
+
+-- Both pairs of line k are those of the stream.
 pub record Row (st : Stream) (sums : List ℕ) (k : ℕ) : Type 0 where
-  pub tight : getD sums (4 * k) 0 ≡ reach st (st .least) k
-  pub high : getD sums (4 * k + 1) 0 ≡ stacked st (st .least) 0 k
-  pub loose : getD sums (4 * k + 2) 0 ≡ reach st (st .most) k
-  pub wide : getD sums (4 * k + 3) 0 ≡ stacked st (st .most) 0 k
+  pub tight : Pair st (st .least) sums (2 * k + 0) k
+  pub loose : Pair st (st .most) sums (2 * k + 1) k
 
 -- So are those of every line up to m.
 abbrev pub Sums : Stream → ℕ → List ℕ → Type 0

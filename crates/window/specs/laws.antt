@@ -1,4 +1,5 @@
 -- The laws of the window and its queue.
+pub mod First
 pub mod Run
 pub mod Sums
 pub mod Slide

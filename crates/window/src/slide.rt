@@ -1,6 +1,8 @@
 // The two ends of a window of starting lines, moved on as the page's last line moves on. Heights are compared as sums, never
 // as differences.
-ghost use Rattle.window.specs.Slide.{Reachable, Slidable, FirstFitting, FirstShort, Slid};
+ghost use Rattle.window.specs.Slide.{Reachable, Slidable, FirstBelow, Slid};
+use crate::sums::LOOSE;
+use crate::sums::TIGHT;
 
 // What a page has beside its lines, and the heights that it must keep to.
 pub struct Load {
@@ -16,29 +18,16 @@ pub struct Window {
     pub high: usize,
 }
 
-// The first line from `from` on at which a page may start that ends with line i and is not too tall; i where there is none.
-fn first_fitting(sums: &[u32], load: Load, from: usize, i: usize) -> usize
-    requires { ⌜ Reachable (now sums) load from i ⌝ }
-    ensures { λ r. ⌜ FirstFitting (now (sums .entry)) load from i r ⌝ }
+// The first line from `from` on whose page to line i stays below `limit` with `beside` added to its lines; i where there is
+// none. `space` says which sums are taken, TIGHT or LOOSE.
+fn first_below(sums: &[u32], space: usize, beside: u32, limit: u32, from: usize, i: usize) -> usize
+    requires { ⌜ Reachable (now sums) space beside limit from i ⌝ }
+    ensures { λ r. ⌜ FirstBelow (now (sums .entry)) space beside limit from i r ⌝ }
 {
+    let reached = sums[2 * (2 * i + space) + 1] + beside;
     let mut a = from;
     while a < i {
-        if sums[4 * i + 1] + load.tight <= load.htmax + sums[4 * a] {
-            return a;
-        }
-        a += 1;
-    }
-    a
-}
-
-// The first line from `from` on at which a page to line i is not full enough if it starts there; i where there is none.
-fn first_short(sums: &[u32], load: Load, from: usize, i: usize) -> usize
-    requires { ⌜ Reachable (now sums) load from i ⌝ }
-    ensures { λ r. ⌜ FirstShort (now (sums .entry)) load from i r ⌝ }
-{
-    let mut a = from;
-    while a < i {
-        if sums[4 * i + 3] + load.loose < load.htmin + sums[4 * a + 2] {
+        if reached < limit + sums[2 * (2 * a + space)] {
             return a;
         }
         a += 1;
@@ -52,7 +41,7 @@ pub fn slide(sums: &[u32], load: Load, window: Window, i: usize) -> Window
     ensures { λ r. ⌜ Slid (now (sums .entry)) load window i r ⌝ }
 {
     Window {
-        low: first_fitting(sums, load, window.low, i),
-        high: first_short(sums, load, window.high, i),
+        low: first_below(sums, TIGHT, load.tight, load.htmax + 1, window.low, i),
+        high: first_below(sums, LOOSE, load.loose, load.htmin, window.high, i),
     }
 }

@@ -6,16 +6,18 @@ ghost use Rattle.galley.specs.Model.{textOf};
 ghost use Rattle.window.specs.Sums.{rowPut, SumsRoom, Sums};
 use galley::Stream;
 
-// Four sums to a line: up to and with the space after it at its least, up to the line itself, and both at the greatest.
+// Which pair of a line's sums: with the spaces at their least, or at their greatest.
+pub const TIGHT: usize = 0;
+
+pub const LOOSE: usize = 1;
+
+// Two pairs of sums to a line, as entries: up to and with the space after the line, and up to the line itself.
 fn put_row(sums: &mut [u32], k: usize, tight: u32, high: u32, loose: u32, wide: u32)
     requires { ⌜ 4 * k + 4 ≤ length (now sums) ⌝ }
     ensures { λ _. ⌜ now (sums .exit) ≡ rowPut (now (sums .entry)) k tight high loose wide ⌝ }
 {
-    let at = 4 * k;
-    sums[at] = tight;
-    sums[at + 1] = high;
-    sums[at + 2] = loose;
-    sums[at + 3] = wide;
+    crate::queue::push(sums, 2 * k + TIGHT, tight, high);
+    crate::queue::push(sums, 2 * k + LOOSE, loose, wide);
 }
 
 // The sums of every line of the text, and zeros for the place before the first.

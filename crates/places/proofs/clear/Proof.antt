@@ -8,6 +8,7 @@ use lib.ListN.{length, set}
 use Rattle.places.specs.Entry.{cleared}
 use Rattle.places.specs.laws.Cleared.{cleared-none, cleared-next}
 use borrow.Author.Needs.{needs}
+use ghost.Mode.{_$_}
 use Rattle.places.proofs.clear.Statement.{statement}
 use Rattle.places.proofs.clear.Tie as tie
 
@@ -20,26 +21,11 @@ abbrev μ-loop : tie.MeasureT-loop
 loop-holds : tie.Need-loop-holds Inv-loop μ-loop
 loop-holds c = (search needs, sym (cleared-none _), refl)
 
-mul-work : tie.Need-mul-work Inv-loop μ-loop
-mul-work c = search needs
-
-slice-write-work : tie.Need-slice-write-work Inv-loop μ-loop
-slice-write-work c = search needs
-
-add-i : tie.Need-add-i Inv-loop μ-loop
-add-i c = search needs
-
-loop-less : tie.Need-loop-less Inv-loop μ-loop
-loop-less c = search needs
-
 loop-again : tie.Need-loop-again Inv-loop μ-loop
 loop-again c =
     let st = c .before .loop in
     let work₀ = c .before .before .args .work .now in
     (omega arith, ap (λ (l : List ℕ). set l (st .i) 0) (st .inv .1) ∙ cleared-next (st .i) work₀ (omega arith), search needs)
-
-same-length : tie.Need-same-length Inv-loop μ-loop
-same-length c = search needs
 
 returns : tie.Need-returns Inv-loop μ-loop
 returns c =
@@ -48,16 +34,4 @@ returns c =
     rw done at (st .inv .1)
 
 pub clear-spec : {M : Type 1} → statement M
-clear-spec =
-    tie.close
-    (tie.spec
-    Inv-loop
-    μ-loop
-    loop-holds
-    mul-work
-    slice-write-work
-    add-i
-    loop-less
-    loop-again
-    same-length
-    returns)
+clear-spec = tie.close ((λ (a, b, c, d, e). tie.spec Inv-loop μ-loop loop-holds a b c d loop-again e returns) $ omega arith)

@@ -5,7 +5,7 @@ use native.Mathlib.Omega.{arith}
 use lib.ListN.{getD}
 use borrow.Author.Tests.{eq-eqb, ne-eqb}
 use Rattle.places.specs.Entry.{entryAt}
-use borrow.Author.Needs.{needs}
+use ghost.Mode.{_$_}
 use Rattle.places.proofs.entry_at.Statement.{statement}
 use Rattle.places.proofs.entry_at.Tie as tie
 
@@ -25,18 +25,4 @@ returns-2 c =
 
 pub entry-at-spec : {M : Type 1} → statement M
 entry-at-spec =
-    tie.close
-    (tie.spec
-    (λ c. search needs)
-    (λ c. search needs)
-    (λ c. search needs)
-    (λ c. search needs)
-    (λ c. search needs)
-    (λ c. search needs)
-    (λ c. search needs)
-    (λ c. search needs)
-    (λ c. search needs)
-    (λ c. search needs)
-    (λ c. search needs)
-    returns
-    returns-2)
+    tie.close ((λ (a, b, c, d, e, f, g, h, i, j, k). tie.spec a b c d e f g h i j k returns returns-2) $ omega arith)

@@ -3,6 +3,7 @@ use native.Mathlib.Omega.{arith}
 use lib.ListN.{length-set}
 use Rattle.places.specs.Entry.{put}
 use borrow.Author.Needs.{needs}
+use ghost.Mode.{_$_}
 use Rattle.places.proofs.put.Statement.{statement}
 use Rattle.places.proofs.put.Tie as tie
 
@@ -22,17 +23,6 @@ returns c = search needs
 pub put-spec : {M : Type 1} → statement M
 put-spec =
     tie.close
-    (tie.spec
-    (λ c. search needs)
-    (λ c. search needs)
-    (λ c. search needs)
-    (λ c. search needs)
-    slice-write-work-2
-    (λ c. search needs)
-    (λ c. search needs)
-    slice-write-work-3
-    (λ c. search needs)
-    (λ c. search needs)
-    slice-write-work-4
-    (λ c. search needs)
-    returns)
+    ((λ (a, b, c, d, e, f, g, h).
+    tie.spec a b c d slice-write-work-2 e f slice-write-work-3 g h slice-write-work-4 (λ c. search needs)
+    returns) $ omega arith)

@@ -83,22 +83,30 @@ module _ {bytes : List ℕ} {g : Galley} {w : List ℕ} {j : ℕ} (lent : Lent b
       → Stacked (floatsOf bytes (g .figures)) b j figures → (least : ℕ) → least ≤ g .spec .htmax → (window : Window) (i : ℕ)
       → i ≤ g .text .count → window .low ≤ i → window .high ≤ i → Slidable sums (loadOf g mixed figures least) window i
   can-slide {sums} summed mixed b figures floats least under window i h low high =
-      record { low = from (window .low) low; high = from (window .high) high }
+      let beside = figures-low b figures floats in
+      let spec = lent .sound .specRanged in
+      let load = loadOf g mixed figures least in
+      let p = separation-most mixed (g .spec .smin) (omega (arith, spec .smins, spec .smaxs)) in
+      let q = separation-most mixed (g .spec .smax) (spec .smaxs) in
+      record {
+        low = from 0 (load .tight) (load .htmax + 1) (window .low) (omega arith) (omega (arith, beside .tight))
+            (omega (arith, spec .htmaxs)) low;
+        high = from 1 (load .loose) (load .htmin) (window .high) (omega arith) (omega (arith, beside .loose))
+            (omega (arith, spec .htmaxs)) high;
+      }
     where
-      from : (a : ℕ) → a ≤ i → Reachable sums (loadOf g mixed figures least) a i
-      from a l =
-          let few = figures-low b figures floats in
-          let spec = lent .sound .specRanged in
-          let p = separation-most mixed (g .spec .smin) (omega (arith, spec .smins, spec .smaxs)) in
-          let q = separation-most mixed (g .spec .smax) (spec .smaxs) in
+      from : (space beside limit a : ℕ) → space ≤ 1 → beside ≤ 1000000000 → limit ≤ 1000000001 → a ≤ i
+          → Reachable sums space beside limit a i
+      from space beside limit a either lightly limited start =
           record {
-            start = l;
+            start = start;
+            either = either;
             room = omega (arith, summed .room);
-            small = sums-small bytes (g .text) (lent .sound .text) (lent .sound .fewLines) sums (summed .rows) i h;
-            tight = omega (arith, few .tight);
-            loose = omega (arith, few .loose);
-            htmin = omega (arith, spec .htmaxs);
-            htmax = omega (arith, spec .htmaxs);
+            small = λ k l.
+                sums-small bytes (g .text) (lent .sound .text) (lent .sound .fewLines) sums (summed .rows) space either k
+                (omega arith);
+            lightly = lightly;
+            limited = limited;
           }
 
   -- A queue of the lines of column b can be moved on to a window that ends by line i.

@@ -5,13 +5,13 @@ use native.Mathlib.Nat.{le-refl}
 use native.Mathlib.Decide.{decLe}
 use native.Mathlib.Omega.{arith}
 use mathlib.Core.List.{List}
-use lib.ListN.{getD}
 use Rattle.model.specs.Galley.{Stream}
 use Rattle.model.specs.laws.Height.{stacked-grows}
 use Rattle.window.specs.declared.slide.Load.{Load}
 use Rattle.window.specs.declared.slide.Window.{Window}
-use Rattle.window.specs.Sums.{Row, Sums}
-use Rattle.window.specs.Slide.{FirstFitting, FirstShort, Tall, Enough, Ends, Open}
+use Rattle.window.specs.Queue.{costAt}
+use Rattle.window.specs.Sums.{Pair, Sums}
+use Rattle.window.specs.Slide.{Reachable, FirstBelow, Reaches, Ends, Open}
 use Rattle.window.specs.laws.Sums.{reach-stacked, reach-grows}
 
 -- Before the first line both ends are at 0.
@@ -35,87 +35,59 @@ ends-next st load window i o =
       filled = λ a e l m. ends .filled a e l (omega arith);
     }
 
--- A page from a to i against the sums of the two lines.
-module _ (sums : List ℕ) (st : Stream) (load : Load) (a i : ℕ) (first : Row st sums a) (last : Row st sums i) (h : a < i) where
-  tall-of : load .htmax + getD sums (4 * a) 0 < getD sums (4 * i + 1) 0 + load .tight → Tall st load a i
-  tall-of l =
-      let t = first .tight in
-      let u = last .high in
-      let e = reach-stacked st (st .least) a i h in
-      omega arith
+-- The height up to the last line, and what the page has beside its lines, fit a word together.
+pub reached-small : {sums : List ℕ} {space beside limit from i : ℕ} → Reachable sums space beside limit from i
+    → costAt sums (2 * i + space) + beside ≤ 2000000000
+reached-small {i = i} r = omega (arith, r .small i (le-refl i) .1, r .lightly)
 
-  enough-of : load .htmin + getD sums (4 * a + 2) 0 ≤ getD sums (4 * i + 3) 0 + load .loose → Enough st load a i
-  enough-of l =
-      let t = first .loose in
-      let u = last .wide in
-      let e = reach-stacked st (st .most) a i h in
-      omega arith
-
-  -- Where an earlier line's page fits, so does that from a.
-  fits-of : (low : ℕ) → Row st sums low → low ≤ a
-      → getD sums (4 * i + 1) 0 + load .tight ≤ load .htmax + getD sums (4 * low) 0 → Tall st load a i → ⊥
-  fits-of low row m l n =
-      let s = row .tight in
-      let u = last .high in
-      let g = reach-grows st (st .least) low a m in
-      let e = reach-stacked st (st .least) a i h in
-      omega arith
-
-  -- Where an earlier line's page is not full enough, neither is that from a.
-  short-of : (high : ℕ) → Row st sums high → high ≤ a
-      → getD sums (4 * i + 3) 0 + load .loose < load .htmin + getD sums (4 * high + 2) 0 → Enough st load a i → ⊥
-  short-of high row m l n =
-      let s = row .loose in
-      let u = last .wide in
-      let g = reach-grows st (st .most) high a m in
-      let e = reach-stacked st (st .most) a i h in
-      omega arith
-
--- A page that grows at its end stays too tall, and stays full enough.
-tall-grows : (st : Stream) (load : Load) (a i e : ℕ) → a < i → i ≤ e → Tall st load a i → Tall st load a e
-tall-grows st load a i e h m t =
-    let g = stacked-grows st (st .least) a i a e (le-refl a) (omega arith) m in
-    omega arith
-
-enough-grows : (st : Stream) (load : Load) (a i e : ℕ) → a < i → i ≤ e → Enough st load a i → Enough st load a e
-enough-grows st load a i e h m t =
-    let g = stacked-grows st (st .most) a i a e (le-refl a) (omega arith) m in
-    omega arith
-
--- The first fitting line and the first short one are the ends of the window.
-module _ (sums : List ℕ) (st : Stream) (m : ℕ) (load : Load) (old new : Window) (i : ℕ)
-    (fitting : FirstFitting sums load (old .low) i (new .low)) (short : FirstShort sums load (old .high) i (new .high))
-    (rows : Sums st m sums) (within : i ≤ m) (ends : Ends st load old i) where
-  still-tall : (a e : ℕ) → a < new .low → i ≤ e → Tall st load a e
-  still-tall a e l n = go (decLe (suc a) (old .low))
+-- One end of the window: from what was known of the old one, and the first line from there on whose page stays below the limit.
+module _ (sums : List ℕ) (st : Stream) (gap : ℕ → ℕ) (space beside limit old i new : ℕ)
+    (pairs : (k : ℕ) → k ≤ i → Pair st gap sums (2 * k + space) k) (first : FirstBelow sums space beside limit old i new) where
+  -- Whatever starts before it reaches the limit by line i and from there on, since a page that grows at its end only gets higher.
+  end-passes : ((a e : ℕ) → a < old → i ≤ e → Reaches st gap beside limit a e) → (a e : ℕ) → a < new → i ≤ e
+      → Reaches st gap beside limit a e
+  end-passes before a e l n = go (decLe (suc a) old)
     where
-      go : Dec (suc a ≤ old .low) → Tall st load a e
-      go (yes p) = ends .passed a e p n
+      go : Dec (suc a ≤ old) → Reaches st gap beside limit a e
+      go (yes p) = before a e p n
       go (no p) =
-          let inside = fitting .within in
-          let before : a < i = omega arith in
-          tall-grows st load a i e before n
-          (tall-of sums st load a i (rows a (omega arith)) (rows i within) before (fitting .passed a (omega arith) l))
+          let inside : a < i = omega (arith, first .to) in
+          let high = first .passed a (omega arith) l in
+          let start = pairs a (omega arith) .spaced in
+          let whole = pairs i (omega arith) .bare in
+          let page = reach-stacked st gap a i inside in
+          let grows = stacked-grows st gap a i a e (le-refl a) (omega arith) n in
+          omega arith
 
-  still-enough : (a e : ℕ) → a < new .high → i ≤ e → Enough st load a e
-  still-enough a e l n = go (decLe (suc a) (old .high))
-    where
-      go : Dec (suc a ≤ old .high) → Enough st load a e
-      go (yes p) = ends .filled a e p n
-      go (no p) =
-          let inside = short .within in
-          let before : a < i = omega arith in
-          enough-grows st load a i e before n
-          (enough-of sums st load a i (rows a (omega arith)) (rows i within) before (short .passed a (omega arith) l))
+  -- Whatever starts from there on does not: a page that starts later is lower.
+  end-opens : (a : ℕ) → new ≤ a → a < i → Reaches st gap beside limit a i → ⊥
+  end-opens a l m reaches =
+      let low = first .kept (omega arith) in
+      let start = pairs new (omega arith) .spaced in
+      let whole = pairs i (omega arith) .bare in
+      let page = reach-stacked st gap a i m in
+      let grows = reach-grows st gap new a l in
+      omega arith
 
-  pub slide-opens : Open st load new i
-  slide-opens =
-      record {
-        ends = record { low = fitting .within; high = short .within; passed = still-tall; filled = still-enough };
-        fits = λ a l h.
-            fits-of sums st load a i (rows a (omega arith)) (rows i within) h (new .low) (rows (new .low) (omega arith)) l
-            (fitting .found (omega arith));
-        short = λ a l h.
-            short-of sums st load a i (rows a (omega arith)) (rows i within) h (new .high) (rows (new .high) (omega arith)) l
-            (short .found (omega arith));
-      }
+-- The first lines found are the ends of the window.
+pub slide-opens : (sums : List ℕ) (st : Stream) (m : ℕ) (load : Load) (old new : Window) (i : ℕ)
+    → FirstBelow sums 0 (load .tight) (load .htmax + 1) (old .low) i (new .low)
+    → FirstBelow sums 1 (load .loose) (load .htmin) (old .high) i (new .high)
+    → Sums st m sums → i ≤ m → Ends st load old i → Open st load new i
+slide-opens sums st m load old new i low high rows within ends =
+    record {
+      ends = record {
+        low = low .to;
+        high = high .to;
+        passed = end-passes sums st (st .least) 0 (load .tight) (load .htmax + 1) (old .low) i (new .low) tight low (ends .passed);
+        filled = end-passes sums st (st .most) 1 (load .loose) (load .htmin) (old .high) i (new .high) loose high (ends .filled);
+      };
+      fits = end-opens sums st (st .least) 0 (load .tight) (load .htmax + 1) (old .low) i (new .low) tight low;
+      short = end-opens sums st (st .most) 1 (load .loose) (load .htmin) (old .high) i (new .high) loose high;
+    }
+  where
+    tight : (k : ℕ) → k ≤ i → Pair st (st .least) sums (2 * k + 0) k
+    tight k l = rows k (omega arith) .tight
+
+    loose : (k : ℕ) → k ≤ i → Pair st (st .most) sums (2 * k + 1) k
+    loose k l = rows k (omega arith) .loose

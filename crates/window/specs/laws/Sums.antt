@@ -4,8 +4,7 @@ use native.Mathlib.Decide.{decLe}
 use native.Mathlib.Omega.{arith}
 use mathlib.Core.Path.{_≡_, refl, sym, ap, subst, _∙_}
 use mathlib.Core.List.{List}
-use lib.ListN.{length, getD, set, length-set}
-use lib.Seq.{getD-set-same, getD-set-other}
+use lib.ListN.{length}
 use Rattle.model.specs.Gather.{sum}
 use Rattle.model.specs.Galley.{Stream}
 use Rattle.model.specs.Height.{stacked}
@@ -14,8 +13,10 @@ use Rattle.model.specs.laws.Height.{sum-mono}
 use Rattle.galley.specs.declared.Stream as galley
 use Rattle.galley.specs.Model.{textOf}
 use Rattle.galley.specs.Sound.{SoundStream}
-use Rattle.window.specs.Sums.{reach, rowPut, Row, Sums}
-use Rattle.window.specs.Run.{SumsRun, SumsFit}
+use Rattle.window.specs.Queue.{pushed}
+use Rattle.window.specs.Sums.{reach, rowPut, SmallPair, Pair, Row, Sums}
+use Rattle.window.specs.Run.{SumsRun}
+use Rattle.window.specs.laws.Pushed.{pushed-length, pushed-own-line, pushed-own-cost, other-line, other-cost}
 
 -- The lines up to i are those up to a with the space after it, and the rest.
 pub reach-stacked :
@@ -66,60 +67,44 @@ high-next st gap k =
     let spaces = between-sum 0 k gap (omega arith) in
     rw (← e) (omega arith)
 
--- The sums of a line that is written are what was written, and those of the lines before it stay.
-module _ (sums : List ℕ) (k tight high loose wide : ℕ) where
+-- A pair that is written is what was written, and every other stays.
+module _ (st : Stream) (gap : ℕ → ℕ) (words : List ℕ) (t spaced bare : ℕ) where
+  pair-own : (k : ℕ) → 2 * t + 2 ≤ length words → spaced ≡ reach st gap k → bare ≡ stacked st gap 0 k
+      → Pair st gap (pushed words t spaced bare) t k
+  pair-own k room s b =
+      record { spaced = pushed-own-line words t spaced bare room ∙ s; bare = pushed-own-cost words t spaced bare room ∙ b }
+
+  pair-other : (e k : ℕ) → ¬ (e ≡ t) → Pair st gap words e k → Pair st gap (pushed words t spaced bare) e k
+  pair-other e k h p =
+      record { spaced = other-line words t spaced bare e h ∙ p .spaced; bare = other-cost words t spaced bare e h ∙ p .bare }
+
+-- So it is with the row of a line.
+module _ (st : Stream) (sums : List ℕ) (k tight high loose wide : ℕ) where
   pub row-length : length (rowPut sums k tight high loose wide) ≡ length sums
   unfolding rowPut
-  row-length = simp length-set
+  row-length = pushed-length _ _ _ _ ∙ pushed-length _ _ _ _
 
-  pub row-other : (i : ℕ) → i < 4 * k → getD (rowPut sums k tight high loose wide) i 0 ≡ getD sums i 0
+  pub row-before : (q : ℕ) → q < k → Row st sums q → Row st (rowPut sums k tight high loose wide) q
   unfolding rowPut
-  row-other i h =
-      let s₁ = set sums (4 * k) tight in
-      let s₂ = set s₁ (4 * k + 1) high in
-      let s₃ = set s₂ (4 * k + 2) loose in
-      getD-set-other s₃ (4 * k + 3) i wide 0 (omega arith) ∙ getD-set-other s₂ (4 * k + 2) i loose 0 (omega arith)
-      ∙ getD-set-other s₁ (4 * k + 1) i high 0 (omega arith)
-      ∙ getD-set-other sums (4 * k) i tight 0 (omega arith)
-
-  -- Lines before it have what they had.
-  pub row-before : (st : Stream) (q : ℕ) → q < k → Row st sums q → Row st (rowPut sums k tight high loose wide) q
-  row-before st q h r =
+  row-before q h r =
+      let first = pushed sums (2 * k + 0) tight high in
       record {
-        tight = row-other (4 * q) (omega arith) ∙ r .tight;
-        high = row-other (4 * q + 1) (omega arith) ∙ r .high;
-        loose = row-other (4 * q + 2) (omega arith) ∙ r .loose;
-        wide = row-other (4 * q + 3) (omega arith) ∙ r .wide;
+        tight = pair-other st (st .least) first (2 * k + 1) loose wide (2 * q + 0) q (λ e. omega arith)
+            (pair-other st (st .least) sums (2 * k + 0) tight high (2 * q + 0) q (λ e. omega arith) (r .tight));
+        loose = pair-other st (st .most) first (2 * k + 1) loose wide (2 * q + 1) q (λ e. omega arith)
+            (pair-other st (st .most) sums (2 * k + 0) tight high (2 * q + 1) q (λ e. omega arith) (r .loose));
       }
 
-  -- The line itself has the four that were written.
-  pub row-own : (st : Stream) → 4 * k + 4 ≤ length sums → tight ≡ reach st (st .least) k → high ≡ stacked st (st .least) 0 k
+  pub row-own : 4 * k + 4 ≤ length sums → tight ≡ reach st (st .least) k → high ≡ stacked st (st .least) 0 k
       → loose ≡ reach st (st .most) k → wide ≡ stacked st (st .most) 0 k → Row st (rowPut sums k tight high loose wide) k
   unfolding rowPut
-  row-own st room t h l w =
-      let s₁ = set sums (4 * k) tight in
-      let s₂ = set s₁ (4 * k + 1) high in
-      let s₃ = set s₂ (4 * k + 2) loose in
-      let n₁ : length s₁ ≡ length sums = simp length-set in
-      let n₂ : length s₂ ≡ length sums = simp length-set in
-      let n₃ : length s₃ ≡ length sums = simp length-set in
+  row-own room t h l w =
+      let first = pushed sums (2 * k + 0) tight high in
+      let n : length first ≡ length sums = pushed-length sums (2 * k + 0) tight high in
       record {
-        tight =
-            getD-set-other s₃ (4 * k + 3) (4 * k) wide 0 (omega arith)
-            ∙ getD-set-other s₂ (4 * k + 2) (4 * k) loose 0 (omega arith)
-            ∙ getD-set-other s₁ (4 * k + 1) (4 * k) high 0 (omega arith)
-            ∙ getD-set-same sums (4 * k) tight 0 (omega arith)
-            ∙ t;
-        high =
-            getD-set-other s₃ (4 * k + 3) (4 * k + 1) wide 0 (omega arith)
-            ∙ getD-set-other s₂ (4 * k + 2) (4 * k + 1) loose 0 (omega arith)
-            ∙ getD-set-same s₁ (4 * k + 1) high 0 (omega arith)
-            ∙ h;
-        loose =
-            getD-set-other s₃ (4 * k + 3) (4 * k + 2) wide 0 (omega arith)
-            ∙ getD-set-same s₂ (4 * k + 2) loose 0 (omega arith)
-            ∙ l;
-        wide = getD-set-same s₃ (4 * k + 3) wide 0 (omega arith) ∙ w;
+        tight = pair-other st (st .least) first (2 * k + 1) loose wide (2 * k + 0) k (λ e. omega arith)
+            (pair-own st (st .least) sums (2 * k + 0) tight high k (omega arith) t h);
+        loose = pair-own st (st .most) first (2 * k + 1) loose wide k (omega arith) l w;
       }
 
 -- Heights and spaces within the limit make small sums.
@@ -142,85 +127,75 @@ high-low st gap i =
     let less = sum-mono (pred i) i gap (omega arith) in
     omega arith
 
--- A text's sums are small in every line.
-module _ (bytes : List ℕ) (text : galley.Stream) (sound : SoundStream bytes text) where
-  pub tight-low : (i : ℕ) → i ≤ text .count → reach (textOf bytes text) (textOf bytes text .least) i ≤ i * 200000
-  tight-low i m =
-      reach-low (textOf bytes text) (textOf bytes text .least) (text .count) (λ k p q. sound .ranged k p q .heights)
-      (λ k p q. let r = sound .ranged k p q in omega (arith, r .leasts, r .mosts)) i m
+-- A pair of small sums is small.
+pair-small : (st : Stream) (gap : ℕ → ℕ) (sums : List ℕ) (e k : ℕ) → reach st gap k ≤ 800000000 → Pair st gap sums e k
+    → SmallPair sums e
+pair-small st gap sums e k low p =
+    let spaced = p .spaced in
+    let bare = p .bare in
+    let less = high-low st gap k in
+    omega arith
 
-  pub loose-low : (i : ℕ) → i ≤ text .count → reach (textOf bytes text) (textOf bytes text .most) i ≤ i * 200000
-  loose-low i m =
-      reach-low (textOf bytes text) (textOf bytes text .most) (text .count) (λ k p q. sound .ranged k p q .heights)
-      (λ k p q. sound .ranged k p q .mosts) i m
+-- The sums of a text are small in every line.
+module _ (bytes : List ℕ) (text : galley.Stream) (sound : SoundStream bytes text) (few : text .count ≤ 4000) where
+  text-low : (gap : ℕ → ℕ) → ((k : ℕ) → 1 ≤ k → k ≤ text .count → gap k ≤ 100000) → (i : ℕ) → i ≤ text .count
+      → reach (textOf bytes text) gap i ≤ 800000000
+  text-low gap low i m =
+      let small = reach-low (textOf bytes text) gap (text .count) (λ k p q. sound .ranged k p q .heights) low i m in
+      omega arith
 
--- Each of the first 4 n words is one of the four sums of a line before n.
-four-each : (P : ℕ → Type 0) (n : ℕ) → ((q : ℕ) → q < n → P (4 * q) × P (4 * q + 1) × P (4 * q + 2) × P (4 * q + 3))
-    → (k : ℕ) → k < 4 * n → P k
-four-each P zero h k l = absurd (omega arith)
-four-each P (suc n) h k l =
-    go (four-each P n (λ q m. h q (omega arith)) k) (h n (omega arith)) (decLe (suc k) (4 * n)) (decLe k (4 * n))
-    (decLe k (4 * n + 1)) (decLe k (4 * n + 2))
-  where
-    go : (k < 4 * n → P k) → P (4 * n) × P (4 * n + 1) × P (4 * n + 2) × P (4 * n + 3) → Dec (suc k ≤ 4 * n) → Dec (k ≤ 4 * n)
-        → Dec (k ≤ 4 * n + 1) → Dec (k ≤ 4 * n + 2) → P k
-    go below here (yes a) b c d = below a
-    go below here (no a) (yes b) c d = let e : k ≡ 4 * n = omega arith in rw e (here .0)
-    go below here (no a) (no b) (yes c) d = let e : k ≡ 4 * n + 1 = omega arith in rw e (here .1)
-    go below here (no a) (no b) (no c) (yes d) = let e : k ≡ 4 * n + 2 = omega arith in rw e (here .2)
-    go below here (no a) (no b) (no c) (no d) = let e : k ≡ 4 * n + 3 = omega arith in rw e (here .3)
+  tight-low : (i : ℕ) → i ≤ text .count → reach (textOf bytes text) (textOf bytes text .least) i ≤ 800000000
+  tight-low = text-low (textOf bytes text .least) (λ k p q. let r = sound .ranged k p q in omega (arith, r .leasts, r .mosts))
 
--- The words of the sums up to a line are small.
-pub sums-small : (bytes : List ℕ) (text : galley.Stream) → SoundStream bytes text → text .count ≤ 4000 → (sums : List ℕ)
-    → Sums (textOf bytes text) (text .count) sums → (i : ℕ) → i ≤ text .count → (k : ℕ) → k < 4 * i + 4 → getD sums k 0 ≤ 1000000000
-sums-small bytes text sound few sums rows i m k h =
-    four-each (λ n. getD sums n 0 ≤ 1000000000) (suc i)
-    (λ q l.
-    let row = rows q (omega arith) in
-    let a = row .tight in
-    let b = row .high in
-    let c = row .loose in
-    let d = row .wide in
-    let tight = tight-low bytes text sound q (omega arith) in
-    let loose = loose-low bytes text sound q (omega arith) in
-    let high = high-low (textOf bytes text) (textOf bytes text .least) q in
-    let wide = high-low (textOf bytes text) (textOf bytes text .most) q in
-    (omega arith, omega arith, omega arith, omega arith)) k (omega arith)
+  loose-low : (i : ℕ) → i ≤ text .count → reach (textOf bytes text) (textOf bytes text .most) i ≤ 800000000
+  loose-low = text-low (textOf bytes text .most) (λ k p q. sound .ranged k p q .mosts)
+
+  pub sums-small : (sums : List ℕ) → Sums (textOf bytes text) (text .count) sums → (space : ℕ) → space ≤ 1 → (k : ℕ)
+      → k ≤ text .count → SmallPair sums (2 * k + space)
+  sums-small sums rows zero either k m =
+      pair-small (textOf bytes text) (textOf bytes text .least) sums (2 * k + 0) k (tight-low k m) (rows k m .tight)
+  sums-small sums rows (suc zero) either k m =
+      pair-small (textOf bytes text) (textOf bytes text .most) sums (2 * k + 1) k (loose-low k m) (rows k m .loose)
+  sums-small sums rows (suc (suc space)) either k m = absurd (omega arith)
 
 -- The row of zeros is that of the place before the first line.
 pub sums-first : (bytes : List ℕ) (text : galley.Stream) (sums new : List ℕ) → 4 * text .count + 4 ≤ length sums
     → new ≡ rowPut sums 0 0 0 0 0 → SumsRun bytes text new new 0 0 0
 sums-first bytes text sums new room e =
+    let st = textOf bytes text in
+    let tight = reach-none st (st .least) in
+    let loose = reach-none st (st .most) in
     record {
       within = omega arith;
       sized = refl;
-      tights = sym (reach-none (textOf bytes text) (textOf bytes text .least));
-      looses = sym (reach-none (textOf bytes text) (textOf bytes text .most));
-      rows = λ q l. let z : 0 ≡ q = omega arith in subst (Row (textOf bytes text) new) z first;
+      tights = sym tight;
+      looses = sym loose;
+      rows = λ q l.
+          let z : 0 ≡ q = omega arith in
+          subst (Row st new) z (rw e
+          (row-own st sums 0 0 0 0 0 (omega arith) (sym tight) (sym (high-none st (st .least))) (sym loose)
+          (sym (high-none st (st .most)))));
     }
-  where
-    first : Row (textOf bytes text) new 0
-    first =
-        rw e
-        (row-own sums 0 0 0 0 0 (textOf bytes text) (omega arith) (sym (reach-none (textOf bytes text) (textOf bytes text .least)))
-        (sym (high-none (textOf bytes text) (textOf bytes text .least))) (sym (reach-none (textOf bytes text) (textOf bytes text .most)))
-        (sym (high-none (textOf bytes text) (textOf bytes text .most))))
+
+-- One line more at one of the spaces: its two sums from that of the line before.
+pair-next : (st : Stream) (gap : ℕ → ℕ) (k sum height space : ℕ) → sum ≡ reach st gap k → height ≡ st .ht (k + 1)
+    → space ≡ gap (k + 1) → (sum + height + space ≡ reach st gap (k + 1)) × (sum + height ≡ stacked st gap 0 (k + 1))
+pair-next st gap k sum height space s h g =
+    let spaced = reach-next st gap k in
+    let bare = high-next st gap k in
+    omega arith
 
 -- One line more: its row is written, and its sums are in hand.
 module _ (bytes : List ℕ) (text : galley.Stream) (sums₀ sums : List ℕ) (tight loose k height least most : ℕ)
     (run : SumsRun bytes text sums₀ sums tight loose k) (some : k < text .count) (a : height ≡ textOf bytes text .ht (k + 1))
     (b : least ≡ textOf bytes text .least (k + 1)) (c : most ≡ textOf bytes text .most (k + 1)) where
-  pub sums-fit : SoundStream bytes text → text .count ≤ 4000 → SumsFit tight loose height least most
+  -- The sums in hand and what the line adds to them, all together, fit a word.
+  pub sums-fit : SoundStream bytes text → text .count ≤ 4000 → tight + loose + height + least + most ≤ 1600300000
   sums-fit sound few =
       let ranged = sound .ranged (k + 1) (omega arith) (omega arith) in
-      let low = tight-low bytes text sound k (omega arith) in
-      let wide = loose-low bytes text sound k (omega arith) in
-      let t = run .tights in
-      let l = run .looses in
-      let h = ranged .heights in
-      let m = ranged .leasts in
-      let n = ranged .mosts in
-      record { tights = omega arith; looses = omega arith; heights = omega arith; leasts = omega arith; mosts = omega arith }
+      let tights = tight-low bytes text sound few k (omega arith) in
+      let looses = loose-low bytes text sound few k (omega arith) in
+      omega (arith, run .tights, run .looses, ranged)
 
   pub sums-next : (new : List ℕ) → 4 * text .count + 4 ≤ length sums
       → new ≡ rowPut sums (k + 1) (tight + height + least) (tight + height) (loose + height + most) (loose + height)
@@ -228,39 +203,24 @@ module _ (bytes : List ℕ) (text : galley.Stream) (sums₀ sums : List ℕ) (ti
   sums-next new room e =
       record {
         within = omega arith;
-        sized = ap length e ∙ row-length sums (k + 1) _ _ _ _ ∙ run .sized;
-        tights = tights;
-        looses = looses;
+        sized = ap length e ∙ row-length st sums (k + 1) _ _ _ _ ∙ run .sized;
+        tights = tights .0;
+        looses = looses .0;
         rows = λ q l. rw e (go q (decLe q k) l);
       }
     where
-      tights : tight + height + least ≡ reach (textOf bytes text) (textOf bytes text .least) (k + 1)
-      tights =
-          let step = reach-next (textOf bytes text) (textOf bytes text .least) k in
-          let t = run .tights in
-          omega arith
+      st : Stream
+      st = textOf bytes text
 
-      looses : loose + height + most ≡ reach (textOf bytes text) (textOf bytes text .most) (k + 1)
-      looses =
-          let step = reach-next (textOf bytes text) (textOf bytes text .most) k in
-          let t = run .looses in
-          omega arith
+      tights : (tight + height + least ≡ reach st (st .least) (k + 1)) × (tight + height ≡ stacked st (st .least) 0 (k + 1))
+      tights = pair-next st (st .least) k tight height least (run .tights) a b
 
-      high : tight + height ≡ stacked (textOf bytes text) (textOf bytes text .least) 0 (k + 1)
-      high =
-          let step = high-next (textOf bytes text) (textOf bytes text .least) k in
-          let t = run .tights in
-          omega arith
+      looses : (loose + height + most ≡ reach st (st .most) (k + 1)) × (loose + height ≡ stacked st (st .most) 0 (k + 1))
+      looses = pair-next st (st .most) k loose height most (run .looses) a c
 
-      wide : loose + height ≡ stacked (textOf bytes text) (textOf bytes text .most) 0 (k + 1)
-      wide =
-          let step = high-next (textOf bytes text) (textOf bytes text .most) k in
-          let t = run .looses in
-          omega arith
-
-      go : (q : ℕ) → Dec (q ≤ k) → q ≤ k + 1 → Row (textOf bytes text)
-          (rowPut sums (k + 1) (tight + height + least) (tight + height) (loose + height + most) (loose + height)) q
-      go q (yes p) l = row-before sums (k + 1) _ _ _ _ (textOf bytes text) q (omega arith) (run .rows q p)
+      go : (q : ℕ) → Dec (q ≤ k) → q ≤ k + 1
+          → Row st (rowPut sums (k + 1) (tight + height + least) (tight + height) (loose + height + most) (loose + height)) q
+      go q (yes p) l = row-before st sums (k + 1) _ _ _ _ q (omega arith) (run .rows q p)
       go q (no p) l =
           let last : q ≡ k + 1 = omega arith in
-          rw last (row-own sums (k + 1) _ _ _ _ (textOf bytes text) (omega arith) tights high looses wide)
+          rw last (row-own st sums (k + 1) _ _ _ _ (omega arith) (tights .0) (tights .1) (looses .0) (looses .1))

@@ -10,7 +10,7 @@ use lib.ListN.{length}
 use Rattle.model.specs.Galley.{Stream}
 use Rattle.window.specs.declared.slide.Load.{Load}
 use Rattle.window.specs.declared.slide.Window.{Window}
-use Rattle.window.specs.Slide.{Ends, Open}
+use Rattle.window.specs.Slide.{Tall, Enough, Ends, Open}
 use Rattle.window.specs.Queue.{pushed, Beside}
 use Rattle.window.specs.Windows.{windowAt, Kept}
 use Rattle.window.specs.laws.Pushed.{pushed-own-line, pushed-own-cost}
@@ -37,21 +37,19 @@ pub kept-beside : {st : Stream} {load : Load} {P : ℕ → Type 0} {old new : Li
 kept-beside {st} {load} beside apart kept i p =
     subst (λ (window : Window). Open st load window i) (sym (window-beside beside i (apart i p))) (kept i p)
 
+-- An end before which all reach the limit is not past one from which on none does.
+end-rises : (P : ℕ → ℕ → Type 0) (old new i : ℕ) → old ≤ i → ((a e : ℕ) → a < old → i ≤ e → P a e)
+    → ((a : ℕ) → new ≤ a → a < i → P a i → ⊥) → old ≤ new
+end-rises P old new i within passed opened = go (decLe old new)
+  where
+    go : Dec (old ≤ new) → old ≤ new
+    go (yes l) = l
+    go (no l) = absurd (opened new (le-refl new) (omega arith) (passed new i (omega arith) (le-refl i)))
+
 -- The ends of a line's window are not before those that the line started from.
 pub ends-rise : (st : Stream) (load : Load) (old new : Window) (i : ℕ) → Ends st load old i → Open st load new i
     → (old .low ≤ new .low) × (old .high ≤ new .high)
-ends-rise st load old new i ends opened = (low (decLe (old .low) (new .low)), high (decLe (old .high) (new .high)))
-  where
-    low : Dec (old .low ≤ new .low) → old .low ≤ new .low
-    low (yes l) = l
-    low (no l) =
-        absurd
-        (opened .fits (new .low) (le-refl (new .low)) (omega (arith, ends .low)) (ends .passed (new .low) i (omega arith)
-        (le-refl i)))
-
-    high : Dec (old .high ≤ new .high) → old .high ≤ new .high
-    high (yes l) = l
-    high (no l) =
-        absurd
-        (opened .short (new .high) (le-refl (new .high)) (omega (arith, ends .high)) (ends .filled (new .high) i (omega arith)
-        (le-refl i)))
+ends-rise st load old new i ends opened = (
+  end-rises (Tall st load) (old .low) (new .low) i (ends .low) (ends .passed) (opened .fits),
+  end-rises (Enough st load) (old .high) (new .high) i (ends .high) (ends .filled) (opened .short),
+)

@@ -1,72 +1,35 @@
 -- `drop_passed` meets its contract. The loop's invariant: the lines dropped are before `low`, to which each turn adds one.
-use Prim.Native.Nat.{ℕ, _-_, _*_, _<_}
+use Prim.Native.Nat.{_-_, _*_, _≤_}
 use native.Mathlib.Omega.{arith}
+use Rattle.window.specs.First.{First}
 use Rattle.window.specs.Queue.{lineAt}
-use Rattle.window.specs.Run.{PassedRun}
-use Rattle.window.specs.laws.Run.{upto-next}
-use borrow.Author.Needs.{needs}
+use Rattle.window.specs.laws.First.{first-start, first-next, first-found}
+use ghost.Mode.{_$_}
 use Rattle.window.proofs.queue.drop_passed.Statement.{statement}
 use Rattle.window.proofs.queue.drop_passed.Tie as tie
 
 abbrev Inv-loop : tie.InvT-loop
-Inv-loop words head tail low h₀ h = PassedRun words head tail low h
+Inv-loop words head tail low h₀ h = (h ≤ tail) × First (lineAt words) low head h h
 
 abbrev μ-loop : tie.MeasureT-loop
 μ-loop words head tail low h₀ h = tail - h
 
 loop-holds : tie.Need-loop-holds Inv-loop μ-loop
-loop-holds c = search needs
-
-mul-if1 : tie.Need-mul-if1 Inv-loop μ-loop
-mul-if1 c = search needs
-
-mul-if1-2 : tie.Need-mul-if1-2 Inv-loop μ-loop
-mul-if1-2 c = search needs
-
-shared-slice-read-if1 : tie.Need-shared-slice-read-if1 Inv-loop μ-loop
-shared-slice-read-if1 c = search needs
+loop-holds c = (omega arith, first-start _ _ _)
 
 cast-if1 : tie.Need-cast-if1 Inv-loop μ-loop
 cast-if1 c = omega (arith, c .shared-slice-known .given (2 * c .before .before .loop .h))
 
 returns : tie.Need-returns Inv-loop μ-loop
-returns c = search needs
-
-add-h : tie.Need-add-h Inv-loop μ-loop
-add-h c = search needs
-
-loop-less : tie.Need-loop-less Inv-loop μ-loop
-loop-less c = search needs
+returns c = let st = c .before .before .before .loop in first-found _ (st .inv .1) (st .inv .0) (λ l. omega (arith, c .if1 .taken))
 
 loop-again : tie.Need-loop-again Inv-loop μ-loop
-loop-again c =
-    let start = c .before .before .before .before in
-    let st = c .before .before .before .loop in
-    record {
-      from = omega arith;
-      to = omega arith;
-      passed =
-          upto-next (λ (k : ℕ). lineAt (start .args .words .now) k < start .args .low) (start .args .head) (st .h)
-          (st .inv .passed)
-          (omega (arith, c .if1 .left));
-    }
+loop-again c = let st = c .before .before .before .loop in (omega arith, first-next (st .inv .1) (c .if1 .left))
 
 returns-2 : tie.Need-returns-2 Inv-loop μ-loop
-returns-2 c = search needs
+returns-2 c = let st = c .before .loop in first-found _ (st .inv .1) (st .inv .0) (λ l. absurd (omega arith))
 
 pub drop-passed-spec : {M : Type 1} → statement M
 drop-passed-spec =
     tie.close
-    (tie.spec
-    Inv-loop
-    μ-loop
-    loop-holds
-    mul-if1
-    mul-if1-2
-    shared-slice-read-if1
-    cast-if1
-    returns
-    add-h
-    loop-less
-    loop-again
-    returns-2)
+    ((λ (a, b, c, d, e). tie.spec Inv-loop μ-loop loop-holds a b c cast-if1 returns d e loop-again returns-2) $ omega arith)

@@ -3,6 +3,7 @@ use native.Mathlib.Omega.{arith}
 use lib.ListN.{length-set}
 use Rattle.window.specs.Queue.{pushed}
 use borrow.Author.Needs.{needs}
+use ghost.Mode.{_$_}
 use Rattle.window.proofs.queue.push.Statement.{statement}
 use Rattle.window.proofs.queue.push.Tie as tie
 
@@ -15,14 +16,4 @@ returns c = search needs
 
 pub push-spec : {M : Type 1} → statement M
 push-spec =
-    tie.close
-    (tie.spec
-    (λ c. search needs)
-    (λ c. search needs)
-    (λ c. search needs)
-    (λ c. search needs)
-    (λ c. search needs)
-    (λ c. search needs)
-    slice-write-words-2
-    (λ c. search needs)
-    returns)
+    tie.close ((λ (a, b, c, d, e, f). tie.spec a b c d e f slice-write-words-2 (λ c. search needs) returns) $ omega arith)

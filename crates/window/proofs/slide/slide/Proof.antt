@@ -6,16 +6,16 @@ use Rattle.window.proofs.slide.slide.Tie as tie
 
 returns : tie.Need-returns
 returns c =
-    let a = c .before .before .before .args in
-    let fitting = c .before .first-fitting .ensures in
-    let short = c .first-short .ensures in
+    let a = c .before .before .before .before .args in
+    let low = c .before .first-below .ensures in
+    let high = c .first-below2 .ensures in
     record {
-      low = fitting .after;
-      high = short .after;
-      within = fitting .within;
-      inside = short .within;
-      opens = λ st m. slide-opens (a .sums .now) st m (a .load) (a .window) _ (a .i) fitting short;
+      low = low .from;
+      high = high .from;
+      within = low .to;
+      inside = high .to;
+      opens = λ st m. slide-opens (a .sums .now) st m (a .load) (a .window) _ (a .i) low high;
     }
 
 pub slide-spec : {M : Type 1} → statement M
-slide-spec = tie.close (tie.spec (λ c κs. search needs) (λ c κs. search needs) returns)
+slide-spec = tie.close (tie.spec (λ c. search needs) (λ c κs. search needs) (λ c κs. search needs) returns)

@@ -1,11 +1,11 @@
 -- `gather` meets its contract. The loop's invariant: the rows up to line k are written and its sums in hand; each turn
 -- writes the next.
-use Prim.Native.Nat.{_-_}
+use Prim.Native.Nat.{_+_, _-_, _≤_}
 use native.Mathlib.Omega.{arith}
 use mathlib.Core.Path.{_≡_}
-use Rattle.window.specs.Run.{SumsRun, SumsFit}
+use Rattle.window.specs.Run.{SumsRun}
 use Rattle.window.specs.laws.Sums.{sums-first, sums-fit, sums-next}
-use borrow.Author.Needs.{needs}
+use ghost.Mode.{_$_}
 use Rattle.window.proofs.sums.gather.Statement.{statement}
 use Rattle.window.proofs.sums.gather.Tie as tie
 
@@ -15,31 +15,16 @@ Inv-loop s text sums₀ tight₀ loose₀ k₀ sums tight loose k = SumsRun s te
 abbrev μ-loop : tie.MeasureT-loop
 μ-loop s text sums₀ tight₀ loose₀ k₀ sums tight loose k = text .count - k
 
-put-row-requires : tie.Need-put-row-requires Inv-loop μ-loop
-put-row-requires c κs = search needs
-
 loop-holds : tie.Need-loop-holds Inv-loop μ-loop
 loop-holds c =
     let start = c .before .before .before .before .before .before in
     sums-first (start .args .s .now) (start .args .text) (start .args .sums .now) _ (start .pre .room)
     (c .before .before .put-row .ensures)
 
-add-k : tie.Need-add-k Inv-loop μ-loop
-add-k c = search needs
-
-field-requires : tie.Need-field-requires Inv-loop μ-loop
-field-requires c κs = search needs
-
-field-requires-2 : tie.Need-field-requires-2 Inv-loop μ-loop
-field-requires-2 c κs = search needs
-
-field-requires-3 : tie.Need-field-requires-3 Inv-loop μ-loop
-field-requires-3 c κs = search needs
-
 -- The sums in hand and the fields of the line are small.
 fit : (c : tie.After-field3 Inv-loop μ-loop)
-    → SumsFit (c .before .before .before .before .before .loop .tight) (c .before .before .before .before .before .loop .loose)
-    (c .before .before .field .result) (c .before .field2 .result) (c .field3 .result)
+    → c .before .before .before .before .before .loop .tight + c .before .before .before .before .before .loop .loose
+    + c .before .before .field .result + c .before .field2 .result + c .field3 .result ≤ 1600300000
 fit c =
     let st = c .before .before .before .before .before .loop in
     let start = c .before .before .before .before .before .before .before .before .before .before .before .before in
@@ -48,22 +33,16 @@ fit c =
     (c .before .before .field .ensures) (c .before .field2 .ensures) (c .field3 .ensures) (start .pre .sound) (start .pre .few)
 
 add-high : tie.Need-add-high Inv-loop μ-loop
-add-high c = let sums = fit c in omega arith
+add-high c = omega (arith, fit c)
 
 add-wide : tie.Need-add-wide Inv-loop μ-loop
-add-wide c = let sums = fit c in omega arith
+add-wide c = omega (arith, fit c)
 
 add-tight : tie.Need-add-tight Inv-loop μ-loop
-add-tight c = let sums = fit c in omega arith
+add-tight c = omega (arith, fit c)
 
 add-loose : tie.Need-add-loose Inv-loop μ-loop
-add-loose c = let sums = fit c in omega arith
-
-put-row-requires-2 : tie.Need-put-row-requires-2 Inv-loop μ-loop
-put-row-requires-2 c κs = search needs
-
-loop-less : tie.Need-loop-less Inv-loop μ-loop
-loop-less c = search needs
+add-loose c = omega (arith, fit c)
 
 loop-again : tie.Need-loop-again Inv-loop μ-loop
 loop-again c =
@@ -76,9 +55,6 @@ loop-again c =
     (most .before .before .field .ensures) (most .before .field2 .ensures) (most .field3 .ensures) _ (omega arith)
     (c .before .before .put-row2 .ensures)
 
-same-length : tie.Need-same-length Inv-loop μ-loop
-same-length c = search needs
-
 returns : tie.Need-returns Inv-loop μ-loop
 returns c =
     let st = c .before .before .loop in
@@ -89,21 +65,5 @@ returns c =
 pub gather-spec : {M : Type 1} → statement M
 gather-spec =
     tie.close
-    (tie.spec
-    Inv-loop
-    μ-loop
-    put-row-requires
-    loop-holds
-    add-k
-    field-requires
-    field-requires-2
-    field-requires-3
-    add-high
-    add-wide
-    add-tight
-    add-loose
-    put-row-requires-2
-    loop-less
-    loop-again
-    same-length
-    returns)
+    ((λ (a, b, c, d, e, f, g, h).
+    tie.spec Inv-loop μ-loop a loop-holds b c d e add-high add-wide add-tight add-loose f g loop-again h returns) $ omega arith)

@@ -11,6 +11,7 @@ use Rattle.window.specs.laws.Held.{beside-none}
 use Rattle.window.specs.laws.Pushed.{pushed-beside}
 use Rattle.window.specs.laws.Windows.{window-stored}
 use borrow.Author.Needs.{needs}
+use ghost.Mode.{_$_}
 use Rattle.window.proofs.windows.window_of.Statement.{statement}
 use Rattle.window.proofs.windows.window_of.Tie as tie
 
@@ -49,21 +50,5 @@ returns-2 c =
 pub window-of-spec : {M : Type 1} → statement M
 window-of-spec =
     tie.close
-    (tie.spec
-    (λ c. search needs)
-    (λ c. search needs)
-    (λ c. search needs)
-    (λ c. search needs)
-    (λ c κs. search needs)
-    (λ c. search needs)
-    (λ c. search needs)
-    (λ c. search needs)
-    (λ c κs. search needs)
-    returns
-    (λ c κs. search needs)
-    (λ c. search needs)
-    cast-push
-    cast-push-2
-    (λ c κs. search needs)
-    (λ c. search needs)
-    returns-2)
+    ((λ (a, b, c, d, e, f, g, h, i, j, k, l).
+    tie.spec a b c d e f g h i returns (λ c κs. search needs) j cast-push cast-push-2 k l returns-2) $ omega arith)
