@@ -12,7 +12,7 @@ use Rattle.galley.specs.Model.{textOf, floatsOf}
 use Rattle.blocks.specs.declared.heights.Heights.{Heights}
 use Rattle.blocks.specs.Heights.{noHeights, Addable, Stacked}
 use Rattle.blocks.specs.laws.Heights.{separation-most, Low, stacked-small}
-use Rattle.places.specs.Address.{Stands}
+use Rattle.places.specs.Address.{wordsNeeded, Stands}
 use Rattle.places.specs.laws.Address.{address-in}
 use Rattle.window.specs.declared.slide.Window.{Window}
 use Rattle.window.specs.declared.queue.Queue.{Queue}
@@ -32,6 +32,16 @@ side-either g c = go (sidesOf (g .spec .sides))
     go single = omega arith
     go double = omega arith
 
+-- A place of a galley within the limits stands in a work area that is long enough.
+pub stands-in : (g : Galley) (w : List ℕ) (i b side : ℕ) → g .text .count ≤ 4000 → i ≤ g .text .count → b ≤ g .figures .count → b ≤ 200
+    → side ≤ 1 → wordsNeeded (g .text .count) (g .figures .count) ≤ length w
+    → Stands w (g .text .count + 1) (record { line = i; column = b }) side
+stands-in g w i b side few h k narrow l room =
+    record {
+      inside = record { high = omega arith; row = omega arith; wide = narrow; either = l };
+      room = omega (arith, address-in (g .text .count) (g .figures .count) i b side h k l);
+    }
+
 -- What is lent for a column is the same while the length is.
 pub lent-sized : {bytes : List ℕ} {g : Galley} {w : List ℕ} {j : ℕ} (w′ : List ℕ) → length w′ ≡ length w → Lent bytes g w j
     → Lent bytes g w′ j
@@ -45,17 +55,7 @@ module _ {bytes : List ℕ} {g : Galley} {w : List ℕ} {j : ℕ} (lent : Lent b
   -- A place stands in the work area.
   pub can-stand : (i b side : ℕ) → i ≤ g .text .count → b ≤ g .figures .count → side ≤ 1
       → Stands w (g .text .count + 1) (record { line = i; column = b }) side
-  can-stand i b side h k l =
-      record {
-        inside =
-            record {
-              high = omega (arith, lent .sound .fewLines);
-              row = omega arith;
-              wide = omega (arith, lent .sound .fewFigures);
-              either = l;
-            };
-        room = omega (arith, address-in (g .text .count) (g .figures .count) i b side h k l, lent .room);
-      }
+  can-stand i b side h k l = stands-in g w i b side (lent .sound .fewLines) h k (omega (arith, lent .sound .fewFigures)) l (lent .room)
 
   -- The figures of a page can be added to its lines.
   figures-low : (b : ℕ) (figures : Heights) → Stacked (floatsOf bytes (g .figures)) b j figures → Low 40000000 figures

@@ -48,7 +48,7 @@ module _ {bytes : List ℕ} {g : Galley} {w₀ sums words₀ : List ℕ} {c : �
         within = omega arith;
         sized = refl;
         wordsSized = refl;
-        ends = ends-first text (passLoad g pass);
+        ends = ends-first text (passLoad g pass) 0;
         windows = λ k p. kept k (p .0) (p .1);
         based = refl;
         held = held-none (column w₀) words₀ 0;
@@ -77,6 +77,9 @@ module _ {bytes : List ℕ} {g : Galley} {w₀ sums words₀ : List ℕ} {c : �
 
       least : pass .least ≡ leastOf g (allPlaced g i (pass .to))
       least = asked .least ∙ ap (leastOf g) (sym (end-inner g pass i next .1))
+
+      pub side-ended : Ended g w i c pass
+      side-ended = pass-ended lent-now (asked .passing) i c line (asked .occurs)
 
       pub side-slides : WindowAsked sums (passLoad g pass) words window i
       side-slides =
@@ -137,9 +140,6 @@ module _ {bytes : List ℕ} {g : Galley} {w₀ sums words₀ : List ℕ} {c : �
           side-front =
               can-front lent-now (omega (arith, asked .scratch, run .wordsSized, sized, sized″)) (pass .from) from-low moved (new .high)
               inside (omega (arith, advanced .base, run .based)) (advanced .order) (advanced .short)
-
-          pub side-ended : Ended g w i c pass
-          side-ended = pass-ended lent-now (asked .passing) i c line (asked .occurs)
 
           held-next : Held (column w) words″ moved (new .low) (new .high)
           held-next = advanced .held (window .low) (rise .0) held-found

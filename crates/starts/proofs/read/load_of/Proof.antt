@@ -1,17 +1,22 @@
+-- `load_of` meets its contract: no lines add nothing to the heights of the page.
+use Prim.Native.Nat.{_+_}
+use native.Mathlib.Omega.{arith}
+use mathlib.Core.Path.{_≡_, ap, _∙_}
+use Rattle.model.specs.Gather.{pick}
+use Rattle.blocks.specs.declared.heights.Heights.{Heights}
 use borrow.Author.Needs.{needs}
 use Rattle.starts.proofs.read.load_of.Statement.{statement}
 use Rattle.starts.proofs.read.load_of.Tie as tie
-use Rattle.starts.proofs.read.load_of.Reads as reads
-use Rattle.starts.proofs.read.load_of.Lts as lts
-use Rattle.blocks.proofs.heights.page_heights.Reads as page-heights-reads
 
--- src/read.rt:43:9
-page-heights-requires : tie.Need-page-heights-requires
-page-heights-requires c κs = search needs
-
--- src/read.rt:39:1
 returns : tie.Need-returns
-returns c = search needs
+returns c =
+    let a = c .before .args in
+    let e = c .page-heights .ensures in
+    let t : c .page-heights .result .tight ≡ a .floats .tight + pick (a .mixed) (a .g .spec .smin) 0 = ap (λ (h : Heights).
+    h .tight) e ∙ omega arith in
+    let l : c .page-heights .result .loose ≡ a .floats .loose + pick (a .mixed) (a .g .spec .smax) 0 = ap (λ (h : Heights).
+    h .loose) e ∙ omega arith in
+    rw (t, l)
 
 pub load-of-spec : {M : Type 1} → statement M
-load-of-spec = tie.close (tie.spec page-heights-requires returns)
+load-of-spec = tie.close (tie.spec (λ c κs. search needs) returns)

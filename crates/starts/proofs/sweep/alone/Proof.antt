@@ -1,37 +1,26 @@
+-- `alone` meets its contract: by the test on the height each way is that of the definition.
+use mathlib.Core.Path.{_∙_}
+use native.Mathlib.Omega.{arith}
+use borrow.Author.Tests.{lt-ltb, le-ltb}
 use borrow.Author.Needs.{needs}
 use Rattle.starts.proofs.sweep.alone.Statement.{statement}
 use Rattle.starts.proofs.sweep.alone.Tie as tie
-use Rattle.starts.proofs.sweep.alone.Reads as reads
-use Rattle.starts.proofs.sweep.alone.Lts as lts
-use Rattle.places.proofs.entry_of.Reads as entry-of-reads
-use Rattle.places.proofs.place_of.Reads as place-of-reads
-use Rattle.starts.proofs.choice.start_at.Reads as start-at-reads
 
--- src/sweep.rt:30:9
 returns : tie.Need-returns
-returns c = search needs
+returns c =
+    let pass = c .before .before .before .args .pass in
+    rw (lt-ltb (pass .heights .loose) (pass .least) (c .if1 .taken))
 
--- src/sweep.rt:32:9
-place-of-requires : tie.Need-place-of-requires
-place-of-requires c κs = search needs
-
--- src/sweep.rt:34:32
-add-entry-of : tie.Need-add-entry-of
-add-entry-of c = search needs
-
--- src/sweep.rt:34:9
 entry-of-requires : tie.Need-entry-of-requires
-entry-of-requires c κs = search needs
+entry-of-requires c κs = rw (c .before .place-of .ensures) (c .before .before .before .before .before .pre)
 
--- src/sweep.rt:33:5
-start-at-requires : tie.Need-start-at-requires
-start-at-requires c κs = search needs
-
--- src/sweep.rt:25:1
 returns-2 : tie.Need-returns-2
-returns-2 c = search needs
+returns-2 c =
+    let pass = c .before .before .before .before .before .before .before .args .pass in
+    let tall = le-ltb (pass .heights .loose) (pass .least) (omega (arith, c .before .before .before .before .if1 .left)) in
+    c .start-at .ensures ∙ rw (c .before .entry-of .ensures, c .before .before .before .place-of .ensures, tall)
 
 pub alone-spec : {M : Type 1} → statement M
 alone-spec =
     tie.close
-    (tie.spec returns place-of-requires add-entry-of entry-of-requires start-at-requires returns-2)
+    (tie.spec returns (λ c κs. search needs) (λ c. search needs) entry-of-requires (λ c κs. search needs) returns-2)

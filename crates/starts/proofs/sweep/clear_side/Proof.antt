@@ -1,52 +1,50 @@
+-- `clear_side` meets its contract. The loop's invariant: the lines before i are unreached on side c too.
+use Prim.Native.Nat.{suc, _+_, _-_, _≤_}
+use native.Mathlib.Omega.{arith}
+use Rattle.starts.specs.Sweep.{number, Cleared}
+use Rattle.starts.specs.laws.Lending.{stands-in}
+use Rattle.starts.specs.laws.Cells.{cleared-none, cleared-then, clear-next, clear-side, clear-sized}
 use borrow.Author.Needs.{needs}
 use Rattle.starts.proofs.sweep.clear_side.Statement.{statement}
 use Rattle.starts.proofs.sweep.clear_side.Tie as tie
-use Rattle.starts.proofs.sweep.clear_side.Reads as reads
-use Rattle.starts.proofs.sweep.clear_side.Lts as lts
-use Rattle.places.proofs.place_of.Reads as place-of-reads
-use Rattle.places.proofs.store.Reads as store-reads
 
 abbrev Inv-loop : tie.InvT-loop
-Inv-loop g work₀ j c i₀ work i = ?
+Inv-loop g work₀ j c i₀ work i = (i ≤ suc (g .text .count)) × Cleared g work₀ work j (number c 0) (number c i)
 
 abbrev μ-loop : tie.MeasureT-loop
-μ-loop g work₀ j c i₀ work i = ?
+μ-loop g work₀ j c i₀ work i = g .text .count + 1 - i
 
--- src/sweep.rt:144:5
 loop-holds : tie.Need-loop-holds Inv-loop μ-loop
-loop-holds c = search needs
+loop-holds c =
+    let a = c .before .args in
+    (omega arith, cleared-none (a .g) (a .work .now) (a .j) (number (a .c) 0))
 
--- src/sweep.rt:145:13
-place-of-requires : tie.Need-place-of-requires Inv-loop μ-loop
-place-of-requires c κs = search needs
-
--- src/sweep.rt:146:29
-add-store : tie.Need-add-store Inv-loop μ-loop
-add-store c = search needs
-
--- src/sweep.rt:146:9
 store-requires : tie.Need-store-requires Inv-loop μ-loop
-store-requires c κs = search needs
+store-requires c κs =
+    let inside = c .before .before .before in
+    let start = inside .before .before .before .before in
+    let st = inside .before .before .loop in
+    let room = clear-sized (st .inv .1) (start .pre .0) in
+    rw (c .before .before .place-of .ensures)
+    (stands-in (start .args .g) (st .work) (st .i) (start .args .j) (start .args .c) (room .few) (omega (arith, inside .if1 .taken))
+    (room .within) (room .narrow) (omega (arith, room .two, start .pre .1)) (room .room))
 
--- src/sweep.rt:147:9
-add-i : tie.Need-add-i Inv-loop μ-loop
-add-i c = search needs
-
--- src/sweep.rt:144:5
-loop-less : tie.Need-loop-less Inv-loop μ-loop
-loop-less c = search needs
-
--- src/sweep.rt:144:5
 loop-again : tie.Need-loop-again Inv-loop μ-loop
-loop-again c = search needs
+loop-again c =
+    let placed = c .before .before .before .before .before in
+    let inside = placed .before in
+    let start = inside .before .before .before .before in
+    let st = inside .before .before .loop in (
+      omega (arith, inside .if1 .taken),
+      cleared-then (st .inv .1) (clear-next (st .i) (start .args .c) (clear-sized (st .inv .1) (start .pre .0)) (omega (arith, inside .if1 .taken)) (start .pre .1) _
+          (rw (placed .place-of .ensures) at (c .before .before .store .ensures))),
+    )
 
--- src/sweep.rt:139:1
-same-length : tie.Need-same-length Inv-loop μ-loop
-same-length c = search needs
-
--- src/sweep.rt:139:1
 returns : tie.Need-returns Inv-loop μ-loop
-returns c = search needs
+returns c =
+    let start = c .before .before .before .before in
+    let st = c .before .before .loop in
+    clear-side _ (start .args .c) (st .i) (start .pre .0 .few) (omega (arith, c .if1 .left)) (st .inv .0) (st .inv .1)
 
 pub clear-side-spec : {M : Type 1} → statement M
 clear-side-spec =
@@ -55,11 +53,11 @@ clear-side-spec =
     Inv-loop
     μ-loop
     loop-holds
-    place-of-requires
-    add-store
+    (λ c κs. search needs)
+    (λ c. search needs)
     store-requires
-    add-i
-    loop-less
+    (λ c. search needs)
+    (λ c. search needs)
     loop-again
-    same-length
+    (λ c. search needs)
     returns)

@@ -1,55 +1,31 @@
+-- `improve` meets its contract: it offers what it has chosen, each choice by its own contract.
+use mathlib.Core.Path.{_∙_}
 use borrow.Author.Needs.{needs}
 use Rattle.starts.proofs.sweep.improve.Statement.{statement}
 use Rattle.starts.proofs.sweep.improve.Tie as tie
-use Rattle.starts.proofs.sweep.improve.Reads as reads
-use Rattle.starts.proofs.sweep.improve.Lts as lts
-use Rattle.places.proofs.place_of.Reads as place-of-reads
-use Rattle.starts.proofs.choice.choose.Reads as choose-reads
-use Rattle.starts.proofs.choice.offer.Reads as offer-reads
-use Rattle.starts.proofs.read.side_before.Reads as side-before-reads
-use Rattle.starts.proofs.sweep.alone.Reads as alone-reads
 
--- src/sweep.rt:45:9
-side-before-requires : tie.Need-side-before-requires
-side-before-requires c κs = search needs
-
--- src/sweep.rt:46:46
 alone-requires : tie.Need-alone-requires
-alone-requires c κs = search needs
+alone-requires c κs = rw (c .before .side-before .ensures) (c .before .before .before .pre .start)
 
--- src/sweep.rt:46:9
-choose-requires : tie.Need-choose-requires
-choose-requires c κs = search needs
-
--- src/sweep.rt:47:9
-place-of-requires : tie.Need-place-of-requires
-place-of-requires c κs = search needs
-
--- src/sweep.rt:48:32
-add-offer : tie.Need-add-offer
-add-offer c = search needs
-
--- src/sweep.rt:48:5
 offer-requires : tie.Need-offer-requires
-offer-requires c κs = search needs
+offer-requires c κs = rw (c .before .before .place-of .ensures) (c .before .before .before .before .before .before .before .before .pre .end)
 
--- src/sweep.rt:41:1
-same-length : tie.Need-same-length
-same-length c = search needs
-
--- src/sweep.rt:41:1
 returns : tie.Need-returns
-returns c = search needs
+returns c =
+    let placed = c .before .before .before .before .before in
+    let found = placed .before in
+    c .before .before .offer .ensures
+    ∙ rw (placed .place-of .ensures, found .choose .ensures, found .before .alone .ensures, found .before .before .before .side-before .ensures)
 
 pub improve-spec : {M : Type 1} → statement M
 improve-spec =
     tie.close
     (tie.spec
-    side-before-requires
+    (λ c κs. search needs)
     alone-requires
-    choose-requires
-    place-of-requires
-    add-offer
+    (λ c κs. search needs)
+    (λ c κs. search needs)
+    (λ c. search needs)
     offer-requires
-    same-length
+    (λ c. search needs)
     returns)

@@ -1,81 +1,96 @@
+-- `sweep_side` meets its contract. The loop's invariant is `SideRun`: the lines above line i know the starts of the pass too.
+use Prim.Native.Nat.{_+_, _-_}
+use native.Mathlib.Omega.{arith}
+use Rattle.starts.specs.Swept.{SideRun}
+use Rattle.starts.specs.laws.Lending.{figures-add}
+use Rattle.starts.specs.laws.Pass.{end-inner}
+use Rattle.starts.specs.laws.Side.{side-first, side-last, side-slides, side-feeds, side-front, side-ended, side-next}
 use borrow.Author.Needs.{needs}
 use Rattle.starts.proofs.sweep.sweep_side.Statement.{statement}
 use Rattle.starts.proofs.sweep.sweep_side.Tie as tie
-use Rattle.starts.proofs.sweep.sweep_side.Reads as reads
-use Rattle.starts.proofs.sweep.sweep_side.Lts as lts
-use Rattle.starts.proofs.read.load_of.Reads as load-of-reads
-use Rattle.starts.proofs.read.side_before.Reads as side-before-reads
-use Rattle.starts.proofs.sweep.improve.Reads as improve-reads
-use Rattle.starts.proofs.sweep.sweep_end.Reads as sweep-end-reads
-use Rattle.window.proofs.queue.advance.Reads as advance-reads
-use Rattle.window.proofs.queue.front.Reads as front-reads
-use Rattle.window.proofs.windows.window_of.Reads as window-of-reads
 
 abbrev Inv-loop : tie.InvT-loop
-Inv-loop s g work₀ sums words₀ c pass load side end queue₀ starts₀ i₀ work words queue starts i = ?
+Inv-loop s g work₀ sums words₀ c pass load side end queue₀ starts₀ i₀ work words queue starts i =
+    SideRun s g work₀ work words₀ words c pass queue starts i
 
 abbrev μ-loop : tie.MeasureT-loop
-μ-loop s g work₀ sums words₀ c pass load side end queue₀ starts₀ i₀ work words queue starts i = ?
+μ-loop s g work₀ sums words₀ c pass load side end queue₀ starts₀ i₀ work words queue starts i = end - i
 
--- src/sweep.rt:75:9
 load-of-requires : tie.Need-load-of-requires Inv-loop μ-loop
-load-of-requires c κs = search needs
+load-of-requires c κs =
+    let start = c .before .before .before .before in
+    figures-add (start .pre .lent) (start .args .pass .from) (start .args .pass .heights) (start .pre .passing .floats)
 
--- src/sweep.rt:76:9
-side-before-requires : tie.Need-side-before-requires Inv-loop μ-loop
-side-before-requires c κs = search needs
-
--- src/sweep.rt:77:9
-sweep-end-requires : tie.Need-sweep-end-requires Inv-loop μ-loop
-sweep-end-requires c κs = search needs
-
--- src/sweep.rt:85:5
 loop-holds : tie.Need-loop-holds Inv-loop μ-loop
-loop-holds c = search needs
+loop-holds c = side-first (c .before .before .before .before .before .before .before .pre)
 
--- src/sweep.rt:87:9
 window-of-requires : tie.Need-window-of-requires Inv-loop μ-loop
-window-of-requires c κs = search needs
+window-of-requires c κs =
+    let ended = c .before .before .before in
+    rw (ended .before .before .load-of .ensures)
+    (side-slides (ended .before .before .before .before .before .before .before .pre) (c .before .before .loop .inv)
+    (rw (← ended .sweep-end .ensures) (c .before .loop-test .taken)))
 
--- src/sweep.rt:90:13
 add-advance : tie.Need-add-advance Inv-loop μ-loop
-add-advance c = search needs
+add-advance c =
+    omega (arith, c .before .before .before .before .before .before .before .before .before .before .before .before .before .before .before .pre .lent .sound .fewLines)
 
--- src/sweep.rt:88:9
 advance-requires : tie.Need-advance-requires Inv-loop μ-loop
-advance-requires c κs = search needs
+advance-requires c κs =
+    let found = c .before .before .before .before .before in
+    let ended = found .before .before .before .before in
+    rw (ended .before .side-before .ensures)
+    (side-feeds (ended .before .before .before .before .before .before .before .pre) (found .before .before .before .loop .inv)
+    (rw (← ended .sweep-end .ensures) (found .before .before .loop-test .taken)) _
+    (search (needs, c .before .before .before .slice-known3 .given, c .before .before .before .before .words .given)) (found .window-of .result)
+    (rw (ended .before .before .load-of .ensures) at (found .window-of .ensures)))
 
--- src/sweep.rt:98:13
 front-requires : tie.Need-front-requires Inv-loop μ-loop
-front-requires c κs = search needs
+front-requires c κs =
+    let moved = c .before .before .before in
+    let found = moved .before .before .before .before .before .before in
+    let ended = found .before .before .before .before in
+    side-front (ended .before .before .before .before .before .before .before .pre) (found .before .before .before .loop .inv)
+    (rw (← ended .sweep-end .ensures) (found .before .before .loop-test .taken)) _
+    (search (needs, moved .before .before .before .before .slice-known3 .given, moved .before .before .before .before .before .words .given))
+    (found .window-of .result) (rw (ended .before .before .load-of .ensures) at (found .window-of .ensures)) _
+    (search (needs, c .before .slice-known4 .given, c .before .before .words2 .given)) (moved .advance .result)
+    (rw (← ended .before .side-before .ensures) (moved .advance .ensures))
 
--- src/sweep.rt:99:9
 improve-requires : tie.Need-improve-requires Inv-loop μ-loop
-improve-requires c κs = search needs
+improve-requires c κs =
+    let moved = c .before .before .before .before .before in
+    let found = moved .before .before .before .before .before .before in
+    let ended = found .before .before .before .before in
+    side-ended (ended .before .before .before .before .before .before .before .pre) (found .before .before .before .loop .inv)
+    (rw (← ended .sweep-end .ensures) (found .before .before .loop-test .taken))
 
--- src/sweep.rt:100:9
 add-i : tie.Need-add-i Inv-loop μ-loop
-add-i c = search needs
+add-i c =
+    let found = c .before .before .before .before .before .before .before .before .before .before .before .before .before .before in
+    let ended = found .before .before .before .before in
+    let start = ended .before .before .before .before .before .before .before in
+    omega (arith, start .pre .lent .sound .fewLines, end-inner (start .args .g) (start .args .pass) (found .before .before .before .loop .i)
+    (rw (← ended .sweep-end .ensures) (found .before .before .loop-test .taken)) .0)
 
--- src/sweep.rt:85:5
-loop-less : tie.Need-loop-less Inv-loop μ-loop
-loop-less c = search needs
-
--- src/sweep.rt:85:5
 loop-again : tie.Need-loop-again Inv-loop μ-loop
-loop-again c = search needs
+loop-again c =
+    let moved = c .before .before .before .before .before .before .before .before in
+    let found = moved .before .before .before .before .before .before in
+    let ended = found .before .before .before .before in
+    side-next (ended .before .before .before .before .before .before .before .pre) (found .before .before .before .loop .inv)
+    (rw (← ended .sweep-end .ensures) (found .before .before .loop-test .taken)) _
+    (search (needs, moved .before .before .before .before .slice-known3 .given, moved .before .before .before .before .before .words .given))
+    (found .window-of .result) (rw (ended .before .before .load-of .ensures) at (found .window-of .ensures)) _
+    (search (needs, c .before .before .before .before .before .before .slice-known4 .given, c .before .before .before .before .before .before .before .words2 .given))
+    (moved .advance .result) (rw (← ended .before .side-before .ensures) (moved .advance .ensures)) _
+    (rw (c .before .before .before .before .front .ensures) at (c .before .before .improve .ensures))
 
--- src/sweep.rt:63:1
-same-length : tie.Need-same-length Inv-loop μ-loop
-same-length c = search needs
-
--- src/sweep.rt:63:1
-same-length-2 : tie.Need-same-length-2 Inv-loop μ-loop
-same-length-2 c = search needs
-
--- src/sweep.rt:63:1
 returns : tie.Need-returns Inv-loop μ-loop
-returns c = search needs
+returns c =
+    let ended = c .before .before in
+    side-last (ended .before .before .before .before .before .before .before .pre) (c .before .loop .inv)
+    (rw (← ended .sweep-end .ensures) (c .loop-test .left))
 
 pub sweep-side-spec : {M : Type 1} → statement M
 sweep-side-spec =
@@ -84,8 +99,8 @@ sweep-side-spec =
     Inv-loop
     μ-loop
     load-of-requires
-    side-before-requires
-    sweep-end-requires
+    (λ c κs. search needs)
+    (λ c κs. search needs)
     loop-holds
     window-of-requires
     add-advance
@@ -93,8 +108,8 @@ sweep-side-spec =
     front-requires
     improve-requires
     add-i
-    loop-less
+    (λ c. search needs)
     loop-again
-    same-length
-    same-length-2
+    (λ c. search needs)
+    (λ c. search needs)
     returns)

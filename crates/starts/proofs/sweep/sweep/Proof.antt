@@ -1,0 +1,61 @@
+-- `sweep` meets its contract. The loop's invariant is `SweepRun`: the sides before c know the starts of the pass too.
+use Prim.Native.Nat.{_-_}
+use native.Mathlib.Omega.{arith}
+use Rattle.starts.specs.Swept.{SweepRun}
+use Rattle.starts.specs.laws.Sweeping.{sweep-first, sweep-last, sweep-side, sweep-line, sweep-next}
+use borrow.Author.Needs.{needs}
+use Rattle.starts.proofs.sweep.sweep.Statement.{statement}
+use Rattle.starts.proofs.sweep.sweep.Tie as tie
+
+abbrev Inv-loop : tie.InvT-loop
+Inv-loop s g work₀ sums words₀ pass c₀ work words c = SweepRun s g work₀ work words₀ words pass c
+
+abbrev μ-loop : tie.MeasureT-loop
+μ-loop s g work₀ sums words₀ pass c₀ work words c = g .spec .sides - c
+
+loop-holds : tie.Need-loop-holds Inv-loop μ-loop
+loop-holds c = sweep-first (c .before .before .before .before .pre)
+
+sweep-side-requires : tie.Need-sweep-side-requires Inv-loop μ-loop
+sweep-side-requires c κs =
+    sweep-side (c .before .before .before .before .before .before .before .before .before .pre) (c .before .before .before .before .loop .inv)
+    (c .before .before .if1 .taken)
+
+last-line-requires : tie.Need-last-line-requires Inv-loop μ-loop
+last-line-requires c κs =
+    let swept = c .before .before .before .before .before in
+    let inside = swept .before .before .before in
+    sweep-line (inside .before .before .before .before .before .before .before .pre) (inside .before .before .loop .inv) (inside .if1 .taken) _ _
+    (search (needs, c .before .before .before .slice-known3 .given, c .before .before .before .before .work .given))
+    (search (needs, c .before .slice-known4 .given, c .before .before .words .given)) (swept .sweep-side .ensures)
+
+loop-again : tie.Need-loop-again Inv-loop μ-loop
+loop-again c =
+    let lined = c .before .before in
+    let swept = lined .before .before .before .before .before .before in
+    let inside = swept .before .before .before in
+    sweep-next (inside .before .before .before .before .before .before .before .pre) (inside .before .before .loop .inv) (inside .if1 .taken) _ _
+    (search (needs, lined .before .before .before .before .slice-known3 .given, lined .before .before .before .before .before .work .given))
+    (search (needs, lined .before .before .slice-known4 .given, lined .before .before .before .words .given)) (swept .sweep-side .ensures) _
+    (search (needs, c .slice-known5 .given, c .before .work2 .given)) (lined .last-line .ensures)
+
+returns : tie.Need-returns Inv-loop μ-loop
+returns c =
+    sweep-last (c .before .before .before .before .before .before .before .pre) (c .before .before .loop .inv) (c .if1 .left)
+
+pub sweep-spec : {M : Type 1} → statement M
+sweep-spec =
+    tie.close
+    (tie.spec
+    Inv-loop
+    μ-loop
+    loop-holds
+    (λ c. search needs)
+    sweep-side-requires
+    last-line-requires
+    (λ c. search needs)
+    (λ c. search needs)
+    loop-again
+    (λ c. search needs)
+    (λ c. search needs)
+    returns)
