@@ -9,6 +9,10 @@ use Rattle.places.specs.declared.Place.{Place}
 unfoldable pub address : ℕ → ℕ → ℕ → ℕ → ℕ
 address tall i j side = (j * tall + i) * 8 + side * 4
 
+-- The words of so many columns of `tall` places (document 01, "Making").
+unfoldable pub area : ℕ → ℕ → ℕ
+area tall wide = 8 * (tall * wide)
+
 -- The words of the work area of m lines and n figures: 8·(m + 1)·(n + 1) (document 01, "Making").
 unfoldable pub wordsNeeded : ℕ → ℕ → ℕ
 wordsNeeded m n = 8 * ((m + 1) * (n + 1))

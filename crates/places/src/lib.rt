@@ -4,8 +4,10 @@
 // the cost, and the line and column that the page starts at. Places stand column by column.
 ghost use mathlib.Core.Path.{_≡_};
 ghost use Prim.Native.Nat.{_+_, _≤_};
+ghost use mathlib.Core.List.{[], _∷_};
 ghost use lib.ListN.{length};
-ghost use Rattle.places.specs.Entry.{less, entryAt, put, stored, cleared};
+ghost use lib.Seq.{sets};
+ghost use Rattle.places.specs.Entry.{less, entryAt, stored, cleared};
 ghost use Rattle.places.specs.Address.{address, wordsNeeded, Inside, Small, Stands};
 ghost use Rattle.places.specs.Table.{tableOf};
 
@@ -75,7 +77,7 @@ pub fn entry_of(work: &[u32], tall: usize, place: Place, side: usize) -> Entry
 // Four words written from `at` on.
 fn put(work: &mut [u32], at: usize, tag: u32, cost: u32, start: Place)
     requires { ⌜ at + 4 ≤ length (now work) ⌝ }
-    ensures { λ _. ⌜ now (work .exit) ≡ put (now (work .entry)) at tag cost start ⌝ }
+    ensures { λ _. ⌜ now (work .exit) ≡ sets (now (work .entry)) at (tag ∷ cost ∷ start .line ∷ start .column ∷ []) ⌝ }
 {
     work[at] = tag;
     work[at + 1] = cost;

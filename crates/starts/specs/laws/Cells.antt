@@ -14,7 +14,7 @@ use Rattle.places.specs.declared.Entry.the-variants.{Unreached, Least}
 use Rattle.places.specs.Entry.{entryAt, stored}
 use Rattle.places.specs.Address.{address, wordsNeeded}
 use Rattle.places.specs.Table.{tableOf}
-use Rattle.places.specs.laws.Address.{address-in}
+use Rattle.places.specs.laws.Address.{address-in, area-needed}
 use Rattle.places.specs.laws.Stored.{stored-length}
 use Rattle.places.specs.laws.Table.{table-same, table-other}
 use Rattle.places.specs.Best.{Best}
@@ -43,7 +43,8 @@ module _ (g : Galley) (w : List ℕ) (i j c : ℕ) (line : i ≤ g .text .count)
   pub stored-changes : (e : Entry) (v : List ℕ) → v ≡ stored w (address (g .text .count + 1) i j c) e → Changed g w v i j c e
   stored-changes e v p =
       let side : c ≤ 1 = omega arith in
-      let a = address-in (g .text .count) (g .figures .count) i j c line column side in
+      let a = address-in (g .text .count + 1) i j c (g .figures .count + 1) (omega arith) (omega arith) side in
+      let n = area-needed (g .text .count) (g .figures .count) in
       record {
         sized = ap length p ∙ stored-length w (address (g .text .count + 1) i j c) e;
         own =

@@ -13,7 +13,7 @@ use Rattle.blocks.specs.declared.heights.Heights.{Heights}
 use Rattle.blocks.specs.Heights.{noHeights, Addable, Stacked}
 use Rattle.blocks.specs.laws.Heights.{separation-most, Low, stacked-small}
 use Rattle.places.specs.Address.{wordsNeeded, Stands}
-use Rattle.places.specs.laws.Address.{address-in}
+use Rattle.places.specs.laws.Address.{address-in, area-needed}
 use Rattle.window.specs.declared.slide.Window.{Window}
 use Rattle.window.specs.declared.queue.Queue.{Queue}
 use Rattle.window.specs.Slide.{Reachable, Slidable, Ends}
@@ -39,7 +39,9 @@ pub stands-in : (g : Galley) (w : List ℕ) (i b side : ℕ) → g .text .count 
 stands-in g w i b side few h k narrow l room =
     record {
       inside = record { high = omega arith; row = omega arith; wide = narrow; either = l };
-      room = omega (arith, address-in (g .text .count) (g .figures .count) i b side h k l);
+      room =
+          omega (arith, address-in (g .text .count + 1) i b side (g .figures .count + 1) (omega arith) (omega arith) l,
+          area-needed (g .text .count) (g .figures .count));
     }
 
 -- What is lent for a column is the same while the length is.
