@@ -12,7 +12,7 @@ use Rattle.walk.specs.Trace.{lastSide}
 -- An entry of side c: its start is on the side of the page before.
 unfoldable pub shown : Sides → ℕ → Entry → graph.Entry ℕ State
 shown sides c Unreached = graph.unreached
-shown sides c (Least x s) = graph.least x (stop (place (s .line) (s .figure)) (before sides c))
+shown sides c (Least x s) = graph.least x (stop (place (s .line) (s .column)) (before sides c))
 
 -- The entry of the end, from that of a full place: the same cost, with the full place as its start.
 unfoldable pub finished : State → Entry → graph.Entry ℕ State

@@ -6,14 +6,14 @@ use lib.ListN.{set}
 use lib.Dec.{eqb, ltb}
 use Rattle.model.specs.Gather.{pick}
 use Rattle.model.specs.Galley.{Sides, single, double}
-use Rattle.places.specs.declared.Start.{Start}
+use Rattle.places.specs.declared.Place.{Place}
 use Rattle.places.specs.declared.Entry.{Entry}
 use Rattle.places.specs.declared.Entry.the-variants.{Unreached, Least}
 use Rattle.starts.specs.Search.{Table, before}
 
 -- The start that an entry holds.
-unfoldable pub startOf : Entry → Start
-startOf Unreached = record { line = 0; figure = 0 }
+unfoldable pub startOf : Entry → Place
+startOf Unreached = record { line = 0; column = 0 }
 startOf (Least x s) = s
 
 -- The first entry is strictly less dear than the second; an unreached one is not.
@@ -39,12 +39,12 @@ unfoldable pub countBack : Sides → Table → ℕ → ℕ → ℕ → ℕ → �
 countBack sides t zero i j c p = p
 countBack sides t (suc most) i j c p =
     let s = startOf (t i j c) in
-    let after = countBack sides t most (s .line) (s .figure) (before sides c) (p + 1) in
+    let after = countBack sides t most (s .line) (s .column) (before sides c) (p + 1) in
     pick (eqb (i + j) 0) p after
 
 -- The page list with the last r pages before (i, j) on side c written, from page r back to page 1.
 unfoldable pub writeBack : Sides → Table → ℕ → ℕ → ℕ → ℕ → List ℕ → List ℕ
 writeBack sides t zero i j c ws = ws
 writeBack sides t (suc r) i j c ws =
-    writeBack sides t r ((startOf (t i j c)) .line) ((startOf (t i j c)) .figure) (before sides c)
+    writeBack sides t r ((startOf (t i j c)) .line) ((startOf (t i j c)) .column) (before sides c)
     (set (set ws (2 * r) i) (2 * r + 1) j)

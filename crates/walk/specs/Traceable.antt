@@ -5,7 +5,7 @@ use mathlib.Core.Bool.{Bool, true, false}
 use mathlib.Core.List.{List}
 use lib.ListN.{length}
 use Rattle.galley.specs.declared.Galley.{Galley}
-use Rattle.places.specs.declared.Start.{Start}
+use Rattle.places.specs.declared.Place.{Place}
 use Rattle.places.specs.declared.Entry.{Entry}
 use Rattle.places.specs.declared.Entry.the-variants.{Unreached, Least}
 use Rattle.places.specs.Address.{wordsNeeded}
@@ -17,7 +17,7 @@ use Rattle.galley.specs.Model.{sidesIn}
 
 -- The table that the work area of a galley holds: one row more than there are lines.
 abbrev pub tableIn : Galley → List ℕ → Table
-tableIn g w = tableOf (suc (g .text .count)) w
+tableIn g w = tableIn g w
 
 -- An entry says that its place is reached.
 abbrev pub isReached : Entry → Bool
@@ -33,14 +33,14 @@ pub record WorkArea (g : Galley) (w : List ℕ) : Type 0 where
 -- A place of the galley, on one of its two sides.
 pub record SidedPlace (g : Galley) (i j c : ℕ) : Type 0 where
   pub line : i ≤ g .text .count
-  pub figure : j ≤ g .figures .count
+  pub column : j ≤ g .figures .count
   pub side : c ≤ 1
 
 -- Every entry is one that filling enters.
 pub record Traceable (g : Galley) (w : List ℕ) : Type 0 where
   pub lent : WorkArea g w
   pub entered :
-      (a b c x : ℕ) (s : Start) → a ≤ g .text .count → b ≤ g .figures .count → Side (sidesIn g) c → tableIn g w a b c ≡ Least x s → Entered
+      (a b c x : ℕ) (s : Place) → a ≤ g .text .count → b ≤ g .figures .count → Side (sidesIn g) c → tableIn g w a b c ≡ Least x s → Entered
       a b x s
 
 -- A walk over such a table may start on side c.
@@ -56,7 +56,7 @@ pub record Writable (g : Galley) (w : List ℕ) (c p : ℕ) (ws : List ℕ) : Ty
 -- The walk is at place (i, j) on side c, within the galley.
 pub record Visits (g : Galley) (i j c : ℕ) : Type 0 where
   pub line : i ≤ g .text .count
-  pub figure : j ≤ g .figures .count
+  pub column : j ≤ g .figures .count
   pub side : Side (sidesIn g) c
 
 -- The count back from the full place on side `from` has come to (i, j) on side c with p pages.

@@ -17,7 +17,7 @@ use Rattle.theorems.specs.optimality.Theorem.{step-back, trace-length}
 use Rattle.theorems.specs.pages.Graph.{State, stop, end, beginning, Within, pageGraph, pagesTo, pagesOn}
 use Rattle.theorems.specs.pages.Laws.{page-laws, page-domain, blocksAt}
 use Rattle.theorems.specs.pages.Best.{table-none, table-best}
-use Rattle.places.specs.declared.Start.{Start}
+use Rattle.places.specs.declared.Place.{Place as Start}
 use Rattle.places.specs.declared.Entry.the-variants.{Unreached, Least}
 use Rattle.starts.specs.Search.{place, Table, before}
 use Rattle.walk.specs.Trace.{startOf, countBack, writeBack}
@@ -43,9 +43,9 @@ module _ (g : Galley) (one : g .floats ≡ 1) (t : Table) (right : AllRight g t)
     pub start : Start
     pub entry : t i j c ≡ Least cost start
     pub some : 0 < i + j
-    pub from : u ≡ stop (place (start .line) (start .figure)) (before (g .spec .sides) c)
-    pub within : Within g (beginning g) (stop (place (start .line) (start .figure)) (before (g .spec .sides) c))
-    pub trace : Trace (pageGraph g (beginning g)) (tableAt g t) us (stop (place (start .line) (start .figure)) (before (g .spec .sides) c))
+    pub from : u ≡ stop (place (start .line) (start .column)) (before (g .spec .sides) c)
+    pub within : Within g (beginning g) (stop (place (start .line) (start .column)) (before (g .spec .sides) c))
+    pub trace : Trace (pageGraph g (beginning g)) (tableAt g t) us (stop (place (start .line) (start .column)) (before (g .spec .sides) c))
 
   back-one :
       (u : State) (us : List State) (i j c : ℕ) → Within g (beginning g) (stop (place i j) c)
@@ -84,7 +84,7 @@ module _ (g : Galley) (one : g .floats ≡ 1) (t : Table) (right : AllRight g t)
   trace-count (u ∷ us) i j c zero p w r h = absurd (omega arith)
   trace-count (u ∷ us) i j c (suc most) p w r h =
       let b = back-one u us i j c w r in
-      let further = trace-count us (b .start .line) (b .start .figure) (before (g .spec .sides) c) most (p + 1) (b .within) (b .trace) (omega arith) in
+      let further = trace-count us (b .start .line) (b .start .column) (before (g .spec .sides) c) most (p + 1) (b .within) (b .trace) (omega arith) in
       rw (ne-eqb (i + j) 0 (omega (arith, b .some)), b .entry) (omega arith)
 
   -- It meets a start for each page,
@@ -96,7 +96,7 @@ module _ (g : Galley) (one : g .floats ≡ 1) (t : Table) (right : AllRight g t)
   trace-pages [] i j c after w r = omega arith
   trace-pages (u ∷ us) i j c after w r =
       let b = back-one u us i j c w r in
-      let further = trace-pages us (b .start .line) (b .start .figure) (before (g .spec .sides) c) (place i j ∷ after) (b .within) (b .trace) in
+      let further = trace-pages us (b .start .line) (b .start .column) (before (g .spec .sides) c) (place i j ∷ after) (b .within) (b .trace) in
       rw (b .from) (omega arith)
 
   -- and writes each page where its number says, before the pages that are there.
@@ -113,9 +113,9 @@ module _ (g : Galley) (one : g .floats ≡ 1) (t : Table) (right : AllRight g t)
       let ws′ = set (set ws (2 * length us) i) (2 * length us + 1) j in
       let long : length ws′ ≡ length ws = simp length-set in
       let pair = drop-pair (2 * length us) i j ws (omega arith) in
-      let further = trace-words us (b .start .line) (b .start .figure) (before (g .spec .sides) c) (place i j ∷ after) ws′ rest
+      let further = trace-words us (b .start .line) (b .start .column) (before (g .spec .sides) c) (place i j ∷ after) ws′ rest
       (b .within) (b .trace) (omega arith) (pair ∙ rw k (ap (λ l. i ∷ j ∷ l) e)) in
-      ap (λ e. writeBack (g .spec .sides) t (length us) (startOf e .line) (startOf e .figure) (before (g .spec .sides) c) ws′) (b .entry)
+      ap (λ e. writeBack (g .spec .sides) t (length us) (startOf e .line) (startOf e .column) (before (g .spec .sides) c) ws′) (b .entry)
       ∙ further
       ∙ ap (λ s. wordsOf (pagesTo us s (place i j ∷ after)) ++ rest) (sym (b .from))
 

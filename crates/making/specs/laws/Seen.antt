@@ -12,7 +12,7 @@ use lib.Dec.{ltb, eqb}
 use borrow.Author.Tests.{eqb-true, eqb-false, ltb-true, lt-ltb, le-leb, lt-leb}
 use Rattle.model.specs.Gather.{pick}
 use Rattle.model.specs.Galley.{Sides, single, double, Galley, Place, count, sizes}
-use Rattle.model.specs.Order.{lex, geb}
+use Rattle.model.specs.Order.{lex, geb, oddly}
 use Rattle.model.specs.Rules.{closes, fits, fills, cited}
 use Rattle.model.specs.laws.Gather.{and-left, and-right, and-both, or-cases, or-left, or-right}
 use Rattle.model.specs.laws.Rules.{kept, kept-allowed, forward-at, forward-of}
@@ -22,10 +22,10 @@ use Rattle.theorems.specs.turns.Waiting.{pageCost}
 use Rattle.theorems.specs.optimality.Graph as graph
 use Rattle.theorems.specs.optimality.Cell.{Ahead, Offer, Seen, Cell}
 use Rattle.theorems.specs.optimality.Storing.{none-reached}
-use Rattle.theorems.specs.pages.Graph.{side, State, stop, end, full, beginning, Within, Step, price, Prefers, pageGraph}
+use Rattle.theorems.specs.pages.Graph.{State, stop, end, full, beginning, Within, Step, price, Prefers, pageGraph}
 use Rattle.theorems.specs.pages.Sides.{side-zero}
 use Rattle.theorems.specs.pages.Lists.{past-beginning}
-use Rattle.places.specs.declared.Start.{Start}
+use Rattle.places.specs.declared.Place.{Place as Start}
 use Rattle.places.specs.declared.Entry.{Entry}
 use Rattle.places.specs.declared.Entry.the-variants.{Unreached, Least}
 use Rattle.starts.specs.Search.{place, Table, before, Search, bestStart, priced, mayStop, entryOf}
@@ -55,15 +55,15 @@ later a b c d (inr (e, l)) = go (decLe d b)
     go (no m) = simp (le-leb a c (omega arith), le-leb c a (omega arith), le-leb b d l, lt-leb d b (omega arith))
 
 -- A page on side c follows one on the side before it, and no other.
-side-after : (sides : Sides) (c : ℕ) → Side sides c → c ≡ side sides (suc (before sides c))
-unfolding side before
+side-after : (sides : Sides) (c : ℕ) → Side sides c → c ≡ oddly sides (suc (before sides c))
+unfolding oddly before
 side-after single c h = sym h
-side-after (double f) c h = omega arith
+side-after double c h = omega arith
 
-side-only : (sides : Sides) (c e : ℕ) → side sides e ≡ e → c ≡ side sides (suc e) → e ≡ before sides c
-unfolding side before
+side-only : (sides : Sides) (c e : ℕ) → oddly sides e ≡ e → c ≡ oddly sides (suc e) → e ≡ before sides c
+unfolding oddly before
 side-only single c e h k = sym h
-side-only (double f) c e h k = omega arith
+side-only double c e h k = omega arith
 
 -- What is seen of a place (i, j) on side c, the end of a page.
 module _ (g : Galley) (two : g .floats ≡ 1) (t : Table) (i j c : ℕ) (inside : Inside (sizes g) (place i j))
@@ -166,7 +166,7 @@ module _ (g : Galley) (two : g .floats ≡ 1) (t : Table) (i j c : ℕ) (inside 
       let f = st .shape in
       record {
         line = st .low;
-        figure = st .left;
+        column = st .left;
         some = st .some;
         fitting = rw (← f) (st .fitting);
         filling = rw (← f) (st .filling);
@@ -181,13 +181,13 @@ module _ (g : Galley) (two : g .floats ≡ 1) (t : Table) (i j c : ℕ) (inside 
     offered Unreached best x u q = let z : _≡_ {A = ℕ} 0 1 = cc in absurd (omega arith)
     offered (Least y r) best x u q =
         let d = best .may y r refl in
-        let at : from (r .line) (r .figure) ≡ u = cc in
+        let at : from (r .line) (r .column) ≡ u = cc in
         let sum : y + cost ≡ x = cc in
         rw (← at, ← sum)
         (record {
-          may = page-from (r .line) (r .figure) (d .line) (d .figure) (d .some) may (d .fitting) (d .filling);
+          may = page-from (r .line) (r .column) (d .line) (d .column) (d .some) may (d .fitting) (d .filling);
           cost = y;
-          start = stop (place (d .start .line) (d .start .figure)) (before (g .spec .sides) (before (g .spec .sides) c));
+          start = stop (place (d .start .line) (d .start .column)) (before (g .spec .sides) (before (g .spec .sides) c));
           reached = ap (shown (g .spec .sides) (before (g .spec .sides) c)) (d .reached);
           price = refl;
         })
@@ -196,7 +196,7 @@ module _ (g : Galley) (two : g .floats ≡ 1) (t : Table) (i j c : ℕ) (inside 
     ahead : (e : Entry) (a b y : ℕ) → Leads e a b y → Ahead (pageGraph g (beginning g)) (now e) (graph.least (y + cost) (from a b))
     unfolding now priced shown Leads Ahead Prefers from
     ahead Unreached a b y l = absurd l
-    ahead (Least x r) a b y (l, f) = (omega arith, λ q. (later a b (r .line) (r .figure) (f (omega arith)), λ _. (le-refl _, λ _. le-refl _)))
+    ahead (Least x r) a b y (l, f) = (omega arith, λ q. (later a b (r .line) (r .column) (f (omega arith)), λ _. le-refl _))
 
     best-ahead : (e : Entry) → Best search Any e → (x : ℕ) (u : State) → Offer (pageGraph g (beginning g)) (tableAt g t) here x u
         → Ahead (pageGraph g (beginning g)) (now e) (graph.least x u)
@@ -212,7 +212,7 @@ module _ (g : Galley) (two : g .floats ≡ 1) (t : Table) (i j c : ℕ) (inside 
             let z : _≡_ {A = ℕ} 0 1 = cc in
             absurd (omega arith)
         go (Least y r) q =
-            let least : graph.least y (stop (place (r .line) (r .figure)) (before (g .spec .sides) d)) ≡ graph.least (o .cost) (o .start) =
+            let least : graph.least y (stop (place (r .line) (r .column)) (before (g .spec .sides) d)) ≡ graph.least (o .cost) (o .start) =
             sym (ap (shown (g .spec .sides) d) q) ∙ o .reached in
             let same : y ≡ o .cost = cc in
             let sum : y + cost ≡ x = rw same (sym (o .price)) in
@@ -275,7 +275,7 @@ module _ (g : Galley) (two : g .floats ≡ 1) (t : Table) (i j c : ℕ) (inside 
       go : (a : Bool) → eqb (i + j + c) 0 ≡ a → (b : Bool) → mayStop g i j c ≡ b
           → Cell (pageGraph g (beginning g)) (tableAt g t) (stop (place i j) c)
           (shown (g .spec .sides) c
-          (pick a (Least 0 (record { line = 0; figure = 0 })) (pick b (priced cost (bestStart search)) Unreached)))
+          (pick a (Least 0 (record { line = 0; column = 0 })) (pick b (priced cost (bestStart search)) Unreached)))
       go true e b m =
           let z = eqb-true (i + j + c) 0 e in
           let x : i ≡ 0 = omega arith in

@@ -15,7 +15,7 @@ use Rattle.theorems.specs.optimality.Cell.{Ahead, Offer, Cell, inner}
 use Rattle.theorems.specs.pages.Graph.{side, State, stop, end, beginning, Within, Step, Prefers, price, pageGraph}
 use Rattle.theorems.specs.pages.Laws.{page-laws}
 use Rattle.theorems.specs.pages.Lists.{past-beginning}
-use Rattle.places.specs.declared.Start.{Start}
+use Rattle.places.specs.declared.Place.{Place as Start}
 use Rattle.places.specs.declared.Entry.{Entry}
 use Rattle.places.specs.declared.Entry.the-variants.{Unreached, Least}
 use Rattle.starts.specs.Search.{place, Table, before}
@@ -45,7 +45,7 @@ placed-two g one i j = ap (λ k. total k (count (place i j))) one ∙ whole
 pub record Holds (sides : Sides) (c : ℕ) (e : Entry) (x : ℕ) (u : State) : Type 0 where
   pub start : Start
   pub entry : e ≡ Least x start
-  pub shows : u ≡ stop (place (start .line) (start .figure)) (before sides c)
+  pub shows : u ≡ stop (place (start .line) (start .column)) (before sides c)
 
 pub shown-least :
     (sides : Sides) (c : ℕ) (e : Entry) (x : ℕ) (u : State) → shown sides c e ≡ graph.least x u → Holds sides c e x u
@@ -177,7 +177,7 @@ module _ (g : Galley) (one : g .floats ≡ 1) where
             record {
               may = rw from finish;
               cost = c;
-              start = stop (place (s .line) (s .figure)) (before (g .spec .sides) last);
+              start = stop (place (s .line) (s .column)) (before (g .spec .sides) last);
               reached = ap (tableAt g t) from ∙ shown-full last ∙ ap (shown (g .spec .sides) last) h;
               price = omega arith;
             }

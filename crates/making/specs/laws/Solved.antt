@@ -50,7 +50,7 @@ length-write : (sides : Sides) (t : Table) (r i j c : ℕ) (ws : List ℕ) → l
 unfolding writeBack
 length-write sides t zero i j c ws = refl
 length-write sides t (suc r) i j c ws =
-    length-write sides t r ((startOf (t i j c)) .line) ((startOf (t i j c)) .figure) (before sides c) (set (set ws (2 * r) i) (2 * r + 1) j)
+    length-write sides t r ((startOf (t i j c)) .line) ((startOf (t i j c)) .column) (before sides c) (set (set ws (2 * r) i) (2 * r + 1) j)
     ∙ length-set (set ws (2 * r) i) (2 * r + 1) j ∙ length-set ws (2 * r) i
 
 -- The best list is valid.

@@ -15,7 +15,7 @@ entry-at-requires : tie.Need-entry-at-requires
 entry-at-requires c κs =
     let a = c .before .before .before .args in
     let p = c .before .before .before .pre .1 in
-    let within = address-in (a .g .text .count) (a .g .figures .count) (a .i) (a .j) (a .side) (p .line) (p .figure) (p .side) in
+    let within = address-in (a .g .text .count) (a .g .figures .count) (a .i) (a .j) (a .side) (p .line) (p .column) (p .side) in
     omega (arith, c .address-of .ensures)
 
 returns : tie.Need-returns
