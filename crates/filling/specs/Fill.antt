@@ -33,7 +33,7 @@ fillSides g from i q (suc c) w = fillSide g from i q c (fillSides g from i q c w
 -- How many sides occur.
 unfoldable pub sideCount : Sides → ℕ
 sideCount single = 1
-sideCount double = 2
+sideCount (double f) = 2
 
 -- The sides of a place that occur.
 unfoldable pub fillPlace : Galley → Origin → ℕ → ℕ → Words → Words

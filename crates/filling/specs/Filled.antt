@@ -3,7 +3,7 @@ use Prim.Native.Nat.{ℕ, _+_, _*_, _≤_, _<_}
 use mathlib.Core.Path.{_≡_}
 use lib.ListN.{length}
 use Rattle.model.specs.Galley.{Sides, Galley}
-use Rattle.model.specs.Order.{oddly}
+use Rattle.theorems.specs.pages.Graph.{side}
 use Rattle.model.specs.laws.Rules.{placed}
 use Rattle.model.specs.laws.Lists.{Inside}
 use Rattle.places.specs.declared.Place.{Place}
@@ -21,7 +21,7 @@ pub record Roomy (g : Galley) (w : Words) : Type 0 where
 
 -- c is a side that occurs: 0, or 0 and 1 in double-sided work.
 abbrev pub Side : Sides → ℕ → Type 0
-Side sides c = oddly sides c ≡ c
+Side sides c = side sides c ≡ c
 
 -- The blocks placed at a line and a column.
 abbrev pub placedAt : Galley → ℕ → ℕ → ℕ

@@ -4,9 +4,8 @@ use mathlib.Core.Bool.{Bool, _&&_}
 use mathlib.Core.List.{List}
 use lib.Dec.{eqb}
 use Rattle.model.specs.Gather.{pick}
-use Rattle.model.specs.Leaf.{sidesOf}
 use Rattle.galley.specs.declared.Galley.{Galley}
-use Rattle.galley.specs.Model.{modelOf}
+use Rattle.galley.specs.Model.{modelOf, sidesIn}
 use Rattle.galley.specs.Sound.{Sound}
 use Rattle.blocks.specs.declared.heights.Heights.{Heights}
 use Rattle.blocks.specs.Heights.{separation}
@@ -20,7 +19,7 @@ tableIn g w = tableOf (g .text .count + 1) w
 
 -- The side of the page before one on side c.
 abbrev pub sideOf : Galley → ℕ → ℕ
-sideOf g c = before (sidesOf (g .spec .sides)) c
+sideOf g c = before (sidesIn g) c
 
 -- The search for a page of the galley that ends at line i and column j, in the table that the work area holds.
 abbrev pub searchOf : List ℕ → Galley → List ℕ → ℕ → ℕ → ℕ → Search

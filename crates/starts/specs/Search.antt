@@ -4,10 +4,9 @@ use mathlib.Core.Bool.{Bool, _&&_}
 use lib.Dec.{eqb}
 use Rattle.model.specs.Gather.{pick}
 use Rattle.model.specs.Galley.{Sides, single, double, Galley}
-use Rattle.model.specs.Order.{oddly}
+use Rattle.theorems.specs.pages.Graph.{side, full}
 use Rattle.model.specs.Rules.{forward, closes, fits, fills, cited}
 use Rattle.theorems.specs.turns.Waiting.{pageCost}
-use Rattle.theorems.specs.pages.Graph.{full}
 use Rattle.places.specs.declared.Origin.{Origin}
 use Rattle.places.specs.declared.Entry.{Entry}
 use Rattle.places.specs.declared.Entry.the-variants.{Unreached, Least}
@@ -21,7 +20,7 @@ Table = ℕ → ℕ → ℕ → Entry
 -- The side of the page before one on side c.
 unfoldable pub before : Sides → ℕ → ℕ
 before single c = 0
-before double c = 1 - c
+before (double f) c = 1 - c
 
 -- What one search is for: the galley, its table, the line and column where the page ends, and the side of the page before.
 pub record Search : Type 0 where
@@ -69,7 +68,7 @@ mayStop g i q c = let v = placeAt g i q in closes g v && cited g c (full g v) v
 -- The search begins at a place on side c: at the origin's place, on the side of the page that ends there.
 unfoldable pub begins : Galley → Origin → ℕ → ℕ → ℕ → Bool
 begins g from i q c =
-    eqb i (from .place .line) && (eqb q (from .place .column) && eqb c (oddly (g .spec .sides) (from .pages)))
+    eqb i (from .place .line) && (eqb q (from .place .column) && eqb c (side (g .spec .sides) (from .pages)))
 
 -- The entry that a place gets on side c, from the entries of the places before it: where the search begins, what was paid there;
 -- else the best start with the price of the page.

@@ -9,7 +9,7 @@ use borrow.Author.Tests.{eqb-true}
 use Rattle.model.specs.Gather.{pick}
 use Rattle.model.specs.Galley.{Sides, single, double, Galley} 
 use Rattle.model.specs.Galley as model
-use Rattle.model.specs.Order.{oddly}
+use Rattle.theorems.specs.pages.Graph.{side}
 use Rattle.model.specs.laws.Gather.{and-left, and-right}
 use Rattle.model.specs.laws.Rules.{placed-grows}
 use Rattle.model.specs.laws.Lists.{Inside}
@@ -32,35 +32,35 @@ use Rattle.filling.specs.Filled.{Side, placedAt, Entered, Filled}
 
 -- Sides that occur are 0 and 1, and those below their number; the side before one that occurs occurs.
 pub side-low : (sides : Sides) (c : ℕ) → Side sides c → c ≤ 1
-unfolding oddly
+unfolding side
 side-low single c h = omega arith
-side-low double c h = omega arith
+side-low (double f) c h = omega arith
 
 pub side-below : (sides : Sides) (c : ℕ) → Side sides c → c < sideCount sides
-unfolding oddly sideCount
+unfolding side sideCount
 side-below single c h = omega arith
-side-below double c h = omega arith
+side-below (double f) c h = omega arith
 
 pub below-side : (sides : Sides) (c : ℕ) → c < sideCount sides → Side sides c
-unfolding oddly sideCount
+unfolding side sideCount
 below-side single c h = omega arith
-below-side double c h = omega arith
+below-side (double f) c h = omega arith
 
 pub count-low : (sides : Sides) → sideCount sides ≤ 2
 unfolding sideCount
 count-low single = omega arith
-count-low double = omega arith
+count-low (double f) = omega arith
 
 -- The page before is on side 0 or 1.
 pub before-low : (sides : Sides) (c : ℕ) → before sides c ≤ 1
 unfolding before
 before-low single c = omega arith
-before-low double c = omega arith
+before-low (double f) c = omega arith
 
 pub side-before : (sides : Sides) (c : ℕ) → Side sides c → Side sides (before sides c)
-unfolding oddly before
+unfolding side before
 side-before single c h = refl
-side-before double c h = omega arith
+side-before (double f) c h = omega arith
 
 -- No count below another's is below that of a third.
 inside-trans : {u v w : model.Place} → Inside v w → Inside u v → Inside u w
@@ -133,7 +133,7 @@ module _ (g : Galley) (light : dearest g ≤ 201000) (from : Origin) (t : Table)
     where
       here : begins g from i q c ≡ true → (i ≡ from .place .line) × (q ≡ from .place .column)
       here t =
-          let rest = eqb q (from .place .column) && eqb c (oddly (g .spec .sides) (from .pages)) in
+          let rest = eqb q (from .place .column) && eqb c (side (g .spec .sides) (from .pages)) in
           (eqb-true i (from .place .line) (and-left (eqb i (from .place .line)) rest t),
           eqb-true q (from .place .column) (and-left (eqb q (from .place .column)) _ (and-right (eqb i (from .place .line)) rest t)))
 

@@ -6,9 +6,8 @@ use mathlib.Core.Bool.{Bool}
 use mathlib.Core.List.{List}
 use lib.ListN.{length}
 use Rattle.model.specs.Galley.{Sides, single, double}
-use Rattle.model.specs.Leaf.{sidesOf}
 use Rattle.galley.specs.declared.Galley.{Galley}
-use Rattle.galley.specs.Model.{textOf, floatsOf}
+use Rattle.galley.specs.Model.{textOf, floatsOf, sidesIn}
 use Rattle.blocks.specs.declared.heights.Heights.{Heights}
 use Rattle.blocks.specs.Heights.{noHeights, Addable, Stacked}
 use Rattle.blocks.specs.laws.Heights.{separation-most, Low, stacked-small}
@@ -26,11 +25,11 @@ use Rattle.starts.specs.Sweep.{Lent, Scratch, Summed}
 -- The page before is on side 0 or 1.
 pub side-either : (g : Galley) (c : ℕ) → sideOf g c ≤ 1
 unfolding before
-side-either g c = go (sidesOf (g .spec .sides))
+side-either g c = go (sidesIn g)
   where
     go : (sides : Sides) → before sides c ≤ 1
     go single = omega arith
-    go double = omega arith
+    go (double f) = omega arith
 
 -- A place of a galley within the limits stands in a work area that is long enough.
 pub stands-in : (g : Galley) (w : List ℕ) (i b side : ℕ) → g .text .count ≤ 4000 → i ≤ g .text .count → b ≤ g .figures .count → b ≤ 200
