@@ -45,6 +45,7 @@ pub record Sound (bytes : List ℕ) (g : Galley) : Type 0 where
   pub specRead : recordAt bytes 0 ≡ found.Spec (g .spec)
   pub someFolio : 1 ≤ g .folio
   pub fewFolios : g .folio ≤ 9999
+  pub lastmins : g .lastmin ≤ g .spec .htmax
   pub text : SoundStream bytes (g .text)
   pub textRead : Reads bytes (g .text) (λ at. found.Line (lineOf bytes at))
   pub legals : (k : ℕ) → 1 ≤ k → k ≤ g .text .count → fieldOf bytes (g .text) legalAt k ≤ 1

@@ -1,9 +1,10 @@
 -- What a page from one column to another has beside its lines, for any number of float streams.
 use Prim.Native.Nat.{ℕ, pred, _+_, _*_, _≤_, _<_}
 use mathlib.Core.Path.{_≡_}
-use Rattle.model.specs.Gather.{pick, one, sum}
-use Rattle.model.specs.Galley.{Stream, Galley, Place, count}
+use Rattle.model.specs.Gather.{one, sum}
+use Rattle.model.specs.Galley.{Stream, Galley, count}
 use Rattle.model.specs.Height.{has, stacked}
+use Rattle.model.specs.Rules.{floor}
 use Rattle.model.specs.laws.Lists.{Inside}
 use Rattle.theorems.specs.pages.Graph.{full}
 use Rattle.places.specs.Columns.{columns, floatSizes, floatsAt, placeAt}
@@ -31,15 +32,11 @@ beside g gap separation b q = floatsHigh g gap b q + floatKinds g b q * separati
 unfoldable pub alone : Galley → (Stream → ℕ → ℕ) → ℕ → ℕ → ℕ → ℕ
 alone g gap separation b q = floatsHigh g gap b q + pred (floatKinds g b q) * separation
 
--- The least height that rule 16 asks of a page that ends at a place: none of the last one (document 01, rule 16).
-unfoldable pub floor : Galley → Place → ℕ
-floor g v = pick (full g v) 0 (g .spec .htmin)
-
 -- The load of pages with lines that start in column b and end where the search looks.
 pub record Bears (s : Search) (b : ℕ) (load : Load) : Type 0 where
   pub tight : load .tight ≡ beside (s .galley) (λ st. st .least) (s .galley .spec .smin) b (s .column)
   pub loose : load .loose ≡ beside (s .galley) (λ st. st .most) (s .galley .spec .smax) b (s .column)
-  pub htmin : load .htmin ≡ floor (s .galley) (placeAt (s .galley) (s .line) (s .column))
+  pub htmin : load .htmin ≡ (let v = placeAt (s .galley) (s .line) (s .column) in floor (s .galley) (full (s .galley) v))
   pub htmax : load .htmax ≡ s .galley .spec .htmax
 
 -- The search's place is one of the galley.

@@ -3,7 +3,6 @@ use Prim.Native.Nat.{ℕ, _+_, _≤_}
 use mathlib.Core.Bool.{Bool, _&&_}
 use mathlib.Core.List.{List}
 use lib.Dec.{eqb}
-use Rattle.model.specs.Gather.{pick}
 use Rattle.galley.specs.declared.Galley.{Galley}
 use Rattle.galley.specs.Model.{modelOf, sidesIn}
 use Rattle.galley.specs.Sound.{Sound}
@@ -29,10 +28,6 @@ searchOf bytes g w i j side =
 -- Every block is placed at (i, j).
 abbrev pub allPlaced : Galley → ℕ → ℕ → Bool
 allPlaced g i j = eqb i (g .text .count) && eqb j (g .figures .count)
-
--- The least height of a page: none is asked of the last one (document 01, rule 16).
-abbrev pub leastOf : Galley → Bool → ℕ
-leastOf g last = pick last 0 (g .spec .htmin)
 
 -- What a page of lines and these floats has beside its lines, and the heights that it must keep to: the separation where it has
 -- both kinds, and a least height.

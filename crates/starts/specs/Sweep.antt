@@ -24,7 +24,7 @@ use Rattle.window.specs.Queue.{linesOf, Lines}
 use Rattle.starts.specs.declared.sweep.Pass.{Pass}
 use Rattle.starts.specs.Better.{chosen, startAt, taken}
 use Rattle.starts.specs.Choice.{Starts, Between}
-use Rattle.starts.specs.Read.{tableIn, sideOf, searchOf, leastOf, loadOf}
+use Rattle.starts.specs.Read.{tableIn, sideOf, searchOf, loadOf}
 
 -- A column of a galley that was read, in a work area that is long enough.
 pub record Lent (bytes : List ℕ) (g : Galley) (w : List ℕ) (j : ℕ) : Type 0 where

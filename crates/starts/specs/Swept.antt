@@ -5,8 +5,9 @@ use mathlib.Core.Logic.{_⊎_}
 use mathlib.Core.Bool.{false}
 use mathlib.Core.List.{List}
 use lib.ListN.{length}
+use Rattle.model.specs.Rules.{floor}
 use Rattle.galley.specs.declared.Galley.{Galley}
-use Rattle.galley.specs.Model.{textOf, floatsOf}
+use Rattle.galley.specs.Model.{textOf, floatsOf, modelOf}
 use Rattle.blocks.specs.declared.heights.Heights.{Heights}
 use Rattle.blocks.specs.Heights.{Stacked}
 use Rattle.window.specs.declared.slide.Window.{Window}
@@ -15,7 +16,7 @@ use Rattle.window.specs.Slide.{Ends}
 use Rattle.window.specs.Queue.{linesOf, Held}
 use Rattle.window.specs.Windows.{Kept}
 use Rattle.starts.specs.declared.sweep.Pass.{Pass}
-use Rattle.starts.specs.Read.{sideOf, leastOf}
+use Rattle.starts.specs.Read.{sideOf}
 use Rattle.starts.specs.Sweep.{Lent, Scratch, Summed, passLoad, Passing, Known, number, Swept, Scratched, sweepEnd}
 
 -- A column that no start is known of: the starts in the columns before it are to be known.
@@ -46,7 +47,7 @@ pub record Sweep (bytes : List ℕ) (g : Galley) (w sums words : List ℕ) (pass
   pub summed : Summed bytes g sums
   pub scratch : Scratch words
   pub passing : Passing bytes g pass
-  pub least : pass .least ≡ leastOf g false
+  pub least : pass .least ≡ floor (modelOf bytes g) false
   pub known : Known bytes g w (pass .to) (suc (pass .from))
 
 -- The windows of the pass are kept for the lines of P.
@@ -77,7 +78,7 @@ pub record SideSweep (bytes : List ℕ) (g : Galley) (w sums words : List ℕ) (
   pub summed : Summed bytes g sums
   pub scratch : Scratch words
   pub passing : Passing bytes g pass
-  pub least : pass .least ≡ leastOf g false
+  pub least : pass .least ≡ floor (modelOf bytes g) false
   pub occurs : c < g .spec .sides
   pub windows : 0 < c → Windowed bytes g words pass (Taken g pass)
   pub swept : Swept bytes g w (pass .to) (pass .from) (number c 0)

@@ -2,7 +2,7 @@
 ghost use mathlib.Core.Path.{_≡_};
 ghost use Prim.Native.Nat.{_≤_};
 ghost use Rattle.blocks.specs.Heights.{noHeights, Addable};
-ghost use Rattle.starts.specs.Read.{sideOf, allPlaced, leastOf, loadOf};
+ghost use Rattle.starts.specs.Read.{sideOf, allPlaced, loadOf};
 use blocks::heights::Heights;
 use galley::Galley;
 use window::slide::Load;
@@ -23,16 +23,6 @@ pub fn is_full(g: Galley, i: usize, j: usize) -> bool
     ensures { λ r. ⌜ r ≡ allPlaced g i j ⌝ }
 {
     (i == g.text.count) & (j == g.figures.count)
-}
-
-// The least height of a page: none is asked of the last one.
-pub fn least_of(g: Galley, last: bool) -> u32
-    ensures { λ r. ⌜ r ≡ leastOf g last ⌝ }
-{
-    if last {
-        return 0;
-    }
-    g.spec.htmin
 }
 
 // What a page of lines and these floats has beside its lines, and the heights that it must keep to.

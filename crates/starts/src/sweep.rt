@@ -114,7 +114,7 @@ fn last_line(s: &[u8], g: Galley, work: &mut [u32], sums: &[u32], c: usize, pass
         from: pass.from,
         to: pass.to,
         heights,
-        least: crate::read::least_of(g, true),
+        least: rules::rules::floor_of(g, true),
     };
     let load = crate::read::load_of(g, true, heights, last.least);
     let side = crate::read::side_before(g, c);
@@ -174,7 +174,7 @@ pub fn sweep_column(
     ensures { λ _. ⌜ ColumnSwept (now (s .entry)) g (now (work .entry)) (now (work .exit)) j ⌝ }
 {
     clear_column(g, work, j);
-    let least = crate::read::least_of(g, false);
+    let least = rules::rules::floor_of(g, false);
     let mut heights = Heights { tight: 0, loose: 0 };
     let mut b = j;
     while 0 < b {

@@ -176,6 +176,7 @@ sofar-end bytes spec first lines figures last read so p =
       specRead = read;
       someFolio = omega arith;
       fewFolios = omega arith;
+      lastmins = omega arith;
       text = record { within = omega arith; ranged = λ k one h. line k one h .block };
       textRead = so .textRead;
       legals = λ k one h. line k one h .legals;

@@ -98,7 +98,7 @@ module _ {bytes : List ℕ} {g : Galley} {w : List ℕ} {j : ℕ} (lent : Lent b
     where
       from : (space beside limit a : ℕ) → space ≤ 1 → beside ≤ 1000000000 → limit ≤ 1000000001 → a ≤ i
           → Reachable sums space beside limit a i
-      from space beside limit a either lightly limited start =
+      from space beside limit a either added limited start =
           record {
             start = start;
             either = either;
@@ -106,7 +106,7 @@ module _ {bytes : List ℕ} {g : Galley} {w : List ℕ} {j : ℕ} (lent : Lent b
             small = λ k l.
                 sums-small bytes (g .text) (lent .sound .text) (lent .sound .fewLines) sums (summed .rows) space either k
                 (omega arith);
-            lightly = lightly;
+            added = added;
             limited = limited;
           }
 

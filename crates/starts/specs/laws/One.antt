@@ -10,6 +10,7 @@ use borrow.Author.Tests.{lt-ltb}
 use Rattle.model.specs.Gather.{one, sum, row}
 use Rattle.model.specs.Galley.{Stream, count}
 use Rattle.model.specs.Height.{has, stacked}
+use Rattle.model.specs.Rules.{floor}
 use Rattle.theorems.specs.pages.Graph.{full}
 use Rattle.galley.specs.declared.Galley.{Galley}
 use Rattle.galley.specs.Model.{floatsOf, modelOf}
@@ -18,8 +19,8 @@ use Rattle.blocks.specs.Heights.{separation, Stacked}
 use Rattle.rules.specs.laws.Two.{full-two}
 use Rattle.places.specs.Columns.{columns, floatsAt, floatSizes, placeAt}
 use Rattle.places.specs.laws.Columns.{inside-cons, inside-all}
-use Rattle.starts.specs.Beside.{Under, floatsHigh, floatKinds, beside, alone, floor, Bears, Sought}
-use Rattle.starts.specs.Read.{searchOf, allPlaced, leastOf, loadOf, Placed}
+use Rattle.starts.specs.Beside.{Under, floatsHigh, floatKinds, beside, alone, Bears, Sought}
+use Rattle.starts.specs.Read.{searchOf, allPlaced, loadOf, Placed}
 
 -- A separation for one kind, or none.
 kinds-separation : (t : Bool) (s : ℕ) → one t * s ≡ separation t s
@@ -50,11 +51,6 @@ module _ (bytes : List ℕ) (g : Galley) where
   unfolding full
   full-one i j = rw (place-one i j) (full-two bytes g i j)
 
-  -- The least height of a page.
-  pub floor-one : (i j : ℕ) → floor (modelOf bytes g) (placeAt (modelOf bytes g) i j) ≡ leastOf g (allPlaced g i j)
-  unfolding floor
-  floor-one i j = rw (full-one i j)
-
   -- A place of the galley can be searched for.
   pub sought-one : (w : List ℕ) (i j side : ℕ) → Placed bytes g i j → Sought (searchOf bytes g w i j side)
   sought-one w i j side placed = record { high = placed .line; wide = omega (arith, placed .column, columns-one) }
@@ -70,7 +66,7 @@ module _ (bytes : List ℕ) (g : Galley) where
 
   -- What figures of known heights add to lines, and what they are alone.
   module _ (b q : ℕ) (figures : Heights) (floats : Stacked (floatsOf bytes (g .figures)) b q figures) where
-    pub bears-one : (w : List ℕ) (i side : ℕ) (mixed : Bool) → ltb b q ≡ mixed → (least : ℕ) → least ≡ leastOf g (allPlaced g i q)
+    pub bears-one : (w : List ℕ) (i side : ℕ) (mixed : Bool) → ltb b q ≡ mixed → (least : ℕ) → least ≡ floor (modelOf bytes g) (allPlaced g i q)
         → Bears (searchOf bytes g w i q side) b (loadOf g mixed figures least)
     unfolding beside
     bears-one w i side mixed t least l =
@@ -80,7 +76,7 @@ module _ (bytes : List ℕ) (g : Galley) where
         record {
           tight = rw (k, x, kinds-separation mixed (g .spec .smin)) (omega (arith, floats .tight));
           loose = rw (k, y, kinds-separation mixed (g .spec .smax)) (omega (arith, floats .loose));
-          htmin = l ∙ sym (floor-one i q);
+          htmin = l ∙ ap (floor (modelOf bytes g)) (sym (full-one i q));
           htmax = refl;
         }
 

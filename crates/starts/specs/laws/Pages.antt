@@ -3,15 +3,14 @@ use Prim.Native.Nat.{ℕ, _+_, _≤_, _<_}
 use native.Mathlib.Nat.{le-refl}
 use native.Mathlib.Decide.{decLt}
 use native.Mathlib.Omega.{arith}
-use mathlib.Core.Path.{_≡_, refl, sym}
+use mathlib.Core.Path.{_≡_}
 use mathlib.Core.Logic.{inl, inr, _↔_}
-use mathlib.Core.Bool.{Bool, true, false, _&&_, _||_}
+use mathlib.Core.Bool.{true, _&&_}
 use lib.Dec.{leb}
 use borrow.Author.Tests.{leb-true, le-leb}
-use Rattle.model.specs.Gather.{pick}
 use Rattle.model.specs.Galley.{Galley, Place, count}
 use Rattle.model.specs.Height.{stacked, tightest, loosest}
-use Rattle.model.specs.Rules.{forward, fits, fills}
+use Rattle.model.specs.Rules.{forward, fits, floor, fills}
 use Rattle.model.specs.laws.Gather.{and-left, and-right, and-both}
 use Rattle.model.specs.laws.Lists.{Inside}
 use Rattle.theorems.specs.pages.Graph.{full}
@@ -21,39 +20,30 @@ use Rattle.places.specs.laws.Columns.{inside-cons}
 use Rattle.places.specs.laws.Places.{place-inside, forward-earlier, line-at, column-at}
 use Rattle.starts.specs.Search.{Search, goes}
 use Rattle.starts.specs.Choice.{Candidate}
-use Rattle.starts.specs.Beside.{Under, beside, alone, floor, Sought}
+use Rattle.starts.specs.Beside.{Under, beside, alone, Sought}
 use Rattle.starts.specs.laws.Heights.{height-lines, height-alone, forward-under, under-forward, fits-later}
 
 -- The page's heights keep to the specification.
 pub record Keeps (g : Galley) (v : Place) (tight loose : ℕ) : Type 0 where
   pub short : tight ≤ g .spec .htmax
-  pub enough : floor g v ≤ loose
-
--- Rule 16 is one inequality.
-fills-floor : (g : Galley) (u v : Place) → fills g (full g v) u v ≡ leb (floor g v) (loosest g u v)
-unfolding fills floor
-fills-floor g u v = go (full g v)
-  where
-    go : (x : Bool) → (x || leb (g .spec .htmin) (loosest g u v)) ≡ leb (pick x 0 (g .spec .htmin)) (loosest g u v)
-    go true = sym (le-leb 0 (loosest g u v) (omega arith))
-    go false = refl
+  pub enough : floor g (full g v) ≤ loose
 
 -- The heights of a page that goes forward decide whether it is one.
 kept-heights : (g : Galley) (u v : Place) (tight loose : ℕ) → tightest g u v ≡ tight → loosest g u v ≡ loose → forward g u v ≡ true
     → ((forward g u v && (fits g u v && fills g (full g v) u v)) ≡ true) ↔ Keeps g v tight loose
-unfolding fits
-kept-heights g u v tight loose t l f = rw (fills-floor g u v, t, l) (out, into)
+unfolding fits fills
+kept-heights g u v tight loose t l f = rw (t, l) (out, into)
   where
-    out : (forward g u v && (leb tight (g .spec .htmax) && leb (floor g v) loose)) ≡ true → Keeps g v tight loose
+    out : (forward g u v && (leb tight (g .spec .htmax) && leb (floor g (full g v)) loose)) ≡ true → Keeps g v tight loose
     out h =
-        let both = and-right (forward g u v) (leb tight (g .spec .htmax) && leb (floor g v) loose) h in
+        let both = and-right (forward g u v) (leb tight (g .spec .htmax) && leb (floor g (full g v)) loose) h in
         record {
-          short = leb-true tight (g .spec .htmax) (and-left (leb tight (g .spec .htmax)) (leb (floor g v) loose) both);
-          enough = leb-true (floor g v) loose (and-right (leb tight (g .spec .htmax)) (leb (floor g v) loose) both);
+          short = leb-true tight (g .spec .htmax) (and-left (leb tight (g .spec .htmax)) (leb (floor g (full g v)) loose) both);
+          enough = leb-true (floor g (full g v)) loose (and-right (leb tight (g .spec .htmax)) (leb (floor g (full g v)) loose) both);
         }
 
-    into : Keeps g v tight loose → (forward g u v && (leb tight (g .spec .htmax) && leb (floor g v) loose)) ≡ true
-    into k = and-both f (and-both (le-leb tight (g .spec .htmax) (k .short)) (le-leb (floor g v) loose (k .enough)))
+    into : Keeps g v tight loose → (forward g u v && (leb tight (g .spec .htmax) && leb (floor g (full g v)) loose)) ≡ true
+    into k = and-both f (and-both (le-leb tight (g .spec .htmax) (k .short)) (le-leb (floor g (full g v)) loose (k .enough)))
 
 module _ (s : Search) (sought : Sought s) where
   abbrev v : Place

@@ -7,8 +7,9 @@ use mathlib.Core.List.{List}
 use lib.Dec.{eqb}
 use borrow.Author.Tests.{lt-ltb, eqb-true, ne-eqb}
 use Rattle.model.specs.Gather.{pick}
+use Rattle.model.specs.Rules.{floor}
 use Rattle.galley.specs.declared.Galley.{Galley}
-use Rattle.galley.specs.Model.{textOf}
+use Rattle.galley.specs.Model.{textOf, modelOf}
 use Rattle.galley.specs.Sound.{Sound}
 use Rattle.places.specs.declared.Entry.{Entry}
 use Rattle.places.specs.Best.{Best}
@@ -18,7 +19,7 @@ use Rattle.window.specs.Queue.{linesOf, Lines}
 use Rattle.starts.specs.declared.sweep.Pass.{Pass}
 use Rattle.starts.specs.Better.{chosen}
 use Rattle.starts.specs.Choice.{Starts, Between}
-use Rattle.starts.specs.Read.{tableIn, sideOf, searchOf, allPlaced, leastOf, Placed}
+use Rattle.starts.specs.Read.{tableIn, sideOf, searchOf, allPlaced, Placed}
 use Rattle.starts.specs.Sweep.{Lent, passLoad, Passing, aloneOf, weighed, Ended, Knows, number, Swept, Changed, sweepEnd}
 use Rattle.starts.specs.laws.One.{under-one, sought-one, bears-one, alone-one}
 use Rattle.starts.specs.laws.Sweep.{window-best, alone-best, improved}
@@ -26,8 +27,8 @@ use Rattle.starts.specs.laws.Lending.{side-either, lent-placed, can-stan
 use Rattle.starts.specs.laws.Cells.{taken-changes, swept-next}
 
 -- No least height is above the greatest.
-pub least-low : (bytes : List ℕ) (g : Galley) → Sound bytes g → (last : Bool) → leastOf g last ≤ g .spec .htmax
-least-low bytes g sound true = omega arith
+pub least-low : (bytes : List ℕ) (g : Galley) → Sound bytes g → (last : Bool) → floor (modelOf bytes g) last ≤ g .spec .htmax
+least-low bytes g sound true = sound .lastmins
 least-low bytes g sound false = sound .specRanged .htmins
 
 -- The lines that a sweep takes are the galley's, and none of them ends the last page.
@@ -61,7 +62,7 @@ module _ {bytes : List ℕ} {g : Galley} {w : List ℕ} {pass : Pass} (lent : Le
         side = side;
       }
 
-  module _ (least : pass .least ≡ leastOf g (allPlaced g i (pass .to))) (window : Window)
+  module _ (least : pass .least ≡ floor (modelOf bytes g) (allPlaced g i (pass .to))) (window : Window)
       (opened : Open (textOf bytes (g .text)) (passLoad g pass) window i) (lines : Entry)
       (best : Best (Lines (linesOf w (g .text .count + 1) (pass .from) (sideOf g c)) (window .low) (window .high) (pass .from)) lines)
       (swept : Swept bytes g w (pass .to) (pass .from) (number c i)) where

@@ -9,8 +9,9 @@ use mathlib.Core.Bool.{true, false}
 use mathlib.Core.List.{List}
 use lib.ListN.{length}
 use Rattle.model.specs.Galley.{Stream}
+use Rattle.model.specs.Rules.{floor}
 use Rattle.galley.specs.declared.Galley.{Galley}
-use Rattle.galley.specs.Model.{textOf}
+use Rattle.galley.specs.Model.{textOf, modelOf}
 use Rattle.places.specs.declared.Entry.{Entry}
 use Rattle.window.specs.declared.slide.Window.{Window}
 use Rattle.window.specs.declared.queue.Queue.{Queue}
@@ -22,7 +23,7 @@ use Rattle.window.specs.laws.Held.{held-none, held-same, held-beside}
 use Rattle.window.specs.laws.Front.{front-best}
 use Rattle.window.specs.laws.Windows.{window-beside, kept-beside, ends-rise}
 use Rattle.starts.specs.declared.sweep.Pass.{Pass}
-use Rattle.starts.specs.Read.{sideOf, allPlaced, leastOf}
+use Rattle.starts.specs.Read.{sideOf, allPlaced}
 use Rattle.starts.specs.Sweep.{Lent, passLoad, weighed, Ended, fresh, sweepEnd}
 use Rattle.starts.specs.Swept.{Windowed, Taken, SideSweep, SideRun, SideDone}
 use Rattle.starts.specs.laws.Lending.{side-either, lent-sized, can-slide, can-feed, can-front}
@@ -75,8 +76,8 @@ module _ {bytes : List ℕ} {g : Galley} {w₀ sums words₀ : List ℕ} {c : �
       line : i ≤ g .text .count
       line = end-inner g pass i next .0
 
-      least : pass .least ≡ leastOf g (allPlaced g i (pass .to))
-      least = asked .least ∙ ap (leastOf g) (sym (end-inner g pass i next .1))
+      least : pass .least ≡ floor (modelOf bytes g) (allPlaced g i (pass .to))
+      least = asked .least ∙ ap (floor (modelOf bytes g)) (sym (end-inner g pass i next .1))
 
       pub side-ended : Ended g w i c pass
       side-ended = pass-ended lent-now (asked .passing) i c line (asked .occurs)

@@ -11,6 +11,8 @@ use borrow.Author.Tests.{ltb-true, ltb-false}
 use Rattle.model.specs.Gather.{pick}
 use Rattle.model.specs.Galley.{Place}
 use Rattle.model.specs.Height.{stacked}
+use Rattle.model.specs.Rules.{floor}
+use Rattle.theorems.specs.pages.Graph.{full}
 use Rattle.places.specs.declared.Entry.{Entry}
 use Rattle.places.specs.declared.Entry.the-variants.{Unreached}
 use Rattle.places.specs.Order.{Earlier}
@@ -24,7 +26,7 @@ use Rattle.window.specs.Queue.{Lines}
 use Rattle.starts.specs.Better.{chosen, startAt}
 use Rattle.starts.specs.Search.{Table, Search, goes, startFrom, bestStart}
 use Rattle.starts.specs.Choice.{Candidate, Starts, Any, Above, Level, Between}
-use Rattle.starts.specs.Beside.{Under, beside, alone, floor, Bears, Sought}
+use Rattle.starts.specs.Beside.{Under, beside, alone, Bears, Sought}
 use Rattle.starts.specs.laws.Choice.{best-chosen}
 use Rattle.starts.specs.laws.Found.{start-best, best-start}
 use Rattle.starts.specs.laws.Pages.{Keeps, goes-lines, goes-alone, candidate-earlier}
@@ -87,7 +89,7 @@ module _ (s : Search) (sought : Sought s) (b : ℕ) (left : b ≤ s .column) (un
   pub alone-best : b < s .column → (tight loose least : ℕ)
       → tight ≡ alone (s .galley) (λ st. st .least) (s .galley .spec .smin) b (s .column)
       → loose ≡ alone (s .galley) (λ st. st .most) (s .galley .spec .smax) b (s .column)
-      → least ≡ floor (s .galley) (placeAt (s .galley) (s .line) (s .column)) → tight ≤ s .galley .spec .htmax
+      → least ≡ floor (s .galley) (full (s .galley) (placeAt (s .galley) (s .line) (s .column))) → tight ≤ s .galley .spec .htmax
       → Best (Starts s (Level b (s .line)))
       (pick (ltb loose least) Unreached (startAt (s .table (s .line) b (s .side)) (s .line) b))
   unfolding startFrom

@@ -8,6 +8,7 @@ use mathlib.Core.Bool.{Bool, true, false}
 use mathlib.Core.List.{List}
 use lib.ListN.{length}
 use borrow.Author.Tests.{eq-eqb, ne-eqb}
+use Rattle.model.specs.Rules.{floor}
 use Rattle.galley.specs.declared.Galley.{Galley}
 use Rattle.galley.specs.Model.{textOf, floatsOf, modelOf}
 use Rattle.blocks.specs.declared.heights.Heights.{Heights}
@@ -18,7 +19,7 @@ use Rattle.places.specs.laws.Best.{best-as}
 use Rattle.window.specs.Sums.{Sums}
 use Rattle.starts.specs.declared.sweep.Pass.{Pass}
 use Rattle.starts.specs.Choice.{Candidate, Between}
-use Rattle.starts.specs.Read.{sideOf, searchOf, allPlaced, leastOf}
+use Rattle.starts.specs.Read.{sideOf, searchOf, allPlaced}
 use Rattle.starts.specs.Sweep.{Lent, Scratch, Summed, passLoad, Passing, weighed, Ended, LinesStand, LastBest, Known, number, Swept, fresh, sweepEnd, Cleared}
 use Rattle.starts.specs.Swept.{ColumnSweep, ColumnSweepRun, ColumnSwept, Sweep, SweepRun, SweepDone, SideSweep, SideDone, LastLine, LineDone}
 use Rattle.starts.specs.laws.One.{under-one, sought-one, alone-one}
@@ -43,7 +44,7 @@ module _ {bytes : List ℕ} {g : Galley} {w sums : List ℕ} {c : ℕ} {pass : P
   module _ (last : g .figures .count ≤ pass .to) where
     -- The pass to a page that may be short.
     abbrev short : Pass
-    short = record { from = pass .from; to = pass .to; heights = pass .heights; least = leastOf g true }
+    short = record { from = pass .from; to = pass .to; heights = pass .heights; least = floor (modelOf bytes g) true }
 
     passing : Passing bytes g short
     passing = record { before = asked .passing .before; floats = asked .passing .floats; short = asked .passing .short }
@@ -55,7 +56,7 @@ module _ {bytes : List ℕ} {g : Galley} {w sums : List ℕ} {c : ℕ} {pass : P
               can-stand (asked .lent) a (pass .from) (sideOf g c) l (omega (arith, asked .passing .before, asked .lent .column))
               (side-either g c);
           slides =
-              can-slide (asked .lent) (asked .summed) true (pass .from) (pass .heights) (asked .passing .floats) 0
+              can-slide (asked .lent) (asked .summed) true (pass .from) (pass .heights) (asked .passing .floats) (g .lastmin)
               (least-low bytes g (asked .lent .sound) true) (record { low = 0; high = 0 }) (g .text .count) (le-refl _) (omega arith)
               (omega arith);
         }
@@ -70,7 +71,7 @@ module _ {bytes : List ℕ} {g : Galley} {w sums : List ℕ} {c : ℕ} {pass : P
         let same : pass .to ≡ g .figures .count = omega (arith, asked .lent .column) in
         let full : allPlaced g (g .text .count) (pass .to) ≡ true =
         rw (eq-eqb (g .text .count) (g .text .count) refl, eq-eqb (pass .to) (g .figures .count) same) in
-        let least = ap (leastOf g) (sym full) in
+        let least = ap (floor (modelOf bytes g)) (sym full) in
         let opened = found .opens (textOf bytes (g .text)) (asked .summed .rows) in
         let swept : Swept bytes g w (pass .to) (pass .from) (number c (g .text .count)) =
         rw (eq-eqb (pass .to) (g .figures .count) same) at (asked .swept) in
@@ -180,7 +181,7 @@ module _ {bytes : List ℕ} {g : Galley} {w₀ w words₀ words : List ℕ} {j :
     floats = back-stacked bytes (g .figures) top j heights heights′ some put (run .floats)
 
     -- The sweep of the next column may start.
-    pub column-sweeps : {sums : List ℕ} → Summed bytes g sums → heights′ .tight ≤ g .spec .htmax → (least : ℕ) → least ≡ leastOf g false
+    pub column-sweeps : {sums : List ℕ} → Summed bytes g sums → heights′ .tight ≤ g .spec .htmax → (least : ℕ) → least ≡ floor (modelOf bytes g) false
         → Sweep bytes g w sums words (record { from = top - 1; to = j; heights = heights′; least = least })
     column-sweeps summed short least e =
         record {

@@ -2,6 +2,7 @@
 use native.Mathlib.Omega.{arith}
 use Rattle.starts.specs.laws.Lending.{figures-add}
 use Rattle.starts.specs.laws.Sweeping.{last-taken, last-stand, last-ended, last-done}
+use denote.Ref.{now}
 use borrow.Author.Needs.{needs}
 use Rattle.starts.proofs.sweep.last_line.Statement.{statement}
 use Rattle.starts.proofs.sweep.last_line.Tie as tie
@@ -18,14 +19,14 @@ last-lines-requires : tie.Need-last-lines-requires
 last-lines-requires c κs =
     let least = c .before .before .before in
     let start = least .before .before .before .before .before .before .before .before in
-    rw (c .before .before .load-of .ensures, least .least-of .ensures, c .before .side-before .ensures)
+    rw (c .before .before .load-of .ensures, least .floor-of .ensures (now (start .args .s)), c .before .side-before .ensures)
     (last-stand (start .pre) (omega (arith, least .before .before .if1 .left)))
 
 improve-requires : tie.Need-improve-requires
 improve-requires c κs =
     let least = c .before .before .before .before .before in
     let start = least .before .before .before .before .before .before .before .before in
-    rw (least .least-of .ensures) (last-ended (start .pre) (omega (arith, least .before .before .if1 .left)))
+    rw (least .floor-of .ensures (now (start .args .s))) (last-ended (start .pre) (omega (arith, least .before .before .if1 .left)))
 
 returns-2 : tie.Need-returns-2
 returns-2 c =
@@ -34,8 +35,8 @@ returns-2 c =
     let least = sided .before .before in
     let start = least .before .before .before .before .before .before .before .before in
     last-done (start .pre) (omega (arith, least .before .before .if1 .left)) (found .last-lines .result)
-    (rw (← sided .side-before .ensures, ← least .least-of .ensures, ← sided .before .load-of .ensures) (found .last-lines .ensures)) _
-    (rw (least .least-of .ensures) at (c .before .before .improve .ensures))
+    (rw (sided .before .load-of .ensures, least .floor-of .ensures (now (start .args .s)), sided .side-before .ensures) at (found .last-lines .ensures)) _
+    (rw (least .floor-of .ensures (now (start .args .s))) at (c .before .before .improve .ensures))
 
 pub last-line-spec : {M : Type 1} → statement M
 last-line-spec =

@@ -4,6 +4,7 @@ use mathlib.Core.Path.{_≡_}
 use native.Mathlib.Omega.{arith}
 use Rattle.starts.specs.Swept.{ColumnSweepRun}
 use Rattle.starts.specs.laws.Sweeping.{column-first, column-since, column-room, column-sweeps, column-next, column-tall}
+use denote.Ref.{now}
 use borrow.Author.Needs.{needs}
 use Rattle.starts.proofs.sweep.sweep_column.Statement.{statement}
 use Rattle.starts.proofs.sweep.sweep_column.Tie as tie
@@ -34,13 +35,13 @@ sweep-requires c κs =
     let least = put .before .before .before in
     column-sweeps (put .before .before .loop .inv) (put .before .loop-test .taken) (put .block-before .result) (put .block-before .ensures)
     (least .before .before .before .before .before .before .before .before .before .pre .summed) (omega (arith, c .before .before .if1 .left))
-    (least .least-of .result) (least .least-of .ensures)
+    (least .floor-of .result) (least .floor-of .ensures (now (least .before .before .before .before .before .before .before .before .before .args .s)))
 
 loop-again : tie.Need-loop-again Inv-loop μ-loop
 loop-again c =
     let put = c .before .before .before .before .before .before .before .before .before .before in
     column-next (put .before .before .loop .inv) (put .before .loop-test .taken) (put .block-before .result) (put .block-before .ensures)
-    (put .before .before .before .least-of .result) _ _ (search (needs, c .before .before .slice-known4 .given, c .before .before .before .work2 .given))
+    (put .before .before .before .floor-of .result) _ _ (search (needs, c .before .before .slice-known4 .given, c .before .before .before .work2 .given))
     (search (needs, c .slice-known5 .given, c .before .words .given)) (c .before .before .before .before .sweep .ensures)
 
 returns-2 : tie.Need-returns-2 Inv-loop μ-loop
