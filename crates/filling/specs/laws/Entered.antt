@@ -9,13 +9,12 @@ use borrow.Author.Tests.{eqb-true}
 use Rattle.model.specs.Gather.{pick}
 use Rattle.model.specs.Galley.{Sides, single, double, Galley} 
 use Rattle.model.specs.Galley as model
-use Rattle.theorems.specs.pages.Graph.{side}
 use Rattle.model.specs.laws.Gather.{and-left, and-right}
 use Rattle.model.specs.laws.Rules.{placed-grows}
 use Rattle.model.specs.laws.Lists.{Inside}
 use Rattle.theorems.specs.turns.Waiting.{pageCost}
 use Rattle.theorems.specs.turns.Bounds.{dearest, cost-le}
-use Rattle.theorems.specs.pages.Graph.{full}
+use Rattle.theorems.specs.pages.Graph.{side, full}
 use Rattle.places.specs.declared.Place.{Place}
 use Rattle.places.specs.declared.Origin.{Origin}
 use Rattle.places.specs.declared.Entry.{Entry}
@@ -102,7 +101,7 @@ best-entered s from sought fill side x r e =
     }
 
 module _ (g : Galley) (light : dearest g ≤ 201000) (from : Origin) (t : Table) (i q c : ℕ) (high : i ≤ g .stream 0 .size)
-    (wide : q < columns (floatSizes g)) (fill : Filled g from t i q) (side : Side (g .spec .sides) c) where
+    (wide : q < columns (floatSizes g)) (fill : Filled g from t i q) (occurs : Side (g .spec .sides) c) where
   search : Search
   search = record { galley = g; table = t; line = i; column = q; side = before (g .spec .sides) c }
 
@@ -114,7 +113,7 @@ module _ (g : Galley) (light : dearest g ≤ 201000) (from : Origin) (t : Table)
       let same : s ≡ r = cc in
       let sum : y + pageCost g c (full g (placeAt g i q)) (placeAt g i q) ≡ x = cc in
       let found =
-      best-entered search from (record { high = high; wide = wide }) fill (side-before (g .spec .sides) c side) y r (b ∙ (cc)) in
+      best-entered search from (record { high = high; wide = wide }) fill (side-before (g .spec .sides) c occurs) y r (b ∙ (cc)) in
       let cost = cost-le g c (full g (placeAt g i q)) (placeAt g i q) in
       let most = mul-le-mul-right 201000 (found .less) in
       let s = suc-mul (placedAt g (r .line) (r .column)) 201000 in
