@@ -30,10 +30,7 @@ fn alone(g: Galley, work: &[u32], i: usize, side: usize, pass: Pass) -> Entry
         return Entry::Unreached;
     }
     let place = places::place_of(i, pass.from);
-    crate::choice::start_at(
-        places::entry_of(work, g.text.count + 1, place, side),
-        place,
-    )
+    crate::choice::start_at(places::entry_of(work, g.text.count + 1, place, side), place)
 }
 
 // The best start known for line i of the column on side c, with the starts of the pass weighed too: the best of the lines before it,

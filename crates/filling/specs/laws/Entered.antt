@@ -7,7 +7,7 @@ use mathlib.Core.Bool.{Bool, true, false, _&&_}
 use lib.Dec.{eqb}
 use borrow.Author.Tests.{eqb-true}
 use Rattle.model.specs.Gather.{pick}
-use Rattle.model.specs.Galley.{Sides, single, double, Galley} 
+use Rattle.model.specs.Galley.{Sides, single, double, Galley}
 use Rattle.model.specs.Galley as model
 use Rattle.model.specs.laws.Gather.{and-left, and-right}
 use Rattle.model.specs.laws.Rules.{placed-grows}
@@ -132,9 +132,10 @@ module _ (g : Galley) (light : dearest g ≤ 201000) (from : Origin) (t : Table)
     where
       here : begins g from i q c ≡ true → (i ≡ from .place .line) × (q ≡ from .place .column)
       here t =
-          let rest = eqb q (from .place .column) && eqb c (side (g .spec .sides) (from .pages)) in
-          (eqb-true i (from .place .line) (and-left (eqb i (from .place .line)) rest t),
-          eqb-true q (from .place .column) (and-left (eqb q (from .place .column)) _ (and-right (eqb i (from .place .line)) rest t)))
+          let rest = eqb q (from .place .column) && eqb c (side (g .spec .sides) (from .pages)) in (
+            eqb-true i (from .place .line) (and-left (eqb i (from .place .line)) rest t),
+            eqb-true q (from .place .column) (and-left (eqb q (from .place .column)) _ (and-right (eqb i (from .place .line)) rest t)),
+          )
 
       first : (i ≡ from .place .line) × (q ≡ from .place .column) → (x : ℕ) (r : Place) → Least (from .cost) (from .place) ≡ Least x r
           → Entered g from i q x r

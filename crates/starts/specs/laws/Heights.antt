@@ -137,8 +137,12 @@ module _ (g : Galley) (i q : ℕ) (high : i ≤ g .stream 0 .size) (wide : q < c
           across =
               let t : Inside (floatsAt (floatSizes g) b) (floatsAt (floatSizes g) q) =
               unfold placeAt in inside-tail a i (floatsAt (floatSizes g) b) (floatsAt (floatSizes g) q) back in
-              omega (arith, column-grows (floatSizes g) (floatsAt (floatSizes g) q) (floatsAt (floatSizes g) b) t,
-              column-of-floats (floatSizes g) q wide, column-of-floats (floatSizes g) b k)
+              omega (
+                arith,
+                column-grows (floatSizes g) (floatsAt (floatSizes g) q) (floatsAt (floatSizes g) b) t,
+                column-of-floats (floatSizes g) q wide,
+                column-of-floats (floatSizes g) b k,
+              )
 
           none : Earlier a b i q → ⊥
           none (inl l) = omega (arith, across)

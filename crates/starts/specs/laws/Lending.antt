@@ -39,8 +39,11 @@ stands-in g w i b side few h k narrow l room =
     record {
       inside = record { high = omega arith; row = omega arith; wide = narrow; either = l };
       room =
-          omega (arith, address-in (g .text .count + 1) i b side (g .figures .count + 1) (omega arith) (omega arith) l,
-          area-needed (g .text .count) (g .figures .count));
+          omega (
+            arith,
+            address-in (g .text .count + 1) i b side (g .figures .count + 1) (omega arith) (omega arith) l,
+            area-needed (g .text .count) (g .figures .count),
+          );
     }
 
 -- What is lent for a column is the same while the length is.

@@ -55,14 +55,15 @@ module _ (s : Search) (sought : Sought s) (b : ℕ) (left : b ≤ s .column) (un
           let l : a < s .line = omega (arith, opened .ends .high) in
           let short = fits a low l (decLe _ _) in
           let enough = opened .ends .filled a (s .line) high (le-refl (s .line)) in
-          rw e
-          ((refl, l),
-          record {
-            line = omega arith;
-            column = left;
-            page = page a l .1 (record { short = omega (arith, bears .htmax); enough = omega (arith, bears .htmin) });
-            reached = reached;
-          })
+          rw e (
+            (refl, l),
+            record {
+              line = omega arith;
+              column = left;
+              page = page a l .1 (record { short = omega (arith, bears .htmax); enough = omega (arith, bears .htmin) });
+              reached = reached;
+            },
+          )
 
       lines : (a b′ x : ℕ) → Starts s (Above b (s .line)) a b′ x → Lines (λ a. s .table a b (s .side)) (window .low) (window .high) b a b′ x
       lines a b′ x ((e, l), c) =

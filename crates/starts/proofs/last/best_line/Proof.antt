@@ -37,8 +37,7 @@ loop-again c =
     let inside = c .before .before .before .before in
     let st = inside .before .before .loop in
     let a = inside .before .before .before .before .args in
-    let col = linesOf (a .work .now) (a .tall) (a .column) (a .side) in
-    (
+    let col = linesOf (a .work .now) (a .tall) (a .column) (a .side) in (
       omega arith,
       inr (omega (arith, inside .if1 .taken)),
       rw (c .choose .ensures, c .before .start-at .ensures, c .before .before .entry-of .ensures, c .before .before .before .place-of .ensures)

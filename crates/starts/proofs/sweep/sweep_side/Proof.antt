@@ -70,8 +70,12 @@ add-i c =
     let found = c .before .before .before .before .before .before .before .before .before .before .before .before .before .before in
     let ended = found .before .before .before .before in
     let start = ended .before .before .before .before .before .before .before in
-    omega (arith, start .pre .lent .sound .fewLines, end-inner (start .args .g) (start .args .pass) (found .before .before .before .loop .i)
-    (rw (← ended .sweep-end .ensures) (found .before .before .loop-test .taken)) .0)
+    omega (
+      arith,
+      start .pre .lent .sound .fewLines,
+      end-inner (start .args .g) (start .args .pass) (found .before .before .before .loop .i)
+          (rw (← ended .sweep-end .ensures) (found .before .before .loop-test .taken)) .0,
+    )
 
 loop-again : tie.Need-loop-again Inv-loop μ-loop
 loop-again c =
