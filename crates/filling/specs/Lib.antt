@@ -2,9 +2,6 @@
 
 -- What is computed.
 pub mod Fill
--- What is known of the work area on the way, and what the functions ask for.
+-- What is known of the work area on the way.
 pub mod Filled
-pub mod Asked
-pub mod Run
-pub mod Column
 pub mod laws

@@ -1,33 +1,58 @@
 -- The table of entries as the graph of pages has it: each start with the side of the page that ends there, and the end.
-use Prim.Native.Nat.{ℕ}
-use Rattle.model.specs.Galley.{Sides, Galley, count}
+use Prim.Native.Nat.{ℕ, _-_, _≤_, _<_}
+use Rattle.model.specs.Galley as model
+use Rattle.model.specs.Galley.{Galley, count}
 use Rattle.theorems.specs.optimality.Graph as graph
 use Rattle.theorems.specs.optimality.Cell as cell
-use Rattle.theorems.specs.pages.Graph.{State, stop, end, beginning, Within, pageGraph}
+use Rattle.theorems.specs.pages.Graph as pages
+use Rattle.theorems.specs.pages.Graph.{State, stop, end, Within, pageGraph}
+use Rattle.places.specs.declared.Place.{Place}
+use Rattle.places.specs.declared.Origin.{Origin}
 use Rattle.places.specs.declared.Entry.{Entry}
 use Rattle.places.specs.declared.Entry.the-variants.{Unreached, Least}
-use Rattle.starts.specs.Search.{place, Table, before}
+use Rattle.places.specs.Columns.{columns, floatSizes, placeAt, columnIn}
+use Rattle.starts.specs.Search.{Table, before}
 use Rattle.walk.specs.Trace.{lastSide}
 
+-- The place that a line and a column are.
+abbrev pub at : Galley → Place → model.Place
+at g s = placeAt g (s .line) (s .column)
+
+-- An origin as the graph of pages has it.
+abbrev pub originOf : Galley → Origin → pages.Origin
+originOf g from = record { place = at g (from .place); pages = from .pages; cost = from .cost }
+
+-- The graph of a galley's pages from such an origin on.
+abbrev pub graphOf : Galley → Origin → graph.Graph
+graphOf g from = pageGraph g (originOf g from)
+
 -- An entry of side c: its start is on the side of the page before.
-unfoldable pub shown : Sides → ℕ → Entry → graph.Entry ℕ State
-shown sides c Unreached = graph.unreached
-shown sides c (Least x s) = graph.least x (stop (place (s .line) (s .figure)) (before sides c))
+unfoldable pub shown : Galley → ℕ → Entry → graph.Entry ℕ State
+shown g c Unreached = graph.unreached
+shown g c (Least x s) = graph.least x (stop (at g s) (before (g .spec .sides) c))
 
 -- The entry of the end, from that of a full place: the same cost, with the full place as its start.
 unfoldable pub finished : State → Entry → graph.Entry ℕ State
 finished u Unreached = graph.unreached
 finished u (Least x s) = graph.least x u
 
+-- The last line and the last column: every block is placed.
+abbrev pub lastPlace : Galley → Place
+lastPlace g = record { line = g .stream 0 .size; column = columns (floatSizes g) - 1 }
+
 -- The table: that of the places, and at the end the better side of the full place.
-unfoldable pub tableAt : (g : Galley) → Table → cell.Table (pageGraph g (beginning g))
-tableAt g t (stop v c) = shown (g .spec .sides) c (t (count v 0) (count v 1) c)
+unfoldable pub tableAt : Galley → Table → State → graph.Entry ℕ State
+tableAt g t (stop v c) = shown g c (t (count v 0) (columnIn g v) c)
 tableAt g t end =
-    let m = g .stream 0 .size in
-    let n = g .stream 1 .size in
-    let c = lastSide (g .spec .sides) t m n in
-    finished (stop (place m n) c) (t m n c)
+    let m = lastPlace g in
+    let c = lastSide (g .spec .sides) t m in
+    finished (stop (at g m) c) (t (m .line) (m .column) c)
 
 -- Every entry of the table is right, the end's included.
-abbrev pub AllRight : Galley → Table → Type 0
-AllRight g t = cell.Right (pageGraph g (beginning g)) (tableAt g t) (Within g (beginning g))
+abbrev pub AllRight : Galley → Origin → Table → Type 0
+AllRight g from t = cell.Right (graphOf g from) (tableAt g t) (Within g (originOf g from))
+
+-- The origin is a place of the galley.
+pub record Origins (g : Galley) (from : Origin) : Type 0 where
+  pub line : from .place .line ≤ g .stream 0 .size
+  pub column : from .place .column < columns (floatSizes g)

@@ -1,31 +1,38 @@
 -- Where a place stands in the work area, and how many words a galley needs (document 01, "Making").
-use mathlib.Core.Path.{_≡_}
 use mathlib.Core.Logic.{_⊎_}
+use mathlib.Core.List.{List}
 use Prim.Native.Nat.{ℕ, _+_, _*_, _<_, _≤_}
+use lib.ListN.{length}
+use Rattle.places.specs.declared.Place.{Place}
 
 -- The offset of place (i, j) on a side: columns of `tall` places, eight words a place, four a side (document 01, "Making").
 unfoldable pub address : ℕ → ℕ → ℕ → ℕ → ℕ
 address tall i j side = (j * tall + i) * 8 + side * 4
+
+-- The words of so many columns of `tall` places (document 01, "Making").
+unfoldable pub area : ℕ → ℕ → ℕ
+area tall wide = 8 * (tall * wide)
 
 -- The words of the work area of m lines and n figures: 8·(m + 1)·(n + 1) (document 01, "Making").
 unfoldable pub wordsNeeded : ℕ → ℕ → ℕ
 wordsNeeded m n = 8 * ((m + 1) * (n + 1))
 
 -- A place of a galley of at most 4,000 lines and 200 figures, and a side (document 01, "Making").
-pub record Inside (tall i j side : ℕ) : Type 0 where
+pub record Inside (tall : ℕ) (place : Place) (side : ℕ) : Type 0 where
   pub high : tall ≤ 4001
-  pub row : i < tall
-  pub column : j ≤ 200
+  pub row : place .line < tall
+  pub wide : place .column ≤ 200
   pub either : side ≤ 1
+
+-- Its four words are within the work area (document 01, "Making").
+pub record Stands (w : List ℕ) (tall : ℕ) (place : Place) (side : ℕ) : Type 0 where
+  pub inside : Inside tall place side
+  pub room : address tall (place .line) (place .column) side + 4 ≤ length w
 
 -- At most 4,000 lines and 200 figures (document 01, "Numbers that turn work away", 4).
 pub record Small (m n : ℕ) : Type 0 where
   pub lines : m ≤ 4000
   pub figures : n ≤ 200
-
--- Place (i, j) stands before (i′, j′): in an earlier column, or in the same column and higher (document 01, "Making").
-abbrev pub Earlier : ℕ → ℕ → ℕ → ℕ → Type 0
-Earlier i j i′ j′ = (j < j′) ⊎ ((j ≡ j′) × (i < i′))
 
 -- The four words from one offset on and the four from another have none in common (document 01, "Making").
 abbrev pub Apart : ℕ → ℕ → Type 0

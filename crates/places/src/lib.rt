@@ -1,35 +1,71 @@
 // The work area of lent memory, in which each place's least cost is kept: document 01, "Making".
 //
 // A place has eight words, four for each side of the page that ends there: the tag, which is 1 where the place is reached,
-// the cost, and the line and figure that the page starts at. Places stand column by column, figures outermost.
+// the cost, and the line and column that the page starts at. Places stand column by column.
 ghost use mathlib.Core.Path.{_≡_};
 ghost use Prim.Native.Nat.{_+_, _≤_};
+ghost use mathlib.Core.List.{[], _∷_};
 ghost use lib.ListN.{length};
-ghost use Rattle.places.specs.Entry.{entryAt, put, stored, cleared};
-ghost use Rattle.places.specs.Address.{address, wordsNeeded, Inside, Small};
+ghost use lib.Seq.{sets};
+ghost use Rattle.places.specs.Entry.{less, entryAt, stored, cleared};
+ghost use Rattle.places.specs.Address.{address, wordsNeeded, Inside, Small, Stands};
+ghost use Rattle.places.specs.Table.{tableOf};
 
-// Where a page starts: how many lines and figures are placed before it.
-pub struct Start {
+// Where a page starts, and where it ends: the lines placed so far, and the column, which is the figures placed so far.
+pub struct Place {
     pub line: u32,
-    pub figure: u32,
+    pub column: u32,
 }
 
 // A place, with the side of the page ending there, is either unreached or has a least cost; with the cost goes the start of
 // that page.
 pub enum Entry {
     Unreached,
-    Least(u32, Start),
+    Least(u32, Place),
+}
+
+// Where a search begins: the place, the pages before it, and what they cost.
+pub struct Origin {
+    pub place: Place,
+    pub pages: u32,
+    pub cost: u32,
+}
+
+// The place of so many lines and figures.
+pub fn place_of(line: usize, column: usize) -> Place
+    requires { ⌜ Small line column ⌝ }
+    ensures { λ r. ⌜ r ≡ record { line = line; column = column } ⌝ }
+{
+    Place {
+        line: line as u32,
+        column: column as u32,
+    }
+}
+
+// Whether the cost x is less than y.
+pub fn less(x: u32, y: u32) -> bool
+    ensures { λ r. ⌜ r ≡ less x y ⌝ }
+{
+    x < y
+}
+
+// Where the four words start of a place on a side, in columns of `tall` places.
+fn address_of(tall: usize, place: Place, side: usize) -> usize
+    requires { ⌜ Inside tall place side ⌝ }
+    ensures { λ r. ⌜ r ≡ address tall (place .line) (place .column) side ⌝ }
+{
+    (place.column as usize * tall + place.line as usize) * 8 + side * 4
 }
 
 // The entry whose four words start at `at`.
-pub fn entry_at(work: &[u32], at: usize) -> Entry
+fn entry_at(work: &[u32], at: usize) -> Entry
     requires { ⌜ at + 4 ≤ length (now work) ⌝ }
     ensures { λ r. ⌜ r ≡ entryAt (now (work .entry)) at ⌝ }
 {
     if work[at] == 1 {
-        let start = Start {
+        let start = Place {
             line: work[at + 2],
-            figure: work[at + 3],
+            column: work[at + 3],
         };
         Entry::Least(work[at + 1], start)
     } else {
@@ -37,24 +73,33 @@ pub fn entry_at(work: &[u32], at: usize) -> Entry
     }
 }
 
+// The entry of a place on a side.
+pub fn entry_of(work: &[u32], tall: usize, place: Place, side: usize) -> Entry
+    requires { ⌜ Stands (now work) tall place side ⌝ }
+    ensures { λ r. ⌜ r ≡ tableOf tall (now (work .entry)) (place .line) (place .column) side ⌝ }
+{
+    entry_at(work, address_of(tall, place, side))
+}
+
 // Four words written from `at` on.
-fn put(work: &mut [u32], at: usize, tag: u32, cost: u32, start: Start)
+fn put(work: &mut [u32], at: usize, tag: u32, cost: u32, start: Place)
     requires { ⌜ at + 4 ≤ length (now work) ⌝ }
-    ensures { λ _. ⌜ now (work .exit) ≡ put (now (work .entry)) at tag cost start ⌝ }
+    ensures { λ _. ⌜ now (work .exit) ≡ sets (now (work .entry)) at (tag ∷ cost ∷ start .line ∷ start .column ∷ []) ⌝ }
 {
     work[at] = tag;
     work[at + 1] = cost;
     work[at + 2] = start.line;
-    work[at + 3] = start.figure;
+    work[at + 3] = start.column;
 }
 
-// The entry written as the four words from `at` on.
-pub fn store(work: &mut [u32], at: usize, entry: Entry)
-    requires { ⌜ at + 4 ≤ length (now work) ⌝ }
-    ensures { λ _. ⌜ now (work .exit) ≡ stored (now (work .entry)) at entry ⌝ }
+// The entry of a place on a side stored.
+pub fn store(work: &mut [u32], tall: usize, place: Place, side: usize, entry: Entry)
+    requires { ⌜ Stands (now work) tall place side ⌝ }
+    ensures { λ _. ⌜ now (work .exit) ≡ stored (now (work .entry)) (address tall (place .line) (place .column) side) entry ⌝ }
 {
+    let at = address_of(tall, place, side);
     match entry {
-        Entry::Unreached => put(work, at, 0, 0, Start { line: 0, figure: 0 }),
+        Entry::Unreached => put(work, at, 0, 0, Place { line: 0, column: 0 }),
         Entry::Least(cost, start) => put(work, at, 1, cost, start),
     }
 }
@@ -69,14 +114,6 @@ pub fn clear(work: &mut [u32], n: usize)
         work[i] = 0;
         i += 1;
     }
-}
-
-// Where the four words start of place (i, j) on a side, in a galley of `tall` - 1 lines.
-pub fn address_of(tall: usize, i: usize, j: usize, side: usize) -> usize
-    requires { ⌜ Inside tall i j side ⌝ }
-    ensures { λ r. ⌜ r ≡ address tall i j side ⌝ }
-{
-    (j * tall + i) * 8 + side * 4
 }
 
 // The words that a galley of so many lines and figures needs.

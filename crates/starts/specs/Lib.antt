@@ -1,9 +1,13 @@
 -- The best start of a page: its definitions first, then the laws about them.
 
--- What is computed: the search of one place, and the better of two starts.
+-- What is computed, for any number of float streams.
+pub mod Better
 pub mod Search
+-- What the best of several starts is, and what a page has beside its lines.
 pub mod Choice
--- What the functions ask for, and what holds on the way.
-pub mod Asked
+pub mod Beside
+-- A galley that was read: what the functions ask for, and what holds on the way.
+pub mod Read
 pub mod Sweep
+pub mod Swept
 pub mod laws

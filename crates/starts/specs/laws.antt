@@ -1,10 +1,13 @@
 -- The laws of starts.
-pub mod Heights
-pub mod Search
 pub mod Choice
 pub mod Found
+pub mod Heights
+pub mod Pages
 pub mod Sweep
-pub mod Cells
+pub mod One
+pub mod Lines
 pub mod Lending
+pub mod Cells
+pub mod Pass
+pub mod Side
 pub mod Sweeping
-pub mod Fewer

@@ -1,27 +1,26 @@
-// The better of two starts of a page: the less dear, then the later line, then the later figure. Document 01, "Making".
+// The better of two starts of a page: the less dear, then the later line, then the later column. Document 01, "Making".
 ghost use mathlib.Core.Path.{_≡_};
-ghost use Prim.Native.Nat.{_+_, _≤_};
-ghost use lib.ListN.{length};
-ghost use Rattle.starts.specs.Choice.{noLater, beats, wins, chosen, taken};
+ghost use Rattle.places.specs.Address.{address, Stands};
+ghost use Rattle.starts.specs.Better.{noLater, beats, wins, chosen, startAt, taken};
 use places::Entry;
-use places::Start;
+use places::Place;
 
 // Whether the start s is no later than r.
-fn no_later(r: Start, s: Start) -> bool
+fn no_later(r: Place, s: Place) -> bool
     ensures { λ t. ⌜ t ≡ noLater r s ⌝ }
 {
-    (s.line < r.line) | ((s.line == r.line) & (s.figure <= r.figure))
+    (s.line < r.line) | ((s.line == r.line) & (s.column <= r.column))
 }
 
 // Whether r at cost y is better than s at cost x, or is s.
-fn beats(y: u32, r: Start, x: u32, s: Start) -> bool
+fn beats(y: u32, r: Place, x: u32, s: Place) -> bool
     ensures { λ t. ⌜ t ≡ beats y r x s ⌝ }
 {
-    (y < x) | ((y == x) & no_later(r, s))
+    places::less(y, x) | (!places::less(x, y) & no_later(r, s))
 }
 
 // Whether the start r at cost y is better than an entry, or is its start.
-fn wins(y: u32, r: Start, held: Entry) -> bool
+fn wins(y: u32, r: Place, held: Entry) -> bool
     ensures { λ t. ⌜ t ≡ wins y r held ⌝ }
 {
     match held {
@@ -43,16 +42,26 @@ pub fn choose(held: Entry, other: Entry) -> Entry
     held
 }
 
+// The entry of a place as a start there. A place that was never reached offers no start for a page.
+pub fn start_at(entry: Entry, place: Place) -> Entry
+    ensures { λ r. ⌜ r ≡ startAt entry (place .line) (place .column) ⌝ }
+{
+    let Entry::Least(x, _start) = entry else {
+        return Entry::Unreached;
+    };
+    Entry::Least(x, place)
+}
+
 // An entry of the work area replaced where another is better.
-pub fn offer(work: &mut [u32], at: usize, other: Entry)
-    requires { ⌜ at + 4 ≤ length (now work) ⌝ }
-    ensures { λ _. ⌜ now (work .exit) ≡ taken (now (work .entry)) at other ⌝ }
+pub fn offer(work: &mut [u32], tall: usize, place: Place, side: usize, other: Entry)
+    requires { ⌜ Stands (now work) tall place side ⌝ }
+    ensures { λ _. ⌜ now (work .exit) ≡ taken (now (work .entry)) (address tall (place .line) (place .column) side) other ⌝ }
 {
     let Entry::Least(y, r) = other else {
         return;
     };
-    let held = places::entry_at(work, at);
+    let held = places::entry_of(work, tall, place, side);
     if wins(y, r, held) {
-        places::store(work, at, Entry::Least(y, r));
+        places::store(work, tall, place, side, Entry::Least(y, r));
     }
 }

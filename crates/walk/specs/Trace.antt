@@ -1,26 +1,29 @@
 -- From the last page back to the first, by the start that each entry holds.
 use Prim.Native.Nat.{ℕ, zero, suc, _+_, _-_, _*_, _%_}
-use mathlib.Core.Bool.{Bool, true, false}
+use mathlib.Core.Bool.{Bool, true, false, _&&_}
 use mathlib.Core.List.{List}
 use lib.ListN.{set}
-use lib.Dec.{eqb, ltb}
+use lib.Dec.{eqb}
 use Rattle.model.specs.Gather.{pick}
 use Rattle.model.specs.Galley.{Sides, single, double}
-use Rattle.places.specs.declared.Start.{Start}
+use Rattle.places.specs.declared.Place.{Place}
+use Rattle.places.specs.declared.Origin.{Origin}
 use Rattle.places.specs.declared.Entry.{Entry}
 use Rattle.places.specs.declared.Entry.the-variants.{Unreached, Least}
+use Rattle.places.specs.Entry.{less}
 use Rattle.starts.specs.Search.{Table, before}
+use Rattle.walk.specs.declared.Stop.{Stop}
 
--- The start that an entry holds.
-unfoldable pub startOf : Entry → Start
-startOf Unreached = record { line = 0; figure = 0 }
-startOf (Least x s) = s
+-- The start that the entry of a place holds; from a place that was never reached the walk goes nowhere.
+unfoldable pub startOf : Entry → Place → Place
+startOf Unreached at = at
+startOf (Least x s) at = s
 
 -- The first entry is strictly less dear than the second; an unreached one is not.
 unfoldable pub cheaper : Entry → Entry → Bool
 cheaper Unreached e = false
 cheaper (Least x s) Unreached = true
-cheaper (Least x s) (Least y r) = ltb x y
+cheaper (Least x s) (Least y r) = less x y
 
 -- The side of the pages with an even folio, from a first folio on.
 abbrev pub evenSide : ℕ → ℕ
@@ -28,23 +31,31 @@ evenSide f = (f - 1) % 2
 
 -- The side of the last page of the best list: in double-sided work that of an even last folio, unless the other costs strictly
 -- less (document 01, "Making"; document 02, S-1).
-unfoldable pub lastSide : Sides → Table → ℕ → ℕ → ℕ
-lastSide single t i j = 0
-lastSide (double f) t i j =
+unfoldable pub lastSide : Sides → Table → Place → ℕ
+lastSide single t at = 0
+lastSide (double f) t at =
     let even = evenSide f in
-    pick (cheaper (t i j (1 - even)) (t i j even)) (1 - even) even
+    pick (cheaper (t (at .line) (at .column) (1 - even)) (t (at .line) (at .column) even)) (1 - even) even
 
--- The number of pages on the way back from (i, j) on side c, added to p; at most `most` of them are walked.
-unfoldable pub countBack : Sides → Table → ℕ → ℕ → ℕ → ℕ → ℕ → ℕ
-countBack sides t zero i j c p = p
-countBack sides t (suc most) i j c p =
-    let s = startOf (t i j c) in
-    let after = countBack sides t most (s .line) (s .figure) (before sides c) (p + 1) in
-    pick (eqb (i + j) 0) p after
+-- The entry where a page stops.
+abbrev pub entryOf : Table → Stop → Entry
+entryOf t at = t (at .place .line) (at .place .column) (at .side)
 
--- The page list with the last r pages before (i, j) on side c written, from page r back to page 1.
-unfoldable pub writeBack : Sides → Table → ℕ → ℕ → ℕ → ℕ → List ℕ → List ℕ
-writeBack sides t zero i j c ws = ws
-writeBack sides t (suc r) i j c ws =
-    writeBack sides t r ((startOf (t i j c)) .line) ((startOf (t i j c)) .figure) (before sides c)
-    (set (set ws (2 * r) i) (2 * r + 1) j)
+-- One page back: to the start that the entry holds, on the side of the page before.
+abbrev pub back : Sides → Table → Stop → Stop
+back sides t at = record { place = startOf (entryOf t at) (at .place); side = before sides (at .side) }
+
+-- The walk is where the search began.
+abbrev pub atOrigin : Origin → Stop → Bool
+atOrigin from at = eqb (at .place .line) (from .place .line) && eqb (at .place .column) (from .place .column)
+
+-- The number of pages on the way back to the origin, added to p; at most `most` of them are walked.
+unfoldable pub countBack : Sides → Table → Origin → ℕ → Stop → ℕ → ℕ
+countBack sides t from zero at p = p
+countBack sides t from (suc most) at p = pick (atOrigin from at) p (countBack sides t from most (back sides t at) (p + 1))
+
+-- The page list with the last r pages before a stop written, from page r back to page 1.
+unfoldable pub writeBack : Sides → Table → ℕ → Stop → List ℕ → List ℕ
+writeBack sides t zero at ws = ws
+writeBack sides t (suc r) at ws =
+    writeBack sides t r (back sides t at) (set (set ws (2 * r) (at .place .line)) (2 * r + 1) (at .place .column))

@@ -1,23 +1,20 @@
 -- What is asked of a galley and its work area before the walk back, and what holds while it goes on.
-use Prim.Native.Nat.{ℕ, suc, _+_, _*_, _-_, _≤_}
+use Prim.Native.Nat.{ℕ, _+_, _*_, _-_, _≤_}
 use mathlib.Core.Path.{_≡_}
 use mathlib.Core.Bool.{Bool, true, false}
 use mathlib.Core.List.{List}
 use lib.ListN.{length}
 use Rattle.galley.specs.declared.Galley.{Galley}
-use Rattle.places.specs.declared.Start.{Start}
+use Rattle.galley.specs.Model.{sidesIn}
+use Rattle.places.specs.declared.Place.{Place}
+use Rattle.places.specs.declared.Origin.{Origin}
 use Rattle.places.specs.declared.Entry.{Entry}
 use Rattle.places.specs.declared.Entry.the-variants.{Unreached, Least}
 use Rattle.places.specs.Address.{wordsNeeded}
-use Rattle.places.specs.Table.{tableOf}
-use Rattle.starts.specs.Search.{Table}
-use Rattle.filling.specs.Filled.{Entered, Side}
-use Rattle.walk.specs.Trace.{countBack, writeBack}
-use Rattle.galley.specs.Model.{sidesIn}
-
--- The table that the work area of a galley holds: one row more than there are lines.
-abbrev pub tableIn : Galley → List ℕ → Table
-tableIn g w = tableOf (suc (g .text .count)) w
+use Rattle.starts.specs.Read.{tableIn}
+use Rattle.filling.specs.Filled.{Side}
+use Rattle.walk.specs.declared.Stop.{Stop}
+use Rattle.walk.specs.Trace.{lastSide, countBack, writeBack}
 
 -- An entry says that its place is reached.
 abbrev pub isReached : Entry → Bool
@@ -30,50 +27,51 @@ pub record WorkArea (g : Galley) (w : List ℕ) : Type 0 where
   pub figures : g .figures .count ≤ 200
   pub words : wordsNeeded (g .text .count) (g .figures .count) ≤ length w
 
--- A place of the galley, on one of its two sides.
-pub record SidedPlace (g : Galley) (i j c : ℕ) : Type 0 where
-  pub line : i ≤ g .text .count
-  pub figure : j ≤ g .figures .count
-  pub side : c ≤ 1
+-- The full place of a galley: every line and every figure is placed.
+abbrev pub fullPlace : Galley → Place
+fullPlace g = record { line = g .text .count; column = g .figures .count }
 
--- Every entry is one that filling enters.
+-- Where the best list's last page stops: at the full place, on the last side.
+abbrev pub lastStop : Galley → List ℕ → Stop
+lastStop g w = record { place = fullPlace g; side = lastSide (sidesIn g) (tableIn g w) (fullPlace g) }
+
+-- A stop within the galley, on a side that occurs.
+pub record Visits (g : Galley) (at : Stop) : Type 0 where
+  pub line : at .place .line ≤ g .text .count
+  pub column : at .place .column ≤ g .figures .count
+  pub side : Side (sidesIn g) (at .side)
+
+-- The start that an entry holds lies no later than its place.
 pub record Traceable (g : Galley) (w : List ℕ) : Type 0 where
   pub lent : WorkArea g w
-  pub entered :
-      (a b c x : ℕ) (s : Start) → a ≤ g .text .count → b ≤ g .figures .count → Side (sidesIn g) c → tableIn g w a b c ≡ Least x s → Entered
-      a b x s
+  pub starts : (a b c x : ℕ) (s : Place) → a ≤ g .text .count → b ≤ g .figures .count → Side (sidesIn g) c
+      → tableIn g w a b c ≡ Least x s → (s .line ≤ a) × (s .column ≤ b)
 
--- A walk over such a table may start on side c.
-pub record Walkable (g : Galley) (w : List ℕ) (c : ℕ) : Type 0 where
+-- A walk over such a table may begin at a stop.
+pub record Walkable (g : Galley) (w : List ℕ) (first : Stop) : Type 0 where
   pub table : Traceable g w
-  pub side : Side (sidesIn g) c
+  pub visits : Visits g first
 
 -- It may write p pages to a list of words.
-pub record Writable (g : Galley) (w : List ℕ) (c p : ℕ) (ws : List ℕ) : Type 0 where
-  pub walk : Walkable g w c
+pub record Writable (g : Galley) (w : List ℕ) (first : Stop) (p : ℕ) (ws : List ℕ) : Type 0 where
+  pub walk : Walkable g w first
   pub room : 2 * p ≤ length ws
 
--- The walk is at place (i, j) on side c, within the galley.
-pub record Visits (g : Galley) (i j c : ℕ) : Type 0 where
-  pub line : i ≤ g .text .count
-  pub figure : j ≤ g .figures .count
-  pub side : Side (sidesIn g) c
+-- The pages on the way back from a stop: no more than there are blocks.
+abbrev pub pagesBack : Galley → List ℕ → Origin → Stop → ℕ
+pagesBack g w from first = countBack (sidesIn g) (tableIn g w) from (g .text .count + g .figures .count) first 0
 
--- The count back from the full place on side `from` has come to (i, j) on side c with p pages.
-pub record Counting (g : Galley) (w : List ℕ) (from i j c p : ℕ) : Type 0 where
-  pub visits : Visits g i j c
-  pub left : p + (i + j) ≤ g .text .count + g .figures .count
+-- The count back has come to a stop with p pages.
+pub record Counting (g : Galley) (w : List ℕ) (from : Origin) (first at : Stop) (p : ℕ) : Type 0 where
+  pub visits : Visits g at
+  pub few : p ≤ g .text .count + g .figures .count
   pub same :
-      countBack (sidesIn g) (tableIn g w) (g .text .count + g .figures .count - p) i j c p
-      ≡ countBack (sidesIn g) (tableIn g w) (g .text .count + g .figures .count) (g .text .count) (g .figures .count) from 0
+      countBack (sidesIn g) (tableIn g w) from (g .text .count + g .figures .count - p) at p ≡ pagesBack g w from first
 
--- The writing back of p pages from the full place on side `from` to the list `first` has come to (i, j) on side c, with r pages
--- left and the list ws.
-pub record Writing (g : Galley) (w : List ℕ) (from p : ℕ) (first ws : List ℕ) (i j c r : ℕ) : Type 0 where
-  pub visits : Visits g i j c
+-- The writing back of p pages to the list ws₀ has come to a stop, with r pages left and the list ws.
+pub record Writing (g : Galley) (w : List ℕ) (first : Stop) (p : ℕ) (ws₀ ws : List ℕ) (at : Stop) (r : ℕ) : Type 0 where
+  pub visits : Visits g at
   pub few : r ≤ p
   pub room : 2 * p ≤ length ws
-  pub long : length ws ≡ length first
-  pub same :
-      writeBack (sidesIn g) (tableIn g w) r i j c ws
-      ≡ writeBack (sidesIn g) (tableIn g w) p (g .text .count) (g .figures .count) from first
+  pub long : length ws ≡ length ws₀
+  pub same : writeBack (sidesIn g) (tableIn g w) r at ws ≡ writeBack (sidesIn g) (tableIn g w) p first ws₀

@@ -1,27 +1,27 @@
 // From the last page back to the first, by the start that each entry holds: document 01, "Making".
 ghost use mathlib.Core.Path.{_≡_};
-ghost use Prim.Native.Nat.{_+_, _≤_};
-ghost use Rattle.walk.specs.Trace.{startOf, cheaper, lastSide, countBack, writeBack};
-ghost use Rattle.walk.specs.Traceable.{tableIn, isReached, WorkArea, SidedPlace, Walkable, Writable};
+ghost use Prim.Native.Nat.{_≤_};
 ghost use Rattle.galley.specs.Model.{sidesIn};
+ghost use Rattle.starts.specs.Read.{tableIn};
+ghost use Rattle.walk.specs.Trace.{startOf, cheaper, lastSide, entryOf, back, atOrigin, writeBack};
+ghost use Rattle.walk.specs.Traceable.{isReached, WorkArea, fullPlace, lastStop, Visits, Walkable, Writable, pagesBack};
 use galley::Galley;
 use places::Entry;
-use places::Start;
+use places::Origin;
+use places::Place;
 
-// The entry of place (i, j) on a side.
-fn entry_of(g: Galley, work: &[u32], i: usize, j: usize, side: usize) -> Entry
-    requires { ⌜ WorkArea g (now work) × SidedPlace g i j side ⌝ }
-    ensures { λ r. ⌜ r ≡ tableIn g (now (work .entry)) i j side ⌝ }
-{
-    places::entry_at(work, places::address_of(g.text.count + 1, i, j, side))
+// A page stops at a place, on a side.
+pub struct Stop {
+    pub place: Place,
+    pub side: usize,
 }
 
-// Where the page starts that ends at an entry's place.
-fn start_of(entry: Entry) -> Start
-    ensures { λ r. ⌜ r ≡ startOf entry ⌝ }
+// The start of the page that ends at an entry's place; a place that was never reached has none, and the walk stays there.
+fn start_of(entry: Entry, place: Place) -> Place
+    ensures { λ r. ⌜ r ≡ startOf entry place ⌝ }
 {
     match entry {
-        Entry::Unreached => Start { line: 0, figure: 0 },
+        Entry::Unreached => place,
         Entry::Least(_cost, start) => start,
     }
 }
@@ -36,19 +36,19 @@ fn cheaper(entry: Entry, other: Entry) -> bool
     let Entry::Least(y, _r) = other else {
         return true;
     };
-    x < y
+    places::less(x, y)
 }
 
 // The side of the last page of the best list: that of an even last folio, unless the other is strictly less dear.
-pub fn last_side(g: Galley, work: &[u32]) -> usize
-    requires { ⌜ WorkArea g (now work) × (1 ≤ g .folio) ⌝ }
-    ensures { λ r. ⌜ r ≡ lastSide (sidesIn g) (tableIn g (now (work .entry))) (g .text .count) (g .figures .count) ⌝ }
+fn last_side(g: Galley, work: &[u32], full: Place) -> usize
+    requires { ⌜ WorkArea g (now work) × (1 ≤ g .folio) × (full ≡ fullPlace g) ⌝ }
+    ensures { λ r. ⌜ r ≡ lastSide (sidesIn g) (tableIn g (now (work .entry))) full ⌝ }
 {
     if g.spec.sides == 2 {
         let even = ((g.folio - 1) % 2) as usize;
         let odd = 1 - even;
-        let first = entry_of(g, work, g.text.count, g.figures.count, even);
-        let second = entry_of(g, work, g.text.count, g.figures.count, odd);
+        let first = places::entry_of(work, g.text.count + 1, full, even);
+        let second = places::entry_of(work, g.text.count + 1, full, odd);
         if cheaper(second, first) {
             return odd;
         }
@@ -57,54 +57,76 @@ pub fn last_side(g: Galley, work: &[u32]) -> usize
     0
 }
 
-// Whether the full place is reached on a side: if not on the last side, no valid list exists.
-pub fn reached(g: Galley, work: &[u32], side: usize) -> bool
-    requires { ⌜ WorkArea g (now work) × (side ≤ 1) ⌝ }
-    ensures { λ r. ⌜ r ≡ isReached (tableIn g (now (work .entry)) (g .text .count) (g .figures .count) side) ⌝ }
+// Where the best list's last page stops.
+pub fn last_stop(g: Galley, work: &[u32]) -> Stop
+    requires { ⌜ WorkArea g (now work) × (1 ≤ g .folio) ⌝ }
+    ensures { λ r. ⌜ r ≡ lastStop g (now (work .entry)) ⌝ }
 {
-    let entry = entry_of(g, work, g.text.count, g.figures.count, side);
+    let full = places::place_of(g.text.count, g.figures.count);
+    let side = last_side(g, work, full);
+    Stop { place: full, side }
+}
+
+// Whether a page stops there: if not at the last stop, no valid list exists.
+pub fn reached(g: Galley, work: &[u32], at: Stop) -> bool
+    requires { ⌜ WorkArea g (now work) × Visits g at ⌝ }
+    ensures { λ r. ⌜ r ≡ isReached (entryOf (tableIn g (now (work .entry))) at) ⌝ }
+{
+    let entry = places::entry_of(work, g.text.count + 1, at.place, at.side);
     match entry {
         Entry::Unreached => false,
         Entry::Least(_cost, _start) => true,
     }
 }
 
-// The number of pages on the way back from the full place on a side.
-pub fn count_pages(g: Galley, work: &[u32], side: usize) -> usize
-    requires { ⌜ Walkable g (now work) side ⌝ }
-    ensures { λ r. ⌜ r ≡ countBack (sidesIn g) (tableIn g (now (work .entry))) (g .text .count + g .figures .count) (g .text .count) (g .figures .count) side 0 ⌝ }
+// Where the page before stops.
+fn page_before(g: Galley, work: &[u32], at: Stop) -> Stop
+    requires { ⌜ WorkArea g (now work) × Visits g at ⌝ }
+    ensures { λ r. ⌜ r ≡ back (sidesIn g) (tableIn g (now (work .entry))) at ⌝ }
 {
-    let mut i = g.text.count;
-    let mut j = g.figures.count;
-    let mut c = side;
+    let entry = places::entry_of(work, g.text.count + 1, at.place, at.side);
+    Stop {
+        place: start_of(entry, at.place),
+        side: starts::read::side_before(g, at.side),
+    }
+}
+
+// Whether the walk is where the search began.
+fn at_origin(origin: Origin, at: Stop) -> bool
+    ensures { λ r. ⌜ r ≡ atOrigin origin at ⌝ }
+{
+    (at.place.line == origin.place.line) & (at.place.column == origin.place.column)
+}
+
+// The number of pages on the way back to the origin: there are no more than there are blocks.
+pub fn count_pages(g: Galley, work: &[u32], origin: Origin, last: Stop) -> usize
+    requires { ⌜ Walkable g (now work) last ⌝ }
+    ensures { λ r. ⌜ r ≡ pagesBack g (now (work .entry)) origin last ⌝ }
+{
+    let most = g.text.count + g.figures.count;
+    let mut at = last;
     let mut p = 0;
-    while 0 < i + j {
-        let start = start_of(entry_of(g, work, i, j, c));
-        i = galley::word::size(start.line);
-        j = galley::word::size(start.figure);
-        c = starts::search::side_before(g, c);
+    while p < most {
+        if at_origin(origin, at) {
+            return p;
+        }
+        at = page_before(g, work, at);
         p += 1;
     }
     p
 }
 
-// The last `p` pages on the way back from the full place on a side, each written where its number says.
-pub fn write_pages(g: Galley, work: &[u32], side: usize, p: usize, pages: &mut [u32])
-    requires { ⌜ Writable g (now work) side p (now pages) ⌝ }
-    ensures { λ _. ⌜ now (pages .exit) ≡ writeBack (sidesIn g) (tableIn g (now (work .entry))) p (g .text .count) (g .figures .count) side (now (pages .entry)) ⌝ }
+// The last `p` pages on the way back, each written where its number says.
+pub fn write_pages(g: Galley, work: &[u32], last: Stop, p: usize, pages: &mut [u32])
+    requires { ⌜ Writable g (now work) last p (now pages) ⌝ }
+    ensures { λ _. ⌜ now (pages .exit) ≡ writeBack (sidesIn g) (tableIn g (now (work .entry))) p last (now (pages .entry)) ⌝ }
 {
-    let mut i = g.text.count;
-    let mut j = g.figures.count;
-    let mut c = side;
+    let mut at = last;
     let mut r = p;
     while 0 < r {
-        let at = 2 * (r - 1);
-        let start = start_of(entry_of(g, work, i, j, c));
-        pages[at] = i as u32;
-        pages[at + 1] = j as u32;
-        i = galley::word::size(start.line);
-        j = galley::word::size(start.figure);
-        c = starts::search::side_before(g, c);
         r -= 1;
+        pages[2 * r] = at.place.line;
+        pages[2 * r + 1] = at.place.column;
+        at = page_before(g, work, at);
     }
 }

@@ -6,10 +6,11 @@ use mathlib.Core.List.{List}
 use lib.ListN.{length, getD, set}
 use lib.Dec.{ltb}
 use Rattle.model.specs.Gather.{pick}
-use Rattle.places.specs.declared.Start.{Start}
+use Rattle.places.specs.declared.Place.{Place}
 use Rattle.places.specs.declared.Entry.{Entry}
 use Rattle.places.specs.declared.Entry.the-variants.{Unreached, Least}
-use Rattle.places.specs.Address.{address}
+use Rattle.places.specs.Best.{Reached}
+use Rattle.places.specs.Address.{Stands}
 use Rattle.places.specs.Table.{tableOf}
 use Rattle.window.specs.First.{First}
 use Rattle.window.specs.declared.slide.Window.{Window}
@@ -27,11 +28,11 @@ costAt words k = getD words (2 * k + 1) 0
 unfoldable pub pushed : List ℕ → ℕ → ℕ → ℕ → List ℕ
 pushed words at line cost = set (set words (2 * at) line) (2 * at + 1) cost
 
--- The first entry of a queue as a start with b figures placed before it; unreached where the queue is empty.
+-- The first entry of a queue as a start in column b; unreached where the queue is empty.
 unfoldable pub frontOf : List ℕ → Queue → ℕ → Entry
 frontOf words queue b =
     pick (ltb (queue .head) (queue .tail))
-    (Least (costAt words (queue .head)) (record { line = lineAt words (queue .head); figure = b }))
+    (Least (costAt words (queue .head)) (record { line = lineAt words (queue .head); column = b }))
     Unreached
 
 -- The queue of side c: it has the room of 4,000 entries, and its head and tail stand as entry c of `ends`.
@@ -39,8 +40,8 @@ abbrev pub queueOf : List ℕ → ℕ → Queue
 queueOf ends c = record { base = 4000 * c; head = lineAt ends c; tail = costAt ends c }
 
 -- The lines of a column on a side, as starts: the entry of each.
-abbrev pub columnOf : List ℕ → ℕ → ℕ → ℕ → ℕ → Entry
-columnOf work tall b side a = tableOf tall work a b side
+abbrev pub linesOf : List ℕ → ℕ → ℕ → ℕ → ℕ → Entry
+linesOf work tall b side a = tableOf tall work a b side
 
 -- An entry of the queue that is no earlier than line a and no dearer than x.
 pub record Cover (words : List ℕ) (queue : Queue) (a x : ℕ) : Type 0 where
@@ -59,19 +60,12 @@ pub record Held (col : ℕ → Entry) (words : List ℕ) (queue : Queue) (low hi
   pub lines : (k : ℕ) → queue .head ≤ k → suc k < queue .tail → lineAt words k < lineAt words (suc k)
   pub costs : (k : ℕ) → queue .head ≤ k → suc k < queue .tail → costAt words k < costAt words (suc k)
   pub before : (k : ℕ) → queue .head ≤ k → k < queue .tail → lineAt words k < high
-  pub reached : (k : ℕ) → queue .head ≤ k → k < queue .tail → (r : Start) × (col (lineAt words k) ≡ Least (costAt words k) r)
-  pub covered : (a x : ℕ) (r : Start) → low ≤ a → a < high → col a ≡ Least x r → Cover words queue a x
+  pub reached : (k : ℕ) → queue .head ≤ k → k < queue .tail → Reached (col (lineAt words k)) (costAt words k)
+  pub covered : (a x : ℕ) (r : Place) → low ≤ a → a < high → col a ≡ Least x r → Cover words queue a x
 
--- Of the reached lines from `low` on and before `high`, e is the cheapest, and the latest of those that cost the same, as a
--- start with b figures placed before it; it is unreached where they all are.
-pub record Cheapest (col : ℕ → Entry) (low high b : ℕ) (e : Entry) : Type 0 where
-  pub from : (x : ℕ) (r : Start) → e ≡ Least x r → low ≤ r .line
-  pub to : (x : ℕ) (r : Start) → e ≡ Least x r → r .line < high
-  pub figure : (x : ℕ) (r : Start) → e ≡ Least x r → r .figure ≡ b
-  pub reached : (x : ℕ) (r : Start) → e ≡ Least x r → (q : Start) × (col (r .line) ≡ Least x q)
-  pub none : e ≡ Unreached → (a : ℕ) → low ≤ a → a < high → col a ≡ Unreached
-  pub least : (x : ℕ) (r : Start) → e ≡ Least x r → (a y : ℕ) (q : Start) → low ≤ a → a < high → col a ≡ Least y q → x ≤ y
-  pub latest : (x : ℕ) (r : Start) → e ≡ Least x r → (a : ℕ) (q : Start) → low ≤ a → a < high → col a ≡ Least x q → a ≤ r .line
+-- The reached lines from `low` on and before `high`, as starts in column b.
+abbrev pub Lines : (ℕ → Entry) → ℕ → ℕ → ℕ → ℕ → ℕ → ℕ → Type 0
+Lines col low high b a b′ x = (low ≤ a) × (a < high) × (b′ ≡ b) × Reached (col a) x
 
 -- A queue of so many entries lies in the words.
 pub record Entries (words : List ℕ) (head tail : ℕ) : Type 0 where
@@ -89,13 +83,9 @@ pub record Dropped (words : List ℕ) (head tail x r : ℕ) : Type 0 where
 abbrev pub Passed : List ℕ → ℕ → ℕ → ℕ → ℕ → Type 0
 Passed words head tail low r = First (lineAt words) low head tail r
 
--- The lines before `to` stand in the work area, and the queue has room for all of them.
+-- The lines before `to` of column b stand in the work area, and the queue has room for all of them.
 pub record FeedAsked (work : List ℕ) (tall b side : ℕ) (words : List ℕ) (queue : Queue) (from to : ℕ) : Type 0 where
-  pub high : tall ≤ 4001
-  pub row : to ≤ tall
-  pub column : b ≤ 200
-  pub either : side ≤ 1
-  pub stands : (a : ℕ) → a < to → address tall a b side + 4 ≤ length work
+  pub stands : (a : ℕ) → a < to → Stands work tall (record { line = a; column = b }) side
   pub based : queue .base ≤ queue .head
   pub order : queue .head ≤ queue .tail
   pub short : queue .tail ≤ queue .base + from
@@ -116,8 +106,8 @@ pub record Fed (work : List ℕ) (tall b side : ℕ) (old : List ℕ) (queue : Q
   pub order : queue .head ≤ r
   pub short : r ≤ queue .base + to
   pub beside : Beside old new (queue .base) (queue .base + to)
-  pub held : (low : ℕ) → Held (columnOf work tall b side) old queue low from
-      → Held (columnOf work tall b side) new (tailed queue r) low to
+  pub held : (low : ℕ) → Held (linesOf work tall b side) old queue low from
+      → Held (linesOf work tall b side) new (tailed queue r) low to
 
 -- The same for the lines before the window's end.
 abbrev pub AdvanceAsked : List ℕ → ℕ → ℕ → ℕ → List ℕ → Queue → ℕ → Window → Type 0
@@ -131,11 +121,11 @@ pub record Advanced (work : List ℕ) (tall b side : ℕ) (old : List ℕ) (queu
   pub order : r .head ≤ r .tail
   pub short : r .tail ≤ r .base + window .high
   pub beside : Beside old new (queue .base) (queue .base + window .high)
-  pub held : (low : ℕ) → low ≤ window .low → Held (columnOf work tall b side) old queue low from
-      → Held (columnOf work tall b side) new r (window .low) (window .high)
+  pub held : (low : ℕ) → low ≤ window .low → Held (linesOf work tall b side) old queue low from
+      → Held (linesOf work tall b side) new r (window .low) (window .high)
   pub fresh : r .head < r .tail → window .low ≤ lineAt new (r .head)
 
--- The first entry lies in the words, and b is a number of figures.
+-- The first entry lies in the words, and b is a column.
 pub record FrontAsked (words : List ℕ) (queue : Queue) (b : ℕ) : Type 0 where
   pub order : queue .head ≤ queue .tail
   pub room : 2 * queue .tail ≤ length words

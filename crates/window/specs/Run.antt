@@ -7,7 +7,7 @@ use Rattle.galley.specs.declared.Stream.{Stream}
 use Rattle.galley.specs.Model.{textOf}
 use Rattle.window.specs.declared.queue.Queue.{Queue}
 use Rattle.window.specs.Sums.{reach, Row}
-use Rattle.window.specs.Queue.{costAt, columnOf, tailed, Held, Beside}
+use Rattle.window.specs.Queue.{costAt, linesOf, tailed, Held, Beside}
 
 -- From t on every entry costs x or more.
 pub record DearerRun (words : List ℕ) (head tail x t : ℕ) : Type 0 where
@@ -31,5 +31,5 @@ pub record FeedRun (work : List ℕ) (tall b side : ℕ) (words₀ words : List 
   pub short : tail ≤ queue .base + a
   pub beside : Beside words₀ words (queue .base) (queue .base + to)
   pub sized : length words ≡ length words₀
-  pub held : (low : ℕ) → Held (columnOf work tall b side) words₀ queue low from
-      → Held (columnOf work tall b side) words (tailed queue tail) low a
+  pub held : (low : ℕ) → Held (linesOf work tall b side) words₀ queue low from
+      → Held (linesOf work tall b side) words (tailed queue tail) low a

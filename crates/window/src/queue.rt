@@ -6,7 +6,7 @@ ghost use lib.ListN.{length};
 ghost use Rattle.window.specs.Queue.{pushed, frontOf, queueOf, Entries, Dropped, Passed, FeedAsked, Fed, AdvanceAsked, Advanced, FrontAsked};
 use crate::slide::Window;
 use places::Entry;
-use places::Start;
+use places::Place;
 
 // The entries of a queue: those from `head` on and before `tail`. Several queues share a slice, each from its base on.
 pub struct Queue {
@@ -35,7 +35,7 @@ fn drop_dearer(words: &[u32], head: usize, tail: usize, x: u32) -> usize
 {
     let mut t = tail;
     while head < t {
-        if words[2 * t - 1] < x {
+        if places::less(words[2 * t - 1], x) {
             return t;
         }
         t -= 1;
@@ -67,31 +67,31 @@ pub fn push(words: &mut [u32], at: usize, line: u32, cost: u32)
     words[2 * at + 1] = cost;
 }
 
-// The tail after the lines from `from` on and before `to` are offered, as starts with b figures placed before them.
+// The tail after the lines from `from` on and before `to` of a column are offered as starts.
 fn feed(
     work: &[u32],
     tall: usize,
-    b: usize,
+    column: usize,
     side: usize,
     words: &mut [u32],
     queue: Queue,
     from: usize,
     to: usize,
 ) -> usize
-    requires { ⌜ FeedAsked (now work) tall b side (now words) queue from to ⌝ }
-    ensures { λ r. ⌜ Fed (now (work .entry)) tall b side (now (words .entry)) queue from to r (now (words .exit)) ⌝ }
+    requires { ⌜ FeedAsked (now work) tall column side (now words) queue from to ⌝ }
+    ensures { λ r. ⌜ Fed (now (work .entry)) tall column side (now (words .entry)) queue from to r (now (words .exit)) ⌝ }
 {
     let mut tail = queue.tail;
     let mut a = from;
     while a < to {
-        let entry = places::entry_at(work, places::address_of(tall, a, b, side));
-        let line = a as u32;
+        let place = places::place_of(a, column);
+        let entry = places::entry_of(work, tall, place, side);
         a += 1;
         let Entry::Least(x, _start) = entry else {
             continue;
         };
         tail = drop_dearer(words, queue.head, tail, x);
-        push(words, tail, line, x);
+        push(words, tail, place.line, x);
         tail += 1;
     }
     tail
@@ -101,17 +101,17 @@ fn feed(
 pub fn advance(
     work: &[u32],
     tall: usize,
-    b: usize,
+    column: usize,
     side: usize,
     words: &mut [u32],
     queue: Queue,
     from: usize,
     window: Window,
 ) -> Queue
-    requires { ⌜ AdvanceAsked (now work) tall b side (now words) queue from window ⌝ }
-    ensures { λ r. ⌜ Advanced (now (work .entry)) tall b side (now (words .entry)) queue from window r (now (words .exit)) ⌝ }
+    requires { ⌜ AdvanceAsked (now work) tall column side (now words) queue from window ⌝ }
+    ensures { λ r. ⌜ Advanced (now (work .entry)) tall column side (now (words .entry)) queue from window r (now (words .exit)) ⌝ }
 {
-    let tail = feed(work, tall, b, side, words, queue, from, window.high);
+    let tail = feed(work, tall, column, side, words, queue, from, window.high);
     let head = drop_passed(words, queue.head, tail, window.low);
     Queue {
         base: queue.base,
@@ -120,16 +120,16 @@ pub fn advance(
     }
 }
 
-// The best start that a queue holds, with b figures placed before it.
-pub fn front(words: &[u32], queue: Queue, b: usize) -> Entry
-    requires { ⌜ FrontAsked (now words) queue b ⌝ }
-    ensures { λ r. ⌜ r ≡ frontOf (now (words .entry)) queue b ⌝ }
+// The best start that a queue of a column's lines holds.
+pub fn front(words: &[u32], queue: Queue, column: usize) -> Entry
+    requires { ⌜ FrontAsked (now words) queue column ⌝ }
+    ensures { λ r. ⌜ r ≡ frontOf (now (words .entry)) queue column ⌝ }
 {
     let at = 2 * queue.head;
     if queue.head < queue.tail {
-        let start = Start {
+        let start = Place {
             line: words[at],
-            figure: b as u32,
+            column: column as u32,
         };
         return Entry::Least(words[at + 1], start);
     }

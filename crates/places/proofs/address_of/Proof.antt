@@ -7,20 +7,30 @@ use Rattle.places.proofs.address_of.Statement.{statement}
 use Rattle.places.proofs.address_of.Tie as tie
 
 mul-result : tie.Need-mul-result
-mul-result c = omega (arith, column-small _ _ _ _ (c .pre))
+mul-result c = omega (arith, column-small _ _ _ (c .before .pre))
 
 add-result : tie.Need-add-result
-add-result c = omega (arith, column-small _ _ _ _ (c .pre))
+add-result c = omega (arith, column-small _ _ _ (c .before .before .pre))
 
 mul-result-2 : tie.Need-mul-result-2
-mul-result-2 c = omega (arith, column-small _ _ _ _ (c .pre))
+mul-result-2 c = omega (arith, column-small _ _ _ (c .before .before .pre))
 
 add-result-2 : tie.Need-add-result-2
-add-result-2 c = omega (arith, column-small _ _ _ _ (c .pre))
+add-result-2 c = omega (arith, column-small _ _ _ (c .before .before .pre))
 
 returns : tie.Need-returns
 unfolding address
 returns c = search needs
 
 pub address-of-spec : {M : Type 1} → statement M
-address-of-spec = tie.close (tie.spec mul-result add-result mul-result-2 (λ c. search needs) add-result-2 returns)
+address-of-spec =
+    tie.close
+    (tie.spec
+    (λ c. search needs)
+    mul-result
+    (λ c. search needs)
+    add-result
+    mul-result-2
+    (λ c. search needs)
+    add-result-2
+    returns)

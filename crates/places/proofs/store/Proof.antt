@@ -8,18 +8,19 @@ returns : tie.Need-returns
 unfolding stored
 returns c =
     let told = c .before .before .before .before in
-    rw (told .enum-told .given .1) (c .before .before .put .ensures)
+    rw (told .enum-told .given .1, ← told .before .before .address-of .ensures) (c .before .before .put .ensures)
 
 returns-2 : tie.Need-returns-2
 unfolding stored
 returns-2 c =
     let told = c .before .before .before .before .before in
-    rw (told .entry .given .1) (c .before .before .put2 .ensures)
+    rw (told .entry .given .1, ← told .before .before .address-of .ensures) (c .before .before .put2 .ensures)
 
 pub store-spec : {M : Type 1} → statement M
 store-spec =
     tie.close
     (tie.spec
+    (λ c κs. search needs)
     (λ c. search needs)
     (λ c κs. search needs)
     (λ c. search needs)

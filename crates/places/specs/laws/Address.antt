@@ -7,7 +7,9 @@ use native.Mathlib.Nat.{suc-mul, mul-comm, mul-le-mul, mul-le-mul-right}
 use native.Mathlib.Omega.{arith}
 use lib.Dec.{ltb}
 use borrow.Author.Tests.{ltb-true, ltb-false}
-use Rattle.places.specs.Address.{address, wordsNeeded, Inside, Small, Earlier, Apart}
+use Rattle.places.specs.declared.Place.{Place}
+use Rattle.places.specs.Address.{address, area, wordsNeeded, Inside, Small, Apart}
+use Rattle.places.specs.Order.{Earlier}
 
 -- Numbers are in one of three orders.
 compared : (a b : ℕ) → (a < b) ⊎ ((a ≡ b) ⊎ (b < a))
@@ -77,20 +79,19 @@ address-apart tall i j side i′ j′ side′ h h′ s s′ differ = by-column (
     by-column (inr (inl e)) = by-row e (compared i i′)
     by-column (inr (inr l)) = second (inl l)
 
--- The four words of a place lie among the first n + 1 columns.
-pub address-in-columns :
-    (tall i j side n : ℕ) → i < tall → j ≤ n → side ≤ 1 → address tall i j side + 4 ≤ 8 * (tall * (n + 1))
-unfolding address
-address-in-columns tall i j side n h l s = omega (arith, column-first tall j (n + 1) (omega arith), mul-comm tall (n + 1))
+-- The four words of a place lie within those of the columns.
+pub address-in : (tall i j side wide : ℕ) → i < tall → j < wide → side ≤ 1 → address tall i j side + 4 ≤ area tall wide
+unfolding address area
+address-in tall i j side wide h l s = omega (arith, column-first tall j wide l, mul-comm tall wide)
 
--- The four words of a place lie within the words needed.
-pub address-in : (m n i j side : ℕ) → i ≤ m → j ≤ n → side ≤ 1 → address (m + 1) i j side + 4 ≤ wordsNeeded m n
-unfolding wordsNeeded
-address-in m n i j side h l s = address-in-columns (m + 1) i j side n (omega arith) l s
+-- For lines and figures these are the words needed.
+pub area-needed : (m n : ℕ) → area (m + 1) (n + 1) ≡ wordsNeeded m n
+unfolding area wordsNeeded
+area-needed m n = refl
 
 -- The product in an address is small.
-pub column-small : (tall i j side : ℕ) → Inside tall i j side → j * tall ≤ 800200
-column-small tall i j side r = mul-le-mul (r .column) (r .high)
+pub column-small : (tall : ℕ) (place : Place) (side : ℕ) → Inside tall place side → place .column * tall ≤ 800200
+column-small tall place side r = mul-le-mul (r .wide) (r .high)
 
 -- The product in the words needed is small.
 pub words-small : (m n : ℕ) → Small m n → (m + 1) * (n + 1) ≤ 804201

@@ -1,94 +1,146 @@
--- An entry after a store: what was stored at its own place, and what was there before at every place apart.
-use mathlib.Core.Path.{_≡_, _∙_}
-use mathlib.Core.Logic.{inl, inr, _≢_}
-use mathlib.Core.List.{List}
-use Prim.Native.Nat.{ℕ, _+_, _<_, _≤_}
+-- The words after a store, and an entry after it: what was stored at its own place, and what was there before at every place apart.
+use mathlib.Core.Path.{_≡_, refl, sym, _∙_, ap}
+use mathlib.Core.Logic.{_⊎_, inl, inr}
+use mathlib.Core.List.{List, [], _∷_}
+use Prim.Native.Nat.{ℕ, zero, suc, _+_, _-_, _<_, _≤_}
+use native.Mathlib.Nat.{add-zero}
+use native.Mathlib.Decide.{decLt, decLe}
 use native.Mathlib.Omega.{arith}
 use lib.ListN.{length, getD, set, drop, length-set}
 use lib.Dec.{eqb}
-use lib.Seq.{getD-set-same, getD-set-other, drop-set-lt}
-use Rattle.places.specs.declared.Start.{Start}
+use lib.Seq.{getD-set-same, getD-set-other, drop-set-lt, sets, length-sets, ext-getD}
 use Rattle.places.specs.declared.Entry.{Entry}
 use Rattle.places.specs.declared.Entry.the-variants.{Unreached, Least}
-use Rattle.places.specs.Entry.{entryOf, entryAt, put, nowhere, stored}
+use Rattle.places.specs.Entry.{tagged, entryAt, wordsOf, stored}
 use Rattle.places.specs.Address.{Apart}
 
--- An entry is known by its four words.
-pub entryAt-same :
-    (v w : List ℕ) (at : ℕ) → ((k : ℕ) → at ≤ k → k < at + 4 → getD v k 0 ≡ getD w k 0) → entryAt v at ≡ entryAt w at
-unfolding entryAt
-entryAt-same v w at h =
-    let a = h at (omega arith) (omega arith) in
-    let b = h (at + 1) (omega arith) (omega arith) in
-    let c = h (at + 2) (omega arith) (omega arith) in
-    let d = h (at + 3) (omega arith) (omega arith) in
-    cc
+-- An offset lies outside a run of so many words from another on.
+abbrev Out : ℕ → ℕ → ℕ → Type 0
+Out k at n = (k < at) ⊎ (at + n ≤ k)
 
-module _ (w : List ℕ) (at tag cost : ℕ) (start : Start) where
-  put-length : length (put w at tag cost start) ≡ length w
-  unfolding put
-  put-length = simp length-set
+-- A run of stores: the words outside it stay,
+pub sets-out : (vs w : List ℕ) (at k : ℕ) → Out k at (length vs) → getD (sets w at vs) k 0 ≡ getD w k 0
+sets-out [] w at k out = refl
+sets-out (v ∷ vs) w at k out = sets-out vs (set w at v) (suc at) k (later out) ∙ getD-set-other w at k v 0 (apart out)
+  where
+    later : Out k at (suc (length vs)) → Out k (suc at) (length vs)
+    later (inl l) = inl (omega arith)
+    later (inr l) = inr (omega arith)
 
-  put-drop : (n : ℕ) → at + 4 ≤ n → drop n (put w at tag cost start) ≡ drop n w
-  unfolding put
-  put-drop n h =
-      drop-set-lt n _ (at + 3) _ (omega arith) ∙ drop-set-lt n _ (at + 2) _ (omega arith)
-      ∙ drop-set-lt n _ (at + 1) _ (omega arith)
-      ∙ drop-set-lt n _ at _ (omega arith)
+    apart : Out k at (suc (length vs)) → k ≡ at → ⊥
+    apart (inl l) e = omega arith
+    apart (inr l) e = omega arith
 
-  -- A word that is none of the four stays.
-  put-other : (k : ℕ) → k ≢ at → k ≢ at + 1 → k ≢ at + 2 → k ≢ at + 3 → getD (put w at tag cost start) k 0 ≡ getD w k 0
-  unfolding put
-  put-other k a b c d = simp getD-set-other
+-- those inside are what was stored,
+pub sets-in : (vs w : List ℕ) (at k : ℕ) → k < length vs → at + length vs ≤ length w → getD (sets w at vs) (at + k) 0 ≡ getD vs k 0
+sets-in [] w at k l h = absurd (omega arith)
+sets-in (v ∷ vs) w at zero l h =
+    let e : at + 0 ≡ at = omega arith in
+    rw e (sets-out vs (set w at v) (suc at) at (inl (omega arith)) ∙ getD-set-same w at v 0 (omega arith))
+sets-in (v ∷ vs) w at (suc k) l h =
+    let e : at + suc k ≡ suc at + k = omega arith in
+    rw e (sets-in vs (set w at v) (suc at) k (omega arith) (omega (arith, length-set w at v)))
 
-  put-apart : (at′ : ℕ) → Apart at at′ → entryAt (put w at tag cost start) at′ ≡ entryAt w at′
-  put-apart at′ (inl l) =
-      entryAt-same _ w at′ (λ k a b. put-other k (omega arith) (omega arith) (omega arith) (omega arith))
-  put-apart at′ (inr l) =
-      entryAt-same _ w at′ (λ k a b. put-other k (omega arith) (omega arith) (omega arith) (omega arith))
+-- and those past it are as they were.
+pub sets-drop : (vs w : List ℕ) (at n : ℕ) → at + length vs ≤ n → drop n (sets w at vs) ≡ drop n w
+sets-drop [] w at n l = refl
+sets-drop (v ∷ vs) w at n l = sets-drop vs (set w at v) (suc at) n (omega arith) ∙ drop-set-lt n w at v (omega arith)
 
-  -- The four words of the place itself are those that were written.
-  put-own : at + 4 ≤ length w → entryAt (put w at tag cost start) at ≡ entryOf (eqb tag 1) cost start
-  unfolding entryAt put
-  put-own h =
-      let w₁ = set w at tag in
-      let w₂ = set w₁ (at + 1) cost in
-      let w₃ = set w₂ (at + 2) (start .line) in
-      let n₁ : length w₁ ≡ length w = simp length-set in
-      let n₂ : length w₂ ≡ length w = simp length-set in
-      let n₃ : length w₃ ≡ length w = simp length-set in
-      let a = getD-set-other w₃ (at + 3) at (start .figure) 0 (omega arith)
-      ∙ getD-set-other w₂ (at + 2) at (start .line) 0 (omega arith)
-      ∙ getD-set-other w₁ (at + 1) at cost 0 (omega arith)
-      ∙ getD-set-same w at tag 0 (omega arith) in
-      let b = getD-set-other w₃ (at + 3) (at + 1) (start .figure) 0 (omega arith)
-      ∙ getD-set-other w₂ (at + 2) (at + 1) (start .line) 0 (omega arith)
-      ∙ getD-set-same w₁ (at + 1) cost 0 (omega arith) in
-      let c = getD-set-other w₃ (at + 3) (at + 2) (start .figure) 0 (omega arith)
-      ∙ getD-set-same w₂ (at + 2) (start .line) 0 (omega arith) in
-      let d = getD-set-same w₃ (at + 3) (start .figure) 0 (omega arith) in
-      rw (a, b, c, d)
+-- An entry has four words.
+pub words-four : (e : Entry) → length (wordsOf e) ≡ 4
+words-four Unreached = refl
+words-four (Least cost start) = refl
 
 -- A store leaves the length as it is.
 pub stored-length : (w : List ℕ) (at : ℕ) (e : Entry) → length (stored w at e) ≡ length w
 unfolding stored
-stored-length w at Unreached = put-length w at 0 0 nowhere
-stored-length w at (Least cost start) = put-length w at 1 cost start
-
--- What is stored at an offset is read there.
-pub stored-same : (w : List ℕ) (at : ℕ) (e : Entry) → at + 4 ≤ length w → entryAt (stored w at e) at ≡ e
-unfolding stored
-stored-same w at Unreached h = put-own w at 0 0 nowhere h
-stored-same w at (Least cost start) h = put-own w at 1 cost start h
-
--- What is stored at an offset leaves every entry apart from it.
-pub stored-other : (w : List ℕ) (at at′ : ℕ) (e : Entry) → Apart at at′ → entryAt (stored w at e) at′ ≡ entryAt w at′
-unfolding stored
-stored-other w at at′ Unreached h = put-apart w at 0 0 nowhere at′ h
-stored-other w at at′ (Least cost start) h = put-apart w at 1 cost start at′ h
+stored-length w at e = length-sets w at (wordsOf e)
 
 -- A store within the first n words leaves those beyond.
 pub stored-beyond : (w : List ℕ) (at n : ℕ) (e : Entry) → at + 4 ≤ n → drop n (stored w at e) ≡ drop n w
 unfolding stored
-stored-beyond w at n Unreached h = put-drop w at 0 0 nowhere n h
-stored-beyond w at n (Least cost start) h = put-drop w at 1 cost start n h
+stored-beyond w at n e h = sets-drop (wordsOf e) w at n (omega (arith, words-four e))
+
+module _ (w : List ℕ) (at : ℕ) (e : Entry) where
+  stored-out : (k : ℕ) → Out k at 4 → getD (stored w at e) k 0 ≡ getD w k 0
+  unfolding stored
+  stored-out k out = let n = words-four e in sets-out (wordsOf e) w at k (rw n out)
+
+  stored-in : (k : ℕ) → k < 4 → at + 4 ≤ length w → getD (stored w at e) (at + k) 0 ≡ getD (wordsOf e) k 0
+  unfolding stored
+  stored-in k l h = sets-in (wordsOf e) w at k (omega (arith, words-four e)) (omega (arith, words-four e))
+
+-- An entry is its four words,
+words-entry : (e : Entry)
+    → tagged (eqb (getD (wordsOf e) 0 0) 1) (getD (wordsOf e) 1 0) (record { line = getD (wordsOf e) 2 0; column = getD (wordsOf e) 3 0 }) ≡ e
+words-entry Unreached = refl
+words-entry (Least cost start) = refl
+
+-- so that what is stored at an offset is read there.
+pub stored-same : (w : List ℕ) (at : ℕ) (e : Entry) → at + 4 ≤ length w → entryAt (stored w at e) at ≡ e
+unfolding entryAt
+stored-same w at e h =
+    let a = ap (λ (k : ℕ). getD (stored w at e) k 0) (sym (add-zero at)) ∙ stored-in w at e 0 (omega arith) h in
+    let b = stored-in w at e 1 (omega arith) h in
+    let c = stored-in w at e 2 (omega arith) h in
+    let d = stored-in w at e 3 (omega arith) h in
+    rw (a, b, c, d) (words-entry e)
+
+-- What is stored at an offset leaves every entry apart from it.
+pub stored-other : (w : List ℕ) (at to : ℕ) (e : Entry) → Apart at to → entryAt (stored w at e) to ≡ entryAt w to
+unfolding entryAt
+stored-other w at to e apart =
+    let a = stored-out w at e to (out apart to (omega arith) (omega arith)) in
+    let b = stored-out w at e (to + 1) (out apart (to + 1) (omega arith) (omega arith)) in
+    let c = stored-out w at e (to + 2) (out apart (to + 2) (omega arith) (omega arith)) in
+    let d = stored-out w at e (to + 3) (out apart (to + 3) (omega arith) (omega arith)) in
+    rw (a, b, c, d) refl
+  where
+    out : Apart at to → (k : ℕ) → to ≤ k → k < to + 4 → Out k at 4
+    out (inl l) k m n = inr (omega arith)
+    out (inr l) k m n = inl (omega arith)
+
+-- A word is one of four from an offset on, or none of them.
+where-is : (k at : ℕ) → Out k at 4 ⊎ ((d : ℕ) × (k ≡ at + d) × (d < 4))
+where-is k at = go (decLt k at) (decLe (at + 4) k)
+  where
+    go : Dec (k < at) → Dec (at + 4 ≤ k) → Out k at 4 ⊎ ((d : ℕ) × (k ≡ at + d) × (d < 4))
+    go (yes p) q = inl (inl p)
+    go (no p) (yes q) = inl (inr q)
+    go (no p) (no q) = inr (k - at, omega arith, omega arith)
+
+-- What is stored over is forgotten.
+pub stored-twice : (w : List ℕ) (at : ℕ) (e f : Entry) → at + 4 ≤ length w → stored (stored w at e) at f ≡ stored w at f
+stored-twice w at e f h =
+    let n = stored-length w at e in
+    ext-getD 0 (stored (stored w at e) at f) (stored w at f) (stored-length (stored w at e) at f ∙ n ∙ sym (stored-length w at f))
+    (λ k l. go k (where-is k at))
+  where
+    go : (k : ℕ) → Out k at 4 ⊎ ((d : ℕ) × (k ≡ at + d) × (d < 4)) → getD (stored (stored w at e) at f) k 0 ≡ getD (stored w at f) k 0
+    go k (inl o) = stored-out (stored w at e) at f k o ∙ stored-out w at e k o ∙ sym (stored-out w at f k o)
+    go k (inr (d, p, l)) =
+        rw p (stored-in (stored w at e) at f d l (omega (arith, stored-length w at e)) ∙ sym (stored-in w at f d l h))
+
+-- Stores apart from each other change places.
+pub stored-swap : (w : List ℕ) (at to : ℕ) (e f : Entry) → Apart at to → at + 4 ≤ length w → to + 4 ≤ length w
+    → stored (stored w at e) to f ≡ stored (stored w to f) at e
+stored-swap w at to e f apart h h′ =
+    ext-getD 0 (stored (stored w at e) to f) (stored (stored w to f) at e)
+    (stored-length (stored w at e) to f ∙ stored-length w at e ∙ sym (stored-length w to f) ∙ sym (stored-length (stored w to f) at e))
+    (λ k l. go k (where-is k at) (where-is k to))
+  where
+    never : (d c : ℕ) → Apart at to → at + d ≡ to + c → d < 4 → c < 4 → ⊥
+    never d c (inl p) e l m = omega arith
+    never d c (inr p) e l m = omega arith
+
+    go : (k : ℕ) → Out k at 4 ⊎ ((d : ℕ) × (k ≡ at + d) × (d < 4)) → Out k to 4 ⊎ ((d : ℕ) × (k ≡ to + d) × (d < 4))
+        → getD (stored (stored w at e) to f) k 0 ≡ getD (stored (stored w to f) at e) k 0
+    go k (inl o) (inl p) =
+        stored-out (stored w at e) to f k p ∙ stored-out w at e k o ∙ sym (stored-out w to f k p) ∙ sym (stored-out (stored w to f) at e k o)
+    go k (inl o) (inr (d, p, l)) =
+        let there = stored-in (stored w at e) to f d l (omega (arith, stored-length w at e)) ∙ sym (stored-in w to f d l h′) in
+        rw (← p) at there ∙ sym (stored-out (stored w to f) at e k o)
+    go k (inr (d, p, l)) (inl o) =
+        let here = stored-in w at e d l h ∙ sym (stored-in (stored w to f) at e d l (omega (arith, stored-length w to f))) in
+        stored-out (stored w at e) to f k o ∙ rw (← p) at here
+    go k (inr (d, p, l)) (inr (c, q, m)) = absurd (never d c apart (sym p ∙ q) l m)

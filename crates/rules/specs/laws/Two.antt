@@ -6,8 +6,8 @@ use mathlib.Core.Bool.{Bool, true, false, _&&_, _||_}
 use mathlib.Core.List.{List, [], _∷_}
 use lib.Dec.{leb, ltb, eqb}
 use Rattle.model.specs.Gather.{implies, one, sum, total, each, every, row}
-use Rattle.model.specs.Galley.{count, streams, zeros, sizes, blocks, Stream}
-use Rattle.model.specs.Height.{has, kinds, stacked, height}
+use Rattle.model.specs.Galley.{count, streams, zeros, sizes, blocks}
+use Rattle.model.specs.Height.{has, kinds}
 use Rattle.model.specs.Leaf.{ends}
 use Rattle.model.specs.Rules.{forward, mayEnd, closes, cited}
 use Rattle.model.specs.Answers.{same}
@@ -54,15 +54,6 @@ module _ (bytes : List ℕ) (g : Galley) where
       → pred (kinds (modelOf bytes g) (a ∷ b ∷ []) (i ∷ j ∷ [])) * s ≡ separation (ltb a i && ltb b j) s
   unfolding kinds has total sum count
   separation-two s a b i j = separated (ltb a i) (ltb b j) s
-
-  -- The height of a page.
-  pub height-two : (gap : Stream → ℕ → ℕ) (s a b i j : ℕ)
-      → height (modelOf bytes g) gap s (a ∷ b ∷ []) (i ∷ j ∷ [])
-      ≡ separation (ltb a i && ltb b j) s
-      + stacked (textOf bytes (g .text)) (gap (textOf bytes (g .text))) a i
-      + stacked (floatsOf bytes (g .figures)) (gap (floatsOf bytes (g .figures))) b j
-  unfolding height total sum count
-  height-two gap s a b i j = let e = separation-two s a b i j in omega arith
 
   -- Rule 17.
   pub cited-two : (q : ℕ) (last : Bool) (i j : ℕ)

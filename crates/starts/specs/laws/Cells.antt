@@ -14,13 +14,15 @@ use Rattle.places.specs.declared.Entry.the-variants.{Unreached, Least}
 use Rattle.places.specs.Entry.{entryAt, stored}
 use Rattle.places.specs.Address.{address, wordsNeeded}
 use Rattle.places.specs.Table.{tableOf}
-use Rattle.places.specs.laws.Address.{address-in}
+use Rattle.places.specs.laws.Address.{address-in, area-needed}
 use Rattle.places.specs.laws.Stored.{stored-length}
 use Rattle.places.specs.laws.Table.{table-same, table-other}
-use Rattle.starts.specs.Choice.{wins, chosen, taken, Best, Between}
-use Rattle.starts.specs.Asked.{searchOf, allPlaced}
-use Rattle.starts.specs.Sweep.{sideOf, Knows, Known, number, Swept, Scratched, fresh, more, Changed, Blank, ClearAsked, Cleared}
-use Rattle.starts.specs.laws.Choice.{best-none}
+use Rattle.places.specs.Best.{Best}
+use Rattle.places.specs.laws.Best.{best-none}
+use Rattle.starts.specs.Better.{wins, chosen, taken}
+use Rattle.starts.specs.Choice.{Starts, Between}
+use Rattle.starts.specs.Read.{tableIn, sideOf, searchOf}
+use Rattle.starts.specs.Sweep.{Knows, Known, number, Swept, Scratched, fresh, more, Changed, Blank, ColumnRoom, Cleared}
 use Rattle.starts.specs.laws.Sweep.{best-same}
 use Rattle.starts.specs.laws.Lending.{side-either}
 
@@ -33,37 +35,37 @@ scratched-then g j w v u a (more x y i c e b l m p) = more x y i c e (scratched-
 pub scratched-length : (g : Galley) (j : ℕ) (w v : List ℕ) → Scratched g j w v → length v ≡ length w
 scratched-length g j w v fresh = refl
 scratched-length g j w v (more x y i c e b l m p) =
-    ap length p ∙ stored-length x (address (suc (g .text .count)) i j c) e ∙ scratched-length g j w x b
+    ap length p ∙ stored-length x (address (g .text .count + 1) i j c) e ∙ scratched-length g j w x b
 
 -- One store, of an entry or of the better of two, at a place of the work area.
 module _ (g : Galley) (w : List ℕ) (i j c : ℕ) (line : i ≤ g .text .count) (column : j ≤ g .figures .count) (occurs : c < g .spec .sides)
     (two : g .spec .sides ≤ 2) (room : wordsNeeded (g .text .count) (g .figures .count) ≤ length w) where
-  pub stored-changes : (e : Entry) (v : List ℕ) → v ≡ stored w (address (suc (g .text .count)) i j c) e → Changed g w v i j c e
+  pub stored-changes : (e : Entry) (v : List ℕ) → v ≡ stored w (address (g .text .count + 1) i j c) e → Changed g w v i j c e
   stored-changes e v p =
       let side : c ≤ 1 = omega arith in
-      let a = address-in (g .text .count) (g .figures .count) i j c line column side in
-      let s = ap (λ h. address h i j c) (add-one (g .text .count)) in
+      let a = address-in (g .text .count + 1) i j c (g .figures .count + 1) (omega arith) (omega arith) side in
+      let n = area-needed (g .text .count) (g .figures .count) in
       record {
-        sized = ap length p ∙ stored-length w (address (suc (g .text .count)) i j c) e;
+        sized = ap length p ∙ stored-length w (address (g .text .count + 1) i j c) e;
         own =
-            ap (λ u. tableOf (suc (g .text .count)) u i j c) p ∙ table-same (suc (g .text .count)) i j c w e (omega arith);
+            ap (λ u. tableIn g u i j c) p ∙ table-same (g .text .count + 1) i j c w e (omega arith);
         others = λ a b d l m n.
-            ap (λ u. tableOf (suc (g .text .count)) u a b d) p
-            ∙ table-other (suc (g .text .count)) i j c a b d w e (omega arith) (omega arith) side m n;
+            ap (λ u. tableIn g u a b d) p
+            ∙ table-other (g .text .count + 1) i j c a b d w e (omega arith) (omega arith) side m n;
         kept = more w v i c e fresh line occurs p;
       }
 
-  unchanged : (v : List ℕ) → v ≡ w → Changed g w v i j c (tableOf (suc (g .text .count)) w i j c)
+  unchanged : (v : List ℕ) → v ≡ w → Changed g w v i j c (tableIn g w i j c)
   unchanged v p = rw p (record { sized = refl; own = refl; others = λ a b d l m n. refl; kept = fresh })
 
-  pub taken-changes : (e : Entry) (v : List ℕ) → v ≡ taken w (address (suc (g .text .count)) i j c) e
-      → Changed g w v i j c (chosen (tableOf (suc (g .text .count)) w i j c) e)
+  pub taken-changes : (e : Entry) (v : List ℕ) → v ≡ taken w (address (g .text .count + 1) i j c) e
+      → Changed g w v i j c (chosen (tableIn g w i j c) e)
   unfolding taken chosen tableOf
   taken-changes Unreached v p = unchanged v p
-  taken-changes (Least y r) v p = go (wins y r (entryAt w (address (suc (g .text .count)) i j c))) p
+  taken-changes (Least y r) v p = go (wins y r (entryAt w (address (g .text .count + 1) i j c))) p
     where
-      go : (t : Bool) → v ≡ pick t (stored w (address (suc (g .text .count)) i j c) (Least y r)) w
-          → Changed g w v i j c (pick t (Least y r) (tableOf (suc (g .text .count)) w i j c))
+      go : (t : Bool) → v ≡ pick t (stored w (address (g .text .count + 1) i j c) (Least y r)) w
+          → Changed g w v i j c (pick t (Least y r) (tableIn g w i j c))
       go true q = stored-changes (Least y r) v q
       go false q = unchanged v q
 
@@ -73,26 +75,22 @@ module _ {g : Galley} {w v : List ℕ} {i j c : ℕ} {e : Entry} (changed : Chan
   -- Every other place of the column knows of earlier columns what it knew.
   pub knows-other : (bytes : List ℕ) (k d b : ℕ) → k ≤ g .text .count → d ≤ 1 → ((i ≡ k) × (c ≡ d) → ⊥)
       → Knows bytes g w k j d (Between b j) → Knows bytes g v k j d (Between b j)
-  knows-other bytes k d b l m n known inner =
+  knows-other bytes k d b l m n known =
       rw (changed .others k j d l m (λ q. n (q .0, q .2)))
-      (best-same bytes g w v k j (sideOf g d) (Between b j) (tableOf (suc (g .text .count)) w k j d)
-      (λ a b′ r h h′. changed .others a b′ (sideOf g d) (omega arith) (side-either g d) (λ q. omega (arith, q .1, r .1)))
-      (known inner))
+      (best-same (searchOf bytes g w k j (sideOf g d)) (tableIn g v) (Between b j) (tableIn g w k j d)
+      (λ a b′ r h h′. changed .others a b′ (sideOf g d) (omega arith) (side-either g d) (λ q. omega (arith, q .1, r .1))) known)
 
   -- The place itself knows what it holds.
-  pub knows-own : (bytes : List ℕ) (b : ℕ)
-      → (allPlaced g i j ≡ false → Best (searchOf bytes g w i j (sideOf g c)) (Between b j) e)
+  knows-own : (bytes : List ℕ) (b : ℕ) → Best (Starts (searchOf bytes g w i j (sideOf g c)) (Between b j)) e
       → Knows bytes g v i j c (Between b j)
-  knows-own bytes b best inner =
+  knows-own bytes b best =
       rw (changed .own)
-      (best-same bytes g w v i j (sideOf g c) (Between b j) e
-      (λ a b′ r h h′. changed .others a b′ (sideOf g c) (omega arith) (side-either g c) (λ q. omega (arith, q .1, r .1)))
-      (best inner))
+      (best-same (searchOf bytes g w i j (sideOf g c)) (tableIn g v) (Between b j) e
+      (λ a b′ r h h′. changed .others a b′ (sideOf g c) (omega arith) (side-either g c) (λ q. omega (arith, q .1, r .1))) best)
 
   -- One place more is swept.
   pub swept-next : (bytes : List ℕ) (b : ℕ) → Swept bytes g w j b (number c i)
-      → (allPlaced g i j ≡ false → Best (searchOf bytes g w i j (sideOf g c)) (Between b j) e)
-      → Swept bytes g v j b (number c (i + 1))
+      → Best (Starts (searchOf bytes g w i j (sideOf g c)) (Between b j)) e → Swept bytes g v j b (number c (i + 1))
   swept-next bytes b s best =
       record {
         done = λ k d l m n. go k d l m n (ℕ-discrete (number d k) (number c i));
@@ -113,7 +111,7 @@ module _ {g : Galley} {w v : List ℕ} {i j c : ℕ} {e : Entry} (changed : Chan
   pub blank-next : e ≡ Unreached → Blank g w j (number c i) → Blank g v j (number c (i + 1))
   blank-next none s k d l m n = go (ℕ-discrete (number d k) (number c i))
     where
-      go : Dec (number d k ≡ number c i) → tableOf (suc (g .text .count)) v k j d ≡ Unreached
+      go : Dec (number d k ≡ number c i) → tableIn g v k j d ≡ Unreached
       go (yes q) =
           let x : k ≡ i = omega arith in
           let y : d ≡ c = omega arith in
@@ -130,12 +128,11 @@ swept-side c i few l m s =
       left = λ k d h h′ n. s .left k d h h′ (omega arith);
     }
 
--- In an unreached column no start is known, and there is none with j figures or more and fewer than j.
+-- In an unreached column no start is known, and there is none from column j on and before it.
 pub blank-known : (bytes : List ℕ) (g : Galley) (w : List ℕ) (j : ℕ) → g .text .count ≤ 4000 → g .spec .sides ≤ 2
     → Blank g w j (number 2 0) → Known bytes g w j j
-blank-known bytes g w j few two blank k c l m inner =
-    rw (blank k c l m (omega arith))
-    (best-none (searchOf bytes g w k j (sideOf g c)) (Between j j) (λ a b x p q. omega (arith, p .0, p .1)))
+blank-known bytes g w j few two blank k c l m =
+    rw (blank k c l m (omega arith)) (best-none (λ a b x p. omega (arith, p .0 .0, p .0 .1)))
 
 -- Nothing is cleared at first,
 pub cleared-none : (g : Galley) (w : List ℕ) (j n : ℕ) → Cleared g w w j n n
@@ -151,8 +148,8 @@ cleared-then {g} {w} {v} {u} {j} a b =
     }
 
 -- each part one place,
-pub clear-next : {g : Galley} {w : List ℕ} {j : ℕ} (i c : ℕ) → ClearAsked g w j → i ≤ g .text .count → c < g .spec .sides
-    → (v : List ℕ) → v ≡ stored w (address (suc (g .text .count)) i j c) Unreached → Cleared g w v j (number c i) (number c (i + 1))
+pub clear-next : {g : Galley} {w : List ℕ} {j : ℕ} (i c : ℕ) → ColumnRoom g w j → i ≤ g .text .count → c < g .spec .sides
+    → (v : List ℕ) → v ≡ stored w (address (g .text .count + 1) i j c) Unreached → Cleared g w v j (number c i) (number c (i + 1))
 clear-next {g} {w} {j} i c asked line occurs v e =
     let changed = stored-changes g w i j c line (asked .within) occurs (asked .two) (asked .room) Unreached v e in
     record {
@@ -174,11 +171,11 @@ cleared-all c few l a =
     record { sized = a .sized; blank = λ b k d h h′ o. a .blank b k d h h′ (omega arith); kept = a .kept }
 
 -- The column can be cleared further.
-pub clear-sized : {g : Galley} {w v : List ℕ} {j n m : ℕ} → Cleared g w v j n m → ClearAsked g w j → ClearAsked g v j
+pub clear-sized : {g : Galley} {w v : List ℕ} {j n m : ℕ} → Cleared g w v j n m → ColumnRoom g w j → ColumnRoom g v j
 clear-sized cleared asked =
     record {
       few = asked .few;
-      figure = asked .figure;
+      narrow = asked .narrow;
       within = asked .within;
       two = asked .two;
       room = omega (arith, asked .room, cleared .sized);

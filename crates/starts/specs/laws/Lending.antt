@@ -1,6 +1,5 @@
 -- What is lent for a column is enough for the window, the queue and the best starts.
-use Prim.Native.Nat.{ℕ, suc, _+_, _-_, _≤_}
-use native.Mathlib.Numerals.{add-one}
+use Prim.Native.Nat.{ℕ, _+_, _-_, _≤_, _<_}
 use native.Mathlib.Omega.{arith}
 use mathlib.Core.Path.{_≡_}
 use mathlib.Core.Bool.{Bool}
@@ -9,17 +8,19 @@ use lib.ListN.{length}
 use Rattle.model.specs.Galley.{Sides, single, double}
 use Rattle.galley.specs.declared.Galley.{Galley}
 use Rattle.galley.specs.Model.{textOf, floatsOf, sidesIn}
-use Rattle.places.specs.laws.Address.{address-in}
-use Rattle.window.specs.declared.slide.Window.{Window}
-use Rattle.window.specs.declared.queue.Queue.{Queue}
-use Rattle.window.specs.Slide.{Reachable, Slidable, Ends}
-use Rattle.window.specs.Queue.{columnOf, FeedAsked, FrontAsked}
-use Rattle.window.specs.laws.Sums.{sums-small}
 use Rattle.blocks.specs.declared.heights.Heights.{Heights}
 use Rattle.blocks.specs.Heights.{noHeights, Addable, Stacked}
 use Rattle.blocks.specs.laws.Heights.{separation-most, Low, stacked-small}
+use Rattle.places.specs.Address.{wordsNeeded, Stands}
+use Rattle.places.specs.laws.Address.{address-in, area-needed}
+use Rattle.window.specs.declared.slide.Window.{Window}
+use Rattle.window.specs.declared.queue.Queue.{Queue}
+use Rattle.window.specs.Slide.{Reachable, Slidable, Ends}
+use Rattle.window.specs.Queue.{FeedAsked, FrontAsked}
+use Rattle.window.specs.laws.Sums.{sums-small}
 use Rattle.starts.specs.Search.{before}
-use Rattle.starts.specs.Sweep.{sideOf, loadOf, Lent, Summed, AloneAsked}
+use Rattle.starts.specs.Read.{sideOf, loadOf, Placed}
+use Rattle.starts.specs.Sweep.{Lent, Scratch, Summed}
 
 -- The page before is on side 0 or 1.
 pub side-either : (g : Galley) (c : ℕ) → sideOf g c ≤ 1
@@ -30,18 +31,36 @@ side-either g c = go (sidesIn g)
     go single = omega arith
     go (double f) = omega arith
 
--- What is lent for a column is the same while the lengths are.
-pub lent-sized : {bytes : List ℕ} {g : Galley} {w words : List ℕ} {j : ℕ} (w′ words′ : List ℕ) → length w′ ≡ length w
-    → length words′ ≡ length words → Lent bytes g w words j → Lent bytes g w′ words′ j
-lent-sized w′ words′ p q l =
+-- A place of a galley within the limits stands in a work area that is long enough.
+pub stands-in : (g : Galley) (w : List ℕ) (i b side : ℕ) → g .text .count ≤ 4000 → i ≤ g .text .count → b ≤ g .figures .count → b ≤ 200
+    → side ≤ 1 → wordsNeeded (g .text .count) (g .figures .count) ≤ length w
+    → Stands w (g .text .count + 1) (record { line = i; column = b }) side
+stands-in g w i b side few h k narrow l room =
     record {
-      sound = l .sound;
-      column = l .column;
-      room = omega (arith, l .room);
-      wordsRoom = omega (arith, l .wordsRoom);
+      inside = record { high = omega arith; row = omega arith; wide = narrow; either = l };
+      room =
+          omega (
+            arith,
+            address-in (g .text .count + 1) i b side (g .figures .count + 1) (omega arith) (omega arith) l,
+            area-needed (g .text .count) (g .figures .count),
+          );
     }
 
-module _ {bytes : List ℕ} {g : Galley} {w words : List ℕ} {j : ℕ} (lent : Lent bytes g w words j) where
+-- What is lent for a column is the same while the length is.
+pub lent-sized : {bytes : List ℕ} {g : Galley} {w : List ℕ} {j : ℕ} (w′ : List ℕ) → length w′ ≡ length w → Lent bytes g w j
+    → Lent bytes g w′ j
+lent-sized w′ p l = record { sound = l .sound; column = l .column; room = omega (arith, l .room) }
+
+module _ {bytes : List ℕ} {g : Galley} {w : List ℕ} {j : ℕ} (lent : Lent bytes g w j) where
+  -- A line of the column is a place.
+  pub lent-placed : (i : ℕ) → i ≤ g .text .count → Placed bytes g i j
+  lent-placed i h = record { sound = lent .sound; line = h; column = lent .column }
+
+  -- A place stands in the work area.
+  pub can-stand : (i b side : ℕ) → i ≤ g .text .count → b ≤ g .figures .count → side ≤ 1
+      → Stands w (g .text .count + 1) (record { line = i; column = b }) side
+  can-stand i b side h k l = stands-in g w i b side (lent .sound .fewLines) h k (omega (arith, lent .sound .fewFigures)) l (lent .room)
+
   -- The figures of a page can be added to its lines.
   figures-low : (b : ℕ) (figures : Heights) → Stacked (floatsOf bytes (g .figures)) b j figures → Low 40000000 figures
   figures-low b figures floats =
@@ -64,20 +83,20 @@ module _ {bytes : List ℕ} {g : Galley} {w words : List ℕ} {j : ℕ} (lent : 
       }
 
   -- Both ends of a window can be moved on to line i.
-  pub can-slide : {sums : List ℕ} → Summed bytes g sums → (mixed : Bool) (b : ℕ) (figures : Heights) → Stacked (floatsOf bytes (g .figures)) b j figures
-      → (window : Window) (i : ℕ) → i ≤ g .text .count
-      → Ends (textOf bytes (g .text)) (loadOf g mixed figures) window i → Slidable sums (loadOf g mixed figures) window i
-  can-slide {sums} summed mixed b figures floats window i h ends =
+  pub can-slide : {sums : List ℕ} → Summed bytes g sums → (mixed : Bool) (b : ℕ) (figures : Heights)
+      → Stacked (floatsOf bytes (g .figures)) b j figures → (least : ℕ) → least ≤ g .spec .htmax → (window : Window) (i : ℕ)
+      → i ≤ g .text .count → window .low ≤ i → window .high ≤ i → Slidable sums (loadOf g mixed figures least) window i
+  can-slide {sums} summed mixed b figures floats least under window i h low high =
       let beside = figures-low b figures floats in
       let spec = lent .sound .specRanged in
-      let load = loadOf g mixed figures in
+      let load = loadOf g mixed figures least in
       let p = separation-most mixed (g .spec .smin) (omega (arith, spec .smins, spec .smaxs)) in
       let q = separation-most mixed (g .spec .smax) (spec .smaxs) in
       record {
         low = from 0 (load .tight) (load .htmax + 1) (window .low) (omega arith) (omega (arith, beside .tight))
-            (omega (arith, spec .htmaxs)) (ends .low);
+            (omega (arith, spec .htmaxs)) low;
         high = from 1 (load .loose) (load .htmin) (window .high) (omega arith) (omega (arith, beside .loose))
-            (omega (arith, spec .htmins, spec .htmaxs)) (ends .high);
+            (omega (arith, spec .htmaxs)) high;
       }
     where
       from : (space beside limit a : ℕ) → space ≤ 1 → beside ≤ 1000000000 → limit ≤ 1000000001 → a ≤ i
@@ -94,49 +113,27 @@ module _ {bytes : List ℕ} {g : Galley} {w words : List ℕ} {j : ℕ} (lent : 
             limited = limited;
           }
 
-  -- A queue of starts with b figures can be moved on to a window that ends by line i.
-  pub can-feed : (b : ℕ) → b ≤ g .figures .count → (queue : Queue) (c from to i : ℕ) → i ≤ g .text .count → from ≤ to → to ≤ i
-      → queue .base ≤ 4000 → queue .base ≤ queue .head → queue .head ≤ queue .tail → queue .tail ≤ queue .base + from
-      → FeedAsked w (g .text .count + 1) b (sideOf g c) words queue from to
-  can-feed b k queue c from to i h rises inside low based order short =
+  -- A queue of the lines of column b can be moved on to a window that ends by line i.
+  pub can-feed : {words : List ℕ} → Scratch words → (b : ℕ) → b ≤ g .figures .count → (queue : Queue) (c from to i : ℕ)
+      → i ≤ g .text .count → from ≤ to → to ≤ i → queue .base ≤ 4000 → queue .base ≤ queue .head → queue .head ≤ queue .tail
+      → queue .tail ≤ queue .base + from → FeedAsked w (g .text .count + 1) b (sideOf g c) words queue from to
+  can-feed scratch b k queue c from to i h rises inside low based order short =
       record {
-        high = omega (arith, lent .sound .fewLines);
-        row = omega arith;
-        column = omega (arith, lent .sound .fewFigures);
-        either = side-either g c;
-        stands = λ a l.
-            let within = address-in (g .text .count) (g .figures .count) a b (sideOf g c) (omega arith) k (side-either g c) in
-            omega (arith, lent .room);
+        stands = λ a l. can-stand a b (sideOf g c) (omega arith) k (side-either g c);
         based = based;
         order = order;
         short = short;
         start = rises;
-        room = omega (arith, lent .wordsRoom, lent .sound .fewLines);
+        room = omega (arith, scratch, lent .sound .fewLines);
       }
 
   -- The first entry of the queue of such a window can be read.
-  pub can-front : (b : ℕ) → b ≤ g .figures .count → (queue : Queue) (high : ℕ) → high ≤ g .text .count → queue .base ≤ 4000
-      → queue .head ≤ queue .tail → queue .tail ≤ queue .base + high → FrontAsked words queue b
-  can-front b k queue high l low order short =
+  pub can-front : {words : List ℕ} → Scratch words → (b : ℕ) → b ≤ g .figures .count → (queue : Queue) (high : ℕ)
+      → high ≤ g .text .count → queue .base ≤ 4000 → queue .head ≤ queue .tail → queue .tail ≤ queue .base + high
+      → FrontAsked words queue b
+  can-front scratch b k queue high l low order short =
       record {
         order = order;
-        room = omega (arith, lent .wordsRoom, lent .sound .fewLines);
+        room = omega (arith, scratch, lent .sound .fewLines);
         column = omega (arith, lent .sound .fewFigures);
       }
-
-  -- (i, b) is a place.
-  pub can-alone : (i b c : ℕ) → i ≤ g .text .count → b ≤ g .figures .count → AloneAsked g w i b (sideOf g c)
-  can-alone i b c h k =
-      record {
-        few = lent .sound .fewLines;
-        line = h;
-        figure = omega (arith, lent .sound .fewFigures);
-        within = k;
-        either = side-either g c;
-        room = lent .room;
-      }
-
--- The column that a queue reads, by one name of its height or the other.
-pub column-named : (w : List ℕ) (g : Galley) (b side : ℕ) → columnOf w (g .text .count + 1) b side ≡ columnOf w (suc (g .text .count)) b
-    side
-column-named w g b side = rw add-one

@@ -1,260 +1,229 @@
--- The turns of one sweep: what holds when it starts, at each line of a side, and at its end.
-use Prim.Native.Nat.{ℕ, suc, _+_, _≤_, _<_}
-use native.Mathlib.Numerals.{add-one}
-use native.Mathlib.Decide.{decLt, ℕ-discrete}
+-- The sides of a sweep one after another, each with the last line of the last column, and one sweep after another.
+use Prim.Native.Nat.{ℕ, suc, _+_, _-_, _≤_, _<_}
+use native.Mathlib.Nat.{le-refl}
+use native.Mathlib.Decide.{decLe}
 use native.Mathlib.Omega.{arith}
-use mathlib.Core.Path.{_≡_, refl, sym, _∙_, subst}
-use mathlib.Core.Logic.{_⊎_, inl, inr}
-use mathlib.Core.Bool.{true, false}
+use mathlib.Core.Path.{_≡_, refl, sym, ap, _∙_}
+use mathlib.Core.Bool.{Bool, true, false}
 use mathlib.Core.List.{List}
 use lib.ListN.{length}
-use borrow.Author.Tests.{lt-ltb}
-use Rattle.model.specs.Galley.{Stream}
+use borrow.Author.Tests.{eq-eqb, ne-eqb}
+use Rattle.model.specs.Rules.{floor}
 use Rattle.galley.specs.declared.Galley.{Galley}
-use Rattle.galley.specs.Model.{textOf}
+use Rattle.galley.specs.Model.{textOf, floatsOf, modelOf}
+use Rattle.blocks.specs.declared.heights.Heights.{Heights}
+use Rattle.blocks.specs.Heights.{noHeights, Room, Stacked, blockBefore}
+use Rattle.blocks.specs.laws.Heights.{stacked-nothing, stacked-room, back-stacked}
 use Rattle.places.specs.declared.Entry.{Entry}
-use Rattle.places.specs.Table.{tableOf}
-use Rattle.window.specs.declared.slide.Window.{Window}
-use Rattle.window.specs.declared.queue.Queue.{Queue}
-use Rattle.window.specs.Slide.{Open}
-use Rattle.window.specs.Queue.{columnOf, frontOf, Held, FeedAsked, Advanced}
-use Rattle.window.specs.Windows.{windowAt, WindowAsked, WindowFound}
-use Rattle.window.specs.laws.Slide.{ends-first, ends-next}
-use Rattle.window.specs.laws.Held.{held-none, held-same, held-beside}
-use Rattle.window.specs.laws.Front.{front-cheapest}
-use Rattle.window.specs.laws.Windows.{window-beside, kept-beside, ends-rise}
+use Rattle.places.specs.laws.Best.{best-as}
+use Rattle.window.specs.Sums.{Sums}
 use Rattle.starts.specs.declared.sweep.Pass.{Pass}
-use Rattle.starts.specs.Choice.{chosen, Best, Between}
-use Rattle.starts.specs.Asked.{searchOf, allPlaced}
-use Rattle.starts.specs.Sweep.{sideOf, aloneOf, weighed, Lent, fresh, Changed, SweepAsked, SweepRun, SweepDone, passLoad, Windowed, Line, PassAsked, PassRun, PassDone, ImproveAsked}
-use Rattle.starts.specs.laws.Sweep.{window-best, alone-best, improved}
-use Rattle.starts.specs.laws.Lending.{side-either, lent-sized, can-slide, can-feed, can-front, can-alone, column-named}
-use Rattle.starts.specs.laws.Cells.{scratched-then, taken-changes, swept-next, swept-side}
+use Rattle.starts.specs.Choice.{Candidate, Between}
+use Rattle.starts.specs.Read.{sideOf, searchOf, allPlaced}
+use Rattle.starts.specs.Sweep.{Lent, Scratch, Summed, passLoad, Passing, weighed, Ended, LinesStand, LastBest, Known, number, Swept, fresh, sweepEnd, Cleared}
+use Rattle.starts.specs.Swept.{ColumnSweep, ColumnSweepRun, ColumnSwept, Sweep, SweepRun, SweepDone, SideSweep, SideDone, LastLine, LineDone}
+use Rattle.starts.specs.laws.One.{under-one, sought-one, alone-one}
+use Rattle.starts.specs.laws.Pages.{column-over}
+use Rattle.starts.specs.laws.Lending.{side-either, lent-sized, lent-placed, can-stand, can-slide}
+use Rattle.starts.specs.laws.Cells.{scratched-then, swept-side, blank-known}
+use Rattle.starts.specs.laws.Pass.{least-low, pass-ended, pass-changed, pass-swept}
 
--- The lines of a side.
-module _ {bytes : List ℕ} {g : Galley} {w₀ sums words₀ : List ℕ} {c : ℕ} {pass : Pass}
-    (asked : PassAsked bytes g w₀ sums words₀ c pass) where
-  two : g .spec .sides ≤ 2
-  two = asked .lent .sound .specRanged .sidesTwo
+-- The last line.
+module _ {bytes : List ℕ} {g : Galley} {w sums : List ℕ} {c : ℕ} {pass : Pass} (asked : LastLine bytes g w sums c pass) where
+  -- In any other column the sweep has taken it.
+  pub last-taken : pass .to < g .figures .count → LineDone bytes g w w c pass
+  last-taken l =
+      let n : (pass .to ≡ g .figures .count) → ⊥ = λ e. omega arith in
+      let t = ne-eqb (pass .to) (g .figures .count) n in
+      let swept : Swept bytes g w (pass .to) (pass .from) (number c (g .text .count + 1)) = rw t at (asked .swept) in
+      record {
+        swept = swept-side c (g .text .count + 1) (asked .lent .sound .fewLines) (omega arith) (omega arith) swept;
+        kept = fresh;
+      }
 
-  few : g .text .count ≤ 4000
-  few = asked .lent .sound .fewLines
+  module _ (last : g .figures .count ≤ pass .to) where
+    -- The pass to a page that may be short.
+    abbrev short : Pass
+    short = record { from = pass .from; to = pass .to; heights = pass .heights; least = floor (modelOf bytes g) true }
 
-  side : c ≤ 1
-  side = omega (arith, asked .occurs, two)
+    passing : Passing bytes g short
+    passing = record { before = asked .passing .before; floats = asked .passing .floats; short = asked .passing .short }
 
-  figure : pass .from ≤ g .figures .count
-  figure = omega (arith, asked .passing .before, asked .lent .column)
+    pub last-stand : LinesStand g w sums (passLoad g short) (pass .from) (sideOf g c)
+    last-stand =
+        record {
+          stands = λ a l.
+              can-stand (asked .lent) a (pass .from) (sideOf g c) l (omega (arith, asked .passing .before, asked .lent .column))
+              (side-either g c);
+          slides =
+              can-slide (asked .lent) (asked .summed) true (pass .from) (pass .heights) (asked .passing .floats) (g .spec .lastmin)
+              (least-low bytes g (asked .lent .sound) true) (record { low = 0; high = 0 }) (g .text .count) (le-refl _) (omega arith)
+              (omega arith);
+        }
 
-  abbrev text : Stream
-  text = textOf bytes (g .text)
+    pub last-ended : Ended g w (g .text .count) c short
+    last-ended = pass-ended (asked .lent) passing (g .text .count) c (le-refl _) (asked .occurs)
 
-  abbrev column : List ℕ → ℕ → Entry
-  column w = columnOf w (g .text .count + 1) (pass .from) (sideOf g c)
+    -- It is swept too.
+    pub last-done : (lines : Entry) → LastBest g w sums (passLoad g short) (pass .from) (sideOf g c) lines
+        → (v : List ℕ) → v ≡ weighed g w lines (g .text .count) c short → LineDone bytes g w v c pass
+    last-done lines found v e =
+        let same : pass .to ≡ g .figures .count = omega (arith, asked .lent .column) in
+        let full : allPlaced g (g .text .count) (pass .to) ≡ true =
+        rw (eq-eqb (g .text .count) (g .text .count) refl, eq-eqb (pass .to) (g .figures .count) same) in
+        let least = ap (floor (modelOf bytes g)) (sym full) in
+        let opened = found .opens (textOf bytes (g .text)) (asked .summed .rows) in
+        let swept : Swept bytes g w (pass .to) (pass .from) (number c (g .text .count)) =
+        rw (eq-eqb (pass .to) (g .figures .count) same) at (asked .swept) in
+        record {
+          swept =
+              swept-side c (g .text .count + 1) (asked .lent .sound .fewLines) (omega arith) (omega arith)
+              (pass-swept (asked .lent) passing (g .text .count) c (le-refl _) (asked .occurs) least (found .window) opened lines
+              (found .best) swept v e);
+          kept =
+              pass-changed (asked .lent) passing (g .text .count) c (le-refl _) (asked .occurs) least (found .window) opened lines
+              (found .best) swept v e .kept;
+        }
 
-  -- A side starts with nothing in its queue.
-  pub pass-first : PassRun bytes g w₀ w₀ words₀ words₀ c pass (record { base = 0; head = 0; tail = 0 })
-      (record { low = 0; high = 0 }) 0
-  pass-first =
+-- The sides one after another.
+module _ {bytes : List ℕ} {g : Galley} {w₀ sums words₀ : List ℕ} {pass : Pass} (asked : Sweep bytes g w₀ sums words₀ pass) where
+  pub sweep-first : SweepRun bytes g w₀ w₀ words₀ words₀ pass 0
+  sweep-first =
       record {
         within = omega arith;
         sized = refl;
         wordsSized = refl;
-        ends = ends-first text (passLoad g pass);
-        windows = λ k p. kept k (p .0) (p .1);
-        based = refl;
-        held = held-none (column w₀) words₀ 0;
-        swept = asked .swept;
+        windows = λ p. absurd (omega arith);
+        swept = record { done = λ k c l m n. absurd (omega arith); left = λ k c l m n. asked .known k c l m };
         kept = fresh;
       }
-    where
-      kept : (k : ℕ) → Line g k → (0 < c) ⊎ (k < 0) → Open text (passLoad g pass) (windowAt words₀ k) k
-      kept k l (inl p) = asked .windows p k l
-      kept k l (inr p) = absurd (omega arith)
 
-  module _ {w words : List ℕ} {queue : Queue} {window : Window} {i : ℕ}
-      (run : PassRun bytes g w₀ w words₀ words c pass queue window i) where
-    lent-now : Lent bytes g w words (pass .to)
-    lent-now = lent-sized w words (run .sized) (run .wordsSized) (asked .lent)
+  module _ {w words : List ℕ} {c : ℕ} (run : SweepRun bytes g w₀ w words₀ words pass c) where
+    -- After the last side all places know the starts of the pass.
+    pub sweep-last : g .spec .sides ≤ c → SweepDone bytes g w₀ w pass
+    sweep-last l =
+        record { known = λ k d h m. run .swept .done k d h m (omega (arith, asked .lent .sound .fewLines)); kept = run .kept }
 
-    -- It ends below the last line.
-    pub pass-last : g .text .count < i → PassDone bytes g w₀ w words c pass
-    pass-last l =
-        record {
-          windows = λ k m. run .windows k (m, inr (omega arith));
-          swept = swept-side c i few l (run .within) (run .swept);
-          kept = run .kept;
-        }
-
-    module _ (line : i ≤ g .text .count) where
-      pub pass-slides : WindowAsked sums (passLoad g pass) words window i
-      pass-slides =
+    module _ (occurs : c < g .spec .sides) where
+      pub sweep-side : SideSweep bytes g w sums words c pass
+      sweep-side =
           record {
-            slides =
-                can-slide lent-now (asked .summed) true (pass .from) (pass .heights) (asked .passing .floats) window i line
-                (run .ends);
-            few = omega (arith, few);
-            room = lent-now .wordsRoom;
-          }
-
-      -- The window of the line is known.
-      module _ (words′ : List ℕ) (sized : length words′ ≡ length words) (new : Window)
-          (found : WindowFound sums (passLoad g pass) words window i c new words′) where
-        opened : Open text (passLoad g pass) new i
-        opened =
-            found .opens text (g .text .count) (asked .summed .rows) line (run .ends) (λ p. run .windows i (line, inl p))
-
-        rise : (window .low ≤ new .low) × (window .high ≤ new .high)
-        rise = ends-rise text (passLoad g pass) window new i (run .ends) opened
-
-        held-found : Held (column w) words′ queue (window .low) (window .high)
-        held-found =
-            held-beside (column w) words words′ queue (window .low) (window .high) (i + 4000) (i + 4001) (found .beside)
-            (inl (omega (arith, run .based, run .ends .high))) (run .held)
-
-        windows-found : Windowed bytes g words′ pass (λ k. Line g k × ((0 < c) ⊎ (k < i + 1)))
-        windows-found k (l, p) = go (ℕ-discrete k i)
-          where
-            before : ¬ (k ≡ i) → (0 < c) ⊎ (k < i + 1) → (0 < c) ⊎ (k < i)
-            before n (inl h) = inl h
-            before n (inr h) = inr (omega arith)
-
-            apart : ¬ (k ≡ i) → Dec (k < i) → (k + 4000 < i + 4000) ⊎ (i + 4001 ≤ k + 4000)
-            apart n (yes m) = inl (omega arith)
-            apart n (no m) = inr (omega arith)
-
-            go : Dec (k ≡ i) → Open text (passLoad g pass) (windowAt words′ k) k
-            go (yes e) =
-                rw e
-                (subst (λ (window : Window). Open text (passLoad g pass) window i) (sym (found .kept)) opened)
-            go (no n) =
-                subst (λ (window : Window). Open text (passLoad g pass) window k)
-                (sym (window-beside (found .beside) k (apart n (decLt k i)))) (run .windows k (l, before n p))
-
-        pub pass-feeds : FeedAsked w (g .text .count + 1) (pass .from) (sideOf g c) words′ queue (window .high) (new .high)
-        pass-feeds =
-            can-feed (lent-sized w words′ refl sized lent-now) (pass .from) figure queue c (window .high) (new .high) i line
-            (rise .1) (opened .ends .high) (omega (arith, run .based)) (run .held .based) (run .held .order)
-            (run .held .short)
-
-        -- The queue has moved on.
-        module _ (words″ : List ℕ) (sized″ : length words″ ≡ length words′) (next : Queue)
-            (advanced : Advanced w (g .text .count + 1) (pass .from) (sideOf g c) words′ queue (window .high) new next words″) where
-          inside : new .high ≤ g .text .count
-          inside = omega (arith, opened .ends .high)
-
-          pub pass-improves : ImproveAsked g w words″ next i c pass
-          pass-improves =
-              let lent = lent-sized w words″ refl (sized″ ∙ sized) lent-now in
-              record {
-                place = can-alone lent i (pass .from) c line figure;
-                front = can-front lent (pass .from) figure next (new .high) inside (omega (
-                  arith,
-                  advanced .base,
-                  run .based,
-                )) (advanced .order) (advanced .short);
-                side = side;
-                figure = omega (arith, asked .lent .column, asked .lent .sound .fewFigures);
-                within = asked .lent .column;
-              }
-
-          held-next : Held (column w) words″ next (new .low) (new .high)
-          held-next = advanced .held (window .low) (rise .0) held-found
-
-          abbrev front : Entry
-          front = frontOf words″ next (pass .from)
-
-          abbrev alone : Entry
-          alone = aloneOf g w i (pass .from) (sideOf g c) (pass .heights .loose)
-
-          abbrev held : Entry
-          held = tableOf (suc (g .text .count)) w i (pass .to) c
-
-          best : allPlaced g i (pass .to) ≡ false → Best (searchOf bytes g w i (pass .to) (sideOf g c)) (Between (pass .from)
-              (pass .to)) (chosen held (chosen front alone))
-          best inner =
-              let mixed = lt-ltb (pass .from) (pass .to) (asked .passing .before) in
-              let cheapest = front-cheapest (column w) words″ next (new .low) (new .high) (pass .from) held-next
-              (advanced .fresh) in
-              improved bytes g w i (pass .to) (sideOf g c) (pass .from) (pass .heights) (asked .passing .floats) inner
-              (asked .passing .before) held front alone
-              (run .swept .left i c line (asked .occurs) (omega arith) inner)
-              (window-best bytes g w i (pass .to) (sideOf g c) (pass .from) (pass .heights) (asked .passing .floats) inner
-              (omega (arith, asked .passing .before)) new (rw mixed opened) front
-              (rw (← column-named w g (pass .from) (sideOf g c)) cheapest))
-              (alone-best bytes g w i (pass .to) (sideOf g c) (pass .from) (pass .heights) (asked .passing .floats) inner
-              (asked .passing .before) (asked .passing .short))
-
-          -- One line more is swept.
-          pub pass-next : (v : List ℕ) → v ≡ weighed g w words″ next i c pass
-              → PassRun bytes g w₀ v words₀ words″ c pass next new (i + 1)
-          pass-next v e =
-              record {
-                within = omega arith;
-                sized = changed .sized ∙ run .sized;
-                wordsSized = sized″ ∙ sized ∙ run .wordsSized;
-                ends = rw add-one (ends-next text (passLoad g pass) new i opened);
-                windows =
-                    kept-beside (advanced .beside)
-                    (λ k p. inr (omega (arith, run .based, inside, few)))
-                    windows-found;
-                based = advanced .base ∙ run .based;
-                held =
-                    held-same (column w) (column v) words″ next (new .low) (new .high)
-                    (λ a l.
-                    rw add-one
-                    (changed .others a (pass .from) (sideOf g c) (omega (arith, inside)) (side-either g c) (λ q.
-                    omega (arith, q .1, asked .passing .before))))
-                    held-next;
-                swept = swept-next changed few line side two bytes (pass .from) (run .swept) best;
-                kept = scratched-then g (pass .to) w₀ w v (run .kept) (changed .kept);
-              }
-            where
-              changed : Changed g w v i (pass .to) c (chosen held (chosen front alone))
-              changed =
-                  taken-changes g w i (pass .to) c line (asked .lent .column) (asked .occurs) two (lent-now .room)
-                  (chosen front alone) v e
-
--- The sides one after another.
-module _ {bytes : List ℕ} {g : Galley} {w₀ sums words₀ : List ℕ} {pass : Pass} (asked : SweepAsked bytes g w₀ sums words₀ pass)
-  where
-    pub sweep-first : SweepRun bytes g w₀ w₀ words₀ words₀ pass 0
-    sweep-first =
-        record {
-          within = omega arith;
-          sized = refl;
-          wordsSized = refl;
-          windows = λ p. absurd (omega arith);
-          swept =
-              record { done = λ k c l m n. absurd (omega arith); left = λ k c l m n. asked .known k c l m };
-          kept = fresh;
-        }
-
-    module _ {w words : List ℕ} {c : ℕ} (run : SweepRun bytes g w₀ w words₀ words pass c) where
-      -- After the last side all places know the starts of the pass.
-      pub sweep-last : g .spec .sides ≤ c → SweepDone bytes g w₀ w pass
-      sweep-last l =
-          record { known = λ k d h m. run .swept .done k d h m (omega (arith, asked .lent .sound .fewLines)); kept = run .kept }
-
-      pub sweep-passes : c < g .spec .sides → PassAsked bytes g w sums words c pass
-      sweep-passes l =
-          record {
-            lent = lent-sized w words (run .sized) (run .wordsSized) (asked .lent);
+            lent = lent-sized w (run .sized) (asked .lent);
             summed = asked .summed;
+            scratch = omega (arith, asked .scratch, run .wordsSized);
             passing = asked .passing;
-            occurs = l;
+            least = asked .least;
+            occurs = occurs;
             windows = run .windows;
             swept = run .swept;
           }
 
-      pub sweep-next : c < g .spec .sides → (v words′ : List ℕ) → length v ≡ length w → length words′ ≡ length words
-          → PassDone bytes g w v words′ c pass → SweepRun bytes g w₀ v words₀ words′ pass (c + 1)
-      sweep-next l v words′ p q done =
-          record {
-            within = omega arith;
-            sized = p ∙ run .sized;
-            wordsSized = q ∙ run .wordsSized;
-            windows = λ _. done .windows;
-            swept = done .swept;
-            kept = scratched-then g (pass .to) w₀ w v (run .kept) (done .kept);
-          }
+      module _ (v words′ : List ℕ) (p : length v ≡ length w) (q : length words′ ≡ length words) (side : SideDone bytes g w v words′ c pass) where
+        pub sweep-line : LastLine bytes g v sums c pass
+        sweep-line =
+            record {
+              lent = lent-sized v (p ∙ run .sized) (asked .lent);
+              summed = asked .summed;
+              passing = asked .passing;
+              occurs = occurs;
+              swept = side .swept;
+            }
+
+        pub sweep-next : (u : List ℕ) → length u ≡ length v → LineDone bytes g v u c pass
+            → SweepRun bytes g w₀ u words₀ words′ pass (c + 1)
+        sweep-next u r line =
+            record {
+              within = omega arith;
+              sized = r ∙ p ∙ run .sized;
+              wordsSized = q ∙ run .wordsSized;
+              windows = λ _. side .windows;
+              swept = line .swept;
+              kept =
+                  scratched-then g (pass .to) w₀ w u (run .kept) (scratched-then g (pass .to) w v u (side .kept) (line .kept));
+            }
+
+-- Before the first sweep no start is known, and every place is unreached. The loop starts with the cleared column.
+pub column-first : {bytes : List ℕ} {g : Galley} {w₀ sums words : List ℕ} {j : ℕ} → ColumnSweep bytes g w₀ sums words j → (w : List ℕ)
+    → Cleared g w₀ w j 0 (number 2 0) → ColumnSweepRun bytes g w w words words j noHeights j
+column-first {bytes} {g} {j = j} asked w cleared =
+    record {
+      lent = lent-sized w (cleared .sized) (asked .lent);
+      scratch = asked .scratch;
+      within = le-refl j;
+      sized = refl;
+      wordsSized = refl;
+      floats = stacked-nothing (floatsOf bytes (g .figures)) j j (le-refl j);
+      known =
+          blank-known bytes g w j (asked .lent .sound .fewLines) (asked .lent .sound .specRanged .sidesTwo)
+          (cleared .blank (λ k c l m n. absurd (omega arith)));
+      kept = fresh;
+    }
+
+-- What is known after the sweeps, from before the column was cleared.
+pub column-since : {bytes : List ℕ} {g : Galley} {w₀ w v : List ℕ} {j : ℕ} → Cleared g w₀ w j 0 (number 2 0)
+    → ColumnSwept bytes g w v j → ColumnSwept bytes g w₀ v j
+column-since {g = g} {w₀} {w} {v} {j} cleared done =
+    record { known = done .known; kept = scratched-then g j w₀ w v (cleared .kept) (done .kept) }
+
+module _ {bytes : List ℕ} {g : Galley} {w₀ w words₀ words : List ℕ} {j : ℕ} {heights : Heights} {top : ℕ}
+    (run : ColumnSweepRun bytes g w₀ w words₀ words j heights top) (some : 0 < top) where
+  step : top ≡ suc (top - 1)
+  step = omega arith
+
+  -- There is room for the figure before, and with it these are the heights of one figure more.
+  pub column-room : Room bytes (g .figures) heights j
+  column-room =
+      let few = run .lent .sound .fewFigures in
+      stacked-room bytes (g .figures) top j heights (run .lent .sound .figures) (omega arith) (run .lent .column) (run .floats)
+
+  module _ (heights′ : Heights) (put : heights′ ≡ blockBefore bytes (g .figures) heights (top - 1) j) where
+    floats : Stacked (floatsOf bytes (g .figures)) (top - 1) j heights′
+    floats = back-stacked bytes (g .figures) top j heights heights′ some put (run .floats)
+
+    -- The sweep of the next column may start.
+    pub column-sweeps : {sums : List ℕ} → Summed bytes g sums → heights′ .tight ≤ g .spec .htmax → (least : ℕ) → least ≡ floor (modelOf bytes g) false
+        → Sweep bytes g w sums words (record { from = top - 1; to = j; heights = heights′; least = least })
+    column-sweeps summed short least e =
+        record {
+          lent = run .lent;
+          summed = summed;
+          scratch = run .scratch;
+          passing = record { before = omega (arith, run .within); floats = floats; short = short };
+          least = e;
+          known = rw (← step) (run .known);
+        }
+
+    -- It brings in the starts of that column.
+    pub column-next : (least : ℕ) (v words′ : List ℕ) → length v ≡ length w → length words′ ≡ length words
+        → SweepDone bytes g w v (record { from = top - 1; to = j; heights = heights′; least = least })
+        → ColumnSweepRun bytes g w₀ v words₀ words′ j heights′ (top - 1)
+    column-next least v words′ p q done =
+        record {
+          lent = lent-sized v p (run .lent);
+          scratch = omega (arith, run .scratch);
+          within = omega (arith, run .within);
+          sized = p ∙ run .sized;
+          wordsSized = q ∙ run .wordsSized;
+          floats = floats;
+          known = done .known;
+          kept = scratched-then g j w₀ w v (run .kept) (done .kept);
+        }
+
+    -- Where the floats alone are too tall, no page starts in that column or before it.
+    pub column-tall : g .spec .htmax < heights′ .tight → ColumnSwept bytes g w₀ w j
+    column-tall tall = record { known = known; kept = run .kept }
+      where
+        high : (a b x i side : ℕ) → i ≤ g .text .count → Candidate (searchOf bytes g w i j side) a b x → Dec (top ≤ b) → top ≤ b
+        high a b x i side h c (yes l) = l
+        high a b x i side h c (no l) =
+            let k = run .within in
+            let sought = sought-one bytes g w i j side (lent-placed (run .lent) i h) in
+            let (tight, loose) = alone-one bytes g (top - 1) j heights′ floats (omega arith) in
+            absurd
+            (column-over (searchOf bytes g w i j side) sought (top - 1) a b x (omega arith)
+            (under-one bytes g (top - 1) j (omega arith)) (under-one bytes g b (top - 1) (omega arith)) (omega arith) c)
+
+        known : Known bytes g w j 0
+        known i d h m =
+            best-as (λ a b x c. ((omega arith, c .0 .1), c .1)) (λ a b x c. ((high a b x i (sideOf g d) h (c .1) (decLe top b), c .0 .1), c .1))
+            (run .known i d h m)

@@ -26,4 +26,5 @@ cheaper-spec =
     (λ c. search needs)
     (λ c. search needs)
     returns-2
+    (λ c κs. search needs)
     returns-3)

@@ -1,29 +1,42 @@
 -- `last_side` gives the side of the last page: in double-sided work that of an even last folio, unless the other is less dear.
+use native.Mathlib.Omega.{arith}
+use denote.Ref.{now}
 use mathlib.Core.Path.{sym, _∙_}
 use borrow.Author.Tests.{ne-eqb}
 use borrow.Author.Needs.{needs}
 use Rattle.model.specs.Leaf.{sidesOf}
+use Rattle.starts.specs.Read.{tableIn}
 use Rattle.walk.specs.Trace.{lastSide}
-use Rattle.walk.specs.Traceable.{tableIn}
 use Rattle.walk.specs.laws.Last.{last-double}
+use Rattle.walk.specs.laws.Walk.{full-stands}
 use Rattle.walk.proofs.last_side.Statement.{statement}
 use Rattle.walk.proofs.last_side.Tie as tie
+
+entry-of-requires : tie.Need-entry-of-requires
+entry-of-requires c κs =
+    let start = c .before .before .before .before .before in
+    full-stands (start .pre .0) (start .pre .2) (omega arith)
+
+entry-of-requires-2 : tie.Need-entry-of-requires-2
+entry-of-requires-2 c κs =
+    let start = c .before .before .before .before .before .before .before in
+    full-stands (start .pre .0) (start .pre .2) (omega arith)
 
 returns : tie.Need-returns
 returns c =
     let told = c .before in
-    let a = told .before .before .before .before .before .before .before .args in
-    last-double (a .g .spec .sides) (a .g .folio) (tableIn (a .g) (a .work .now)) (a .g .text .count) (a .g .figures .count)
-    (told .before .entry-of2 .ensures) (told .before .before .entry-of .ensures)
-    (told .before .before .before .before .if1 .taken) (sym (c .if2 .taken) ∙ told .cheaper .ensures)
+    let first = told .before .before .before in
+    let a = first .before .before .before .before .before .before .args in
+    last-double (a .g .spec .sides) (a .g .folio) (tableIn (a .g) (now (a .work))) (a .full) (told .before .entry-of2 .ensures)
+    (first .entry-of .ensures) (first .before .before .before .if1 .taken) (sym (c .if2 .taken) ∙ told .cheaper .ensures)
 
 returns-2 : tie.Need-returns-2
 returns-2 c =
     let told = c .before in
-    let a = told .before .before .before .before .before .before .before .args in
-    last-double (a .g .spec .sides) (a .g .folio) (tableIn (a .g) (a .work .now)) (a .g .text .count) (a .g .figures .count)
-    (told .before .entry-of2 .ensures) (told .before .before .entry-of .ensures)
-    (told .before .before .before .before .if1 .taken) (sym (c .if2 .left) ∙ told .cheaper .ensures)
+    let first = told .before .before .before in
+    let a = first .before .before .before .before .before .before .args in
+    last-double (a .g .spec .sides) (a .g .folio) (tableIn (a .g) (now (a .work))) (a .full) (told .before .entry-of2 .ensures)
+    (first .entry-of .ensures) (first .before .before .before .if1 .taken) (sym (c .if2 .left) ∙ told .cheaper .ensures)
 
 returns-3 : tie.Need-returns-3
 unfolding lastSide sidesOf
@@ -36,8 +49,10 @@ last-side-spec =
     (λ c. search needs)
     (λ c. search needs)
     (λ c. search needs)
-    (λ c κs. search needs)
-    (λ c κs. search needs)
+    (λ c. search needs)
+    entry-of-requires
+    (λ c. search needs)
+    entry-of-requires-2
     (λ c κs. search needs)
     returns
     returns-2

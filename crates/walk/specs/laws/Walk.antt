@@ -1,156 +1,123 @@
--- One page back on the walk: it stays within the galley, falls towards the place where nothing is placed, and is one step of
--- the counting and of the writing.
+-- One page back on the walk: it stays within the galley, and is one step of the counting and of the writing.
 use Prim.Native.Nat.{ℕ, zero, suc, _+_, _*_, _-_, _≤_, _<_}
+use native.Mathlib.Nat.{le-refl, le-trans}
 use native.Mathlib.Omega.{arith}
-use mathlib.Core.Path.{_≡_, refl, sym, _∙_, ap}
+use mathlib.Core.Path.{_≡_, refl, sym, _∙_}
+use mathlib.Core.Bool.{true, false}
 use mathlib.Core.List.{List}
 use lib.ListN.{length, set, length-set}
-use borrow.Author.Tests.{eq-eqb, ne-eqb}
 use Rattle.model.specs.Galley.{Sides}
 use Rattle.galley.specs.declared.Galley.{Galley}
-use Rattle.places.specs.declared.Start.{Start}
+use Rattle.galley.specs.Model.{sidesIn}
+use Rattle.places.specs.declared.Place.{Place}
+use Rattle.places.specs.declared.Origin.{Origin}
 use Rattle.places.specs.declared.Entry.{Entry}
 use Rattle.places.specs.declared.Entry.the-variants.{Unreached, Least}
-use Rattle.starts.specs.Search.{Table, before}
-use Rattle.filling.specs.Filled.{Side}
-use Rattle.walk.specs.Trace.{startOf, countBack, writeBack}
-use Rattle.walk.specs.Traceable.{tableIn, SidedPlace, Traceable, Visits, Counting, Writing}
+use Rattle.places.specs.Address.{Stands}
+use Rattle.starts.specs.Search.{Table}
+use Rattle.starts.specs.Read.{tableIn}
+use Rattle.starts.specs.laws.Lending.{stands-in}
 use Rattle.filling.specs.laws.Entered.{side-low, side-before}
-use Rattle.galley.specs.Model.{sidesIn}
+use Rattle.walk.specs.declared.Stop.{Stop}
+use Rattle.walk.specs.Trace.{startOf, entryOf, back, atOrigin, countBack, writeBack}
+use Rattle.walk.specs.Traceable.{WorkArea, fullPlace, Visits, Traceable, Writable, pagesBack, Counting, Writing}
 
 -- Where the walk is, an entry can be read.
-pub visits-placed : {g : Galley} {i j c : ℕ} → Visits g i j c → SidedPlace g i j c
-visits-placed {g} {i} {j} {c} v =
-    record { line = v .line; figure = v .figure; side = side-low (sidesIn g) c (v .side) }
+pub visits-stands : {g : Galley} {w : List ℕ} {at : Stop} → WorkArea g w → Visits g at → Stands w (g .text .count + 1) (at .place) (at .side)
+visits-stands {g} {w} {at} lent v =
+    stands-in g w (at .place .line) (at .place .column) (at .side) (lent .lines) (v .line) (v .column)
+    (omega (arith, v .column, lent .figures)) (side-low (sidesIn g) (at .side) (v .side)) (lent .words)
 
--- The start s of a page that ends at (i, j) lies no later, and before it where something is placed there.
-pub record Precedes (s : Start) (i j : ℕ) : Type 0 where
-  pub line : s .line ≤ i
-  pub figure : s .figure ≤ j
-  pub less : 0 < i + j → s .line + s .figure < i + j
+-- So can the full place's on each side.
+pub full-stands : {g : Galley} {w : List ℕ} {full : Place} {c : ℕ} → WorkArea g w → full ≡ fullPlace g → c ≤ 1
+    → Stands w (g .text .count + 1) full c
+full-stands {g} {w} {full} {c} lent e low =
+    rw e (stands-in g w (g .text .count) (g .figures .count) c (lent .lines) (le-refl _) (le-refl _) (lent .figures) low (lent .words))
 
--- So does the start that any entry holds, an unreached one too.
-pub start-precedes : (g : Galley) (w : List ℕ) (i j c : ℕ) → Traceable g w → Visits g i j c → Precedes (startOf (tableIn g w i
-    j c)) i j
+-- Before the origin one page more is counted;
+count-step : (sides : Sides) (t : Table) (from : Origin) (most : ℕ) (at : Stop) (p : ℕ) → atOrigin from at ≡ false → 0 < most
+    → countBack sides t from most at p ≡ countBack sides t from (most - 1) (back sides t at) (p + 1)
+unfolding countBack
+count-step sides t from zero at p away l = absurd (omega arith)
+count-step sides t from (suc most) at p away l = let e : suc most - 1 ≡ most = omega arith in rw (away, e) refl
+
+-- there, the count is done.
+count-stop : (sides : Sides) (t : Table) (from : Origin) (most : ℕ) (at : Stop) (p : ℕ) → atOrigin from at ≡ true
+    → countBack sides t from most at p ≡ p
+unfolding countBack
+count-stop sides t from zero at p here = refl
+count-stop sides t from (suc most) at p here = rw here refl
+
+-- A step back stays within the galley.
+pub back-visits : {g : Galley} {w : List ℕ} → Traceable g w → (at : Stop) → Visits g at → Visits g (back (sidesIn g) (tableIn g w) at)
 unfolding startOf
-start-precedes g w i j c tr v = go (tableIn g w i j c) refl
+back-visits {g} {w} tr at v = go (entryOf (tableIn g w) at) refl
   where
-    go : (e : Entry) → tableIn g w i j c ≡ e → Precedes (startOf e) i j
-    go Unreached h = record { line = omega arith; figure = omega arith; less = λ p. omega arith }
+    go : (e : Entry) → entryOf (tableIn g w) at ≡ e → Visits g (back (sidesIn g) (tableIn g w) at)
+    go Unreached h = rw h (record { line = v .line; column = v .column; side = side-before (sidesIn g) (at .side) (v .side) })
     go (Least x s) h =
-        let e = tr .entered i j c x s (v .line) (v .figure) (v .side) h in
-        record { line = e .line; figure = e .figure; less = e .less }
+        let (line, column) = tr .starts (at .place .line) (at .place .column) (at .side) x s (v .line) (v .column) (v .side) h in
+        rw h (record {
+          line = le-trans line (v .line);
+          column = le-trans column (v .column);
+          side = side-before (sidesIn g) (at .side) (v .side);
+        })
 
--- Where something is placed, one page more is counted;
-pub count-step :
-    (sides : Sides) (t : Table) (most i j c p : ℕ) → 0 < i + j → 0 < most
-    → countBack sides t most i j c p
-    ≡ countBack sides t (most - 1) (startOf (t i j c) .line) (startOf (t i j c) .figure) (before sides c) (p + 1)
-unfolding countBack
-count-step sides t zero i j c p h l = absurd (omega arith)
-count-step sides t (suc most) i j c p h l =
-    let e : suc most - 1 ≡ most = omega arith in
-    rw (ne-eqb (i + j) 0 (omega arith), e) refl
-
--- where nothing is, the count is done.
-pub count-stop : (sides : Sides) (t : Table) (most i j c p : ℕ) → i + j ≡ 0 → countBack sides t most i j c p ≡ p
-unfolding countBack
-count-stop sides t zero i j c p h = refl
-count-stop sides t (suc most) i j c p h = rw (eq-eqb (i + j) 0 h) refl
-
--- One page more is written, the r-th where r are left.
-pub write-step :
-    (sides : Sides) (t : Table) (r i j c : ℕ) (ws : List ℕ) → 0 < r
-    → writeBack sides t r i j c ws
-    ≡ writeBack sides t (r - 1) (startOf (t i j c) .line) (startOf (t i j c) .figure) (before sides c)
-    (set (set ws (2 * (r - 1)) i) (2 * (r - 1) + 1) j)
-unfolding writeBack
-write-step sides t zero i j c ws h = absurd (omega arith)
-write-step sides t (suc r) i j c ws h = let e : suc r - 1 ≡ r = omega arith in rw e refl
-
--- No page more is written where none is left.
-pub write-stop : (sides : Sides) (t : Table) (r i j c : ℕ) (ws : List ℕ) → r ≡ 0 → writeBack sides t r i j c ws ≡ ws
-unfolding writeBack
-write-stop sides t zero i j c ws h = refl
-write-stop sides t (suc r) i j c ws h = absurd (omega arith)
-
--- One page back from (i, j) on side c to (i′, j′) on side c′: the start that the entry holds, on the side before.
-pub record Step (g : Galley) (w : List ℕ) (i j c i′ j′ c′ : ℕ) : Type 0 where
-  pub line : i′ ≡ startOf (tableIn g w i j c) .line
-  pub figure : j′ ≡ startOf (tableIn g w i j c) .figure
-  pub side : c′ ≡ before (sidesIn g) c
-
--- It is made of an entry read, the start that it holds, and the start's line and figure.
-pub step-of :
-    (g : Galley) (w : List ℕ) (i j c : ℕ) {e : Entry} {s : Start} {i′ j′ c′ : ℕ} → e ≡ tableIn g w i j c → s ≡ startOf e
-    → i′ ≡ s .line → j′ ≡ s .figure → c′ ≡ before (sidesIn g) c → Step g w i j c i′ j′ c′
-step-of g w i j c p q line figure side =
-    let start = q ∙ ap startOf p in
-    record { line = line ∙ ap (λ s. s .line) start; figure = figure ∙ ap (λ s. s .figure) start; side = side }
-
-module _ (g : Galley) (w : List ℕ) (tr : Traceable g w) where
-  -- A step stays within the galley,
-  step-visits : (i j c i′ j′ c′ : ℕ) → Visits g i j c → Step g w i j c i′ j′ c′ → Visits g i′ j′ c′
-  step-visits i j c i′ j′ c′ v s =
-      let p = start-precedes g w i j c tr v in
-      record {
-        line = omega (arith, s .line);
-        figure = omega (arith, s .figure);
-        side = rw (s .side) (side-before (sidesIn g) c (v .side));
-      }
-
-  -- and goes to a place with fewer blocks.
-  pub step-less : (i j c i′ j′ c′ : ℕ) → Visits g i j c → Step g w i j c i′ j′ c′ → 0 < i + j → i′ + j′ < i + j
-  step-less i j c i′ j′ c′ v s h =
-      omega (arith, start-precedes g w i j c tr v .less h, s .line, s .figure)
-
-  -- The count begins at the full place,
-  pub counting-first : (c : ℕ) → Side (sidesIn g) c → Counting g w c (g .text .count) (g .figures .count) c 0
-  counting-first c side =
+module _ {g : Galley} {w : List ℕ} {from : Origin} {first : Stop} where
+  -- The count begins at the first stop,
+  pub counting-first : Visits g first → Counting g w from first first 0
+  counting-first v =
       let e : g .text .count + g .figures .count - 0 ≡ g .text .count + g .figures .count = omega arith in
-      record {
-        visits = record { line = omega arith; figure = omega arith; side = side };
-        left = omega arith;
-        same = rw e;
-      }
+      record { visits = v; few = omega arith; same = rw e }
 
-  -- goes on by a page,
-  pub counting-next :
-      (from i j c p i′ j′ c′ : ℕ) → Counting g w from i j c p → 0 < i + j → Step g w i j c i′ j′ c′
-      → Counting g w from i′ j′ c′ (p + 1)
-  counting-next from i j c p i′ j′ c′ n h s =
-      let l = step-less i j c i′ j′ c′ (n .visits) s h in
-      let e : g .text .count + g .figures .count - p - 1 ≡ g .text .count + g .figures .count - (p + 1) = omega arith in
-      let one = count-step (sidesIn g) (tableIn g w) (g .text .count + g .figures .count - p) i j c p h (omega (arith, n .left)) in
-      record {
-        visits = step-visits i j c i′ j′ c′ (n .visits) s;
-        left = omega (arith, n .left);
-        same = rw (s .line, s .figure, s .side, ← e) (sym one ∙ n .same);
-      }
+  module _ {at : Stop} {p : ℕ} (run : Counting g w from first at p) where
+    -- goes on by a page,
+    pub counting-next : Traceable g w → p < g .text .count + g .figures .count → atOrigin from at ≡ false
+        → Counting g w from first (back (sidesIn g) (tableIn g w) at) (p + 1)
+    counting-next tr l away =
+        let e : g .text .count + g .figures .count - p - 1 ≡ g .text .count + g .figures .count - (p + 1) = omega arith in
+        let one = count-step (sidesIn g) (tableIn g w) from (g .text .count + g .figures .count - p) at p away (omega arith) in
+        record { visits = back-visits tr at (run .visits); few = omega arith; same = rw (← e) (sym one ∙ run .same) }
 
-  -- and ends where nothing is placed.
-  pub counting-done :
-      (from i j c p : ℕ) → Counting g w from i j c p → i + j ≡ 0
-      → p ≡ countBack (sidesIn g) (tableIn g w) (g .text .count + g .figures .count) (g .text .count) (g .figures .count) from 0
-  counting-done from i j c p n h = sym (count-stop (sidesIn g) (tableIn g w) _ i j c p h) ∙ n .same
+    -- and ends at the origin, or with as many pages as there are blocks.
+    pub counting-done : atOrigin from at ≡ true → p ≡ pagesBack g w from first
+    counting-done here =
+        sym (count-stop (sidesIn g) (tableIn g w) from (g .text .count + g .figures .count - p) at p here) ∙ run .same
 
-  -- The writing goes on by a page,
-  pub writing-next :
-      (from p : ℕ) (first ws : List ℕ) (i j c r i′ j′ c′ : ℕ) → Writing g w from p first ws i j c r → 0 < r
-      → Step g w i j c i′ j′ c′
-      → Writing g w from p first (set (set ws (2 * (r - 1)) i) (2 * (r - 1) + 1) j) i′ j′ c′ (r - 1)
-  writing-next from p first ws i j c r i′ j′ c′ n h s =
-      let long : length (set (set ws (2 * (r - 1)) i) (2 * (r - 1) + 1) j) ≡ length ws = simp length-set in
-      record {
-        visits = step-visits i j c i′ j′ c′ (n .visits) s;
-        few = omega (arith, n .few);
-        room = omega (arith, n .room);
-        long = long ∙ n .long;
-        same = rw (s .line, s .figure, s .side) (sym (write-step (sidesIn g) (tableIn g w) r i j c ws h) ∙ n .same);
-      }
+    pub counting-most : g .text .count + g .figures .count ≤ p → p ≡ pagesBack g w from first
+    unfolding countBack
+    counting-most l =
+        let e : g .text .count + g .figures .count - p ≡ 0 = omega arith in
+        rw e at (run .same)
 
-  -- and ends where no page is left.
-  pub writing-done :
-      (from p : ℕ) (first ws : List ℕ) (i j c r : ℕ) → Writing g w from p first ws i j c r → r ≡ 0
-      → ws ≡ writeBack (sidesIn g) (tableIn g w) p (g .text .count) (g .figures .count) from first
-  writing-done from p first ws i j c r n h = sym (write-stop (sidesIn g) (tableIn g w) r i j c ws h) ∙ n .same
+module _ {g : Galley} {w : List ℕ} {first : Stop} {p : ℕ} {ws₀ : List ℕ} where
+  pub writing-first : Writable g w first p ws₀ → Writing g w first p ws₀ ws₀ first p
+  writing-first asked =
+      record { visits = asked .walk .visits; few = le-refl p; room = asked .room; long = refl; same = refl }
+
+  module _ {ws : List ℕ} {at : Stop} {r : ℕ} (run : Writing g w first p ws₀ ws at r) where
+    -- The writing goes on by a page, the r-th where r are left,
+    pub writing-next : Traceable g w → 0 < r
+        → Writing g w first p ws₀ (set (set ws (2 * (r - 1)) (at .place .line)) (2 * (r - 1) + 1) (at .place .column))
+        (back (sidesIn g) (tableIn g w) at) (r - 1)
+    writing-next tr h =
+        let ws′ = set (set ws (2 * (r - 1)) (at .place .line)) (2 * (r - 1) + 1) (at .place .column) in
+        let long : length ws′ ≡ length ws = simp length-set in
+        record {
+          visits = back-visits tr at (run .visits);
+          few = omega (arith, run .few);
+          room = omega (arith, run .room);
+          long = long ∙ run .long;
+          same = sym (step r h) ∙ run .same;
+        }
+      where
+        step : (r : ℕ) → 0 < r → writeBack (sidesIn g) (tableIn g w) r at ws
+            ≡ writeBack (sidesIn g) (tableIn g w) (r - 1) (back (sidesIn g) (tableIn g w) at)
+            (set (set ws (2 * (r - 1)) (at .place .line)) (2 * (r - 1) + 1) (at .place .column))
+        step zero h = absurd (omega arith)
+        step (suc r) h = let e : suc r - 1 ≡ r = omega arith in rw e (unfold writeBack in refl)
+
+    -- and ends where no page is left.
+    pub writing-done : r ≤ 0 → ws ≡ writeBack (sidesIn g) (tableIn g w) p first ws₀
+    unfolding writeBack
+    writing-done h = let e : r ≡ 0 = omega arith in rw e at (run .same)

@@ -1,18 +1,22 @@
--- The front of a queue is the cheapest start of its window.
+-- The front of a queue is the best start of its window.
 use Prim.Native.Nat.{ℕ, zero, suc, _+_, _-_, _≤_, _<_}
 use native.Mathlib.Nat.{add-zero, add-suc}
 use native.Mathlib.Omega.{arith}
-use mathlib.Core.Path.{_≡_, refl, sym, ap, subst, _∙_}
+use native.Mathlib.Decide.{decLt}
+use mathlib.Core.Path.{_≡_, refl, ap}
+use mathlib.Core.Logic.{inl, inr}
 use mathlib.Core.Bool.{Bool, true, false}
 use mathlib.Core.List.{List}
 use lib.Dec.{ltb}
 use borrow.Author.Tests.{ltb-true, ltb-false}
 use Rattle.model.specs.Gather.{pick}
-use Rattle.places.specs.declared.Start.{Start}
 use Rattle.places.specs.declared.Entry.{Entry}
 use Rattle.places.specs.declared.Entry.the-variants.{Unreached, Least}
+use Rattle.places.specs.Order.{NoLater}
+use Rattle.places.specs.Best.{Leads, Best}
+use Rattle.places.specs.laws.Best.{best-none, best-least}
 use Rattle.window.specs.declared.queue.Queue.{Queue}
-use Rattle.window.specs.Queue.{lineAt, costAt, frontOf, Held, Cheapest}
+use Rattle.window.specs.Queue.{lineAt, costAt, frontOf, Held, Lines}
 
 -- What rises from entry to entry rises by as much as entries are passed.
 rises : (f : ℕ → ℕ) (head tail : ℕ) → ((k : ℕ) → head ≤ k → suc k < tail → f k < f (suc k)) → (d : ℕ) → head + d < tail
@@ -36,82 +40,39 @@ rises-to f head tail up k l m =
     let same = ap f e in
     omega arith
 
--- An entry that is a start, from what is known of that start.
-cheapest-of : (col : ℕ → Entry) (low high b x : ℕ) (s : Start) → low ≤ s .line → s .line < high → s .figure ≡ b
-    → (q : Start) × (col (s .line) ≡ Least x q)
-    → ((a y : ℕ) (q : Start) → low ≤ a → a < high → col a ≡ Least y q → x ≤ y)
-    → ((a : ℕ) (q : Start) → low ≤ a → a < high → col a ≡ Least x q → a ≤ s .line)
-    → Cheapest col low high b (Least x s)
-cheapest-of col low high b x s from to figure reached least latest =
-    record {
-      from = λ y r e. let p : s ≡ r = cc in subst (λ (t : Start). low ≤ t .line) p from;
-      to = λ y r e. let p : s ≡ r = cc in subst (λ (t : Start). t .line < high) p to;
-      figure = λ y r e. let p : s ≡ r = cc in subst (λ (t : Start). t .figure ≡ b) p figure;
-      reached = λ y r e.
-          let p : s ≡ r = cc in
-          let c : x ≡ y = cc in
-          (reached .0, ap (λ (t : Start). col (t .line)) (sym p) ∙ reached .1 ∙ ap (λ (n : ℕ). Least n (reached .0)) c);
-      none = λ e. let z : _≡_ {A = ℕ} 0 1 = cc in absurd (omega arith);
-      least = λ y r e a n q l m f. let c : x ≡ y = cc in let k = least a n q l m f in omega arith;
-      latest = λ y r e a q l m f.
-          let p : s ≡ r = cc in
-          let c : x ≡ y = cc in
-          subst (λ (t : Start). a ≤ t .line) p (latest a q l m (f ∙ ap (λ (n : ℕ). Least n q) (sym c)));
-    }
-
--- Where no line is reached, the unreached entry.
-cheapest-none : (col : ℕ → Entry) (low high b : ℕ) → ((a : ℕ) → low ≤ a → a < high → col a ≡ Unreached)
-    → Cheapest col low high b Unreached
-cheapest-none col low high b none =
-    record {
-      from = λ y r e. let z : _≡_ {A = ℕ} 0 1 = cc in absurd (omega arith);
-      to = λ y r e. let z : _≡_ {A = ℕ} 0 1 = cc in absurd (omega arith);
-      figure = λ y r e. let z : _≡_ {A = ℕ} 0 1 = cc in absurd (omega arith);
-      reached = λ y r e. let z : _≡_ {A = ℕ} 0 1 = cc in absurd (omega arith);
-      none = λ e. none;
-      least = λ y r e. let z : _≡_ {A = ℕ} 0 1 = cc in absurd (omega arith);
-      latest = λ y r e. let z : _≡_ {A = ℕ} 0 1 = cc in absurd (omega arith);
-    }
-
--- The first entry of a queue, where it is within the window, is the cheapest start.
+-- The first entry of a queue, where it is within the window, is the best start.
 module _ (col : ℕ → Entry) (words : List ℕ) (queue : Queue) (low high b : ℕ) (h : Held col words queue low high)
     (fresh : queue .head < queue .tail → low ≤ lineAt words (queue .head)) where
   front-some : queue .head < queue .tail
-      → Cheapest col low high b
-      (Least (costAt words (queue .head)) (record { line = lineAt words (queue .head); figure = b }))
+      → Best (Lines col low high b)
+      (Least (costAt words (queue .head)) (record { line = lineAt words (queue .head); column = b }))
+  unfolding Leads
   front-some some =
-      cheapest-of col low high b (costAt words (queue .head)) (record { line = lineAt words (queue .head); figure = b })
-      (fresh some) (h .before (queue .head) (omega arith) some) refl (h .reached (queue .head) (omega arith) some)
-      (λ a y q l m e.
-      let k = h .covered a y q l m e in
-      let up = rises-to (costAt words) (queue .head) (queue .tail) (h .costs) (k .at) (k .from) (k .to) in
-      let cheaper = k .cheaper in
-      omega arith)
-      (λ a q l m e.
-      let k = h .covered a (costAt words (queue .head)) q l m e in
-      let up = rises-to (costAt words) (queue .head) (queue .tail) (h .costs) (k .at) (k .from) (k .to) in
-      let cheaper = k .cheaper in
-      let from = k .from in
-      let first : k .at ≡ queue .head = omega arith in
-      rw first at (k .later))
-
-  front-none : queue .tail ≤ queue .head → Cheapest col low high b Unreached
-  front-none none = cheapest-none col low high b (λ a l m. go a l m (col a) refl)
+      best-least (costAt words (queue .head)) (record { line = lineAt words (queue .head); column = b })
+      (fresh some, h .before (queue .head) (omega arith) some, refl, h .reached (queue .head) (omega arith) some) leads
     where
-      go : (a : ℕ) → low ≤ a → a < high → (e : Entry) → col a ≡ e → e ≡ Unreached
-      go a l m Unreached p = refl
-      go a l m (Least y q) p =
-          let k = h .covered a y q l m p in
-          let from = k .from in
-          let to = k .to in
-          absurd (omega arith)
+      leads : (a b′ y : ℕ) → Lines col low high b a b′ y → (costAt words (queue .head) ≤ y)
+          × (costAt words (queue .head) ≡ y → NoLater a b′ (lineAt words (queue .head)) b)
+      leads a b′ y (l, m, e, (q, f)) =
+          let k = h .covered a y q l m f in
+          let up = rises-to (costAt words) (queue .head) (queue .tail) (h .costs) (k .at) (k .from) (k .to) in
+          (omega (arith, k .cheaper), λ same. later (omega (arith, k .cheaper, k .from)) (k .later) (decLt a (lineAt words (queue .head))))
+        where
+          later : {n : ℕ} → n ≡ queue .head → a ≤ lineAt words n → Dec (a < lineAt words (queue .head))
+              → NoLater a b′ (lineAt words (queue .head)) b
+          later first n (yes p) = inl p
+          later first n (no p) = let o = ap (lineAt words) first in inr (omega arith, omega arith)
 
-  pub front-cheapest : Cheapest col low high b (frontOf words queue b)
+  front-none : queue .tail ≤ queue .head → Best (Lines col low high b) Unreached
+  front-none none =
+      best-none (λ a b′ x c. let k = h .covered a x (c .3 .0) (c .0) (c .1) (c .3 .1) in omega (arith, k .from, k .to))
+
+  pub front-best : Best (Lines col low high b) (frontOf words queue b)
   unfolding frontOf
-  front-cheapest = go (ltb (queue .head) (queue .tail)) refl
+  front-best = go (ltb (queue .head) (queue .tail)) refl
     where
       go : (t : Bool) → ltb (queue .head) (queue .tail) ≡ t
-          → Cheapest col low high b
-          (pick t (Least (costAt words (queue .head)) (record { line = lineAt words (queue .head); figure = b })) Unreached)
+          → Best (Lines col low high b)
+          (pick t (Least (costAt words (queue .head)) (record { line = lineAt words (queue .head); column = b })) Unreached)
       go true e = front-some (ltb-true _ _ e)
       go false e = front-none (ltb-false _ _ e)

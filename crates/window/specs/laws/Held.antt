@@ -5,24 +5,15 @@ use native.Mathlib.Omega.{arith}
 use mathlib.Core.Path.{_≡_, refl, sym, ap, _∙_}
 use mathlib.Core.Logic.{_⊎_, inl, inr}
 use mathlib.Core.List.{List}
-use Rattle.places.specs.declared.Start.{Start}
+use Rattle.places.specs.declared.Place.{Place}
 use Rattle.places.specs.declared.Entry.{Entry}
 use Rattle.places.specs.declared.Entry.the-variants.{Unreached, Least}
-use Rattle.places.specs.Entry.{entryAt}
-use Rattle.places.specs.Address.{address}
-use Rattle.places.specs.Table.{tableOf}
 use Rattle.window.specs.declared.queue.Queue.{Queue}
-use Rattle.window.specs.Queue.{lineAt, costAt, columnOf, Cover, Held, Passed, Beside}
+use Rattle.window.specs.Queue.{lineAt, costAt, Cover, Held, Passed, Beside}
 
 -- Nothing stored leaves all as it was.
 pub beside-none : (words : List ℕ) (from to : ℕ) → Beside words words from to
 beside-none words from to = record { lines = λ k p. refl; costs = λ k p. refl }
-
--- A line's entry is what is read at its address.
-pub column-read : (work : List ℕ) (tall b side a at : ℕ) (e : Entry) → at ≡ address tall a b side → e ≡ entryAt work at
-    → columnOf work tall b side a ≡ e
-unfolding tableOf
-column-read work tall b side a at e p q = ap (entryAt work) (sym p) ∙ sym q
 
 -- Of no line an empty queue holds all.
 pub held-none : (col : ℕ → Entry) (words : List ℕ) (base : ℕ)
@@ -69,7 +60,7 @@ held-passed col words queue low a none h =
       covered = λ k x r l m e. go k x r l e (decLe (suc k) a) m;
     }
   where
-    go : (k x : ℕ) (r : Start) → low ≤ k → col k ≡ Least x r → Dec (suc k ≤ a) → k < a + 1 → Cover words queue k x
+    go : (k x : ℕ) (r : Place) → low ≤ k → col k ≡ Least x r → Dec (suc k ≤ a) → k < a + 1 → Cover words queue k x
     go k x r l e (yes p) m = h .covered k x r l p e
     go k x r l e (no p) m =
         let here : k ≡ a = omega arith in

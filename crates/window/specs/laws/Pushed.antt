@@ -7,7 +7,7 @@ use mathlib.Core.Logic.{_≢_, _⊎_, inl, inr}
 use mathlib.Core.List.{List}
 use lib.ListN.{length, getD, set, length-set}
 use lib.Seq.{getD-set-same, getD-set-other}
-use Rattle.places.specs.declared.Start.{Start}
+use Rattle.places.specs.declared.Place.{Place}
 use Rattle.places.specs.declared.Entry.{Entry}
 use Rattle.places.specs.declared.Entry.the-variants.{Least}
 use Rattle.window.specs.declared.queue.Queue.{Queue}
@@ -75,7 +75,7 @@ rises-with f g head t same up last k l m = go (decLe (suc (suc k)) t)
         omega (arith, one, last k l end)
 
 -- A reached line pushed after what is no cheaper was dropped: it covers itself and what the dropped ones covered.
-module _ (col : ℕ → Entry) (words : List ℕ) (queue : Queue) (low a x t : ℕ) (r : Start) (here : col a ≡ Least x r)
+module _ (col : ℕ → Entry) (words : List ℕ) (queue : Queue) (low a x t : ℕ) (r : Place) (here : col a ≡ Least x r)
     (dropped : Dropped words (queue .head) (queue .tail) x t) (room : 2 * t + 2 ≤ length words)
     (h : Held col words queue low a) where
   push-lines : (k : ℕ) → queue .head ≤ k → suc k < t + 1
@@ -107,10 +107,10 @@ module _ (col : ℕ → Entry) (words : List ℕ) (queue : Queue) (low a x t : �
           omega arith
 
   push-reached : (k : ℕ) → queue .head ≤ k → k < t + 1
-      → (q : Start) × (col (lineAt (pushed words t a x) k) ≡ Least (costAt (pushed words t a x) k) q)
+      → (q : Place) × (col (lineAt (pushed words t a x) k) ≡ Least (costAt (pushed words t a x) k) q)
   push-reached k l m = go (decLe (suc k) t)
     where
-      go : Dec (suc k ≤ t) → (q : Start) × (col (lineAt (pushed words t a x) k) ≡ Least (costAt (pushed words t a x) k) q)
+      go : Dec (suc k ≤ t) → (q : Place) × (col (lineAt (pushed words t a x) k) ≡ Least (costAt (pushed words t a x) k) q)
       go (yes p) =
           let to = dropped .to in
           let old = h .reached k l (omega arith) in (
@@ -147,7 +147,7 @@ module _ (col : ℕ → Entry) (words : List ℕ) (queue : Queue) (low a x t : �
           let cheaper = old .cheaper in
           push-covers k y (omega arith) (omega arith)
 
-  push-covered : (k y : ℕ) (q : Start) → low ≤ k → k < a + 1 → col k ≡ Least y q
+  push-covered : (k y : ℕ) (q : Place) → low ≤ k → k < a + 1 → col k ≡ Least y q
       → Cover (pushed words t a x) (tailed queue (t + 1)) k y
   push-covered k y q l m e = go (decLe (suc k) a)
     where

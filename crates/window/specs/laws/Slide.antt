@@ -14,9 +14,9 @@ use Rattle.window.specs.Sums.{Pair, Sums}
 use Rattle.window.specs.Slide.{Reachable, FirstBelow, Reaches, Ends, Open}
 use Rattle.window.specs.laws.Sums.{reach-stacked, reach-grows}
 
--- Before the first line both ends are at 0.
-pub ends-first : (st : Stream) (load : Load) → Ends st load (record { low = 0; high = 0 }) 0
-ends-first st load =
+-- Where nothing is passed both ends are at 0, whatever the line.
+pub ends-first : (st : Stream) (load : Load) (i : ℕ) → Ends st load (record { low = 0; high = 0 }) i
+ends-first st load i =
     record {
       low = omega arith;
       high = omega arith;

@@ -1,6 +1,6 @@
 -- `choose` meets its contract: each way is a clause of `chosen`, and where the second entry is reached the test decides.
 use mathlib.Core.Path.{sym, _∙_}
-use Rattle.starts.specs.Choice.{chosen}
+use Rattle.starts.specs.Better.{chosen}
 use borrow.Author.Needs.{needs}
 use Rattle.starts.proofs.choice.choose.Statement.{statement}
 use Rattle.starts.proofs.choice.choose.Tie as tie

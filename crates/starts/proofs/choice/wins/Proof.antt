@@ -1,5 +1,5 @@
 -- `wins` meets its contract: each arm is a clause of the definition.
-use Rattle.starts.specs.Choice.{wins}
+use Rattle.starts.specs.Better.{wins}
 use borrow.Author.Needs.{needs}
 use Rattle.starts.proofs.choice.wins.Statement.{statement}
 use Rattle.starts.proofs.choice.wins.Tie as tie

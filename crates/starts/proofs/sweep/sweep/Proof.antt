@@ -1,7 +1,8 @@
 -- `sweep` meets its contract. The loop's invariant is `SweepRun`: the sides before c know the starts of the pass too.
 use Prim.Native.Nat.{_-_}
-use Rattle.starts.specs.Sweep.{SweepRun}
-use Rattle.starts.specs.laws.Sweeping.{sweep-first, sweep-last, sweep-passes, sweep-next}
+use native.Mathlib.Omega.{arith}
+use Rattle.starts.specs.Swept.{SweepRun}
+use Rattle.starts.specs.laws.Sweeping.{sweep-first, sweep-last, sweep-side, sweep-line, sweep-next}
 use borrow.Author.Needs.{needs}
 use Rattle.starts.proofs.sweep.sweep.Statement.{statement}
 use Rattle.starts.proofs.sweep.sweep.Tie as tie
@@ -15,32 +16,32 @@ abbrev μ-loop : tie.MeasureT-loop
 loop-holds : tie.Need-loop-holds Inv-loop μ-loop
 loop-holds c = sweep-first (c .before .before .before .before .pre)
 
-cast-if1 : tie.Need-cast-if1 Inv-loop μ-loop
-cast-if1 c = search needs
-
 sweep-side-requires : tie.Need-sweep-side-requires Inv-loop μ-loop
-sweep-side-requires c κs = sweep-passes (c .before .before .before .before .before .before .before .before .before .pre) (c .before .before .before .before .loop .inv) (c .before .before .if1 .taken)
+sweep-side-requires c κs =
+    sweep-side (c .before .before .before .before .before .before .before .before .before .pre) (c .before .before .before .before .loop .inv)
+    (c .before .before .if1 .taken)
 
-add-c : tie.Need-add-c Inv-loop μ-loop
-add-c c = search needs
-
-loop-less : tie.Need-loop-less Inv-loop μ-loop
-loop-less c = search needs
+last-line-requires : tie.Need-last-line-requires Inv-loop μ-loop
+last-line-requires c κs =
+    let swept = c .before .before .before .before .before in
+    let inside = swept .before .before .before in
+    sweep-line (inside .before .before .before .before .before .before .before .pre) (inside .before .before .loop .inv) (inside .if1 .taken) _ _
+    (search (needs, c .before .before .before .slice-known3 .given, c .before .before .before .before .work .given))
+    (search (needs, c .before .slice-known4 .given, c .before .before .words .given)) (swept .sweep-side .ensures)
 
 loop-again : tie.Need-loop-again Inv-loop μ-loop
 loop-again c =
-    sweep-next (c .before .before .before .before .before .before .before .before .before .before .before .before .before .before .pre) (c .before .before .before .before .before .before .before .before .before .loop .inv) (c .before .before .before .before .before .before .before .if1 .taken) _ _
-    (search (needs, c .before .before .slice-known3 .given, c .before .before .before .work .given)) (search (needs, c .slice-known4 .given, c .before .words .given))
-    (c .before .before .before .before .sweep-side .ensures)
-
-same-length : tie.Need-same-length Inv-loop μ-loop
-same-length c = search needs
-
-same-length-2 : tie.Need-same-length-2 Inv-loop μ-loop
-same-length-2 c = search needs
+    let lined = c .before .before in
+    let swept = lined .before .before .before .before .before .before in
+    let inside = swept .before .before .before in
+    sweep-next (inside .before .before .before .before .before .before .before .pre) (inside .before .before .loop .inv) (inside .if1 .taken) _ _
+    (search (needs, lined .before .before .before .before .slice-known3 .given, lined .before .before .before .before .before .work .given))
+    (search (needs, lined .before .before .slice-known4 .given, lined .before .before .before .words .given)) (swept .sweep-side .ensures) _
+    (search (needs, c .slice-known5 .given, c .before .work2 .given)) (lined .last-line .ensures)
 
 returns : tie.Need-returns Inv-loop μ-loop
-returns c = sweep-last (c .before .before .before .before .before .before .before .pre) (c .before .before .loop .inv) (c .if1 .left)
+returns c =
+    sweep-last (c .before .before .before .before .before .before .before .pre) (c .before .before .loop .inv) (c .if1 .left)
 
 pub sweep-spec : {M : Type 1} → statement M
 sweep-spec =
@@ -49,11 +50,12 @@ sweep-spec =
     Inv-loop
     μ-loop
     loop-holds
-    cast-if1
+    (λ c. search needs)
     sweep-side-requires
-    add-c
-    loop-less
+    last-line-requires
+    (λ c. search needs)
+    (λ c. search needs)
     loop-again
-    same-length
-    same-length-2
+    (λ c. search needs)
+    (λ c. search needs)
     returns)

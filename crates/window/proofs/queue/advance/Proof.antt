@@ -2,7 +2,7 @@
 -- front.
 use native.Mathlib.Omega.{arith}
 use mathlib.Core.Path.{refl}
-use Rattle.window.specs.Queue.{columnOf}
+use Rattle.window.specs.Queue.{linesOf}
 use Rattle.window.specs.laws.Held.{held-dropped}
 use borrow.Author.Needs.{needs}
 use Rattle.window.proofs.queue.advance.Statement.{statement}
@@ -21,7 +21,7 @@ returns c =
       short = fed .ensures .short;
       beside = fed .ensures .beside;
       held = λ low l h.
-          held-dropped (columnOf (a .work .now) (a .tall) (a .b) (a .side)) _ (a .queue .base) (a .queue .head) (fed .result)
+          held-dropped (linesOf (a .work .now) (a .tall) (a .column) (a .side)) _ (a .queue .base) (a .queue .head) (fed .result)
           (c .drop-passed .result)
           low (a .window .low) (a .window .high) l passed (fed .ensures .held low h);
       fresh = passed .kept;

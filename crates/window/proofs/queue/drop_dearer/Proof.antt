@@ -1,7 +1,8 @@
 -- `drop_dearer` meets its contract. The loop's invariant: the entries dropped cost x or more, to which each turn adds one.
 use Prim.Native.Nat.{ℕ, _+_, _-_, _*_, _≤_}
-use mathlib.Core.Path.{_≡_, ap}
+use mathlib.Core.Path.{_≡_, sym, ap, _∙_}
 use native.Mathlib.Omega.{arith}
+use borrow.Author.Tests.{ltb-true, ltb-false}
 use lib.ListN.{getD}
 use Rattle.window.specs.Queue.{costAt}
 use Rattle.window.specs.Run.{DearerRun}
@@ -16,25 +17,10 @@ Inv-loop words head tail x t₀ t = DearerRun words head tail x t
 abbrev μ-loop : tie.MeasureT-loop
 μ-loop words head tail x t₀ t = t
 
-loop-holds : tie.Need-loop-holds Inv-loop μ-loop
-loop-holds c = search needs
-
-mul-if1 : tie.Need-mul-if1 Inv-loop μ-loop
-mul-if1 c = search needs
-
-sub-if1 : tie.Need-sub-if1 Inv-loop μ-loop
-sub-if1 c = search needs
-
-mul-if1-2 : tie.Need-mul-if1-2 Inv-loop μ-loop
-mul-if1-2 c = search needs
-
-shared-slice-read-if1 : tie.Need-shared-slice-read-if1 Inv-loop μ-loop
-shared-slice-read-if1 c = search needs
-
 returns : tie.Need-returns Inv-loop μ-loop
 returns c =
-    let start = c .before .before .before .before in
-    let st = c .before .before .before .loop in
+    let start = c .before .before .before .before .before .before in
+    let st = c .before .before .before .before .loop in
     let words = start .args .words .now in
     record {
       from = st .inv .from;
@@ -43,32 +29,23 @@ returns c =
       cheaper = λ k l e.
           let at : 2 * st .t - 1 ≡ 2 * k + 1 = omega arith in
           let same = ap (λ (n : ℕ). getD words n 0) at in
-          omega (arith, c .if1 .taken, same);
+          omega (arith, ltb-true (getD words (2 * st .t - 1) 0) (start .args .x) (sym (c .before .less .ensures) ∙ c .if1 .taken), same);
     }
-
-sub-t : tie.Need-sub-t Inv-loop μ-loop
-sub-t c = search needs
-
-loop-less : tie.Need-loop-less Inv-loop μ-loop
-loop-less c = search needs
 
 loop-again : tie.Need-loop-again Inv-loop μ-loop
 loop-again c =
-    let start = c .before .before .before .before in
-    let st = c .before .before .before .loop in
+    let start = c .before .before .before .before .before .before in
+    let st = c .before .before .before .before .loop in
     let words = start .args .words .now in
-    let at : 2 * st .t - 1 ≡ 2 * (st .t - 1) + 1 = omega (arith, c .before .before .loop-test .taken) in
+    let at : 2 * st .t - 1 ≡ 2 * (st .t - 1) + 1 = omega (arith, c .before .before .before .loop-test .taken) in
     let same = ap (λ (n : ℕ). getD words n 0) at in
     record {
       from = omega arith;
       to = omega arith;
       dearer =
           down-next (λ (k : ℕ). start .args .x ≤ costAt words k) (st .t) (start .args .tail) (st .inv .dearer)
-          (omega (arith, c .if1 .left, same));
+          (omega (arith, ltb-false (getD words (2 * st .t - 1) 0) (start .args .x) (sym (c .before .less .ensures) ∙ c .if1 .left), same));
     }
-
-returns-2 : tie.Need-returns-2 Inv-loop μ-loop
-returns-2 c = search needs
 
 pub drop-dearer-spec : {M : Type 1} → statement M
 drop-dearer-spec =
@@ -76,13 +53,14 @@ drop-dearer-spec =
     (tie.spec
     Inv-loop
     μ-loop
-    loop-holds
-    mul-if1
-    sub-if1
-    mul-if1-2
-    shared-slice-read-if1
+    (λ c. search needs)
+    (λ c. search needs)
+    (λ c. search needs)
+    (λ c. search needs)
+    (λ c. search needs)
+    (λ c κs. search needs)
     returns
-    sub-t
-    loop-less
+    (λ c. search needs)
+    (λ c. search needs)
     loop-again
-    returns-2)
+    (λ c. search needs))

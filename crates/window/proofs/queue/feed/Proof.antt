@@ -5,20 +5,20 @@ use native.Mathlib.Omega.{arith}
 use mathlib.Core.Path.{_≡_, refl, sym, ap, subst, _∙_}
 use mathlib.Core.List.{List}
 use lib.ListN.{length}
-use Rattle.window.specs.Queue.{columnOf, tailed, Held, Beside}
+use Rattle.window.specs.Queue.{linesOf, tailed, Held, Beside}
 use Rattle.window.specs.Run.{FeedRun}
-use Rattle.window.specs.laws.Held.{beside-none, column-read, held-passed}
+use Rattle.window.specs.laws.Held.{beside-none, held-passed}
 use Rattle.window.specs.laws.Pushed.{pushed-length, pushed-beside, held-pushed}
 use borrow.Author.Needs.{needs}
 use Rattle.window.proofs.queue.feed.Statement.{statement}
 use Rattle.window.proofs.queue.feed.Tie as tie
 
 abbrev Inv-loop : tie.InvT-loop
-Inv-loop work tall b side words₀ queue from to tail₀ a₀ words tail a = FeedRun work tall b side words₀ words queue from to
+Inv-loop work tall column side words₀ queue from to tail₀ a₀ words tail a = FeedRun work tall column side words₀ words queue from to
     tail a
 
 abbrev μ-loop : tie.MeasureT-loop
-μ-loop work tall b side words₀ queue from to tail₀ a₀ words tail a = to - a
+μ-loop work tall column side words₀ queue from to tail₀ a₀ words tail a = to - a
 
 loop-holds : tie.Need-loop-holds Inv-loop μ-loop
 loop-holds c =
@@ -33,41 +33,31 @@ loop-holds c =
       held = λ low h. h;
     }
 
-address-of-requires : tie.Need-address-of-requires Inv-loop μ-loop
-address-of-requires c κs = search needs
+place-of-requires : tie.Need-place-of-requires Inv-loop μ-loop
+place-of-requires c κs =
+    let stands = c .before .before .before .before .pre .stands (c .before .loop .a) (c .loop-test .taken) in
+    record { lines = omega (arith, stands .inside .row, stands .inside .high); figures = stands .inside .wide }
 
-entry-at-requires : tie.Need-entry-at-requires Inv-loop μ-loop
-entry-at-requires c κs =
-    let start = c .before .before .before .before .before in
-    let stands = start .pre .stands (c .before .before .loop .a) (c .before .loop-test .taken) in
-    omega (arith, stands, c .address-of .ensures)
+entry-of-requires : tie.Need-entry-of-requires Inv-loop μ-loop
+entry-of-requires c κs =
+    rw (c .place-of .ensures)
+    (c .before .before .before .before .before .pre .stands (c .before .before .loop .a) (c .before .loop-test .taken))
 
-cast-line : tie.Need-cast-line Inv-loop μ-loop
-cast-line c = search needs
-
-add-a : tie.Need-add-a Inv-loop μ-loop
-add-a c = search needs
-
-enum-known-entry : tie.Need-enum-known-entry Inv-loop μ-loop
-enum-known-entry c = search needs
-
-enum-told : tie.Need-enum-told Inv-loop μ-loop
-enum-told c = search needs
-
-loop-less : tie.Need-loop-less Inv-loop μ-loop
-loop-less c = search needs
+-- The entry of line a in the column.
+read : (c : tie.After-entry-of Inv-loop μ-loop)
+    → linesOf (c .before .before .before .before .before .before .args .work .now)
+    (c .before .before .before .before .before .before .args .tall)
+    (c .before .before .before .before .before .before .args .column)
+    (c .before .before .before .before .before .before .args .side) (c .before .before .before .loop .a)
+    ≡ c .entry-of .result
+read c = sym (rw (c .before .place-of .ensures) at (c .entry-of .ensures))
 
 loop-again : tie.Need-loop-again Inv-loop μ-loop
 loop-again c =
-    let start = c .before .before .before .before .before .before .before .before in
-    let a = start .args in
+    let a = c .before .before .before .before .before .before .before .before .args in
     let st = c .before .before .before .before .before .loop in
-    let col = columnOf (a .work .now) (a .tall) (a .b) (a .side) in
-    let at = c .before .before .before .address-of in
-    let entry = c .before .before .entry-at in
-    let none =
-    column-read (a .work .now) (a .tall) (a .b) (a .side) (st .a) (at .result) (entry .result) (at .ensures) (entry .ensures)
-    ∙ c .enum-told .given .1 in
+    let col = linesOf (a .work .now) (a .tall) (a .column) (a .side) in
+    let none = read (c .before .before) ∙ c .enum-told .given .1 in
     record {
       start = omega arith;
       within = omega arith;
@@ -78,45 +68,28 @@ loop-again c =
       held = λ low h. held-passed col (st .words) (tailed (a .queue) (st .tail)) low (st .a) none (st .inv .held low h);
     }
 
-drop-dearer-requires : tie.Need-drop-dearer-requires Inv-loop μ-loop
-drop-dearer-requires c κs = search needs
-
-push-requires : tie.Need-push-requires Inv-loop μ-loop
-push-requires c κs = search needs
-
-add-tail : tie.Need-add-tail Inv-loop μ-loop
-add-tail c = search needs
-
-loop-less-2 : tie.Need-loop-less-2 Inv-loop μ-loop
-loop-less-2 c = search needs
-
 loop-again-2 : tie.Need-loop-again-2 Inv-loop μ-loop
 loop-again-2 c =
-    let start =
-    c .before .before .before .before .before .before .before .before .before .before .before .before .before .before .before
-    in
+    let reached = c .before .before .before .before .before .before .before in
+    let inside = reached .before .before .before .before in
+    let start = inside .before .before .before .before in
     let a = start .args in
-    let st = c .before .before .before .before .before .before .before .before .before .before .before .before .loop in
-    let col = columnOf (a .work .now) (a .tall) (a .b) (a .side) in
-    let at = c .before .before .before .before .before .before .before .before .before .before .address-of in
-    let entry = c .before .before .before .before .before .before .before .before .before .entry-at in
-    let some =
-    column-read (a .work .now) (a .tall) (a .b) (a .side) (st .a) (at .result) (entry .result) (at .ensures) (entry .ensures)
-    ∙ c .before .before .before .before .before .before .before .entry .given .1 in
+    let st = inside .before .loop in
+    let col = linesOf (a .work .now) (a .tall) (a .column) (a .side) in
+    let some = read (reached .before .before) ∙ reached .entry .given .1 in
     let t = c .before .before .before .before .drop-dearer .result in
     let dropped = c .before .before .before .before .drop-dearer .ensures in
-    let new = c .before .before .push .ensures in
-    let test = c .before .before .before .before .before .before .before .before .before .before .before .loop-test .taken in
+    let new = rw (reached .before .before .before .place-of .ensures) at (c .before .before .push .ensures) in
     let room : 2 * t + 2 ≤ length (st .words) =
-    omega (arith, dropped .to, st .inv .short, st .inv .sized, start .pre .room, test) in
+    omega (arith, dropped .to, st .inv .short, st .inv .sized, start .pre .room, inside .loop-test .taken) in
     record {
       start = omega (arith, st .inv .start);
-      within = omega (arith, test);
+      within = omega (arith, inside .loop-test .taken);
       order = omega (arith, dropped .from);
       short = omega (arith, dropped .to, st .inv .short);
       beside = subst (λ (w : List ℕ). Beside (a .words .now) w (a .queue .base) (a .queue .base + a .to)) (sym new)
           (pushed-beside (st .words) t _ _ (omega (arith, start .pre .based, dropped .from))
-          (omega (arith, dropped .to, st .inv .short, test)) (st .inv .beside));
+          (omega (arith, dropped .to, st .inv .short, inside .loop-test .taken)) (st .inv .beside));
       sized = ap length new ∙ pushed-length (st .words) t _ _ ∙ st .inv .sized;
       held = λ low h.
           subst (λ (w : List ℕ). Held col w (tailed (a .queue) (t + 1)) low (st .a + 1)) (sym new)
@@ -124,15 +97,11 @@ loop-again-2 c =
           (st .inv .held low h));
     }
 
-same-length : tie.Need-same-length Inv-loop μ-loop
-same-length c = search needs
-
 returns : tie.Need-returns Inv-loop μ-loop
 returns c =
-    let start = c .before .before .before .before in
-    let a = start .args in
+    let a = c .before .before .before .before .args in
     let st = c .before .loop in
-    let col = columnOf (a .work .now) (a .tall) (a .b) (a .side) in
+    let col = linesOf (a .work .now) (a .tall) (a .column) (a .side) in
     let done : st .a ≡ a .to = omega (arith, st .inv .within, c .loop-test .left) in
     record {
       order = st .inv .order;
@@ -148,18 +117,17 @@ feed-spec =
     Inv-loop
     μ-loop
     loop-holds
-    address-of-requires
-    entry-at-requires
-    cast-line
-    add-a
-    enum-known-entry
-    enum-told
-    loop-less
+    place-of-requires
+    entry-of-requires
+    (λ c. search needs)
+    (λ c. search needs)
+    (λ c. search needs)
+    (λ c. search needs)
     loop-again
-    drop-dearer-requires
-    push-requires
-    add-tail
-    loop-less-2
+    (λ c κs. search needs)
+    (λ c κs. search needs)
+    (λ c. search needs)
+    (λ c. search needs)
     loop-again-2
-    same-length
+    (λ c. search needs)
     returns)

@@ -1,0 +1,136 @@
+-- Places of a galley by line and column: what is inside the full place, the first place and the last, and the orders.
+use Prim.Native.Nat.{ℕ, zero, suc, _+_, _≤_, _<_}
+use native.Mathlib.Decide.{decLe, decLt}
+use native.Mathlib.Omega.{arith}
+use mathlib.Core.Path.{_≡_, refl, sym, _∙_, ap}
+use mathlib.Core.Logic.{_⊎_, inl, inr, _↔_}
+use mathlib.Core.Bool.{Bool, true, false}
+use mathlib.Core.List.{List, [], _∷_}
+use lib.ListN.{length, getD, List·getD-eq-default}
+use Rattle.model.specs.Gather.{row}
+use Rattle.model.specs.Galley.{Galley, Place, count, streams, zeros, sizes}
+use Rattle.model.specs.Order.{lex, geb}
+use Rattle.model.specs.Rules.{forward}
+use Rattle.model.specs.laws.Gather.{length-row}
+use Rattle.model.specs.laws.Rules.{Forward, forward-at, placed, placed-grows}
+use Rattle.model.specs.laws.Lists.{Inside}
+use Rattle.places.specs.Columns.{columns, columnOf, floatsAt, floatSizes, floatPlace, placeAt, columnIn}
+use Rattle.places.specs.laws.Columns.{inside-head, inside-tail, inside-cons, column-below, floats-of-column, floats-inside, column-of-floats, column-grows, column-empty, floats-none, floats-all, column-all}
+use Rattle.places.specs.Order.{Earlier, NoLater}
+use Rattle.places.specs.laws.Ties.{place-first}
+
+module _ (g : Galley) where
+  sizes-cons : sizes g ≡ g .stream 0 .size ∷ floatSizes g
+  unfolding sizes streams floatSizes row
+  sizes-cons = refl
+
+  -- The first place is that of no line and column 0.
+  pub place-none : zeros g ≡ placeAt g 0 0
+  unfolding zeros streams placeAt row floatSizes
+  place-none =
+      ap (λ x. 0 ∷ x)
+      (ap (λ k. row 1 k (λ s. 0)) (sym (length-row 1 (g .floats) (λ s. g .stream s .size)))
+      ∙ sym (floats-none (row 1 (g .floats) (λ s. g .stream s .size)) 1))
+
+  -- The full place is that of all lines and the last column.
+  pub place-all : (c : ℕ) → suc c ≡ columns (floatSizes g) → placeAt g (g .stream 0 .size) c ≡ sizes g
+  unfolding placeAt
+  place-all c h = ap (λ x. g .stream 0 .size ∷ x) (floats-all (floatSizes g) c h) ∙ sym sizes-cons
+
+  -- A line and a column of the galley give a place of it,
+  pub place-inside : (i c : ℕ) → i ≤ g .stream 0 .size → c < columns (floatSizes g) → Inside (sizes g) (placeAt g i c)
+  unfolding placeAt
+  place-inside i c h k =
+      rw sizes-cons
+      (inside-cons (g .stream 0 .size) i (floatSizes g) (floatsAt (floatSizes g) c) h (floats-inside (floatSizes g) c k))
+
+  -- whose line is that line and whose column is that column.
+  pub line-at : (i c : ℕ) → count (placeAt g i c) 0 ≡ i
+  unfolding count placeAt
+  line-at i c = refl
+
+  pub column-at : (i c : ℕ) → c < columns (floatSizes g) → columnIn g (placeAt g i c) ≡ c
+  unfolding columnIn placeAt floatPlace
+  column-at i c k = column-of-floats (floatSizes g) c k
+
+  -- A place of the galley has a line and a column, and is theirs.
+  pub record Placed (v : Place) : Type 0 where
+    pub line : count v 0 ≤ g .stream 0 .size
+    pub column : columnIn g v < columns (floatSizes g)
+    pub floats : Inside (floatSizes g) (floatPlace v)
+    pub shape : v ≡ count v 0 ∷ floatPlace v
+    pub is : v ≡ placeAt g (count v 0) (columnIn g v)
+
+  pub place-of : (v : Place) → Inside (sizes g) v → Placed v
+  unfolding columnIn floatPlace placeAt count
+  place-of [] h = absurd (omega (arith, rw sizes-cons at (h .long)))
+  place-of (i ∷ js) h =
+      let k : Inside (g .stream 0 .size ∷ floatSizes g) (i ∷ js) = rw sizes-cons at h in
+      let f = inside-tail (g .stream 0 .size) i (floatSizes g) js k in
+      record {
+        line = inside-head (g .stream 0 .size) i (floatSizes g) js k;
+        column = column-below (floatSizes g) js f;
+        floats = f;
+        shape = refl;
+        is = ap (λ x. i ∷ x) (sym (floats-of-column (floatSizes g) js f));
+      }
+
+  -- Line and column tell places apart.
+  pub place-same : (i c a b : ℕ) → c < columns (floatSizes g) → b < columns (floatSizes g) → placeAt g i c ≡ placeAt g a b
+      → (i ≡ a) × (c ≡ b)
+  unfolding placeAt
+  place-same i c a b h k e =
+      let d : columnIn g (placeAt g i c) ≡ columnIn g (placeAt g a b) = ap (columnIn g) e in
+      (ap (λ v. getD v 0 0) e, sym (column-at i c h) ∙ d ∙ column-at a b k)
+
+  -- The tie order is that of line and column, later first.
+  pub place-tie : (i c a b : ℕ) → c < columns (floatSizes g) → b < columns (floatSizes g)
+      → (lex geb (placeAt g i c) (placeAt g a b) ≡ true) ↔ NoLater a b i c
+  unfolding placeAt
+  place-tie i c a b h k =
+      let t = place-first (floatSizes g) i a (floatsAt (floatSizes g) c) (floatsAt (floatSizes g) b)
+      (floats-inside (floatSizes g) c h) (floats-inside (floatSizes g) b k) in
+      rw (column-of-floats (floatSizes g) c h, column-of-floats (floatSizes g) b k) at t
+
+  -- What a page goes forward from has no count above what it goes to.
+  pub forward-inside : (u v : Place) → Inside (sizes g) u → Inside (sizes g) v → forward g u v ≡ true → Inside v u
+  forward-inside u v h k f = record { long = h .long ∙ sym (k .long); under = λ s. go s (decLe s (g .floats)) }
+    where
+      long : length (sizes g) ≡ suc (g .floats)
+      long = unfold sizes streams in length-row 0 (suc (g .floats)) (λ s. g .stream s .size)
+
+      go : (s : ℕ) → Dec (s ≤ g .floats) → getD u s 0 ≤ getD v s 0
+      go s (yes l) = unfold count in forward-at g u v f .up s l
+      go s (no l) = rw (List·getD-eq-default u 0 {n = s} (omega (arith, h .long, long))) (omega arith)
+
+  pub inside-columns : (u v : Place) → Inside v u → columnIn g u ≤ columnIn g v
+  unfolding columnIn floatPlace
+  inside-columns [] v h = omega (arith, column-empty (floatSizes g))
+  inside-columns (i ∷ js) [] h = absurd (omega (arith, h .long))
+  inside-columns (i ∷ js) (a ∷ ks) h = column-grows (floatSizes g) js ks (inside-tail a i ks js h)
+
+  -- A page goes forward to a later column, or to a later line of the column: columns are filled in their order.
+  pub forward-earlier : (u v : Place) → Inside (sizes g) u → Inside (sizes g) v → forward g u v ≡ true
+      → (count u 0 ≤ count v 0) × (columnIn g u ≤ columnIn g v) × Earlier (count u 0) (columnIn g u) (count v 0) (columnIn g v)
+  forward-earlier u v h k f = (lines, across, go (decLt (columnIn g u) (columnIn g v)) (decLt (count u 0) (count v 0)))
+    where
+      up : Forward g u v
+      up = forward-at g u v f
+
+      lines : count u 0 ≤ count v 0
+      lines = up .up 0 (omega arith)
+
+      across : columnIn g u ≤ columnIn g v
+      across = inside-columns u v (forward-inside u v h k f)
+
+      go : Dec (columnIn g u < columnIn g v) → Dec (count u 0 < count v 0)
+          → Earlier (count u 0) (columnIn g u) (count v 0) (columnIn g v)
+      go (yes l) d = inl l
+      go (no l) (yes m) = inr (omega (arith, across), m)
+      go (no l) (no m) =
+          let e : count u 0 ≡ count v 0 = omega (arith, lines) in
+          let c : columnIn g u ≡ columnIn g v = omega (arith, across) in
+          let same : u ≡ v = place-of u h .is ∙ (cc) ∙ sym (place-of v k .is) in
+          let more = placed-grows g u v f in
+          let level = ap (placed g) same in
+          absurd (omega arith)

@@ -1,0 +1,24 @@
+-- `last_lines` meets its contract: the window of the last line is found from the first line on, where nothing is passed yet.
+use native.Mathlib.Nat.{le-refl}
+use native.Mathlib.Omega.{arith}
+use Rattle.window.specs.laws.Slide.{ends-first}
+use borrow.Author.Needs.{needs}
+use Rattle.starts.proofs.last.last_lines.Statement.{statement}
+use Rattle.starts.proofs.last.last_lines.Tie as tie
+
+best-line-requires : tie.Need-best-line-requires
+best-line-requires c κs = λ a l.
+    c .before .before .before .before .pre .stands a (omega (arith, c .before .slide .ensures .inside))
+
+returns : tie.Need-returns
+returns c =
+    let slid = c .before .before .slide in
+    let m = c .before .before .before .before .before .args .g .text .count in
+    record {
+      window = slid .result;
+      opens = λ st rows. slid .ensures .opens st m rows (le-refl m) (ends-first st _ m);
+      best = c .best-line .ensures;
+    }
+
+pub last-lines-spec : {M : Type 1} → statement M
+last-lines-spec = tie.close (tie.spec (λ c κs. search needs) (λ c. search needs) best-line-requires returns)

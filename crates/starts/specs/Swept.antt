@@ -1,0 +1,116 @@
+-- What the sweeps over a column ask for, what holds on the way, and what they leave.
+use Prim.Native.Nat.{ℕ, suc, _+_, _≤_, _<_}
+use mathlib.Core.Path.{_≡_}
+use mathlib.Core.Logic.{_⊎_}
+use mathlib.Core.Bool.{false}
+use mathlib.Core.List.{List}
+use lib.ListN.{length}
+use Rattle.model.specs.Rules.{floor}
+use Rattle.galley.specs.declared.Galley.{Galley}
+use Rattle.galley.specs.Model.{textOf, floatsOf, modelOf}
+use Rattle.blocks.specs.declared.heights.Heights.{Heights}
+use Rattle.blocks.specs.Heights.{Stacked}
+use Rattle.window.specs.declared.slide.Window.{Window}
+use Rattle.window.specs.declared.queue.Queue.{Queue}
+use Rattle.window.specs.Slide.{Ends}
+use Rattle.window.specs.Queue.{linesOf, Held}
+use Rattle.window.specs.Windows.{Kept}
+use Rattle.starts.specs.declared.sweep.Pass.{Pass}
+use Rattle.starts.specs.Read.{sideOf}
+use Rattle.starts.specs.Sweep.{Lent, Scratch, Summed, passLoad, Passing, Known, number, Swept, Scratched, sweepEnd}
+
+-- A column that no start is known of: the starts in the columns before it are to be known.
+pub record ColumnSweep (bytes : List ℕ) (g : Galley) (w sums words : List ℕ) (j : ℕ) : Type 0 where
+  pub lent : Lent bytes g w j
+  pub summed : Summed bytes g sums
+  pub scratch : Scratch words
+
+-- The starts in columns from b on are known.
+pub record ColumnSweepRun (bytes : List ℕ) (g : Galley) (w₀ w words₀ words : List ℕ) (j : ℕ) (heights : Heights) (b : ℕ) : Type 0 where
+  pub lent : Lent bytes g w j
+  pub scratch : Scratch words
+  pub within : b ≤ j
+  pub sized : length w ≡ length w₀
+  pub wordsSized : length words ≡ length words₀
+  pub floats : Stacked (floatsOf bytes (g .figures)) b j heights
+  pub known : Known bytes g w j b
+  pub kept : Scratched g j w₀ w
+
+-- The starts in all columns before are known, and nothing else has changed.
+pub record ColumnSwept (bytes : List ℕ) (g : Galley) (w v : List ℕ) (j : ℕ) : Type 0 where
+  pub known : Known bytes g v j 0
+  pub kept : Scratched g j w v
+
+-- A pass whose starts are to be known, those in later columns being known.
+pub record Sweep (bytes : List ℕ) (g : Galley) (w sums words : List ℕ) (pass : Pass) : Type 0 where
+  pub lent : Lent bytes g w (pass .to)
+  pub summed : Summed bytes g sums
+  pub scratch : Scratch words
+  pub passing : Passing bytes g pass
+  pub least : pass .least ≡ floor (modelOf bytes g) false
+  pub known : Known bytes g w (pass .to) (suc (pass .from))
+
+-- The windows of the pass are kept for the lines of P.
+abbrev pub Windowed : List ℕ → Galley → List ℕ → Pass → (ℕ → Type 0) → Type 0
+Windowed bytes g words pass P = Kept (textOf bytes (g .text)) (passLoad g pass) words P
+
+-- Line k is one of those that the sweep takes.
+abbrev pub Taken : Galley → Pass → ℕ → Type 0
+Taken g pass k = k < sweepEnd g pass
+
+-- The sides before c are swept, and the windows are kept if there is one.
+pub record SweepRun (bytes : List ℕ) (g : Galley) (w₀ w words₀ words : List ℕ) (pass : Pass) (c : ℕ) : Type 0 where
+  pub within : c ≤ g .spec .sides
+  pub sized : length w ≡ length w₀
+  pub wordsSized : length words ≡ length words₀
+  pub windows : 0 < c → Windowed bytes g words pass (Taken g pass)
+  pub swept : Swept bytes g w (pass .to) (pass .from) (number c 0)
+  pub kept : Scratched g (pass .to) w₀ w
+
+-- The starts of the pass are known.
+pub record SweepDone (bytes : List ℕ) (g : Galley) (w v : List ℕ) (pass : Pass) : Type 0 where
+  pub known : Known bytes g v (pass .to) (pass .from)
+  pub kept : Scratched g (pass .to) w v
+
+-- Side c of a pass, the sides before it being swept.
+pub record SideSweep (bytes : List ℕ) (g : Galley) (w sums words : List ℕ) (c : ℕ) (pass : Pass) : Type 0 where
+  pub lent : Lent bytes g w (pass .to)
+  pub summed : Summed bytes g sums
+  pub scratch : Scratch words
+  pub passing : Passing bytes g pass
+  pub least : pass .least ≡ floor (modelOf bytes g) false
+  pub occurs : c < g .spec .sides
+  pub windows : 0 < c → Windowed bytes g words pass (Taken g pass)
+  pub swept : Swept bytes g w (pass .to) (pass .from) (number c 0)
+
+-- Side c has come to line i.
+pub record SideRun (bytes : List ℕ) (g : Galley) (w₀ w words₀ words : List ℕ) (c : ℕ) (pass : Pass) (queue : Queue)
+    (window : Window) (i : ℕ) : Type 0 where
+  pub within : i ≤ sweepEnd g pass
+  pub sized : length w ≡ length w₀
+  pub wordsSized : length words ≡ length words₀
+  pub ends : Ends (textOf bytes (g .text)) (passLoad g pass) window i
+  pub windows : Windowed bytes g words pass (λ k. Taken g pass k × ((0 < c) ⊎ (k < i)))
+  pub based : queue .base ≡ 0
+  pub held : Held (linesOf w (g .text .count + 1) (pass .from) (sideOf g c)) words queue (window .low) (window .high)
+  pub swept : Swept bytes g w (pass .to) (pass .from) (number c i)
+  pub kept : Scratched g (pass .to) w₀ w
+
+-- The lines that the sweep takes are swept.
+pub record SideDone (bytes : List ℕ) (g : Galley) (w v words : List ℕ) (c : ℕ) (pass : Pass) : Type 0 where
+  pub windows : Windowed bytes g words pass (Taken g pass)
+  pub swept : Swept bytes g v (pass .to) (pass .from) (number c (sweepEnd g pass))
+  pub kept : Scratched g (pass .to) w v
+
+-- The last line of the last column on side c, the lines that the sweep takes being swept.
+pub record LastLine (bytes : List ℕ) (g : Galley) (w sums : List ℕ) (c : ℕ) (pass : Pass) : Type 0 where
+  pub lent : Lent bytes g w (pass .to)
+  pub summed : Summed bytes g sums
+  pub passing : Passing bytes g pass
+  pub occurs : c < g .spec .sides
+  pub swept : Swept bytes g w (pass .to) (pass .from) (number c (sweepEnd g pass))
+
+-- The side is swept.
+pub record LineDone (bytes : List ℕ) (g : Galley) (w v : List ℕ) (c : ℕ) (pass : Pass) : Type 0 where
+  pub swept : Swept bytes g v (pass .to) (pass .from) (number (c + 1) 0)
+  pub kept : Scratched g (pass .to) w v

@@ -1,0 +1,98 @@
+-- One line of a pass: what its place knows once the lines before it and the floats alone are weighed.
+use Prim.Native.Nat.{ℕ, suc, _+_, _≤_, _<_}
+use native.Mathlib.Omega.{arith}
+use mathlib.Core.Path.{_≡_, refl, ap}
+use mathlib.Core.Bool.{Bool, true, false, _&&_}
+use mathlib.Core.List.{List}
+use lib.Dec.{eqb}
+use borrow.Author.Tests.{lt-ltb, eqb-true, ne-eqb}
+use Rattle.model.specs.Gather.{pick}
+use Rattle.model.specs.Rules.{floor}
+use Rattle.galley.specs.declared.Galley.{Galley}
+use Rattle.galley.specs.Model.{textOf, modelOf}
+use Rattle.galley.specs.Sound.{Sound}
+use Rattle.places.specs.declared.Entry.{Entry}
+use Rattle.places.specs.Best.{Best}
+use Rattle.window.specs.declared.slide.Window.{Window}
+use Rattle.window.specs.Slide.{Open}
+use Rattle.window.specs.Queue.{linesOf, Lines}
+use Rattle.starts.specs.declared.sweep.Pass.{Pass}
+use Rattle.starts.specs.Better.{chosen}
+use Rattle.starts.specs.Choice.{Starts, Between}
+use Rattle.starts.specs.Read.{tableIn, sideOf, searchOf, allPlaced, Placed}
+use Rattle.starts.specs.Sweep.{Lent, passLoad, Passing, aloneOf, weighed, Ended, Knows, number, Swept, Changed, sweepEnd}
+use Rattle.starts.specs.laws.One.{under-one, sought-one, bears-one, alone-one}
+use Rattle.starts.specs.laws.Sweep.{window-best, alone-best, improved}
+use Rattle.starts.specs.laws.Lending.{side-either, lent-placed, can-stand}
+use Rattle.starts.specs.laws.Cells.{taken-changes, swept-next}
+
+-- No least height is above the greatest.
+pub least-low : (bytes : List ℕ) (g : Galley) → Sound bytes g → (last : Bool) → floor (modelOf bytes g) last ≤ g .spec .htmax
+least-low bytes g sound true = sound .specRanged .lastmins
+least-low bytes g sound false = sound .specRanged .htmins
+
+-- The lines that a sweep takes are the galley's, and none of them ends the last page.
+pub end-inner : (g : Galley) (pass : Pass) (i : ℕ) → i < sweepEnd g pass
+    → (i ≤ g .text .count) × (allPlaced g i (pass .to) ≡ false)
+end-inner g pass i = go (eqb (pass .to) (g .figures .count))
+  where
+    last : (x : Bool) → (x && false) ≡ false
+    last true = refl
+    last false = refl
+
+    go : (t : Bool) → i < pick t (g .text .count) (g .text .count + 1)
+        → (i ≤ g .text .count) × ((eqb i (g .text .count) && t) ≡ false)
+    go true l =
+        let n : (i ≡ g .text .count) → ⊥ = λ e. omega arith in
+        (omega arith, rw (ne-eqb i (g .text .count) n))
+    go false l = (omega arith, last (eqb i (g .text .count)))
+
+module _ {bytes : List ℕ} {g : Galley} {w : List ℕ} {pass : Pass} (lent : Lent bytes g w (pass .to)) (passing : Passing bytes g pass)
+    (i c : ℕ) (line : i ≤ g .text .count) (occurs : c < g .spec .sides) where
+  side : c ≤ 1
+  side = omega (arith, lent .sound .specRanged .sidesTwo)
+
+  -- The start and the end of a page of the pass stand in the work area.
+  pub pass-ended : Ended g w i c pass
+  pass-ended =
+      record {
+        start =
+            can-stand lent i (pass .from) (sideOf g c) line (omega (arith, passing .before, lent .column)) (side-either g c);
+        end = can-stand lent i (pass .to) c line (lent .column) side;
+        side = side;
+      }
+
+  module _ (least : pass .least ≡ floor (modelOf bytes g) (allPlaced g i (pass .to))) (window : Window)
+      (opened : Open (textOf bytes (g .text)) (passLoad g pass) window i) (lines : Entry)
+      (best : Best (Lines (linesOf w (g .text .count + 1) (pass .from) (sideOf g c)) (window .low) (window .high) (pass .from)) lines)
+      (swept : Swept bytes g w (pass .to) (pass .from) (number c i)) where
+    abbrev held : Entry
+    held = tableIn g w i (pass .to) c
+
+    weighed-best : Best (Starts (searchOf bytes g w i (pass .to) (sideOf g c)) (Between (pass .from) (pass .to)))
+        (chosen held (chosen lines (aloneOf g w i (sideOf g c) pass)))
+    weighed-best =
+        let s = searchOf bytes g w i (pass .to) (sideOf g c) in
+        let sought = sought-one bytes g w i (pass .to) (sideOf g c) (lent-placed lent i line) in
+        let left : pass .from ≤ pass .to = omega (arith, passing .before) in
+        let under = under-one bytes g (pass .from) (pass .to) left in
+        let mixed = lt-ltb (pass .from) (pass .to) (passing .before) in
+        let bears = bears-one bytes g (pass .from) (pass .to) (pass .heights) (passing .floats) w i (sideOf g c) true mixed (pass .least) least in
+        let (tight, loose) = alone-one bytes g (pass .from) (pass .to) (pass .heights) (passing .floats) (passing .before) in
+        improved s (pass .from) (pass .to) (passing .before) held lines (aloneOf g w i (sideOf g c) pass)
+        (swept .left i c line occurs (omega arith))
+        (window-best s sought (pass .from) left under (passLoad g pass) bears window opened lines best)
+        (alone-best s sought (pass .from) left under (passing .before) (pass .heights .tight) (pass .heights .loose) (pass .least)
+        tight loose (bears .htmin) (passing .short))
+
+    module _ (v : List ℕ) (e : v ≡ weighed g w lines i c pass) where
+      -- The place holds the better of what it held and of what is weighed,
+      pub pass-changed : Changed g w v i (pass .to) c (chosen held (chosen lines (aloneOf g w i (sideOf g c) pass)))
+      pass-changed =
+          taken-changes g w i (pass .to) c line (lent .column) occurs (lent .sound .specRanged .sidesTwo) (lent .room)
+          (chosen lines (aloneOf g w i (sideOf g c) pass)) v e
+
+      -- and one line more is swept.
+      pub pass-swept : Swept bytes g v (pass .to) (pass .from) (number c (i + 1))
+      pass-swept =
+          swept-next pass-changed (lent .sound .fewLines) line side (lent .sound .specRanged .sidesTwo) bytes (pass .from) swept weighed-best
