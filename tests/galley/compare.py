@@ -163,7 +163,7 @@ def folios(tally):
 
 def kept(tally):
     held = [(20, 0, 0, 1, legal) for legal in (0, 1, 0)]
-    tally.same('kept, not kept, kept last', SPEC + LINE + KEPT + FIGURE + KEPT + END, ('galley', (30, 30, 0, 0, 1, 1, 1), 1, [(10, 0, 0, 1, 1)], held))
+    tally.same('kept, not kept, kept last', SPEC + LINE + KEPT + FIGURE + KEPT + END, ('galley', FIRST_EDITION, 1, [(10, 0, 0, 1, 1)], held))
     for n in range(1, 201, 33):
         data = SPEC + LINE + n * KEPT + (200 - n) * FIGURE
         tally.same(f'{n} kept of 200', data + END, ('galley',))
