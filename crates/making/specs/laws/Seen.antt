@@ -201,7 +201,7 @@ module _ (g : Galley) (from : Origin) (origins : Origins g from) (t : Table) (i 
       none end st = unfold Step in absurd st
 
   -- The search begins exactly at the origin.
-  origin-here : begins g from i q c ≡ true → here ≡ graphOf g from .o
+  origin-here : begins (g .spec .sides) from i q c ≡ true → here ≡ graphOf g from .o
   unfolding here begins
   origin-here b =
       let line = eqb i (from .place .line) in
@@ -213,7 +213,7 @@ module _ (g : Galley) (from : Origin) (origins : Origins g from) (t : Table) (i 
       let s = eqb-true c (side (g .spec .sides) (from .pages)) (and-right column on rest) in
       rw (l, k, s) refl
 
-  not-origin : begins g from i q c ≡ false → ¬ (here ≡ graphOf g from .o)
+  not-origin : begins (g .spec .sides) from i q c ≡ false → ¬ (here ≡ graphOf g from .o)
   unfolding here begins
   not-origin b e =
       let p : placeAt g i q ≡ at g (from .place) = ap places e in
@@ -234,9 +234,9 @@ module _ (g : Galley) (from : Origin) (origins : Origins g from) (t : Table) (i 
   -- The entry that line i and column q get on side c is right.
   pub entry-cell : Cell (graphOf g from) (tableAt g t) (stop (placeAt g i q) c) (shown g c (newEntry g from t i q c))
   unfolding newEntry here now search cost shown priced
-  entry-cell = go (begins g from i q c) refl (mayStop g i q c) refl
+  entry-cell = go (begins (g .spec .sides) from i q c) refl (mayStop g i q c) refl
     where
-      go : (a : Bool) → begins g from i q c ≡ a → (b : Bool) → mayStop g i q c ≡ b
+      go : (a : Bool) → begins (g .spec .sides) from i q c ≡ a → (b : Bool) → mayStop g i q c ≡ b
           → Cell (graphOf g from) (tableAt g t) (stop (placeAt g i q) c)
           (shown g c (pick a (Least (from .cost) (from .place)) (pick b (priced cost (bestStart search)) Unreached)))
       go true e b m = Cell.base (origin-here e) (stop (at g (from .place)) (before (g .spec .sides) c)) refl
