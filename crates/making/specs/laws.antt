@@ -3,3 +3,4 @@ pub mod Last
 pub mod Shown
 pub mod Seen
 pub mod Right
+pub mod Back
