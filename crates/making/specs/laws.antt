@@ -4,3 +4,7 @@ pub mod Shown
 pub mod Seen
 pub mod Right
 pub mod Back
+pub mod Written
+pub mod Solved
+pub mod Beyond
+pub mod Made

@@ -188,8 +188,9 @@ module _ (g : Galley) (sane : Sane g) (from : Origin) (begins : originOf g from 
           let trace : Trace (graphOf g from) (tableAt g t) us (stateOf g (lastOf g t)) = rw begun at r in
           let short = trace-length (graphOf g from) (page-laws g (originOf g from)) (page-domain g (originOf g from)) (tableAt g t) right us within trace in
           let all = placed-sizes g in
-          let place = ap (placed g) (full-place g) in
-          (pagesTo us (stateOf g (lastOf g t)) [],
-          walk-found g from origin t right fill flat us (lastOf g t) most
-          (record { proper = record { line = omega arith; column = last-wide g }; within = within; trace = trace }) (omega arith)
-          (rw begun at is))
+          let place = ap (placed g) (full-place g) in (
+            pagesTo us (stateOf g (lastOf g t)) [],
+            walk-found g from origin t right fill flat us (lastOf g t) most
+                (record { proper = record { line = omega arith; column = last-wide g }; within = within; trace = trace }) (omega arith)
+                (rw begun at is),
+          )

@@ -100,10 +100,11 @@ module _ (g : Galley) (from : Origin) (origin : Proper g (from .place)) (t : Tab
       let before = side-before (g .spec .sides) c occurs in
       let earlier = candidate-earlier search (record { high = high; wide = wide }) a b x d in
       record {
-        within =
-            (place-inside g a b (omega arith) (omega arith),
-            before,
-            fill .entered a b _ x (d .reached .0) earlier (omega arith) before (d .reached .1) .past);
+        within = (
+          place-inside g a b (omega arith) (omega arith),
+          before,
+          fill .entered a b _ x (d .reached .0) earlier (omega arith) before (d .reached .1) .past,
+        );
         next = side-after (g .spec .sides) c occurs;
         may =
             kept-allowed
@@ -150,11 +151,13 @@ module _ (g : Galley) (from : Origin) (origin : Proper g (from .place)) (t : Tab
     unfolding now priced shown Leads Ahead Prefers begun search
     ahead Unreached best a b y k l = absurd l
     ahead (Least x r) best a b y k (l, f) =
-        let left = best .may x r refl .1 .column in
-        (omega arith, λ e. (
-          place-tie g (r .line) (r .column) a b (omega arith) (omega arith) .1 (f (omega arith)),
-          λ _. (le-refl _, λ _. le-refl _),
-        ))
+        let left = best .may x r refl .1 .column in (
+          omega arith,
+          λ e. (
+            place-tie g (r .line) (r .column) a b (omega arith) (omega arith) .1 (f (omega arith)),
+            λ _. (le-refl _, λ _. le-refl _),
+          ),
+        )
 
     best-ahead : (e : Entry) → Best (Starts search Any) e → (x : ℕ) (u : State) → Offer (graphOf g from) (tableAt g t) here x u
         → Ahead (graphOf g from) (now e) (graph.least x u)

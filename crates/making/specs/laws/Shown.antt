@@ -67,10 +67,11 @@ module _ (g : Galley) where
     pub full-within : (c : ℕ) → Side (g .spec .sides) c → Within g (originOf g from) (stop (at g (lastPlace g)) c)
     unfolding Within
     full-within c occurs =
-        rw full-place
-        (record { long = refl; under = λ s. le-refl _ },
-        occurs,
-        place-inside g (from .place .line) (from .place .column) (origin .line) (origin .column))
+        rw full-place (
+          record { long = refl; under = λ s. le-refl _ },
+          occurs,
+          place-inside g (from .place .line) (from .place .column) (origin .line) (origin .column),
+        )
 
     -- A step to the end starts at the full place, on a side that occurs.
     record Final (u : State) : Type 0 where
