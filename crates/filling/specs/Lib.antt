@@ -4,4 +4,5 @@
 pub mod Fill
 -- What is known of the work area on the way.
 pub mod Filled
+pub mod Next
 pub mod laws

@@ -4,4 +4,6 @@
 pub mod Make
 -- The filled work area as the graph of pages has it, and what the functions ask for.
 pub mod Shown
+pub mod Back
+pub mod Solved
 pub mod laws

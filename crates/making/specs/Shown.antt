@@ -52,7 +52,7 @@ tableAt g t end =
 abbrev pub AllRight : Galley → Origin → Table → Type 0
 AllRight g from t = cell.Right (graphOf g from) (tableAt g t) (Within g (originOf g from))
 
--- The origin is a place of the galley.
-pub record Origins (g : Galley) (from : Origin) : Type 0 where
-  pub line : from .place .line ≤ g .stream 0 .size
-  pub column : from .place .column < columns (floatSizes g)
+-- A line and a column of the galley.
+pub record Proper (g : Galley) (s : Place) : Type 0 where
+  pub line : s .line ≤ g .stream 0 .size
+  pub column : s .column < columns (floatSizes g)

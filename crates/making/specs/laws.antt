@@ -3,3 +3,8 @@ pub mod Last
 pub mod Shown
 pub mod Seen
 pub mod Right
+pub mod Back
+pub mod Written
+pub mod Solved
+pub mod Beyond
+pub mod Made

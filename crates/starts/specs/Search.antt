@@ -66,15 +66,14 @@ unfoldable pub mayStop : Galley → ℕ → ℕ → ℕ → Bool
 mayStop g i q c = let v = placeAt g i q in closes g v && cited g c (full g v) v
 
 -- The search begins at a place on side c: at the origin's place, on the side of the page that ends there.
-unfoldable pub begins : Galley → Origin → ℕ → ℕ → ℕ → Bool
-begins g from i q c =
-    eqb i (from .place .line) && (eqb q (from .place .column) && eqb c (side (g .spec .sides) (from .pages)))
+unfoldable pub begins : Sides → Origin → ℕ → ℕ → ℕ → Bool
+begins sides from i q c = eqb i (from .place .line) && (eqb q (from .place .column) && eqb c (side sides (from .pages)))
 
 -- The entry that a place gets on side c, from the entries of the places before it: where the search begins, what was paid there;
 -- else the best start with the price of the page.
 unfoldable pub newEntry : Galley → Origin → Table → ℕ → ℕ → ℕ → Entry
 newEntry g from t i q c =
-    pick (begins g from i q c) (Least (from .cost) (from .place))
+    pick (begins (g .spec .sides) from i q c) (Least (from .cost) (from .place))
     (pick (mayStop g i q c)
     (priced (pageCost g c (full g (placeAt g i q)) (placeAt g i q))
     (bestStart (record { galley = g; table = t; line = i; column = q; side = before (g .spec .sides) c })))

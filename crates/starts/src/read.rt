@@ -1,11 +1,33 @@
 // What a search asks of a galley that was read: sides, the full place, and the heights that a page must keep to.
 ghost use mathlib.Core.Path.{_≡_};
 ghost use Prim.Native.Nat.{_≤_};
+ghost use Rattle.theorems.specs.pages.Graph.{side};
+ghost use Rattle.galley.specs.Model.{sidesIn};
 ghost use Rattle.blocks.specs.Heights.{noHeights, Addable};
+ghost use Rattle.starts.specs.Search.{begins};
 ghost use Rattle.starts.specs.Read.{sideOf, allPlaced, loadOf};
 use blocks::heights::Heights;
 use galley::Galley;
+use places::Origin;
 use window::slide::Load;
+
+// The side of a page by its number: 1 for an odd page of double-sided work, else 0.
+fn side_of(g: Galley, page: u32) -> usize
+    ensures { λ r. ⌜ r ≡ side (sidesIn g) page ⌝ }
+{
+    if g.spec.sides == 2 {
+        return (page % 2) as usize;
+    }
+    0
+}
+
+// Whether the search begins at a place on a side.
+pub fn is_origin(g: Galley, origin: Origin, line: usize, column: usize, side: usize) -> bool
+    ensures { λ r. ⌜ r ≡ begins (sidesIn g) origin line column side ⌝ }
+{
+    (line == origin.place.line as usize)
+        & ((column == origin.place.column as usize) & (side == side_of(g, origin.pages)))
+}
 
 // The side of the page before one on side c.
 pub fn side_before(g: Galley, c: usize) -> usize

@@ -1,9 +1,8 @@
 -- From the last page back to the first, by the start that each entry holds.
 use Prim.Native.Nat.{ℕ, zero, suc, _+_, _-_, _*_, _%_}
-use mathlib.Core.Bool.{Bool, true, false, _&&_}
+use mathlib.Core.Bool.{Bool, true, false}
 use mathlib.Core.List.{List}
 use lib.ListN.{set}
-use lib.Dec.{eqb}
 use Rattle.model.specs.Gather.{pick}
 use Rattle.model.specs.Galley.{Sides, single, double}
 use Rattle.places.specs.declared.Place.{Place}
@@ -11,7 +10,7 @@ use Rattle.places.specs.declared.Origin.{Origin}
 use Rattle.places.specs.declared.Entry.{Entry}
 use Rattle.places.specs.declared.Entry.the-variants.{Unreached, Least}
 use Rattle.places.specs.Entry.{less}
-use Rattle.starts.specs.Search.{Table, before}
+use Rattle.starts.specs.Search.{Table, before, begins}
 use Rattle.walk.specs.declared.Stop.{Stop}
 
 -- The start that the entry of a place holds; from a place that was never reached the walk goes nowhere.
@@ -46,13 +45,13 @@ abbrev pub back : Sides → Table → Stop → Stop
 back sides t at = record { place = startOf (entryOf t at) (at .place); side = before sides (at .side) }
 
 -- The walk is where the search began.
-abbrev pub atOrigin : Origin → Stop → Bool
-atOrigin from at = eqb (at .place .line) (from .place .line) && eqb (at .place .column) (from .place .column)
+abbrev pub atOrigin : Sides → Origin → Stop → Bool
+atOrigin sides from at = begins sides from (at .place .line) (at .place .column) (at .side)
 
 -- The number of pages on the way back to the origin, added to p; at most `most` of them are walked.
 unfoldable pub countBack : Sides → Table → Origin → ℕ → Stop → ℕ → ℕ
 countBack sides t from zero at p = p
-countBack sides t from (suc most) at p = pick (atOrigin from at) p (countBack sides t from most (back sides t at) (p + 1))
+countBack sides t from (suc most) at p = pick (atOrigin sides from at) p (countBack sides t from most (back sides t at) (p + 1))
 
 -- The page list with the last r pages before a stop written, from page r back to page 1.
 unfoldable pub writeBack : Sides → Table → ℕ → Stop → List ℕ → List ℕ

@@ -92,10 +92,16 @@ fn page_before(g: Galley, work: &[u32], at: Stop) -> Stop
 }
 
 // Whether the walk is where the search began.
-fn at_origin(origin: Origin, at: Stop) -> bool
-    ensures { λ r. ⌜ r ≡ atOrigin origin at ⌝ }
+fn at_origin(g: Galley, origin: Origin, at: Stop) -> bool
+    ensures { λ r. ⌜ r ≡ atOrigin (sidesIn g) origin at ⌝ }
 {
-    (at.place.line == origin.place.line) & (at.place.column == origin.place.column)
+    starts::read::is_origin(
+        g,
+        origin,
+        at.place.line as usize,
+        at.place.column as usize,
+        at.side,
+    )
 }
 
 // The number of pages on the way back to the origin: there are no more than there are blocks.
@@ -107,7 +113,7 @@ pub fn count_pages(g: Galley, work: &[u32], origin: Origin, last: Stop) -> usize
     let mut at = last;
     let mut p = 0;
     while p < most {
-        if at_origin(origin, at) {
+        if at_origin(g, origin, at) {
             return p;
         }
         at = page_before(g, work, at);

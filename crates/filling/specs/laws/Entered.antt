@@ -128,9 +128,9 @@ module _ (g : Galley) (light : dearest g ≤ 201000) (from : Origin) (t : Table)
   -- The entry that a place gets keeps what entries keep, if those before it do.
   pub entry-entered : (x : ℕ) (r : Place) → newEntry g from t i q c ≡ Least x r → Entered g from i q x r
   unfolding newEntry search begins
-  entry-entered x r e = go (begins g from i q c) refl (mayStop g i q c) e
+  entry-entered x r e = go (begins (g .spec .sides) from i q c) refl (mayStop g i q c) e
     where
-      here : begins g from i q c ≡ true → (i ≡ from .place .line) × (q ≡ from .place .column)
+      here : begins (g .spec .sides) from i q c ≡ true → (i ≡ from .place .line) × (q ≡ from .place .column)
       here t =
           let rest = eqb q (from .place .column) && eqb c (side (g .spec .sides) (from .pages)) in (
             eqb-true i (from .place .line) (and-left (eqb i (from .place .line)) rest t),
@@ -151,7 +151,7 @@ module _ (g : Galley) (light : dearest g ≤ 201000) (from : Origin) (t : Table)
             past = rw (l, k) (record { long = refl; under = λ s. le-refl _ });
           })
 
-      go : (a : Bool) → begins g from i q c ≡ a → (b : Bool)
+      go : (a : Bool) → begins (g .spec .sides) from i q c ≡ a → (b : Bool)
           → pick a (Least (from .cost) (from .place))
           (pick b (priced (pageCost g c (full g (placeAt g i q)) (placeAt g i q)) (bestStart search)) Unreached)
           ≡ Least x r → Entered g from i q x r

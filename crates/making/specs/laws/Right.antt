@@ -21,7 +21,7 @@ use Rattle.filling.specs.Fill.{Words, held, fillSide, fillSides, sideCount, fil
 use Rattle.filling.specs.Filled.{Roomy, Side, Filled}
 use Rattle.filling.specs.laws.Entered.{side-low, side-below, below-side}
 use Rattle.filling.specs.laws.Fill.{length-sides, length-place, length-column, room-kept, side-same, side-other, earlier-next, earlier-column, filled-start, filled-next, filled-keeps, filled-place, filled-to}
-use Rattle.making.specs.Shown.{originOf, graphOf, shown, tableAt, AllRight, Origins}
+use Rattle.making.specs.Shown.{originOf, graphOf, shown, tableAt, AllRight, Proper}
 use Rattle.making.specs.laws.Shown.{shown-at, end-right}
 use Rattle.making.specs.laws.Seen.{entry-cell}
 
@@ -52,7 +52,7 @@ earlier-trans a b p r i q (inl l) (inr (e, m)) = inl (omega arith)
 earlier-trans a b p r i q (inr (e, l)) (inl m) = inl (omega arith)
 earlier-trans a b p r i q (inr (e, l)) (inr (f, m)) = inr (omega arith, omega arith)
 
-module _ (g : Galley) (from : Origin) (origins : Origins g from) (light : dearest g ≤ 201000) where
+module _ (g : Galley) (from : Origin) (origin : Proper g (from .place)) (light : dearest g ≤ 201000) where
   -- A page starts at an earlier place than it ends.
   step-earlier : (u v : Place) (b c : ℕ) → Inside (sizes g) v → Step g (originOf g from) (stop u b) (stop v c)
       → Earlier (count u 0) (columnIn g u) (count v 0) (columnIn g v)
@@ -82,7 +82,7 @@ module _ (g : Galley) (from : Origin) (origins : Origins g from) (light : deares
     right-side c w room occurs sofar =
         storing.stored (graphOf g from) (tableAt g (held g w)) (tableAt g (held g w′)) (done-closed i q c) starts-done only same (sofar .right)
         (rw (shown-at g (held g w′) i q c wide, side-same g from i q c w room high wide low)
-        (entry-cell g from origins (held g w) i q c high wide occurs (sofar .entered)))
+        (entry-cell g from origin (held g w) i q c high wide occurs (sofar .entered)))
       where
         w′ : Words
         w′ = fillSide g from i q c w
@@ -200,4 +200,4 @@ module _ (g : Galley) (from : Origin) (origins : Origins g from) (light : deares
   table-right w room (stop v c) h =
       right-across (columns (floatSizes g)) 0 w (omega arith) room (nothing-done w) .right (stop v c)
       (h, inl (inl (place-of g v (inside-of g from v c h) .column)))
-  table-right w room end h = end-right g from origins (held g (fillColumns g from (columns (floatSizes g)) 0 w))
+  table-right w room end h = end-right g from origin (held g (fillColumns g from (columns (floatSizes g)) 0 w))

@@ -5,9 +5,6 @@ use native.Mathlib.Nat.{le-refl}
 use native.Mathlib.Omega.{arith}
 use mathlib.Core.Path.{_≡_, refl, sym, _∙_, ap}
 use mathlib.Core.Bool.{Bool, true, false, _&&_}
-use mathlib.Core.List.{[]}
-use lib.Dec.{eqb}
-use borrow.Author.Tests.{eqb-true, eq-eqb}
 use Rattle.model.specs.Gather.{pick}
 use Rattle.model.specs.Galley.{Sides, single, double, Galley, Place, count}
 use Rattle.model.specs.Rules.{forward, closes, fits, fills, cited}
@@ -24,7 +21,7 @@ use Rattle.places.specs.declared.Entry.{Entry}
 use Rattle.places.specs.declared.Entry.the-variants.{Unreached, Least}
 use Rattle.places.specs.Best.{Leads, Best}
 use Rattle.places.specs.Columns.{columns, floatSizes, placeAt, columnIn}
-use Rattle.places.specs.laws.Places.{place-inside, line-at, column-at, place-of, place-same, place-tie, forward-earlier}
+use Rattle.places.specs.laws.Places.{place-inside, line-at, column-at, place-of, place-tie, forward-earlier}
 use Rattle.starts.specs.Search.{Table, before, Search, goes, bestStart, priced, mayStop, begins, newEntry}
 use Rattle.starts.specs.Choice.{Candidate, Starts, Any}
 use Rattle.starts.specs.Beside.{Sought}
@@ -32,8 +29,8 @@ use Rattle.starts.specs.laws.Found.{best-start}
 use Rattle.starts.specs.laws.Pages.{candidate-earlier}
 use Rattle.filling.specs.Filled.{Side, Filled}
 use Rattle.filling.specs.laws.Entered.{side-before}
-use Rattle.making.specs.Shown.{at, originOf, graphOf, shown, tableAt, Origins}
-use Rattle.making.specs.laws.Shown.{shown-at}
+use Rattle.making.specs.Shown.{at, originOf, graphOf, shown, tableAt, Proper}
+use Rattle.making.specs.laws.Shown.{shown-at, origin-here, not-origin}
 
 -- A page on side c follows one on the side before it, and no other.
 side-after : (sides : Sides) (c : ℕ) → Side sides c → c ≡ side sides (suc (before sides c))
@@ -47,7 +44,7 @@ side-only single c e h k = sym h
 side-only (double f) c e h k = omega arith
 
 -- What is seen of line i and column q on side c, the end of a page.
-module _ (g : Galley) (from : Origin) (origins : Origins g from) (t : Table) (i q c : ℕ) (high : i ≤ g .stream 0 .size)
+module _ (g : Galley) (from : Origin) (origin : Proper g (from .place)) (t : Table) (i q c : ℕ) (high : i ≤ g .stream 0 .size)
     (wide : q < columns (floatSizes g)) (occurs : Side (g .spec .sides) c) (fill : Filled g from t i q) where
   here : State
   here = stop (placeAt g i q) c
@@ -103,10 +100,11 @@ module _ (g : Galley) (from : Origin) (origins : Origins g from) (t : Table) (i 
       let before = side-before (g .spec .sides) c occurs in
       let earlier = candidate-earlier search (record { high = high; wide = wide }) a b x d in
       record {
-        within =
-            (place-inside g a b (omega arith) (omega arith),
-            before,
-            fill .entered a b _ x (d .reached .0) earlier (omega arith) before (d .reached .1) .past);
+        within = (
+          place-inside g a b (omega arith) (omega arith),
+          before,
+          fill .entered a b _ x (d .reached .0) earlier (omega arith) before (d .reached .1) .past,
+        );
         next = side-after (g .spec .sides) c occurs;
         may =
             kept-allowed
@@ -153,11 +151,13 @@ module _ (g : Galley) (from : Origin) (origins : Origins g from) (t : Table) (i 
     unfolding now priced shown Leads Ahead Prefers begun search
     ahead Unreached best a b y k l = absurd l
     ahead (Least x r) best a b y k (l, f) =
-        let left = best .may x r refl .1 .column in
-        (omega arith, λ e. (
-          place-tie g (r .line) (r .column) a b (omega arith) (omega arith) .1 (f (omega arith)),
-          λ _. (le-refl _, λ _. le-refl _),
-        ))
+        let left = best .may x r refl .1 .column in (
+          omega arith,
+          λ e. (
+            place-tie g (r .line) (r .column) a b (omega arith) (omega arith) .1 (f (omega arith)),
+            λ _. (le-refl _, λ _. le-refl _),
+          ),
+        )
 
     best-ahead : (e : Entry) → Best (Starts search Any) e → (x : ℕ) (u : State) → Offer (graphOf g from) (tableAt g t) here x u
         → Ahead (graphOf g from) (now e) (graph.least x u)
@@ -200,45 +200,14 @@ module _ (g : Galley) (from : Origin) (origins : Origins g from) (t : Table) (i 
       none (stop u d) st = absurd (never u d (has-page u d st))
       none end st = unfold Step in absurd st
 
-  -- The search begins exactly at the origin.
-  origin-here : begins g from i q c ≡ true → here ≡ graphOf g from .o
-  unfolding here begins
-  origin-here b =
-      let line = eqb i (from .place .line) in
-      let column = eqb q (from .place .column) in
-      let on = eqb c (side (g .spec .sides) (from .pages)) in
-      let rest = and-right line (column && on) b in
-      let l = eqb-true i (from .place .line) (and-left line (column && on) b) in
-      let k = eqb-true q (from .place .column) (and-left column on rest) in
-      let s = eqb-true c (side (g .spec .sides) (from .pages)) (and-right column on rest) in
-      rw (l, k, s) refl
-
-  not-origin : begins g from i q c ≡ false → ¬ (here ≡ graphOf g from .o)
-  unfolding here begins
-  not-origin b e =
-      let p : placeAt g i q ≡ at g (from .place) = ap places e in
-      let d : c ≡ side (g .spec .sides) (from .pages) = ap sides-of e in
-      let s = place-same g i q (from .place .line) (from .place .column) wide (origins .column) p in
-      let both = and-both (eq-eqb i (from .place .line) (s .0)) (and-both (eq-eqb q (from .place .column) (s .1)) (eq-eqb c _ d)) in
-      let z : _≡_ {A = ℕ} 0 1 = cc in
-      absurd (omega arith)
-    where
-      places : State → Place
-      places (stop v d) = v
-      places end = []
-
-      sides-of : State → ℕ
-      sides-of (stop v d) = d
-      sides-of end = 0
-
   -- The entry that line i and column q get on side c is right.
   pub entry-cell : Cell (graphOf g from) (tableAt g t) (stop (placeAt g i q) c) (shown g c (newEntry g from t i q c))
   unfolding newEntry here now search cost shown priced
-  entry-cell = go (begins g from i q c) refl (mayStop g i q c) refl
+  entry-cell = go (begins (g .spec .sides) from i q c) refl (mayStop g i q c) refl
     where
-      go : (a : Bool) → begins g from i q c ≡ a → (b : Bool) → mayStop g i q c ≡ b
+      go : (a : Bool) → begins (g .spec .sides) from i q c ≡ a → (b : Bool) → mayStop g i q c ≡ b
           → Cell (graphOf g from) (tableAt g t) (stop (placeAt g i q) c)
           (shown g c (pick a (Least (from .cost) (from .place)) (pick b (priced cost (bestStart search)) Unreached)))
-      go true e b m = Cell.base (origin-here e) (stop (at g (from .place)) (before (g .spec .sides) c)) refl
-      go false e true m = Cell.inner (not-origin e) (best-seen m)
-      go false e false m = Cell.inner (not-origin e) (none-seen m)
+      go true e b m = Cell.base (origin-here g from i q c e) (stop (at g (from .place)) (before (g .spec .sides) c)) refl
+      go false e true m = Cell.inner (not-origin g from (origin .column) i q c wide e) (best-seen m)
+      go false e false m = Cell.inner (not-origin g from (origin .column) i q c wide e) (none-seen m)

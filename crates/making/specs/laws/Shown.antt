@@ -3,10 +3,15 @@ use Prim.Native.Nat.{ℕ, suc, _-_, _<_}
 use native.Mathlib.Nat.{le-refl}
 use native.Mathlib.Omega.{arith}
 use mathlib.Core.Path.{_≡_, refl, sym, _∙_, ap}
+use mathlib.Core.Bool.{true, false, _&&_}
+use mathlib.Core.List.{[]}
+use lib.Dec.{eqb}
+use borrow.Author.Tests.{eqb-true, eq-eqb}
 use Rattle.model.specs.Galley.{Galley, Place, sizes}
+use Rattle.model.specs.laws.Gather.{and-left, and-right, and-both}
 use Rattle.theorems.specs.optimality.Graph as graph
 use Rattle.theorems.specs.optimality.Cell.{Ahead, Offer, Cell, inner}
-use Rattle.theorems.specs.pages.Graph.{State, stop, end, Within, Step, Prefers, price}
+use Rattle.theorems.specs.pages.Graph.{side, State, stop, end, Within, Step, Prefers, price}
 use Rattle.theorems.specs.pages.Laws.{page-laws}
 use Rattle.places.specs.declared.Place.{Place as Start}
 use Rattle.places.specs.declared.Origin.{Origin}
@@ -14,11 +19,11 @@ use Rattle.places.specs.declared.Entry.{Entry}
 use Rattle.places.specs.declared.Entry.the-variants.{Unreached, Least}
 use Rattle.places.specs.Columns.{columns, floatSizes, placeAt}
 use Rattle.places.specs.laws.Columns.{columns-some}
-use Rattle.places.specs.laws.Places.{place-all, place-inside, line-at, column-at}
-use Rattle.starts.specs.Search.{Table, before}
+use Rattle.places.specs.laws.Places.{place-all, place-inside, line-at, column-at, place-same}
+use Rattle.starts.specs.Search.{Table, before, begins}
 use Rattle.filling.specs.Filled.{Side}
 use Rattle.walk.specs.Trace.{lastSide}
-use Rattle.making.specs.Shown.{at, originOf, graphOf, shown, finished, lastPlace, tableAt, Origins}
+use Rattle.making.specs.Shown.{at, originOf, graphOf, shown, finished, lastPlace, tableAt, Proper}
 use Rattle.making.specs.laws.Last.{last-side, Leads, last-leads}
 
 -- An entry that shows a least cost holds it, with the start that is shown.
@@ -49,7 +54,7 @@ module _ (g : Galley) where
   last-wide = omega (arith, last-column)
 
   -- All lines and the last column are the full place.
-  full-place : at g (lastPlace g) ≡ sizes g
+  pub full-place : at g (lastPlace g) ≡ sizes g
   full-place = place-all g (lastPlace g .column) last-column
 
   -- The entry of a place of the galley.
@@ -57,15 +62,16 @@ module _ (g : Galley) where
   unfolding tableAt
   shown-at t i q c wide = rw (line-at g i q, column-at g i q wide) refl
 
-  module _ (from : Origin) (origins : Origins g from) where
+  module _ (from : Origin) (origin : Proper g (from .place)) where
     -- The full place lies in the table, on each side that occurs: no count of the origin is above it.
     pub full-within : (c : ℕ) → Side (g .spec .sides) c → Within g (originOf g from) (stop (at g (lastPlace g)) c)
     unfolding Within
     full-within c occurs =
-        rw full-place
-        (record { long = refl; under = λ s. le-refl _ },
-        occurs,
-        place-inside g (from .place .line) (from .place .column) (origins .line) (origins .column))
+        rw full-place (
+          record { long = refl; under = λ s. le-refl _ },
+          occurs,
+          place-inside g (from .place .line) (from .place .column) (origin .line) (origin .column),
+        )
 
     -- A step to the end starts at the full place, on a side that occurs.
     record Final (u : State) : Type 0 where
@@ -124,3 +130,36 @@ module _ (g : Galley) where
             let e : c ≡ o .cost = omega (arith, o .price) in
             rw (f .from-full, e)
             (ahead b (o .cost) (last-leads (g .spec .sides) t m b (o .cost) (h .start) (f .occurs) (h .entry)))
+
+-- A search begins exactly at the origin.
+module _ (g : Galley) (from : Origin) where
+  pub origin-here : (i q c : ℕ) → begins (g .spec .sides) from i q c ≡ true → stop (placeAt g i q) c ≡ graphOf g from .o
+  unfolding begins
+  origin-here i q c b =
+      let line = eqb i (from .place .line) in
+      let column = eqb q (from .place .column) in
+      let on = eqb c (side (g .spec .sides) (from .pages)) in
+      let rest = and-right line (column && on) b in
+      let l = eqb-true i (from .place .line) (and-left line (column && on) b) in
+      let k = eqb-true q (from .place .column) (and-left column on rest) in
+      let s = eqb-true c (side (g .spec .sides) (from .pages)) (and-right column on rest) in
+      rw (l, k, s) refl
+
+  pub not-origin : from .place .column < columns (floatSizes g) → (i q c : ℕ) → q < columns (floatSizes g)
+      → begins (g .spec .sides) from i q c ≡ false → ¬ (stop (placeAt g i q) c ≡ graphOf g from .o)
+  unfolding begins
+  not-origin column i q c wide b e =
+      let p : placeAt g i q ≡ at g (from .place) = ap placeOf e in
+      let d : c ≡ side (g .spec .sides) (from .pages) = ap sides-of e in
+      let s = place-same g i q (from .place .line) (from .place .column) wide column p in
+      let both = and-both (eq-eqb i (from .place .line) (s .0)) (and-both (eq-eqb q (from .place .column) (s .1)) (eq-eqb c _ d)) in
+      let z : _≡_ {A = ℕ} 0 1 = cc in
+      absurd (omega arith)
+    where
+      placeOf : State → Place
+      placeOf (stop v d) = v
+      placeOf end = []
+
+      sides-of : State → ℕ
+      sides-of (stop v d) = d
+      sides-of end = 0

@@ -35,14 +35,14 @@ full-stands {g} {w} {full} {c} lent e low =
     rw e (stands-in g w (g .text .count) (g .figures .count) c (lent .lines) (le-refl _) (le-refl _) (lent .figures) low (lent .words))
 
 -- Before the origin one page more is counted;
-count-step : (sides : Sides) (t : Table) (from : Origin) (most : ℕ) (at : Stop) (p : ℕ) → atOrigin from at ≡ false → 0 < most
+count-step : (sides : Sides) (t : Table) (from : Origin) (most : ℕ) (at : Stop) (p : ℕ) → atOrigin sides from at ≡ false → 0 < most
     → countBack sides t from most at p ≡ countBack sides t from (most - 1) (back sides t at) (p + 1)
 unfolding countBack
 count-step sides t from zero at p away l = absurd (omega arith)
 count-step sides t from (suc most) at p away l = let e : suc most - 1 ≡ most = omega arith in rw (away, e) refl
 
 -- there, the count is done.
-count-stop : (sides : Sides) (t : Table) (from : Origin) (most : ℕ) (at : Stop) (p : ℕ) → atOrigin from at ≡ true
+count-stop : (sides : Sides) (t : Table) (from : Origin) (most : ℕ) (at : Stop) (p : ℕ) → atOrigin sides from at ≡ true
     → countBack sides t from most at p ≡ p
 unfolding countBack
 count-stop sides t from zero at p here = refl
@@ -72,7 +72,7 @@ module _ {g : Galley} {w : List ℕ} {from : Origin} {first : Stop} where
 
   module _ {at : Stop} {p : ℕ} (run : Counting g w from first at p) where
     -- goes on by a page,
-    pub counting-next : Traceable g w → p < g .text .count + g .figures .count → atOrigin from at ≡ false
+    pub counting-next : Traceable g w → p < g .text .count + g .figures .count → atOrigin (sidesIn g) from at ≡ false
         → Counting g w from first (back (sidesIn g) (tableIn g w) at) (p + 1)
     counting-next tr l away =
         let e : g .text .count + g .figures .count - p - 1 ≡ g .text .count + g .figures .count - (p + 1) = omega arith in
@@ -80,7 +80,7 @@ module _ {g : Galley} {w : List ℕ} {from : Origin} {first : Stop} where
         record { visits = back-visits tr at (run .visits); few = omega arith; same = rw (← e) (sym one ∙ run .same) }
 
     -- and ends at the origin, or with as many pages as there are blocks.
-    pub counting-done : atOrigin from at ≡ true → p ≡ pagesBack g w from first
+    pub counting-done : atOrigin (sidesIn g) from at ≡ true → p ≡ pagesBack g w from first
     counting-done here =
         sym (count-stop (sidesIn g) (tableIn g w) from (g .text .count + g .figures .count - p) at p here) ∙ run .same
 

@@ -1,0 +1,36 @@
+-- The best list of a galley read back from the table, and what that means.
+use Prim.Native.Nat.{ℕ, _*_, _≤_}
+use mathlib.Core.Path.{_≡_}
+use mathlib.Core.List.{List, _++_}
+use mathlib.Core.Option.{some}
+use lib.ListN.{length, drop}
+use Rattle.model.specs.Galley.{Galley, Place}
+use Rattle.model.specs.Answers.{wordsOf}
+use Rattle.model.specs.Best as choice
+use Rattle.theorems.specs.pages.Graph.{State, stop}
+use Rattle.places.specs.declared.Origin.{Origin}
+use Rattle.starts.specs.Search.{Table}
+use Rattle.walk.specs.declared.Stop.{Stop}
+use Rattle.walk.specs.Trace.{lastSide, countBack, writeBack}
+use Rattle.making.specs.Shown.{at, lastPlace}
+
+-- A stop as the graph of pages has it.
+abbrev pub stateOf : Galley → Stop → State
+stateOf g s = stop (at g (s .place)) (s .side)
+
+-- Where the last page of the best list stops.
+abbrev pub lastOf : Galley → Table → Stop
+lastOf g t = record { place = lastPlace g; side = lastSide (g .spec .sides) t (lastPlace g) }
+
+-- The pages counted back from a stop, at most so many.
+abbrev pub counted : Galley → Origin → Table → ℕ → Stop → ℕ
+counted g from t most last = countBack (g .spec .sides) t from most last 0
+
+-- The best list has as many pages as are counted back, no more than `most`, and its words are what is written, before the rest of
+-- the page list.
+pub record Found (g : Galley) (from : Origin) (t : Table) (most : ℕ) (last : Stop) (ps : List Place) : Type 0 where
+  pub best : choice.best g ≡ some ps
+  pub pages : length ps ≡ counted g from t most last
+  pub few : counted g from t most last ≤ most
+  pub words : (ws : List ℕ) → 2 * counted g from t most last ≤ length ws
+      → writeBack (g .spec .sides) t (counted g from t most last) last ws ≡ wordsOf ps ++ drop (2 * counted g from t most last) ws

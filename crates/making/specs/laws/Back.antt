@@ -1,0 +1,196 @@
+-- The walk back through the table counts and writes the pages of the best list.
+use Prim.Native.Nat.{ℕ, zero, suc, _+_, _*_, _≤_, _<_}
+use native.Mathlib.Omega.{arith}
+use native.Mathlib.Nat.{not-suc-le-zero, le-of-suc-le-suc}
+use native.Mathlib.Numerals.{add-one, add-two}
+use mathlib.Core.Path.{_≡_, refl, sym, _∙_, ap, subst}
+use mathlib.Core.Logic.{inl}
+use mathlib.Core.Bool.{Bool, true, false}
+use mathlib.Core.List.{List, [], _∷_, _++_}
+use mathlib.Core.Option.{none, some}
+use lib.ListN.{length, set, drop, length-set}
+use Rattle.model.specs.Galley.{Galley, Place, Sane, blocks}
+use Rattle.model.specs.Answers.{wordsOf}
+use Rattle.model.specs.Best as model
+use Rattle.model.specs.laws.Rules.{placed}
+use Rattle.model.specs.laws.Valid.{placed-sizes}
+use Rattle.theorems.specs.optimality.Cell.{Right, Trace}
+use Rattle.theorems.specs.optimality.Theorem.{step-back, trace-length}
+use Rattle.theorems.specs.pages.Graph.{State, stop, end, Origin as Begin, beginning, Within, pageGraph, pagesTo, pagesOn}
+use Rattle.theorems.specs.pages.Laws.{page-laws, page-domain, blocksAt}
+use Rattle.theorems.specs.pages.Best.{table-none, table-best}
+use Rattle.places.specs.declared.Place.{Place as Start}
+use Rattle.places.specs.declared.Origin.{Origin}
+use Rattle.places.specs.declared.Entry.the-variants.{Unreached, Least}
+use Rattle.places.specs.Columns.{columns, floatSizes, placeAt}
+use Rattle.starts.specs.Search.{Table, before}
+use Rattle.filling.specs.Filled.{Side, Filled}
+use Rattle.walk.specs.declared.Stop.{Stop}
+use Rattle.walk.specs.Trace.{startOf, entryOf, back, atOrigin, countBack, writeBack}
+use Rattle.making.specs.Shown.{at, originOf, graphOf, finished, lastPlace, tableAt, AllRight, Proper}
+use Rattle.making.specs.Back.{stateOf, lastOf, counted, Found}
+use Rattle.making.specs.laws.Last.{last-side}
+use Rattle.making.specs.laws.Shown.{shown-at, shown-least, finished-least, last-wide, full-place, full-within, origin-here, not-origin}
+
+-- Two words stored from offset k on stand before the rest.
+drop-pair :
+    (k i j : ℕ) (ws : List ℕ) → k + 2 ≤ length ws → drop k (set (set ws k i) (k + 1) j) ≡ i ∷ j ∷ drop (k + 2) ws
+drop-pair k i j ws h = rw (add-one, add-two) (go k ws (omega arith))
+  where
+    go : (k : ℕ) (ws : List ℕ) → suc (suc k) ≤ length ws → drop k (set (set ws k i) (suc k) j) ≡ i ∷ j ∷ drop (suc (suc k)) ws
+    go k [] h = absurd (not-suc-le-zero h)
+    go zero (x ∷ []) h = absurd (not-suc-le-zero (le-of-suc-le-suc h))
+    go zero (x ∷ (y ∷ ws)) h = refl
+    go (suc k) (x ∷ ws) h = go k ws (le-of-suc-le-suc h)
+
+-- The walk through a right table, from an origin of the galley on.
+module _ (g : Galley) (from : Origin) (origin : Proper g (from .place)) (t : Table) (right : AllRight g from t)
+    (fill : Filled g from t 0 (columns (floatSizes g))) where
+  abbrev one : Stop → Stop
+  one s = back (g .spec .sides) t s
+
+  -- The walk is at a place of the table, and meets these starts on the way back.
+  pub record Walks (us : List State) (s : Stop) : Type 0 where
+    pub proper : Proper g (s .place)
+    pub within : Within g (originOf g from) (stateOf g s)
+    pub trace : Trace (graphOf g from) (tableAt g t) us (stateOf g s)
+
+  -- One page back: the walk is not at the origin, and goes on from the start that the entry holds.
+  record Back (u : State) (us : List State) (s : Stop) : Type 0 where
+    away : atOrigin (g .spec .sides) from s ≡ false
+    begun : u ≡ stateOf g (one s)
+    walks : Walks us (one s)
+
+  back-one : (u : State) (us : List State) (s : Stop) → Walks (u ∷ us) s → Back u us s
+  unfolding Trace startOf Within
+  back-one u us s walks = go (walks .trace)
+    where
+      occurs : Side (g .spec .sides) (s .side)
+      occurs = walks .within .1
+
+      go : Trace (graphOf g from) (tableAt g t) (u ∷ us) (stateOf g s) → Back u us s
+      go (n, (x, e), r) =
+          let entry = sym (shown-at g t (s .place .line) (s .place .column) (s .side) (walks .proper .column)) ∙ e in
+          let h = shown-least g (s .side) (entryOf t s) x u entry in
+          let is : one s .place ≡ h .start = ap (λ x. startOf x (s .place)) (h .entry) in
+          let begun : u ≡ stateOf g (one s) = h .shows ∙ sym (ap (λ (p : Start). stop (at g p) (before (g .spec .sides) (s .side))) is) in
+          let (o, v, l) = step-back (graphOf g from) (page-laws g (originOf g from)) (page-domain g (originOf g from)) (tableAt g t) right (walks .within) n e in
+          let low = fill .entered (s .place .line) (s .place .column) (s .side) x (h .start) (inl (walks .proper .column)) (walks .proper .line)
+          occurs (h .entry) in
+          record {
+            away = away n (atOrigin (g .spec .sides) from s) refl;
+            begun = begun;
+            walks =
+                record {
+                  proper =
+                      rw is
+                      (record { line = omega (arith, low .line, walks .proper .line); column = omega (arith, low .column, walks .proper .column) });
+                  within = rw begun at v;
+                  trace = rw begun at r;
+                };
+          }
+        where
+          away : ¬ (stateOf g s ≡ graphOf g from .o) → (b : Bool) → atOrigin (g .spec .sides) from s ≡ b → atOrigin (g .spec .sides) from s ≡ false
+          away n true b = absurd (n (origin-here g from (s .place .line) (s .place .column) (s .side) b))
+          away n false b = b
+
+  -- The walk ends at the origin.
+  at-origin : (s : Stop) → Walks [] s → atOrigin (g .spec .sides) from s ≡ true
+  unfolding Trace
+  at-origin s walks = go (atOrigin (g .spec .sides) from s) refl
+    where
+      go : (b : Bool) → atOrigin (g .spec .sides) from s ≡ b → atOrigin (g .spec .sides) from s ≡ true
+      go true b = b
+      go false b =
+          absurd (not-origin g from (origin .column) (s .place .line) (s .place .column) (s .side) (walks .proper .column) b (walks .trace))
+
+  -- It counts the pages that it meets.
+  trace-count : (us : List State) (s : Stop) (most p : ℕ) → Walks us s → length us ≤ most
+      → countBack (g .spec .sides) t from most s p ≡ p + length us
+  unfolding countBack
+  trace-count [] s zero p walks h = omega arith
+  trace-count [] s (suc most) p walks h = rw (at-origin s walks) (omega arith)
+  trace-count (u ∷ us) s zero p walks h = absurd (omega arith)
+  trace-count (u ∷ us) s (suc most) p walks h =
+      let b = back-one u us s walks in
+      rw (b .away) (trace-count us (one s) most (p + 1) (b .walks) (omega arith) ∙ omega arith)
+
+  -- It meets a start for each page,
+  trace-pages : (us : List State) (s : Stop) (after : List Place) → Walks us s
+      → length (pagesTo us (stateOf g s) after) ≡ length us + length after
+  unfolding pagesTo
+  trace-pages [] s after walks = omega arith
+  trace-pages (u ∷ us) s after walks =
+      let b = back-one u us s walks in
+      let further = trace-pages us (one s) (at g (s .place) ∷ after) (b .walks) in
+      rw (b .begun) (omega arith)
+
+  -- and, where a place is a line and a figure, writes each page where its number says, before the pages that are there.
+  module _ (flat : (i q : ℕ) → placeAt g i q ≡ i ∷ q ∷ []) where
+    trace-words : (us : List State) (s : Stop) (after : List Place) (ws rest : List ℕ) → Walks us s → 2 * length us ≤ length ws
+        → drop (2 * length us) ws ≡ wordsOf after ++ rest
+        → writeBack (g .spec .sides) t (length us) s ws ≡ wordsOf (pagesTo us (stateOf g s) after) ++ rest
+    unfolding pagesTo writeBack wordsOf
+    trace-words [] s after ws rest walks h e = e
+    trace-words (u ∷ us) s after ws rest walks h e =
+        let b = back-one u us s walks in
+        let i = s .place .line in
+        let j = s .place .column in
+        let k : 2 * length us + 2 ≡ 2 * suc (length us) = omega arith in
+        let ws′ = set (set ws (2 * length us) i) (2 * length us + 1) j in
+        let long : length ws′ ≡ length ws = simp length-set in
+        let pair = drop-pair (2 * length us) i j ws (omega arith) in
+        let words : drop (2 * length us) ws′ ≡ wordsOf (at g (s .place) ∷ after) ++ rest = rw (flat i j) (pair ∙ rw k (ap (λ l. i ∷ j ∷ l) e)) in
+        trace-words us (one s) (at g (s .place) ∷ after) ws′ rest (b .walks) (omega arith) words
+        ∙ ap (λ v. wordsOf (pagesTo us v (at g (s .place) ∷ after)) ++ rest) (sym (b .begun))
+
+    -- So the best list that the walk meets is found.
+    walk-found : (us : List State) (last : Stop) (most : ℕ) → Walks us last → length us ≤ most
+        → model.best g ≡ some (pagesTo us (stateOf g last) []) → Found g from t most last (pagesTo us (stateOf g last) [])
+    unfolding wordsOf
+    walk-found us last most walks short is =
+        let pages = trace-pages us last [] walks in
+        let p : counted g from t most last ≡ length us = trace-count us last most 0 walks short ∙ omega arith in
+        record {
+          best = is;
+          pages = omega arith;
+          few = omega arith;
+          words = λ ws h. rw p (trace-words us last [] ws (drop (2 * length us) ws) walks (omega arith) refl);
+        }
+
+-- The graph from where nothing is placed, and what it tells of the best list.
+module _ (g : Galley) (sane : Sane g) (from : Origin) (begins : originOf g from ≡ beginning g) (origin : Proper g (from .place)) (t : Table)
+    (right : AllRight g from t) (fill : Filled g from t 0 (columns (floatSizes g))) where
+  right-beginning : Right (pageGraph g (beginning g)) (tableAt g t) (Within g (beginning g))
+  right-beginning = subst (λ (o : Begin). Right (pageGraph g o) (tableAt g t) (Within g o)) begins right
+
+  -- Where the table is right and the full place unreached, there is no best list.
+  pub back-none : entryOf t (lastOf g t) ≡ Unreached → model.best g ≡ none
+  unfolding tableAt finished
+  back-none e =
+      table-none g sane (tableAt g t) right-beginning (ap (finished (stateOf g (lastOf g t))) e)
+
+  -- Where it is reached, the walk back from the better side counts and writes the best list.
+  pub back-best : (flat : (i q : ℕ) → placeAt g i q ≡ i ∷ q ∷ []) (most : ℕ) → blocks g ≤ most → (x : ℕ) (s : Start)
+      → entryOf t (lastOf g t) ≡ Least x s → (ps : List Place) × Found g from t most (lastOf g t) ps
+  unfolding tableAt finished Trace pagesTo blocksAt
+  back-best flat most enough x s e =
+      let (us, r, is, cost) = table-best g sane (tableAt g t) right-beginning x (stateOf g (lastOf g t))
+      (ap (finished (stateOf g (lastOf g t))) e) in
+      go us (subst (λ (o : Begin). Trace (pageGraph g o) (tableAt g t) us end) (sym begins) r) is
+    where
+      go : (us : List State) → Trace (graphOf g from) (tableAt g t) us end → model.best g ≡ some (pagesOn us)
+          → (ps : List Place) × Found g from t most (lastOf g t) ps
+      go [] r is = let z : _≡_ {A = ℕ} 0 1 = cc in absurd (omega arith)
+      go (u ∷ us) (n, (y, f), r) is =
+          let (s′, h, begun) = finished-least (stateOf g (lastOf g t)) (entryOf t (lastOf g t)) y u f in
+          let within = full-within g from origin (lastOf g t .side) (last-side (g .spec .sides) t (lastPlace g)) in
+          let trace : Trace (graphOf g from) (tableAt g t) us (stateOf g (lastOf g t)) = rw begun at r in
+          let short = trace-length (graphOf g from) (page-laws g (originOf g from)) (page-domain g (originOf g from)) (tableAt g t) right us within trace in
+          let all = placed-sizes g in
+          let place = ap (placed g) (full-place g) in (
+            pagesTo us (stateOf g (lastOf g t)) [],
+            walk-found g from origin t right fill flat us (lastOf g t) most
+                (record { proper = record { line = omega arith; column = last-wide g }; within = within; trace = trace }) (omega arith)
+                (rw begun at is),
+          )
