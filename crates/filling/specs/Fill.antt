@@ -1,11 +1,13 @@
--- The work area filled, column by column, as the loops go.
-use Prim.Native.Nat.{ℕ, zero, suc}
+-- The work area filled, column by column, as the loops go, for any number of float streams and any origin.
+use Prim.Native.Nat.{ℕ, zero, suc, _+_}
 use mathlib.Core.List.{List}
 use Rattle.model.specs.Galley.{Sides, single, double, Galley}
+use Rattle.places.specs.declared.Origin.{Origin}
 use Rattle.places.specs.Entry.{stored}
 use Rattle.places.specs.Address.{address}
 use Rattle.places.specs.Table.{tableOf}
-use Rattle.starts.specs.Search.{entryOf}
+use Rattle.places.specs.Columns.{columns, floatSizes}
+use Rattle.starts.specs.Search.{Table, newEntry}
 
 -- The words of the work area.
 abbrev pub Words : Type 0
@@ -13,27 +15,40 @@ Words = List ℕ
 
 -- The rows of the table: one more than there are lines.
 unfoldable pub tall : Galley → ℕ
-tall g = suc (g .stream 0 .size)
+tall g = g .stream 0 .size + 1
 
--- The entry of place (i, j) on side c put where it belongs.
-unfoldable pub fillSide : Galley → ℕ → ℕ → ℕ → Words → Words
-fillSide g i j c w = stored w (address (tall g) i j c) (entryOf g (tableOf (tall g) w) i j c)
+-- The table that the words hold.
+abbrev pub held : Galley → Words → Table
+held g w = tableOf (tall g) w
 
--- The sides of place (i, j) that occur.
-unfoldable pub fillPlace : Sides → Galley → ℕ → ℕ → Words → Words
-fillPlace single g i j w = fillSide g i j 0 w
-fillPlace double g i j w = fillSide g i j 1 (fillSide g i j 0 w)
+-- The entry of line i and column q on side c put where it belongs.
+unfoldable pub fillSide : Galley → Origin → ℕ → ℕ → ℕ → Words → Words
+fillSide g from i q c w = stored w (address (tall g) i q c) (newEntry g from (held g w) i q c)
 
--- The k places of column j from line i on.
-unfoldable pub fillColumn : Galley → ℕ → ℕ → ℕ → Words → Words
-fillColumn g j zero i w = w
-fillColumn g j (suc k) i w = fillColumn g j k (suc i) (fillPlace (g .spec .sides) g i j w)
+-- The first c sides of a place.
+unfoldable pub fillSides : Galley → Origin → ℕ → ℕ → ℕ → Words → Words
+fillSides g from i q zero w = w
+fillSides g from i q (suc c) w = fillSide g from i q c (fillSides g from i q c w)
 
--- The k columns from figure j on.
-unfoldable pub fillColumns : Galley → ℕ → ℕ → Words → Words
-fillColumns g zero j w = w
-fillColumns g (suc k) j w = fillColumns g k (suc j) (fillColumn g j (tall g) 0 w)
+-- How many sides occur.
+unfoldable pub sideCount : Sides → ℕ
+sideCount single = 1
+sideCount double = 2
+
+-- The sides of a place that occur.
+unfoldable pub fillPlace : Galley → Origin → ℕ → ℕ → Words → Words
+fillPlace g from i q w = fillSides g from i q (sideCount (g .spec .sides)) w
+
+-- The k places of column q from line i on.
+unfoldable pub fillColumn : Galley → Origin → ℕ → ℕ → ℕ → Words → Words
+fillColumn g from q zero i w = w
+fillColumn g from q (suc k) i w = fillColumn g from q k (suc i) (fillPlace g from i q w)
+
+-- The k columns from column q on.
+unfoldable pub fillColumns : Galley → Origin → ℕ → ℕ → Words → Words
+fillColumns g from zero q w = w
+fillColumns g from (suc k) q w = fillColumns g from k (suc q) (fillColumn g from q (suc (g .stream 0 .size)) 0 w)
 
 -- The whole table.
-unfoldable pub filled : Galley → Words → Words
-filled g w = fillColumns g (suc (g .stream 1 .size)) 0 w
+unfoldable pub filled : Galley → Origin → Words → Words
+filled g from w = fillColumns g from (columns (floatSizes g)) 0 w

@@ -1,26 +1,42 @@
 -- What is known of the entries filled so far: where their starts stand and what they cost at most.
 use Prim.Native.Nat.{ℕ, _+_, _*_, _≤_, _<_}
 use mathlib.Core.Path.{_≡_}
+use lib.ListN.{length}
 use Rattle.model.specs.Galley.{Sides, Galley}
 use Rattle.model.specs.Order.{oddly}
+use Rattle.model.specs.laws.Rules.{placed}
+use Rattle.model.specs.laws.Lists.{Inside}
 use Rattle.places.specs.declared.Place.{Place}
+use Rattle.places.specs.declared.Origin.{Origin}
 use Rattle.places.specs.declared.Entry.the-variants.{Least}
-use Rattle.places.specs.Address.{Earlier}
+use Rattle.places.specs.Address.{area}
+use Rattle.places.specs.Order.{Earlier}
+use Rattle.places.specs.Columns.{columns, floatSizes, placeAt}
 use Rattle.starts.specs.Search.{Table}
+use Rattle.filling.specs.Fill.{Words, tall}
 
--- The start of a page that ends at (a, b) lies before it, unless nothing is placed there, and its cost is no more than α·n + β,
--- at most 201,000, for each block placed.
-pub record Entered (a b x : ℕ) (s : Place) : Type 0 where
-  pub line : s .line ≤ a
-  pub column : s .column ≤ b
-  pub less : 0 < a + b → s .line + s .column < a + b
-  pub dear : x ≤ (a + b) * 201000
+-- The work area has the words of every place.
+pub record Roomy (g : Galley) (w : Words) : Type 0 where
+  pub words : area (tall g) (columns (floatSizes g)) ≤ length w
 
 -- c is a side that occurs: 0, or 0 and 1 in double-sided work.
 abbrev pub Side : Sides → ℕ → Type 0
 Side sides c = oddly sides c ≡ c
 
--- Every entry filled before place (i, j), column by column, is such a one.
-pub record Filled (g : Galley) (t : Table) (i j : ℕ) : Type 0 where
-  pub entered : (a b c x : ℕ) (s : Place) → Earlier a b i j → a ≤ g .stream 0 .size → Side (g .spec .sides) c → t a b c ≡
-      Least x s → Entered a b x s
+-- The blocks placed at a line and a column.
+abbrev pub placedAt : Galley → ℕ → ℕ → ℕ
+placedAt g a b = placed g (placeAt g a b)
+
+-- The start of a page that ends at (a, b) lies before it, unless the search begins there; its cost is no more than α·n + β, at most
+-- 201,000, for each block placed, beside what was paid at the origin; and no count is below the origin's.
+pub record Entered (g : Galley) (from : Origin) (a b x : ℕ) (s : Place) : Type 0 where
+  pub line : s .line ≤ a
+  pub column : s .column ≤ b
+  pub less : ((a ≡ from .place .line) × (b ≡ from .place .column) → ⊥) → placedAt g (s .line) (s .column) < placedAt g a b
+  pub dear : x ≤ from .cost + placedAt g a b * 201000
+  pub past : Inside (placeAt g a b) (placeAt g (from .place .line) (from .place .column))
+
+-- Every entry filled before place (i, q), column by column, is such a one.
+pub record Filled (g : Galley) (from : Origin) (t : Table) (i q : ℕ) : Type 0 where
+  pub entered : (a b c x : ℕ) (s : Place) → Earlier a b i q → a ≤ g .stream 0 .size → Side (g .spec .sides) c → t a b c ≡ Least x s
+      → Entered g from a b x s

@@ -4,7 +4,6 @@
 pub mod Fill
 -- What is known of the work area on the way, and what the functions ask for.
 pub mod Filled
-pub mod Asked
+pub mod Next
 pub mod Run
-pub mod Column
 pub mod laws

@@ -1,8 +1,8 @@
 -- The laws of filling.
 pub mod Entered
 pub mod Fill
-pub mod Price
 pub mod Over
+pub mod Price
 pub mod Queues
-pub mod Filling
-pub mod Column
+pub mod NewEntry
+pub mod Sides

@@ -7,8 +7,9 @@ ghost use Rattle.theorems.specs.pages.Graph.{full};
 ghost use Rattle.model.specs.Galley.{Sane};
 ghost use Rattle.galley.specs.Model.{floatsOf, modelOf};
 ghost use Rattle.rules.specs.Waiting.{waits};
-ghost use Rattle.starts.specs.Search.{place, mayStop};
-ghost use Rattle.filling.specs.Asked.{Stopping, Priceable};
+ghost use Rattle.places.specs.Columns.{placeAt};
+ghost use Rattle.starts.specs.Search.{mayStop};
+ghost use Rattle.filling.specs.Next.{Stopping, Priceable};
 use galley::Galley;
 
 // Whether a page on side c may end at (i, j): where a leaf or the list ends, no figure is placed that is not cited.
@@ -16,7 +17,7 @@ pub fn may_stop(s: &[u8], g: Galley, i: usize, j: usize, c: usize) -> bool
     requires { ⌜ Stopping (now s) g i j c ⌝ }
     ensures { λ r. ⌜ r ≡ mayStop (modelOf (now (s .entry)) g) i j c ⌝ }
 {
-    let asked = model::page::side_ends(g.spec.sides, c) | starts::search::is_full(g, i, j);
+    let asked = model::page::side_ends(g.spec.sides, c) | starts::read::is_full(g, i, j);
     rules::rules::may_end(s, g.text, i) & rules::rules::is_cited(s, g.figures, asked, i, j)
 }
 
@@ -24,9 +25,9 @@ pub fn may_stop(s: &[u8], g: Galley, i: usize, j: usize, c: usize) -> bool
 // figures that wait, by α, and the turn, by β.
 pub fn price(g: Galley, i: usize, j: usize, c: usize, waiting: usize) -> u32
     requires { ⌜ Priceable g c waiting ⌝ }
-    ensures { λ r. ⌜ ((bytes : List ℕ) → Sane (modelOf bytes g) → waiting ≡ waits (floatsOf bytes (g .figures)) i j → r ≡ pageCost (modelOf bytes g) c (full (modelOf bytes g) (place i j)) (place i j)) ⌝ }
+    ensures { λ r. ⌜ ((bytes : List ℕ) → Sane (modelOf bytes g) → waiting ≡ waits (floatsOf bytes (g .figures)) i j → r ≡ pageCost (modelOf bytes g) c (full (modelOf bytes g) (placeAt (modelOf bytes g) i j)) (placeAt (modelOf bytes g) i j)) ⌝ }
 {
-    if starts::search::is_full(g, i, j) {
+    if starts::read::is_full(g, i, j) {
         return 0;
     }
     if !model::page::side_ends(g.spec.sides, c) {

@@ -24,6 +24,13 @@ pub enum Entry {
     Least(u32, Place),
 }
 
+// Where a search begins: the place, the pages before it, and what they cost.
+pub struct Origin {
+    pub place: Place,
+    pub pages: u32,
+    pub cost: u32,
+}
+
 // The place of so many lines and figures.
 pub fn place_of(line: usize, column: usize) -> Place
     requires { ⌜ Small line column ⌝ }

@@ -4,9 +4,11 @@ use mathlib.Core.Bool.{Bool, _&&_}
 use lib.Dec.{eqb}
 use Rattle.model.specs.Gather.{pick}
 use Rattle.model.specs.Galley.{Sides, single, double, Galley}
+use Rattle.model.specs.Order.{oddly}
 use Rattle.model.specs.Rules.{forward, closes, fits, fills, cited}
 use Rattle.theorems.specs.turns.Waiting.{pageCost}
 use Rattle.theorems.specs.pages.Graph.{full}
+use Rattle.places.specs.declared.Origin.{Origin}
 use Rattle.places.specs.declared.Entry.{Entry}
 use Rattle.places.specs.declared.Entry.the-variants.{Unreached, Least}
 use Rattle.places.specs.Columns.{placeAt}
@@ -64,10 +66,15 @@ priced p (Least x s) = Least (x + p) s
 unfoldable pub mayStop : Galley → ℕ → ℕ → ℕ → Bool
 mayStop g i q c = let v = placeAt g i q in closes g v && cited g c (full g v) v
 
--- The entry of a place on side c, from the entries of the places before it; nothing is placed at the cost of nothing.
-unfoldable pub entryOf : Galley → Table → ℕ → ℕ → ℕ → Entry
-entryOf g t i q c =
-    pick (eqb (i + q + c) 0) (Least 0 (record { line = 0; column = 0 }))
+-- The search begins at a place on side c: at the origin's place, on the side of the page that ends there.
+unfoldable pub begins : Sides → Origin → ℕ → ℕ → ℕ → Bool
+begins sides from i q c = eqb i (from .place .line) && (eqb q (from .place .column) && eqb c (oddly sides (from .pages)))
+
+-- The entry that a place gets on side c, from the entries of the places before it: where the search begins, what was paid there;
+-- else the best start with the price of the page.
+unfoldable pub newEntry : Galley → Origin → Table → ℕ → ℕ → ℕ → Entry
+newEntry g from t i q c =
+    pick (begins (g .spec .sides) from i q c) (Least (from .cost) (from .place))
     (pick (mayStop g i q c)
     (priced (pageCost g c (full g (placeAt g i q)) (placeAt g i q))
     (bestStart (record { galley = g; table = t; line = i; column = q; side = before (g .spec .sides) c })))

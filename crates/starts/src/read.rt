@@ -1,11 +1,23 @@
 // What a search asks of a galley that was read: sides, the full place, and the heights that a page must keep to.
 ghost use mathlib.Core.Path.{_≡_};
 ghost use Prim.Native.Nat.{_≤_};
+ghost use Rattle.model.specs.Leaf.{sidesOf};
+ghost use Rattle.model.specs.Order.{oddly};
 ghost use Rattle.blocks.specs.Heights.{noHeights, Addable};
 ghost use Rattle.starts.specs.Read.{sideOf, allPlaced, leastOf, loadOf};
 use blocks::heights::Heights;
 use galley::Galley;
 use window::slide::Load;
+
+// The side of a page by its number: 1 for an odd page of double-sided work, else 0.
+pub fn side_of(g: Galley, page: u32) -> usize
+    ensures { λ r. ⌜ r ≡ oddly (sidesOf (g .spec .sides)) page ⌝ }
+{
+    if g.spec.sides == 2 {
+        return (page % 2) as usize;
+    }
+    0
+}
 
 // The side of the page before one on side c.
 pub fn side_before(g: Galley, c: usize) -> usize

@@ -1,169 +1,160 @@
 -- Starts lie before their ends and costs stay small: what every entry keeps, whatever the work area held before.
 use Prim.Native.Nat.{ℕ, zero, suc, _+_, _*_, _≤_, _<_}
-use native.Mathlib.Nat.{le-refl, mul-le-mul-right, suc-mul}
-use native.Mathlib.Decide.{decLt}
+use native.Mathlib.Nat.{le-refl, le-trans, mul-le-mul-right, suc-mul}
 use native.Mathlib.Omega.{arith}
-use mathlib.Core.Path.{_≡_, refl, ap}
-use mathlib.Core.Logic.{_⊎_, inl, inr}
-use mathlib.Core.Bool.{Bool, true, false, _&&_, _||_}
-use lib.Dec.{ltb, eqb}
-use borrow.Author.Tests.{ltb-true}
+use mathlib.Core.Path.{_≡_, refl, sym, _∙_}
+use mathlib.Core.Bool.{Bool, true, false, _&&_}
+use lib.Dec.{eqb}
+use borrow.Author.Tests.{eqb-true}
 use Rattle.model.specs.Gather.{pick}
-use Rattle.model.specs.Galley.{Sides, single, double, Galley}
+use Rattle.model.specs.Galley.{Sides, single, double, Galley} 
+use Rattle.model.specs.Galley as model
 use Rattle.model.specs.Order.{oddly}
-use Rattle.model.specs.Rules.{fits, fills}
-use Rattle.model.specs.laws.Gather.{and-left, or-cases}
+use Rattle.model.specs.laws.Gather.{and-left, and-right}
+use Rattle.model.specs.laws.Rules.{placed-grows}
+use Rattle.model.specs.laws.Lists.{Inside}
 use Rattle.theorems.specs.turns.Waiting.{pageCost}
-use Rattle.theorems.specs.pages.Graph.{full}
 use Rattle.theorems.specs.turns.Bounds.{dearest, cost-le}
+use Rattle.theorems.specs.pages.Graph.{full}
 use Rattle.places.specs.declared.Place.{Place}
+use Rattle.places.specs.declared.Origin.{Origin}
 use Rattle.places.specs.declared.Entry.{Entry}
 use Rattle.places.specs.declared.Entry.the-variants.{Unreached, Least}
-use Rattle.places.specs.Address.{Earlier}
-use Rattle.starts.specs.Search.{place, Table, before, better, Search, offered, row, rows, bestStart, priced, mayStop, entryOf}
-use Rattle.filling.specs.Filled.{Entered, Side, Filled}
+use Rattle.places.specs.Columns.{columns, floatSizes, placeAt}
+use Rattle.places.specs.laws.Best.{no-reach}
+use Rattle.places.specs.laws.Places.{place-inside, forward-inside}
+use Rattle.starts.specs.Search.{Table, before, Search, bestStart, priced, mayStop, begins, newEntry}
+use Rattle.starts.specs.Beside.{Sought}
+use Rattle.starts.specs.laws.Found.{best-start}
+use Rattle.starts.specs.laws.Pages.{candidate-forward, candidate-earlier}
+use Rattle.filling.specs.Fill.{sideCount}
+use Rattle.filling.specs.Filled.{Side, placedAt, Entered, Filled}
 
--- A start found for (i, j): it lies before, and its own cost is small.
-pub record Found (i j x : ℕ) (r : Place) : Type 0 where
-  pub line : r .line ≤ i
-  pub column : r .column ≤ j
-  pub less : r .line + r .column < i + j
-  pub dear : x ≤ (r .line + r .column) * 201000
-
--- The best so far, if any, is a start found.
-abbrev pub Good : ℕ → ℕ → Entry → Type 0
-Good i j e = (x : ℕ) (r : Place) → e ≡ Least x r → Found i j x r
-
-good-unreached : (i j : ℕ) → Good i j Unreached
-good-unreached i j x r e = let z : _≡_ {A = ℕ} 0 1 = cc in absurd (omega arith)
-
--- What is picked is good where both are, each under its test.
-good-pick : (i j : ℕ) (b : Bool) (e f : Entry) → (b ≡ true → Good i j e) → (b ≡ false → Good i j f) → Good i j (pick b e f)
-good-pick i j true e f p q = p refl
-good-pick i j false e f p q = q refl
-
-good-start : (i j a b x : ℕ) → a ≤ i → b ≤ j → a + b < i + j → x ≤ (a + b) * 201000 → Good i j (Least x (record {
-  line = a;
-  column = b;
-}))
-good-start i j a b x h k l d y r e =
-    let p : x ≡ y = cc in
-    let q : a ≡ r .line = ap line-of e in
-    let s : b ≡ r .column = ap figure-of e in
-    record { line = omega arith; column = omega arith; less = omega arith; dear = rw (← q, ← s, ← p) d }
-  where
-    line-of : Entry → ℕ
-    line-of Unreached = 0
-    line-of (Least x r) = r .line
-
-    figure-of : Entry → ℕ
-    figure-of Unreached = 0
-    figure-of (Least x r) = r .column
-
-good-better : (i j a b : ℕ) (f e : Entry) → a ≤ i → b ≤ j → a + b < i + j
-    → ((x : ℕ) (s : Place) → f ≡ Least x s → x ≤ (a + b) * 201000) → Good i j e → Good i j (better f a b e)
-unfolding better
-good-better i j a b Unreached e h k l d g = g
-good-better i j a b (Least x s) Unreached h k l d g = good-start i j a b x h k l (d x s refl)
-good-better i j a b (Least x s) (Least y r) h k l d g =
-    good-pick i j (ltb x y) (Least x (record { line = a; column = b })) (Least y r) (λ e. good-start i j a b x h k l (d x s
-    refl)) (λ e. g)
-
-module _ (s : Search) (fill : Filled (s .galley) (s .table) (s .i) (s .j)) (high : s .i ≤ s .galley .stream 0 .size)
-    (side : Side (s .galley .spec .sides) (s .side)) where
-  earlier : (a b : ℕ) → a ≤ s .i → b ≤ s .j → (ltb a (s .i) || ltb b (s .j)) ≡ true → Earlier a b (s .i) (s .j) × (a + b <
-      s .i + s .j)
-  earlier a b h k t = go (decLt b (s .j)) (or-cases (ltb a (s .i)) (ltb b (s .j)) t)
-    where
-      last : ¬ (b < s .j) → (ltb a (s .i) ≡ true) ⊎ (ltb b (s .j) ≡ true) → a < s .i
-      last n (inl e) = ltb-true a (s .i) e
-      last n (inr e) = absurd (n (ltb-true b (s .j) e))
-
-      go : Dec (b < s .j) → (ltb a (s .i) ≡ true) ⊎ (ltb b (s .j) ≡ true) → Earlier a b (s .i) (s .j) × (a + b < s .i + s .j)
-      go (yes l) t = (inl l, omega arith)
-      go (no n) t = let l = last n t in let e : b ≡ s .j = omega arith in (inr (e, l), omega arith)
-
-  good-offered : (a b : ℕ) (e : Entry) → a ≤ s .i → b ≤ s .j → Good (s .i) (s .j) e → Good (s .i) (s .j) (offered s a b e)
-  unfolding offered
-  good-offered a b e h k g =
-      let filling : Bool = fills (s .galley) (full (s .galley) (place (s .i) (s .j))) (place a b) (place (s .i) (s .j)) in
-      good-pick (s .i) (s .j) ((ltb a (s .i) || ltb b (s .j)) && filling) (better (s .table a b (s .side)) a b e) e
-      (λ t.
-      let (l, m) = earlier a b h k (and-left (ltb a (s .i) || ltb b (s .j)) filling t) in
-      good-better (s .i) (s .j) a b (s .table a b (s .side)) e h k m
-      (λ x r q. fill .entered a b (s .side) x r l (omega arith) side q .dear) g)
-      (λ t. g)
-
-  good-row : (a b : ℕ) (e : Entry) → a ≤ s .i → b ≤ suc (s .j) → Good (s .i) (s .j) e → Good (s .i) (s .j) (row s a b e)
-  unfolding row
-  good-row a zero e h k g = g
-  good-row a (suc b) e h k g =
-      good-pick (s .i) (s .j) (fits (s .galley) (place a b) (place (s .i) (s .j))) (row s a b (offered s a b e)) e
-      (λ t. good-row a b (offered s a b e) h (omega arith) (good-offered a b e h (omega arith) g)) (λ t. g)
-
-  good-rows : (a : ℕ) (e : Entry) → a ≤ suc (s .i) → Good (s .i) (s .j) e → Good (s .i) (s .j) (rows s a e)
-  unfolding rows
-  good-rows zero e h g = g
-  good-rows (suc a) e h g =
-      good-pick (s .i) (s .j) (fits (s .galley) (place a (s .j)) (place (s .i) (s .j))) (rows s a (row s a (suc (s .j)) e)) e
-      (λ t. good-rows a (row s a (suc (s .j)) e) (omega arith) (good-row a (suc (s .j)) e (omega arith) (le-refl (suc (s .j)))
-      g))
-      (λ t. g)
-
-  -- The best start, if there is one, lies before the place, and its cost is small.
-  pub best-entered : (x : ℕ) (r : Place) → bestStart s ≡ Least x r → Found (s .i) (s .j) x r
-  unfolding bestStart
-  best-entered = good-rows (suc (s .i)) Unreached (le-refl (suc (s .i))) (good-unreached (s .i) (s .j))
-
--- Sides that occur are 0 and 1, and the side before one that occurs occurs.
+-- Sides that occur are 0 and 1, and those below their number; the side before one that occurs occurs.
 pub side-low : (sides : Sides) (c : ℕ) → Side sides c → c ≤ 1
 unfolding oddly
 side-low single c h = omega arith
 side-low double c h = omega arith
+
+pub side-below : (sides : Sides) (c : ℕ) → Side sides c → c < sideCount sides
+unfolding oddly sideCount
+side-below single c h = omega arith
+side-below double c h = omega arith
+
+pub below-side : (sides : Sides) (c : ℕ) → c < sideCount sides → Side sides c
+unfolding oddly sideCount
+below-side single c h = omega arith
+below-side double c h = omega arith
+
+pub count-low : (sides : Sides) → sideCount sides ≤ 2
+unfolding sideCount
+count-low single = omega arith
+count-low double = omega arith
+
+-- The page before is on side 0 or 1.
+pub before-low : (sides : Sides) (c : ℕ) → before sides c ≤ 1
+unfolding before
+before-low single c = omega arith
+before-low double c = omega arith
 
 pub side-before : (sides : Sides) (c : ℕ) → Side sides c → Side sides (before sides c)
 unfolding oddly before
 side-before single c h = refl
 side-before double c h = omega arith
 
-module _ (g : Galley) (light : dearest g ≤ 201000) (t : Table) (i j c : ℕ) (fill : Filled g t i j) (high : i ≤ g .stream
-    0 .size)
-    (side : Side (g .spec .sides) c) where
+-- No count below another's is below that of a third.
+inside-trans : {u v w : model.Place} → Inside v w → Inside u v → Inside u w
+inside-trans h k = record { long = h .long ∙ k .long; under = λ s. le-trans (h .under s) (k .under s) }
+
+-- A start found for (i, q): it lies before, its own cost is small, and it is past the origin.
+pub record Found (g : Galley) (from : Origin) (i q x : ℕ) (r : Place) : Type 0 where
+  pub line : r .line ≤ i
+  pub column : r .column ≤ q
+  pub less : placedAt g (r .line) (r .column) < placedAt g i q
+  pub dear : x ≤ from .cost + placedAt g (r .line) (r .column) * 201000
+  pub past : Inside (placeAt g i q) (placeAt g (from .place .line) (from .place .column))
+
+-- So is the best start, if there is one.
+pub best-entered : (s : Search) (from : Origin) → Sought s → Filled (s .galley) from (s .table) (s .line) (s .column)
+    → Side (s .galley .spec .sides) (s .side) → (x : ℕ) (r : Place) → bestStart s ≡ Least x r
+    → Found (s .galley) from (s .line) (s .column) x r
+best-entered s from sought fill side x r e =
+    let c = best-start s .may x r e .1 in
+    let h = sought .high in
+    let wide = sought .wide in
+    let low = c .line in
+    let left = c .column in
+    let f = candidate-forward s sought (r .line) (r .column) x c in
+    let before =
+    fill .entered (r .line) (r .column) (s .side) x (c .reached .0) (candidate-earlier s sought (r .line) (r .column) x c) (omega arith)
+    side (c .reached .1) in
+    let u = placeAt (s .galley) (r .line) (r .column) in
+    let v = placeAt (s .galley) (s .line) (s .column) in
+    record {
+      line = low;
+      column = left;
+      less = placed-grows (s .galley) u v f;
+      dear = before .dear;
+      past =
+          inside-trans (before .past)
+          (forward-inside (s .galley) u v (place-inside (s .galley) (r .line) (r .column) (omega arith) (omega arith))
+          (place-inside (s .galley) (s .line) (s .column) h wide) f);
+    }
+
+module _ (g : Galley) (light : dearest g ≤ 201000) (from : Origin) (t : Table) (i q c : ℕ) (high : i ≤ g .stream 0 .size)
+    (wide : q < columns (floatSizes g)) (fill : Filled g from t i q) (side : Side (g .spec .sides) c) where
   search : Search
-  search = record { galley = g; table = t; i = i; j = j; side = before (g .spec .sides) c }
+  search = record { galley = g; table = t; line = i; column = q; side = before (g .spec .sides) c }
 
-  priced-entered : (e : Entry) → Good i j e → (x : ℕ) (r : Place) → priced (pageCost g c (full g (place i j)) (place i j)) e ≡
-      Least x r
-      → Entered i j x r
-  unfolding priced
-  priced-entered Unreached f x r q = let z : _≡_ {A = ℕ} 0 1 = cc in absurd (omega arith)
-  priced-entered (Least y s) f x r q =
+  priced-entered : (e : Entry) → bestStart search ≡ e → (x : ℕ) (r : Place)
+      → priced (pageCost g c (full g (placeAt g i q)) (placeAt g i q)) e ≡ Least x r → Entered g from i q x r
+  unfolding priced search
+  priced-entered Unreached b x r e = absurd (no-reach e)
+  priced-entered (Least y s) b x r e =
       let same : s ≡ r = cc in
-      let sum : y + pageCost g c (full g (place i j)) (place i j) ≡ x = cc in
-      let here = rw same at (f y s refl) in
-      let cost = cost-le g c (full g (place i j)) (place i j) in
-      let most = mul-le-mul-right 201000 (here .less) in
-      let d = here .dear in
-      let e = suc-mul (r .line + r .column) 201000 in
-      record { line = here .line; column = here .column; less = λ _. here .less; dear = omega arith }
+      let sum : y + pageCost g c (full g (placeAt g i q)) (placeAt g i q) ≡ x = cc in
+      let found =
+      best-entered search from (record { high = high; wide = wide }) fill (side-before (g .spec .sides) c side) y r (b ∙ (cc)) in
+      let cost = cost-le g c (full g (placeAt g i q)) (placeAt g i q) in
+      let most = mul-le-mul-right 201000 (found .less) in
+      let s = suc-mul (placedAt g (r .line) (r .column)) 201000 in
+      record {
+        line = found .line;
+        column = found .column;
+        less = λ _. found .less;
+        dear = omega (arith, found .dear);
+        past = found .past;
+      }
 
-  -- The entry of a place keeps what entries keep, if those before it do.
-  pub entry-entered : (x : ℕ) (r : Place) → entryOf g t i j c ≡ Least x r → Entered i j x r
-  unfolding entryOf search
-  entry-entered x r q = go (eqb (i + j + c) 0) (mayStop g i j c) q
+  -- The entry that a place gets keeps what entries keep, if those before it do.
+  pub entry-entered : (x : ℕ) (r : Place) → newEntry g from t i q c ≡ Least x r → Entered g from i q x r
+  unfolding newEntry search begins
+  entry-entered x r e = go (begins (g .spec .sides) from i q c) refl (mayStop g i q c) e
     where
-      least-start : (x : ℕ) (r : Place) → Least 0 (record { line = 0; column = 0 }) ≡ Least x r → Entered i j x r
-      least-start x r q =
-          let zero-cost : 0 ≡ x = cc in
-          let from : record { line = 0; column = 0 } ≡ r = cc in
-          rw (← from, ← zero-cost) (record { line = omega arith; column = omega arith; less = λ h. h; dear = omega arith })
+      here : begins (g .spec .sides) from i q c ≡ true → (i ≡ from .place .line) × (q ≡ from .place .column)
+      here t =
+          let rest = eqb q (from .place .column) && eqb c (oddly (g .spec .sides) (from .pages)) in
+          (eqb-true i (from .place .line) (and-left (eqb i (from .place .line)) rest t),
+          eqb-true q (from .place .column) (and-left (eqb q (from .place .column)) _ (and-right (eqb i (from .place .line)) rest t)))
 
-      go : (a b : Bool)
-          → pick a (Least 0 (record { line = 0; column = 0 }))
-          (pick b (priced (pageCost g c (full g (place i j)) (place i j)) (bestStart search)) Unreached)
-          ≡ Least x r → Entered i j x r
-      go true b q = least-start x r q
-      go false true q =
-          priced-entered (bestStart search)
-          (best-entered search fill high (side-before (g .spec .sides) c side)) x r q
-      go false false q = let z : _≡_ {A = ℕ} 0 1 = cc in absurd (omega arith)
+      first : (i ≡ from .place .line) × (q ≡ from .place .column) → (x : ℕ) (r : Place) → Least (from .cost) (from .place) ≡ Least x r
+          → Entered g from i q x r
+      first (l, k) x r e =
+          let paid : from .cost ≡ x = cc in
+          let at : from .place ≡ r = cc in
+          rw (← at, ← paid)
+          (record {
+            line = omega arith;
+            column = omega arith;
+            less = λ n. absurd (n (l, k));
+            dear = omega arith;
+            past = rw (l, k) (record { long = refl; under = λ s. le-refl _ });
+          })
+
+      go : (a : Bool) → begins (g .spec .sides) from i q c ≡ a → (b : Bool)
+          → pick a (Least (from .cost) (from .place))
+          (pick b (priced (pageCost g c (full g (placeAt g i q)) (placeAt g i q)) (bestStart search)) Unreached)
+          ≡ Least x r → Entered g from i q x r
+      go true a b e = first (here a) x r e
+      go false a true e = priced-entered (bestStart search) refl x r e
+      go false a false e = absurd (no-reach e)

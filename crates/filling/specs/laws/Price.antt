@@ -4,7 +4,7 @@ use native.Mathlib.Nat.{mul-le-mul}
 use native.Mathlib.Omega.{arith}
 use mathlib.Core.Path.{_≡_}
 use mathlib.Core.Bool.{Bool, _&&_}
-use mathlib.Core.List.{List}
+use mathlib.Core.List.{List, [], _∷_}
 use Rattle.model.specs.Gather.{sum}
 use Rattle.model.specs.Galley.{Sane}
 use Rattle.model.specs.Leaf.{ends, sidesOf}
@@ -18,26 +18,28 @@ use Rattle.galley.specs.Sound.{Sound}
 use Rattle.rules.specs.Waiting.{waits}
 use Rattle.rules.specs.laws.Two.{closes-two, full-two}
 use Rattle.rules.specs.laws.Walked.{waiting-two}
-use Rattle.starts.specs.Search.{place, mayStop}
-use Rattle.starts.specs.Asked.{allPlaced}
-use Rattle.filling.specs.Asked.{priceOf}
+use Rattle.places.specs.Columns.{placeAt}
+use Rattle.starts.specs.Search.{mayStop}
+use Rattle.starts.specs.Read.{allPlaced}
+use Rattle.starts.specs.laws.One.{place-one}
+use Rattle.filling.specs.Next.{priceOf}
 
 module _ (bytes : List ℕ) (g : Galley) (i j c : ℕ) where
   -- Rules 14 and 17.
   pub may-stop-two : mayStop (modelOf bytes g) i j c
-      ≡ (mayEnd (textOf bytes (g .text)) i && cited (modelOf bytes g) c (allPlaced g i j) (place i j))
+      ≡ (mayEnd (textOf bytes (g .text)) i && cited (modelOf bytes g) c (allPlaced g i j) (i ∷ j ∷ []))
   unfolding mayStop full
   may-stop-two =
       let e = closes-two bytes g i j in
       let f = full-two bytes g i j in
-      rw (e, f)
+      rw (place-one bytes g i j, e, f)
 
   -- The price, by two tests: whether the page is the last, and whether it ends its leaf.
   pub price-two : Sane (modelOf bytes g) → (n : ℕ) → n ≡ waits (floatsOf bytes (g .figures)) i j → (last turns : Bool)
       → last ≡ allPlaced g i j → turns ≡ ends (sidesOf (g .spec .sides)) c
-      → pageCost (modelOf bytes g) c (full (modelOf bytes g) (place i j)) (place i j) ≡ priceOf g last turns n
+      → pageCost (modelOf bytes g) c (full (modelOf bytes g) (placeAt (modelOf bytes g) i j)) (placeAt (modelOf bytes g) i j) ≡ priceOf g last turns n
   unfolding pageCost full
-  price-two sane n found last turns e f = rw (full-two bytes g i j, waiting-two bytes g sane i j, ← found, e, f)
+  price-two sane n found last turns e f = rw (place-one bytes g i j, full-two bytes g i j, waiting-two bytes g sane i j, ← found, e, f)
 
 -- No price passes the limit of α·n + β.
 pub dearest-light : (bytes : List ℕ) (g : Galley) → Sound bytes g → dearest (modelOf bytes g) ≤ 201000

@@ -12,8 +12,8 @@ use Rattle.window.specs.declared.queue.Queue.{Queue}
 use Rattle.window.specs.Queue.{linesOf, queueOf, pushed, Advanced}
 use Rattle.window.specs.laws.Held.{held-none, held-same, held-beside}
 use Rattle.window.specs.laws.Pushed.{pushed-length, pushed-own-line, pushed-own-cost, other-line, other-cost}
-use Rattle.starts.specs.Sweep.{sideOf}
-use Rattle.filling.specs.Column.{Holds, Queues}
+use Rattle.starts.specs.Read.{sideOf}
+use Rattle.filling.specs.Next.{Holds, Queues}
 
 abbrev nothing : Window
 nothing = record { low = 0; high = 0 }

@@ -90,7 +90,7 @@ module _ (s : Search) (sought : Sought s) where
       (forward-under (s .galley) (s .line) (s .column) (sought .high) (sought .wide) (s .line) b (le-refl _) (omega arith) under (inl l))
 
   -- What a candidate keeps.
-  candidate-forward : (a b x : ℕ) → Candidate s a b x → forward (s .galley) (placeAt (s .galley) a b) v ≡ true
+  pub candidate-forward : (a b x : ℕ) → Candidate s a b x → forward (s .galley) (placeAt (s .galley) a b) v ≡ true
   unfolding goes
   candidate-forward a b x c = and-left (forward (s .galley) (placeAt (s .galley) a b) (placeAt (s .galley) (s .line) (s .column))) _ (c .page)
 
