@@ -6,3 +6,4 @@ pub mod Price
 pub mod Queues
 pub mod NewEntry
 pub mod Sides
+pub mod Column

@@ -81,7 +81,9 @@ fn new_entry(
 {
     let g = task.galley;
     if is_origin(task, end) {
-        return Entry::Least(task.origin.cost, task.origin.place);
+        let origin = task.origin;
+        let place = origin.place;
+        return Entry::Least(origin.cost, place);
     }
     if !crate::price::may_stop(s, g, end.line, end.column, end.side) {
         return Entry::Unreached;
@@ -89,7 +91,8 @@ fn new_entry(
     let place = places::place_of(end.line, end.column);
     let held = places::entry_of(work, g.text.count + 1, place, end.side);
     let lines = lines_above(s, g, work, sums, words, queue, end);
-    let Entry::Least(x, from) = starts::choice::choose(held, lines) else {
+    let start = starts::choice::choose(held, lines);
+    let Entry::Least(x, from) = start else {
         return Entry::Unreached;
     };
     let price = crate::price::price(g, end.line, end.column, end.side, end.waiting);

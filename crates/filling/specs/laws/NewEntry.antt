@@ -8,6 +8,7 @@ use mathlib.Core.List.{List}
 use borrow.Author.Tests.{le-ltb, eqb-true}
 use lib.Dec.{eqb}
 use Rattle.model.specs.Galley as model
+use Rattle.model.specs.Leaf.{sidesOf}
 use Rattle.model.specs.laws.Gather.{and-left, and-right}
 use Rattle.theorems.specs.turns.Waiting.{pageCost}
 use Rattle.theorems.specs.turns.Bounds.{cost-le}
@@ -26,6 +27,7 @@ use Rattle.window.specs.declared.queue.Queue.{Queue}
 use Rattle.starts.specs.Better.{chosen}
 use Rattle.starts.specs.Search.{Table, before, bestStart, priced, mayStop, begins, newEntry}
 use Rattle.starts.specs.Choice.{Above}
+use Rattle.starts.specs.Beside.{Sought}
 use Rattle.starts.specs.Read.{tableIn, sideOf, searchOf, allPlaced, leastOf, loadOf}
 use Rattle.starts.specs.Sweep.{LinesStand, LastBest}
 use Rattle.starts.specs.laws.One.{placed-one, under-one, sought-one, bears-one}
@@ -87,35 +89,46 @@ module _ {bytes : List ℕ} {g : Galley} {w sums words : List ℕ} {queue : Queu
       (le-ltb (end .column) (end .column) (le-refl _)) (leastOf g true) (ap (leastOf g) (sym full))) (found .window)
       (rw last (found .opens (textOf bytes (g .text)) (above .summed .rows))) lines (found .best)
 
+-- The entry from what is known of its starts: of those in earlier columns, and of the lines above.
 module _ {bytes : List ℕ} {task : Task} {w sums words : List ℕ} {queue : Queue} {end : End}
-    (next : EntryNext bytes task w sums words queue end) where
-  -- The better of the best start in an earlier column and of the lines above is the best start.
-  pub entry-start : (lines : Entry) → Best (StartsFor bytes (task .galley) w end (Above (end .column) (end .line))) lines
-      → chosen (tableIn (task .galley) w (end .line) (end .column) (end .side)) lines
-      ≡ bestStart (searchOf bytes (task .galley) w (end .line) (end .column) (sideOf (task .galley) (end .side)))
-  entry-start lines best =
-      let g = task .galley in
-      start-chosen (searchOf bytes g w (end .line) (end .column) (sideOf g (end .side)))
-      (sought-one bytes g w (end .line) (end .column) (sideOf g (end .side)) (lent-placed (next .next .lent) (end .line) (next .ending .line)))
-      (tableIn g w (end .line) (end .column) (end .side)) lines (next .known) best
+    (next : EntryNext bytes task w sums words queue end) (lines : Entry)
+    (best : Best (StartsFor bytes (task .galley) w end (Above (end .column) (end .line))) lines) (e : Entry)
+    (told : e ≡ chosen (tableIn (task .galley) w (end .line) (end .column) (end .side)) lines) where
+  abbrev g : Galley
+  g = task .galley
 
-  -- The cost of a start and the price of the page are a word.
-  pub cost-low : (x : ℕ) (r : Place)
-      → bestStart (searchOf bytes (task .galley) w (end .line) (end .column) (sideOf (task .galley) (end .side))) ≡ Least x r
-      → x
-      + pageCost (modelOf bytes (task .galley)) (end .side)
-      (full (modelOf bytes (task .galley)) (placeAt (modelOf bytes (task .galley)) (end .line) (end .column)))
-      (placeAt (modelOf bytes (task .galley)) (end .line) (end .column))
-      ≤ 2000000000
-  cost-low x r e =
-      let g = task .galley in
+  abbrev v : model.Place
+  v = placeAt (modelOf bytes (task .galley)) (end .line) (end .column)
+
+  sought : Sought (searchOf bytes (task .galley) w (end .line) (end .column) (sideOf (task .galley) (end .side)))
+  sought =
+      sought-one bytes g w (end .line) (end .column) (sideOf g (end .side)) (lent-placed (next .next .lent) (end .line) (next .ending .line))
+
+  -- The better of the two is the best start,
+  start-told : bestStart (searchOf bytes (task .galley) w (end .line) (end .column) (sideOf (task .galley) (end .side))) ≡ e
+  start-told =
+      sym
+      (told
+      ∙ start-chosen (searchOf bytes g w (end .line) (end .column) (sideOf g (end .side))) sought
+      (tableIn g w (end .line) (end .column) (end .side)) lines (next .known) best)
+
+  -- so that the entry is that with the price of the page,
+  pub entry-told : begins (sidesOf (task .galley .spec .sides)) (task .origin) (end .line) (end .column) (end .side) ≡ false
+      → mayStop (modelOf bytes (task .galley)) (end .line) (end .column) (end .side) ≡ true
+      → newEntry (modelOf bytes (task .galley)) (task .origin) (tableIn (task .galley) w) (end .line) (end .column) (end .side)
+      ≡ priced (pageCost (modelOf bytes (task .galley)) (end .side) (full (modelOf bytes (task .galley)) v) v) e
+  entry-told later may =
+      entry-priced (modelOf bytes g) (task .origin) (tableIn g w) (end .line) (end .column) (end .side) later may e start-told
+
+  -- and their sum is a word.
+  pub cost-low : (x : ℕ) (r : Place) → e ≡ Least x r
+      → x + pageCost (modelOf bytes (task .galley)) (end .side) (full (modelOf bytes (task .galley)) v) v ≤ 2000000000
+  cost-low x r is =
       let m = modelOf bytes g in
-      let v = placeAt m (end .line) (end .column) in
       let sound = next .next .lent .sound in
       let start =
-      best-entered (searchOf bytes g w (end .line) (end .column) (sideOf g (end .side))) (task .origin)
-      (sought-one bytes g w (end .line) (end .column) (sideOf g (end .side)) (lent-placed (next .next .lent) (end .line) (next .ending .line)))
-      (next .next .filled) (side-before (m .spec .sides) (end .side) (next .side)) x r e in
+      best-entered (searchOf bytes g w (end .line) (end .column) (sideOf g (end .side))) (task .origin) sought (next .next .filled)
+      (side-before (m .spec .sides) (end .side) (next .side)) x r (start-told ∙ is) in
       omega (arith, start .less, start .dear, cost-le m (end .side) (full m v) v, dearest-light bytes g sound,
       placed-one bytes g (end .line) (end .column), next .next .cheap, next .ending .line, next .next .lent .column, sound .fewLines,
       sound .fewFigures)
