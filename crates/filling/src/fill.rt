@@ -14,14 +14,7 @@ use window::slide::Window;
 
 // The places of column j, from no line to all lines, each of which holds its best start in an earlier column. A start in the column
 // itself has its entry there by the time that a queue takes it up.
-fn last_sweep(
-    s: &[u8],
-    task: Task,
-    work: &mut [u32],
-    sums: &[u32],
-    words: &mut [u32],
-    j: usize,
-)
+fn last_sweep(s: &[u8], task: Task, work: &mut [u32], sums: &[u32], words: &mut [u32], j: usize)
     requires { ⌜ LastNext (now s) task (now work) (now sums) (now words) j ⌝ }
     ensures { λ _. ⌜ now (work .exit) ≡ fillColumn (modelOf (now (s .entry)) (task .galley)) (task .origin) j (suc (task .galley .text .count)) 0 (now (work .entry)) ⌝ }
 {
@@ -49,14 +42,7 @@ fn last_sweep(
 }
 
 // Column j: first the starts in the columns before it, then those in the column itself.
-fn fill_column(
-    s: &[u8],
-    task: Task,
-    work: &mut [u32],
-    sums: &[u32],
-    words: &mut [u32],
-    j: usize,
-)
+fn fill_column(s: &[u8], task: Task, work: &mut [u32], sums: &[u32], words: &mut [u32], j: usize)
     requires { ⌜ ColumnNext (now s) task (now work) (now sums) (now words) j ⌝ }
     ensures { λ _. ⌜ now (work .exit) ≡ fillColumn (modelOf (now (s .entry)) (task .galley)) (task .origin) j (suc (task .galley .text .count)) 0 (now (work .entry)) ⌝ }
 {

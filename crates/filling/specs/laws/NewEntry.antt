@@ -129,6 +129,16 @@ module _ {bytes : List ℕ} {task : Task} {w sums words : List ℕ} {queue : Que
       let start =
       best-entered (searchOf bytes g w (end .line) (end .column) (sideOf g (end .side))) (task .origin) sought (next .next .filled)
       (side-before (m .spec .sides) (end .side) (next .side)) x r (start-told ∙ is) in
-      omega (arith, start .less, start .dear, cost-le m (end .side) (full m v) v, dearest-light bytes g sound,
-      placed-one bytes g (end .line) (end .column), next .next .cheap, next .ending .line, next .next .lent .column, sound .fewLines,
-      sound .fewFigures)
+      omega (
+        arith,
+        start .less,
+        start .dear,
+        cost-le m (end .side) (full m v) v,
+        dearest-light bytes g sound,
+        placed-one bytes g (end .line) (end .column),
+        next .next .cheap,
+        next .ending .line,
+        next .next .lent .column,
+        sound .fewLines,
+        sound .fewFigures,
+      )
