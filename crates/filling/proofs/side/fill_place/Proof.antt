@@ -1,73 +1,70 @@
+-- `fill_place` meets its contract. The loop's invariant is `SidesRun`: the sides before c are filled.
+use Prim.Native.Nat.{_-_, _≤_}
+use native.Mathlib.Omega.{arith}
+use Rattle.filling.specs.Run.{SidesRun}
+use Rattle.filling.specs.laws.Sides.{sides-first, sides-last, sides-side, sides-small, sides-next}
 use borrow.Author.Needs.{needs}
 use Rattle.filling.proofs.side.fill_place.Statement.{statement}
 use Rattle.filling.proofs.side.fill_place.Tie as tie
-use Rattle.filling.proofs.side.fill_place.Reads as reads
-use Rattle.filling.proofs.side.fill_place.Lts as lts
-use Rattle.filling.proofs.side.fill_side.Reads as fill-side-reads
-use Rattle.window.proofs.queue.push.Reads as push-reads
-use Rattle.window.proofs.queue.queue_of.Reads as queue-of-reads
 
 abbrev Inv-loop : tie.InvT-loop
-Inv-loop s task work₀ sums words₀ ends₀ windows end c₀ work words ends c = ?
+Inv-loop s task work₀ sums words₀ ends₀ windows end c₀ work words ends c = SidesRun s task work₀ work words₀ words ends₀ ends windows end c
 
 abbrev μ-loop : tie.MeasureT-loop
-μ-loop s task work₀ sums words₀ ends₀ windows end c₀ work words ends c = ?
+μ-loop s task work₀ sums words₀ ends₀ windows end c₀ work words ends c = task .galley .spec .sides - c
 
--- src/side.rt:149:5
 loop-holds : tie.Need-loop-holds Inv-loop μ-loop
-loop-holds c = search needs
+loop-holds c = sides-first (c .before .before .before .before .before .pre)
 
--- src/side.rt:149:15
-cast-if1 : tie.Need-cast-if1 Inv-loop μ-loop
-cast-if1 c = search needs
+-- A side that occurs is 0 or 1, and its queue's ends have their words.
+either : (c : tie.Then1 Inv-loop μ-loop) → c .before .before .loop .c ≤ 1
+either c =
+    omega (arith, c .before .before .before .before .before .before .before .before .pre .next .lent .sound .specRanged .sidesTwo, c .if1 .taken)
 
--- src/side.rt:156:13
 queue-of-requires : tie.Need-queue-of-requires Inv-loop μ-loop
-queue-of-requires c κs = search needs
+queue-of-requires c κs =
+    let low = either (c .before) in
+    (omega (arith, c .before .before .before .loop .inv .queued .pair), low)
 
--- src/side.rt:157:13
 fill-side-requires : tie.Need-fill-side-requires Inv-loop μ-loop
-fill-side-requires c κs = search needs
+fill-side-requires c κs =
+    let inside = c .before .before .before .before in
+    rw (c .before .before .queue-of .ensures)
+    (sides-side (inside .before .before .before .before .before .before .before .before .pre) (inside .before .before .loop .inv) (inside .if1 .taken))
 
--- src/side.rt:158:38
+small : (c : tie.After-fill-side Inv-loop μ-loop) → (c .fill-side .result .head ≤ 8000) × (c .fill-side .result .tail ≤ 8000)
+small c =
+    let inside = c .before .before .before .before .before in
+    sides-small (inside .before .before .before .before .before .before .before .before .pre) (inside .before .before .loop .inv)
+    (inside .if1 .taken) _ (c .fill-side .result) (rw (c .before .before .before .queue-of .ensures) at (c .fill-side .ensures .advanced))
+
 cast-push : tie.Need-cast-push Inv-loop μ-loop
-cast-push c = search needs
+cast-push c = omega (arith, small (c .before .before .before .before .before .before) .0)
 
--- src/side.rt:158:57
 cast-push-2 : tie.Need-cast-push-2 Inv-loop μ-loop
-cast-push-2 c = search needs
+cast-push-2 c = omega (arith, small (c .before .before .before .before .before .before .before) .1)
 
--- src/side.rt:158:9
 push-requires : tie.Need-push-requires Inv-loop μ-loop
-push-requires c κs = search needs
+push-requires c κs =
+    let inside = c .before .before .before .before .before .before .before .before .before .before .before .before in
+    omega (arith, either inside, inside .before .before .loop .inv .queued .pair)
 
--- src/side.rt:159:9
 add-c : tie.Need-add-c Inv-loop μ-loop
-add-c c = search needs
+add-c c = omega (arith, either (c .before .before .before .before .before .before .before .before .before .before .before .before .before .before .before))
 
--- src/side.rt:149:5
-loop-less : tie.Need-loop-less Inv-loop μ-loop
-loop-less c = search needs
-
--- src/side.rt:149:5
 loop-again : tie.Need-loop-again Inv-loop μ-loop
-loop-again c = search needs
+loop-again c =
+    let filled = c .before .before .before .before .before .before .before .before .before .before in
+    let inside = filled .before .before .before .before .before in
+    rw (c .before .before .push .ensures)
+    (sides-next (inside .before .before .before .before .before .before .before .before .pre) (inside .before .before .loop .inv)
+    (inside .if1 .taken) _ _
+    (search (needs, c .before .before .before .before .before .before .slice-known5 .given, c .before .before .before .before .before .before .before .words .given))
+    (filled .fill-side .result) (rw (filled .before .before .before .queue-of .ensures) at (filled .fill-side .ensures)))
 
--- src/side.rt:135:1
-same-length : tie.Need-same-length Inv-loop μ-loop
-same-length c = search needs
-
--- src/side.rt:135:1
-same-length-2 : tie.Need-same-length-2 Inv-loop μ-loop
-same-length-2 c = search needs
-
--- src/side.rt:135:1
-same-length-3 : tie.Need-same-length-3 Inv-loop μ-loop
-same-length-3 c = search needs
-
--- src/side.rt:135:1
 returns : tie.Need-returns Inv-loop μ-loop
-returns c = search needs
+returns c =
+    sides-last (c .before .before .before .before .before .before .before .before .pre) (c .before .before .loop .inv) (c .if1 .left)
 
 pub fill-place-spec : {M : Type 1} → statement M
 fill-place-spec =
@@ -76,16 +73,16 @@ fill-place-spec =
     Inv-loop
     μ-loop
     loop-holds
-    cast-if1
+    (λ c. search needs)
     queue-of-requires
     fill-side-requires
     cast-push
     cast-push-2
     push-requires
     add-c
-    loop-less
+    (λ c. search needs)
     loop-again
-    same-length
-    same-length-2
-    same-length-3
+    (λ c. search needs)
+    (λ c. search needs)
+    (λ c. search needs)
     returns)

@@ -1,60 +1,61 @@
+-- `fill_side` meets its contract: the queue moves on by `advance`, and the entry is stored at its place.
+use mathlib.Core.Path.{_∙_}
+use native.Mathlib.Omega.{arith}
+use Rattle.starts.specs.laws.Lending.{can-stand}
+use Rattle.filling.specs.Fill.{tall, fillSide}
+use Rattle.filling.specs.laws.Sides.{side-either-here, side-feeds, side-entry}
 use borrow.Author.Needs.{needs}
 use Rattle.filling.proofs.side.fill_side.Statement.{statement}
 use Rattle.filling.proofs.side.fill_side.Tie as tie
-use Rattle.filling.proofs.side.fill_side.Reads as reads
-use Rattle.filling.proofs.side.fill_side.Lts as lts
-use Rattle.filling.proofs.side.new_entry.Reads as new-entry-reads
-use Rattle.places.proofs.place_of.Reads as place-of-reads
-use Rattle.places.proofs.store.Reads as store-reads
-use Rattle.starts.proofs.read.side_before.Reads as side-before-reads
-use Rattle.window.proofs.queue.advance.Reads as advance-reads
 
--- src/side.rt:116:16
-add-tall : tie.Need-add-tall
-add-tall c = search needs
-
--- src/side.rt:117:9
-side-before-requires : tie.Need-side-before-requires
-side-before-requires c κs = search needs
-
--- src/side.rt:118:9
 advance-requires : tie.Need-advance-requires
-advance-requires c κs = search needs
+advance-requires c κs =
+    rw (c .before .before .side-before .ensures) (side-feeds (c .before .before .before .before .before .before .before .before .pre))
 
--- src/side.rt:128:9
 new-entry-requires : tie.Need-new-entry-requires
-new-entry-requires c κs = search needs
+new-entry-requires c κs =
+    let moved = c .before .before .before .before in
+    let sided = moved .before .before .before in
+    side-entry (sided .before .before .before .before .before .before .pre) _
+    (search (needs, c .before .before .slice-known3 .given, c .before .before .before .words .given)) (moved .advance .result)
+    (rw (← sided .side-before .ensures) (moved .advance .ensures))
 
--- src/side.rt:129:9
 place-of-requires : tie.Need-place-of-requires
-place-of-requires c κs = search needs
+place-of-requires c κs =
+    let next = c .before .before .before .before .before .before .before .before .before .before .before .before .before .before .pre in
+    record {
+      lines = omega (arith, next .ending .line, next .next .lent .sound .fewLines);
+      figures = omega (arith, next .next .lent .column, next .next .lent .sound .fewFigures);
+    }
 
--- src/side.rt:130:5
 store-requires : tie.Need-store-requires
-store-requires c κs = search needs
+store-requires c κs =
+    let start = c .before .before .before .before .before .before .before .before .before .before .before .before .before .before .before .before in
+    let e = start .args .end in
+    rw (c .before .place-of .ensures)
+    (can-stand (start .pre .next .lent) (e .line) (e .column) (e .side) (start .pre .ending .line) (start .pre .next .lent .column)
+    (side-either-here (start .pre)))
 
--- src/side.rt:103:1
-same-length : tie.Need-same-length
-same-length c = search needs
-
--- src/side.rt:103:1
-same-length-2 : tie.Need-same-length-2
-same-length-2 c = search needs
-
--- src/side.rt:103:1
 returns : tie.Need-returns
-returns c = search needs
+unfolding fillSide tall
+returns c =
+    let placed = c .before .before .before .before in
+    let moved = placed .before .before .before .before .before .before in
+    record {
+      filled = c .before .before .store .ensures ∙ rw (placed .place-of .ensures, placed .before .new-entry .ensures);
+      advanced = rw (← moved .before .before .before .side-before .ensures) (moved .advance .ensures);
+    }
 
 pub fill-side-spec : {M : Type 1} → statement M
 fill-side-spec =
     tie.close
     (tie.spec
-    add-tall
-    side-before-requires
+    (λ c. search needs)
+    (λ c κs. search needs)
     advance-requires
     new-entry-requires
     place-of-requires
     store-requires
-    same-length
-    same-length-2
+    (λ c. search needs)
+    (λ c. search needs)
     returns)
