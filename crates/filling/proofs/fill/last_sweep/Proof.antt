@@ -23,8 +23,9 @@ loop-holds c = last-first (c .before .before .before .before .before .before .be
 slide-requires : tie.Need-slide-requires Inv-loop μ-loop
 slide-requires c κs =
     let load = c .before .before .before .before in
-    rw (load .load-of .ensures, load .before .least-of .ensures)
-    (last-slides (load .before .before .before .before .before .before .before .pre) (c .before .before .before .loop .inv)
+    let start = load .before .before .before .before .before .before .before in
+    rw (load .load-of .ensures, load .before .floor-of .ensures (start .args .s .now))
+    (last-slides (start .pre) (c .before .before .before .loop .inv)
     (omega (arith, c .before .if1 .taken)))
 
 -- The window is moved on under the load of pages of lines alone.
@@ -34,7 +35,8 @@ slid : (c : tie.After-slide Inv-loop μ-loop)
     (c .before .before .before .before .loop .span) (c .before .before .before .before .loop .i) (c .slide .result)
 slid c =
     let load = c .before .before .before .before .before in
-    rw (load .load-of .ensures, load .before .least-of .ensures) at (c .slide .ensures)
+    let start = load .before .before .before .before .before .before .before in
+    rw (load .load-of .ensures, load .before .floor-of .ensures (start .args .s .now)) at (c .slide .ensures)
 
 fill-place-requires : tie.Need-fill-place-requires Inv-loop μ-loop
 fill-place-requires c κs =
