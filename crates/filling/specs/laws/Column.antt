@@ -1,5 +1,5 @@
 -- The lines of a column one after another, and the columns: what is left makes of the words what the whole makes of those at the start.
-use Prim.Native.Nat.{ℕ, zero, suc, _+_, _-_, _*_, _≤_, _<_}
+use Prim.Native.Nat.{ℕ, suc, _+_, _-_, _*_, _≤_, _<_}
 use native.Mathlib.Numerals.{add-one}
 use native.Mathlib.Omega.{arith}
 use mathlib.Core.Path.{_≡_, refl, sym, _∙_, ap}
@@ -27,9 +27,7 @@ use Rattle.starts.specs.laws.Pass.{least-low}
 use Rattle.starts.specs.laws.Cells.{scratched-length}
 use Rattle.starts.specs.laws.Lending.{lent-sized, can-slide}
 use Rattle.filling.specs.declared.side.Task.{Task}
-use Rattle.filling.specs.declared.side.Windows.{Windows}
-use Rattle.filling.specs.Fill.{tall, fillPlace, fillColumn, fillColumns, filled}
-use Rattle.filling.specs.Filled.{Side}
+use Rattle.filling.specs.Fill.{tall, fillColumn, fillColumns, filled}
 use Rattle.filling.specs.Next.{Next, plain, PlaceNext, PlaceFilled, ColumnNext, LastNext, TableNext}
 use Rattle.filling.specs.Run.{LastRun, ColumnsRun}
 use Rattle.filling.specs.laws.Entered.{side-low}

@@ -1,14 +1,14 @@
 -- The entry that a place gets, by what the code has tested: where the search begins, where no page may end, and from its best start.
-use Prim.Native.Nat.{ℕ, _+_, _*_, _≤_, _<_}
+use Prim.Native.Nat.{ℕ, _+_, _≤_}
 use native.Mathlib.Nat.{le-refl}
 use native.Mathlib.Omega.{arith}
-use mathlib.Core.Path.{_≡_, refl, sym, _∙_, ap}
+use mathlib.Core.Path.{_≡_, sym, _∙_, ap}
 use mathlib.Core.Bool.{true, false}
 use mathlib.Core.List.{List}
 use borrow.Author.Tests.{le-ltb, eqb-true}
 use lib.Dec.{eqb}
 use Rattle.model.specs.Galley as model
-use Rattle.model.specs.laws.Gather.{and-left, and-right}
+use Rattle.model.specs.laws.Gather.{and-left}
 use Rattle.theorems.specs.turns.Waiting.{pageCost}
 use Rattle.theorems.specs.turns.Bounds.{cost-le}
 use Rattle.theorems.specs.pages.Graph.{full}

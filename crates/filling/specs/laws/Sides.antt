@@ -10,7 +10,7 @@ use borrow.Author.Tests.{le-ltb}
 use Rattle.model.specs.Leaf.{sidesOf}
 use Rattle.model.specs.Rules.{floor}
 use Rattle.galley.specs.declared.Galley.{Galley}
-use Rattle.galley.specs.Model.{textOf, modelOf, sidesIn}
+use Rattle.galley.specs.Model.{modelOf, sidesIn}
 use Rattle.blocks.specs.Heights.{noHeights}
 use Rattle.places.specs.Columns.{columns, floatSizes}
 use Rattle.places.specs.laws.Address.{area-needed}
@@ -157,9 +157,6 @@ module _ {bytes : List ℕ} {task : Task} {w₀ sums words₀ ends₀ : List ℕ
 
       lent : Lent bytes (task .galley) w (end .column)
       lent = lent-sized w (run .sized) (next .next .lent)
-
-      abbrev here : End
-      here = record { line = end .line; column = end .column; side = c; waiting = end .waiting }
 
       -- The next side can be filled.
       pub sides-side : SideNext bytes task w sums words (queueOf ends c) windows

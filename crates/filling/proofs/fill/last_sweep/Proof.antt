@@ -49,8 +49,11 @@ fill-place-requires c κs =
 add-i : tie.Need-add-i Inv-loop μ-loop
 add-i c =
     let inside = c .before .before .before .before .before .before .before .before .before .before .before in
-    omega (arith, inside .if1 .taken,
-    inside .before .before .before .before .before .before .before .before .before .before .pre .column .next .lent .sound .fewLines)
+    omega (
+      arith,
+      inside .if1 .taken,
+      inside .before .before .before .before .before .before .before .before .before .before .pre .column .next .lent .sound .fewLines,
+    )
 
 loop-again : tie.Need-loop-again Inv-loop μ-loop
 loop-again c =
