@@ -1,14 +1,163 @@
--- What the functions of the filling ask for.
-use Prim.Native.Nat.{ℕ, _≤_}
+-- What the functions of the filling ask for: what is filled, and what comes next; and what they leave.
+use Prim.Native.Nat.{ℕ, _+_, _*_, _≤_, _<_}
+use mathlib.Core.Path.{_≡_}
+use mathlib.Core.Bool.{Bool, false}
 use mathlib.Core.List.{List}
 use lib.ListN.{length}
+use Rattle.model.specs.Gather.{pick}
 use Rattle.galley.specs.declared.Galley.{Galley}
+use Rattle.galley.specs.Model.{textOf, floatsOf, modelOf}
 use Rattle.galley.specs.Sound.{Sound}
+use Rattle.blocks.specs.Heights.{noHeights}
+use Rattle.rules.specs.Waiting.{waits}
 use Rattle.places.specs.declared.Origin.{Origin}
 use Rattle.places.specs.Address.{wordsNeeded}
+use Rattle.places.specs.Best.{Best}
+use Rattle.window.specs.declared.slide.Load.{Load}
+use Rattle.window.specs.declared.slide.Window.{Window}
+use Rattle.window.specs.declared.queue.Queue.{Queue}
+use Rattle.window.specs.Slide.{Open}
+use Rattle.window.specs.Queue.{linesOf, frontOf, queueOf, Held, FrontAsked, Advanced}
+use Rattle.starts.specs.Choice.{Starts, Above, Between}
+use Rattle.starts.specs.Read.{tableIn, sideOf, searchOf, allPlaced, loadOf, Placed}
+use Rattle.starts.specs.Sweep.{Lent, Scratch, Summed, Knows, Known}
+use Rattle.filling.specs.declared.side.Task.{Task}
+use Rattle.filling.specs.declared.side.End.{End}
+use Rattle.filling.specs.declared.side.Windows.{Windows}
+use Rattle.filling.specs.Fill.{fillSide, fillPlace}
+use Rattle.filling.specs.Filled.{Side, Filled}
+
+-- A page on side c ends at (i, j).
+pub record Stopping (bytes : List ℕ) (g : Galley) (i j c : ℕ) : Type 0 where
+  pub placed : Placed bytes g i j
+  pub either : c ≤ 1
+
+-- Weights and figures that keep a price within a word.
+pub record Priceable (g : Galley) (c waiting : ℕ) : Type 0 where
+  pub alphas : g .spec .alpha ≤ 1000
+  pub betas : g .spec .beta ≤ 1000
+  pub either : c ≤ 1
+  pub few : waiting ≤ 200
+  pub folio : 1 ≤ g .folio
+
+-- What a page costs that ends where `last` and `ends` say, with so many figures waiting.
+abbrev pub priceOf : Galley → Bool → Bool → ℕ → ℕ
+priceOf g last ends waiting = pick last 0 (pick ends (g .spec .alpha * waiting + g .spec .beta) 0)
+
+-- The entries before (i, j) are filled, from an origin at which little was paid.
+pub record Next (bytes : List ℕ) (task : Task) (w : List ℕ) (i j : ℕ) : Type 0 where
+  pub lent : Lent bytes (task .galley) w j
+  pub cheap : task .origin .cost ≤ 1000000000
+  pub filled : Filled (modelOf bytes (task .galley)) (task .origin) (tableIn (task .galley) w) i j
+
+-- A page ends at a place of the galley, where so many figures wait.
+pub record Ending (bytes : List ℕ) (g : Galley) (end : End) : Type 0 where
+  pub line : end .line ≤ g .text .count
+  pub found : end .waiting ≡ waits (floatsOf bytes (g .figures)) (end .line) (end .column)
+
+-- The load of a page of lines alone: nothing beside them.
+abbrev pub plain : Galley → Load
+plain g = loadOf g false noHeights (g .spec .htmin)
+
+-- What is known of the starts of a page that ends at a place, on a side.
+abbrev pub StartsFor : List ℕ → Galley → List ℕ → End → (ℕ → ℕ → Type 0) → ℕ → ℕ → ℕ → Type 0
+StartsFor bytes g w end P = Starts (searchOf bytes g w (end .line) (end .column) (sideOf g (end .side))) P
+
+-- The lines above in the column can be weighed, and the first of the queue is the best of them but for the last page.
+pub record LinesAbove (bytes : List ℕ) (g : Galley) (w sums words : List ℕ) (queue : Queue) (end : End) : Type 0 where
+  pub lent : Lent bytes g w (end .column)
+  pub line : end .line ≤ g .text .count
+  pub side : end .side ≤ 1
+  pub summed : Summed bytes g sums
+  pub front : FrontAsked words queue (end .column)
+  pub best : allPlaced g (end .line) (end .column) ≡ false
+      → Best (StartsFor bytes g w end (Above (end .column) (end .line))) (frontOf words queue (end .column))
+
+-- The entry of a place on a side comes next.
+pub record EntryNext (bytes : List ℕ) (task : Task) (w sums words : List ℕ) (queue : Queue) (end : End) : Type 0 where
+  pub next : Next bytes task w (end .line) (end .column)
+  pub ending : Ending bytes (task .galley) end
+  pub side : Side (modelOf bytes (task .galley) .spec .sides) (end .side)
+  pub above : LinesAbove bytes (task .galley) w sums words queue end
+  pub known : Knows bytes (task .galley) w (end .line) (end .column) (end .side) (Between 0 (end .column))
+
+-- The windows of line i, for pages of lines alone.
+pub record Slides (bytes : List ℕ) (g : Galley) (windows : Windows) (i : ℕ) : Type 0 where
+  pub low : windows .from .low ≤ windows .to .low
+  pub high : windows .from .high ≤ windows .to .high
+  pub opened : Open (textOf bytes (g .text)) (plain g) (windows .to) i
+
+-- One side of a place comes next: its words hold the best start in an earlier column, and its queue the starts above.
+pub record SideNext (bytes : List ℕ) (task : Task) (w sums words : List ℕ) (queue : Queue) (windows : Windows) (end : End)
+    : Type 0 where
+  pub next : Next bytes task w (end .line) (end .column)
+  pub ending : Ending bytes (task .galley) end
+  pub summed : Summed bytes (task .galley) sums
+  pub scratch : Scratch words
+  pub slides : Slides bytes (task .galley) windows (end .line)
+  pub occurs : end .side < task .galley .spec .sides
+  pub based : queue .base ≤ 4000
+  pub held : Held (linesOf w (task .galley .text .count + 1) (end .column) (sideOf (task .galley) (end .side))) words queue
+      (windows .from .low) (windows .from .high)
+  pub known : Knows bytes (task .galley) w (end .line) (end .column) (end .side) (Between 0 (end .column))
+
+-- It is filled, and its queue has moved on.
+pub record SideFilled (bytes : List ℕ) (task : Task) (w v words words′ : List ℕ) (queue : Queue) (windows : Windows) (end : End)
+    (r : Queue) : Type 0 where
+  pub filled : v ≡ fillSide (modelOf bytes (task .galley)) (task .origin) (end .line) (end .column) (end .side) w
+  pub advanced : Advanced w (task .galley .text .count + 1) (end .column) (sideOf (task .galley) (end .side)) words queue
+      (windows .from .high) (windows .to) r words′
+
+-- The queue of side c holds the lines of column b in a window.
+abbrev pub Holds : Galley → List ℕ → List ℕ → List ℕ → ℕ → Window → ℕ → Type 0
+Holds g w words ends b window c =
+    Held (linesOf w (g .text .count + 1) b (sideOf g c)) words (queueOf ends c) (window .low) (window .high)
+
+-- The queues of the sides before n are those of the window `new`, the others those of `old`.
+pub record Queues (g : Galley) (w words ends : List ℕ) (b : ℕ) (old new : Window) (n : ℕ) : Type 0 where
+  pub pair : length ends ≡ 4
+  pub moved : (c : ℕ) → c < n → c < g .spec .sides → Holds g w words ends b new c
+  pub still : (c : ℕ) → n ≤ c → c < g .spec .sides → Holds g w words ends b old c
+
+-- The places of column j come line by line and side by side: those from number n on hold their best starts in earlier columns.
+abbrev pub Waits : List ℕ → Galley → List ℕ → ℕ → ℕ → Type 0
+Waits bytes g w j n = (k c : ℕ) → k ≤ g .text .count → c < g .spec .sides → n ≤ 2 * k + c → Knows bytes g w k j c (Between 0 j)
+
+-- The sides of a place come next.
+pub record PlaceNext (bytes : List ℕ) (task : Task) (w sums words ends : List ℕ) (windows : Windows) (end : End) : Type 0 where
+  pub next : Next bytes task w (end .line) (end .column)
+  pub ending : Ending bytes (task .galley) end
+  pub summed : Summed bytes (task .galley) sums
+  pub scratch : Scratch words
+  pub slides : Slides bytes (task .galley) windows (end .line)
+  pub queued : Queues (task .galley) w words ends (end .column) (windows .from) (windows .to) 0
+  pub waits : Waits bytes (task .galley) w (end .column) (2 * end .line)
+
+-- All are filled.
+pub record PlaceFilled (bytes : List ℕ) (task : Task) (w v words ends : List ℕ) (windows : Windows) (end : End) : Type 0 where
+  pub filled : v ≡ fillPlace (modelOf bytes (task .galley)) (task .origin) (end .line) (end .column) w
+  pub queued : Queues (task .galley) v words ends (end .column) (windows .to) (windows .to) 0
+  pub waits : Waits bytes (task .galley) v (end .column) (2 * end .line + 2)
+
+-- Column j comes next.
+pub record ColumnNext (bytes : List ℕ) (task : Task) (w sums words : List ℕ) (j : ℕ) : Type 0 where
+  pub next : Next bytes task w 0 j
+  pub summed : Summed bytes (task .galley) sums
+  pub scratch : Scratch words
+
+-- Its starts in earlier columns are known.
+pub record LastNext (bytes : List ℕ) (task : Task) (w sums words : List ℕ) (j : ℕ) : Type 0 where
+  pub column : ColumnNext bytes task w sums words j
+  pub known : Known bytes (task .galley) w j 0
 
 -- A galley that was read, an origin at which little was paid, and a work area as long as document 01 asks.
 pub record Fillable (bytes : List ℕ) (g : Galley) (from : Origin) (w : List ℕ) : Type 0 where
   pub sound : Sound bytes g
   pub cheap : from .cost ≤ 1000000000
   pub room : wordsNeeded (g .text .count) (g .figures .count) ≤ length w
+
+-- The table comes next: with the sums of the lines, and room for two queues.
+pub record TableNext (bytes : List ℕ) (task : Task) (w sums words : List ℕ) : Type 0 where
+  pub fillable : Fillable bytes (task .galley) (task .origin) w
+  pub summed : Summed bytes (task .galley) sums
+  pub scratch : Scratch words

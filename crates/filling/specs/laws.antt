@@ -2,3 +2,8 @@
 pub mod Entered
 pub mod Fill
 pub mod Over
+pub mod Price
+pub mod Queues
+pub mod NewEntry
+pub mod Sides
+pub mod Column

@@ -1,1 +1,75 @@
-// Making.
+// Making: the pagination with the fewest turns, for any bytes and any lent memory. Document 01, "Making".
+ghost use mathlib.Core.Path.{_≡_};
+ghost use Rattle.making.specs.Make.{Made};
+ghost use Rattle.making.specs.Solved.{nothingYet, Readable, Solved, Written};
+use galley::Galley;
+use galley::Reading;
+use model::answer::Answer;
+use places::Origin;
+use places::Place;
+
+// Where making begins: nothing is placed, there is no page yet, and nothing is paid.
+fn beginning() -> Origin
+    ensures { λ r. ⌜ r ≡ nothingYet ⌝ }
+{
+    Origin {
+        place: Place { line: 0, column: 0 },
+        pages: 0,
+        cost: 0,
+    }
+}
+
+// The best list out of a filled work area: written to the page list, and counted by marking it.
+fn best_pages(s: &[u8], g: Galley, origin: Origin, work: &[u32], pages: &mut [u32]) -> Answer
+    requires { ⌜ Solved (now s) g origin (now work) (now pages) ⌝ }
+    ensures { λ r. ⌜ Written (now (s .entry)) g (now (pages .entry)) r (now (pages .exit)) ⌝ }
+{
+    let last = walk::last_stop(g, work);
+    if !walk::reached(g, work, last) {
+        return Answer::Refused {
+            number: 11,
+            place: 0,
+        };
+    }
+    let p = walk::count_pages(g, work, origin, last);
+    walk::write_pages(g, work, last, p, pages);
+    let words = 2 * p;
+    marking::mark(s, &pages[..words])
+}
+
+// A galley that was read, made where the lent memory is long enough: 9, then 10.
+fn make_read(s: &[u8], g: Galley, origin: Origin, work: &mut [u32], pages: &mut [u32]) -> Answer
+    requires { ⌜ Readable (now s) g origin ⌝ }
+    ensures { λ r. ⌜ Made (now (s .entry)) (now (work .entry)) (now (pages .entry)) r (now (work .exit)) (now (pages .exit)) ⌝ }
+{
+    let needed = places::words_needed(g.text.count, g.figures.count);
+    let room = 2 * (g.text.count + g.figures.count);
+    if work.len() < needed {
+        return Answer::Refused {
+            number: 9,
+            place: needed as u32,
+        };
+    }
+    if pages.len() < room {
+        return Answer::Refused {
+            number: 10,
+            place: room as u32,
+        };
+    }
+    filling::fill::fill(s, g, origin, work);
+    let answer = best_pages(s, g, origin, work, pages);
+    places::clear(work, needed);
+    answer
+}
+
+// The best pages of the galley that any bytes hold, or one refusal. Nothing that the work area holds beforehand matters.
+pub fn make(galley: &[u8], work: &mut [u32], pages: &mut [u32]) -> Answer
+    ensures { λ r. ⌜ Made (now (galley .entry)) (now (work .entry)) (now (pages .entry)) r (now (work .exit)) (now (pages .exit)) ⌝ }
+{
+    let origin = beginning();
+    let reading = galley::whole::read_galley(galley);
+    match reading {
+        Reading::Galley(g) => make_read(galley, g, origin, work, pages),
+        Reading::Refused { number, place } => Answer::Refused { number, place },
+    }
+}

@@ -1,6 +1,6 @@
 // The last page may be short, so that it may start at any line from which it is not too tall. A queue holds only the starts of full
 // pages; for this one page the lines of a column are weighed one by one.
-ghost use Prim.Native.Nat.{ℕ, _≤_, _<_};
+ghost use Prim.Native.Nat.{ℕ, _<_};
 ghost use Rattle.places.specs.Address.{Stands};
 ghost use Rattle.places.specs.Best.{Best};
 ghost use Rattle.window.specs.Queue.{linesOf, Lines};

@@ -17,7 +17,6 @@ use Rattle.places.specs.laws.Best.{best-as, best-unique}
 use Rattle.places.specs.laws.Stored.{stored-twice, stored-swap}
 use Rattle.places.specs.laws.Table.{table-other}
 use Rattle.starts.specs.Search.{Table, before, Search, bestStart, newEntry}
-use Rattle.starts.specs.Choice.{Any}
 use Rattle.starts.specs.Beside.{Sought}
 use Rattle.starts.specs.laws.Found.{best-start}
 use Rattle.starts.specs.laws.Pages.{candidate-earlier}

@@ -3,7 +3,7 @@
 use Prim.Native.Nat.{ℕ, zero, suc, _+_, _≤_, _<_}
 use native.Mathlib.Decide.{decLt}
 use native.Mathlib.Omega.{arith}
-use mathlib.Core.Path.{_≡_, refl, sym, _∙_, ap}
+use mathlib.Core.Path.{_≡_, ap}
 use mathlib.Core.Logic.{_⊎_, inl, inr}
 use Rattle.model.specs.Galley.{Galley, Place, count, sizes}
 use Rattle.model.specs.laws.Rules.{kept}
@@ -16,11 +16,10 @@ use Rattle.places.specs.declared.Origin.{Origin}
 use Rattle.places.specs.Order.{Earlier}
 use Rattle.places.specs.Columns.{columns, floatSizes, placeAt, columnIn}
 use Rattle.places.specs.laws.Places.{place-inside, line-at, column-at, place-of, forward-earlier}
-use Rattle.starts.specs.Search.{newEntry}
 use Rattle.filling.specs.Fill.{Words, held, fillSide, fillSides, sideCount, fillPlace, fillColumn, fillColumns, filled}
 use Rattle.filling.specs.Filled.{Roomy, Side, Filled}
 use Rattle.filling.specs.laws.Entered.{side-low, side-below, below-side}
-use Rattle.filling.specs.laws.Fill.{length-sides, length-place, length-column, room-kept, side-same, side-other, earlier-next, earlier-column, filled-start, filled-next, filled-keeps, filled-place, filled-to}
+use Rattle.filling.specs.laws.Fill.{length-sides, length-place, length-column, room-kept, side-same, side-other, earlier-next, earlier-column, filled-start, filled-next, filled-keeps, filled-place}
 use Rattle.making.specs.Shown.{originOf, graphOf, shown, tableAt, AllRight, Proper}
 use Rattle.making.specs.laws.Shown.{shown-at, end-right}
 use Rattle.making.specs.laws.Seen.{entry-cell}

@@ -24,7 +24,6 @@ use Rattle.places.specs.Columns.{columns, floatSizes, placeAt, columnIn}
 use Rattle.places.specs.laws.Places.{place-inside, line-at, column-at, place-of, place-tie, forward-earlier}
 use Rattle.starts.specs.Search.{Table, before, Search, goes, bestStart, priced, mayStop, begins, newEntry}
 use Rattle.starts.specs.Choice.{Candidate, Starts, Any}
-use Rattle.starts.specs.Beside.{Sought}
 use Rattle.starts.specs.laws.Found.{best-start}
 use Rattle.starts.specs.laws.Pages.{candidate-earlier}
 use Rattle.filling.specs.Filled.{Side, Filled}

@@ -1,5 +1,5 @@
 -- A filled work area holds the best list: what each step of making may rest on.
-use Prim.Native.Nat.{ℕ, zero, suc, _+_, _-_, _*_, _≤_, _<_}
+use Prim.Native.Nat.{ℕ, zero, suc, _+_, _-_, _*_, _≤_}
 use native.Mathlib.Nat.{le-refl}
 use native.Mathlib.Omega.{arith}
 use mathlib.Core.Path.{_≡_, refl, sym, _∙_, ap, subst}
@@ -17,7 +17,7 @@ use Rattle.model.specs.laws.Words.{length-words}
 use Rattle.model.specs.laws.Valid.{valid-accepted}
 use Rattle.theorems.specs.turns.LeastTurns.{valid-counts}
 use Rattle.theorems.specs.turns.Bounds.{allFloats, dearest, Limits, rate-limit}
-use Rattle.theorems.specs.pages.Graph.{Origin as Begin, beginning}
+use Rattle.theorems.specs.pages.Graph.{beginning}
 use Rattle.galley.specs.declared.Galley.{Galley}
 use Rattle.galley.specs.declared.Reading.the-variants as reads
 use Rattle.galley.specs.Whole.{galleyOf}
@@ -30,7 +30,6 @@ use Rattle.places.specs.declared.Place.{Place as Start}
 use Rattle.places.specs.declared.Origin.{Origin}
 use Rattle.places.specs.declared.Entry.{Entry}
 use Rattle.places.specs.declared.Entry.the-variants.{Unreached, Least}
-use Rattle.places.specs.Address.{area}
 use Rattle.places.specs.Columns.{columns, floatSizes}
 use Rattle.places.specs.laws.Address.{area-needed}
 use Rattle.places.specs.laws.Columns.{columns-some}
@@ -38,16 +37,15 @@ use Rattle.places.specs.laws.Places.{place-none}
 use Rattle.starts.specs.Search.{Table}
 use Rattle.starts.specs.Read.{tableIn}
 use Rattle.starts.specs.laws.One.{place-one, columns-one}
-use Rattle.filling.specs.Fill.{tall, filled}
+use Rattle.filling.specs.Fill.{tall}
 use Rattle.filling.specs.Filled.{Roomy, Filled}
 use Rattle.filling.specs.laws.Fill.{length-filled, filled-all}
 use Rattle.walk.specs.declared.Stop.{Stop}
 use Rattle.walk.specs.Trace.{lastSide, entryOf, back, writeBack}
 use Rattle.walk.specs.Traceable.{isReached, WorkArea, fullPlace, lastStop, Visits, Traceable, Walkable, Writable, pagesBack}
-use Rattle.making.specs.Make.{workNeeded}
 use Rattle.making.specs.Shown.{originOf, lastPlace, AllRight, Proper}
 use Rattle.making.specs.Back.{lastOf, Found}
-use Rattle.making.specs.Solved.{nothingYet, Solved, Written}
+use Rattle.making.specs.Solved.{Solved, Written}
 use Rattle.making.specs.laws.Last.{last-side}
 use Rattle.making.specs.laws.Right.{table-right}
 use Rattle.making.specs.laws.Back.{back-none, back-best}

@@ -1,10 +1,10 @@
 -- Columns number the float places inside the sizes, one to one, and what is earlier in every stream is earlier in number.
 use Prim.Native.Nat.{ℕ, zero, suc, _+_, _*_, _/_, _%_, _≤_, _<_}
-use native.Mathlib.Nat.{suc-mul, mul-le-mul, mul-le-mul-right, mul-add-div-right, mul-add-mod-self-right, mod-eq-of-lt, div-eq-of-lt, div-add-mod', mod-lt, div-lt-iff-lt-mul}
+use native.Mathlib.Nat.{suc-mul, mul-le-mul-right, mul-add-div-right, mul-add-mod-self-right, mod-eq-of-lt, div-eq-of-lt, div-add-mod', mod-lt, div-lt-iff-lt-mul}
 use native.Mathlib.Omega.{arith}
-use mathlib.Core.Path.{_≡_, refl, sym, _∙_, ap}
+use mathlib.Core.Path.{_≡_, refl, _∙_, ap}
 use mathlib.Core.List.{List, [], _∷_}
-use lib.ListN.{length, getD}
+use lib.ListN.{length}
 use Rattle.model.specs.Gather.{row}
 use Rattle.model.specs.laws.Lists.{Inside}
 use Rattle.places.specs.Columns.{columns, columnOf, floatsAt}
@@ -71,22 +71,11 @@ column-grows (n ∷ ns) (j ∷ js) [] h = absurd (omega (arith, h .long))
 column-grows (n ∷ ns) (j ∷ js) (k ∷ ks) h =
     omega (arith, column-grows ns js ks (inside-tail k j ks js h), mul-le-mul-right (columns ns) (inside-head k j ks js h))
 
--- Float places of one column are the same.
-pub column-same : (ns js ks : List ℕ) → Inside ns js → Inside ns ks → columnOf ns js ≡ columnOf ns ks → js ≡ ks
-column-same ns js ks h k e =
-    sym (floats-of-column ns js h) ∙ ap (floatsAt ns) e ∙ floats-of-column ns ks k
-
 -- Nothing is placed at column 0,
 pub column-empty : (ns : List ℕ) → columnOf ns [] ≡ 0
 unfolding columnOf
 column-empty [] = refl
 column-empty (n ∷ ns) = refl
-
-pub column-zeros : (ns : List ℕ) (a k : ℕ) → columnOf ns (row a k (λ s. 0)) ≡ 0
-unfolding columnOf row
-column-zeros [] a k = refl
-column-zeros (n ∷ ns) a zero = refl
-column-zeros (n ∷ ns) a (suc k) = let e = column-zeros ns (suc a) k in omega arith
 
 pub floats-none : (ns : List ℕ) (a : ℕ) → floatsAt ns 0 ≡ row a (length ns) (λ s. 0)
 unfolding floatsAt row

@@ -1,11 +1,11 @@
 -- Places of a galley by line and column: what is inside the full place, the first place and the last, and the orders.
-use Prim.Native.Nat.{ℕ, zero, suc, _+_, _≤_, _<_}
+use Prim.Native.Nat.{ℕ, suc, _≤_, _<_}
 use native.Mathlib.Decide.{decLe, decLt}
 use native.Mathlib.Omega.{arith}
 use mathlib.Core.Path.{_≡_, refl, sym, _∙_, ap}
-use mathlib.Core.Logic.{_⊎_, inl, inr, _↔_}
-use mathlib.Core.Bool.{Bool, true, false}
-use mathlib.Core.List.{List, [], _∷_}
+use mathlib.Core.Logic.{inl, inr, _↔_}
+use mathlib.Core.Bool.{true}
+use mathlib.Core.List.{[], _∷_}
 use lib.ListN.{length, getD, List·getD-eq-default}
 use Rattle.model.specs.Gather.{row}
 use Rattle.model.specs.Galley.{Galley, Place, count, streams, zeros, sizes}
@@ -14,8 +14,8 @@ use Rattle.model.specs.Rules.{forward}
 use Rattle.model.specs.laws.Gather.{length-row}
 use Rattle.model.specs.laws.Rules.{Forward, forward-at, placed, placed-grows}
 use Rattle.model.specs.laws.Lists.{Inside}
-use Rattle.places.specs.Columns.{columns, columnOf, floatsAt, floatSizes, floatPlace, placeAt, columnIn}
-use Rattle.places.specs.laws.Columns.{inside-head, inside-tail, inside-cons, column-below, floats-of-column, floats-inside, column-of-floats, column-grows, column-empty, floats-none, floats-all, column-all}
+use Rattle.places.specs.Columns.{columns, floatsAt, floatSizes, floatPlace, placeAt, columnIn}
+use Rattle.places.specs.laws.Columns.{inside-head, inside-tail, inside-cons, column-below, floats-of-column, floats-inside, column-of-floats, column-grows, column-empty, floats-none, floats-all}
 use Rattle.places.specs.Order.{Earlier, NoLater}
 use Rattle.places.specs.laws.Ties.{place-first}
 

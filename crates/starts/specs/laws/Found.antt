@@ -7,12 +7,11 @@ use mathlib.Core.Path.{_≡_, refl, sym, _∙_}
 use mathlib.Core.Logic.{_⊎_, inl, inr}
 use mathlib.Core.Bool.{Bool, true, false}
 use Rattle.model.specs.Gather.{pick}
-use Rattle.places.specs.declared.Place.{Place}
 use Rattle.places.specs.declared.Entry.{Entry}
 use Rattle.places.specs.declared.Entry.the-variants.{Unreached, Least}
 use Rattle.places.specs.Best.{Leads, Best}
 use Rattle.places.specs.laws.Best.{no-reach, best-none, best-least, best-as}
-use Rattle.starts.specs.Better.{startAt, chosen}
+use Rattle.starts.specs.Better.{startAt}
 use Rattle.starts.specs.Search.{Search, goes, startFrom, onLines, inColumns, bestStart}
 use Rattle.starts.specs.Choice.{Candidate, Starts, Any, Above, Level}
 use Rattle.starts.specs.laws.Choice.{best-chosen}

@@ -3,10 +3,9 @@ use Prim.Native.Nat.{ℕ, zero, suc, pred, _+_, _*_, _≤_, _<_}
 use native.Mathlib.Nat.{le-refl, le-suc-iff}
 use native.Mathlib.Decide.{decLe, decLt}
 use native.Mathlib.Omega.{arith}
-use mathlib.Core.Path.{_≡_, refl, sym, _∙_, ap}
+use mathlib.Core.Path.{_≡_, refl, sym}
 use mathlib.Core.Logic.{_⊎_, inl, inr}
-use mathlib.Core.Bool.{Bool, true, false}
-use mathlib.Core.List.{List, [], _∷_}
+use mathlib.Core.Bool.{true}
 use lib.ListN.{length, getD, List·getD-eq-default}
 use lib.Dec.{ltb}
 use borrow.Author.Tests.{lt-ltb, le-ltb, leb-true, le-leb}
@@ -16,13 +15,13 @@ use Rattle.model.specs.Height.{has, kinds, stacked, height, tightest}
 use Rattle.model.specs.Rules.{forward, fits}
 use Rattle.model.specs.laws.Gather.{sum-ext, length-row}
 use Rattle.model.specs.laws.Height.{between-none, tightest-grows}
-use Rattle.model.specs.laws.Rules.{forward-at, forward-of}
+use Rattle.model.specs.laws.Rules.{forward-of}
 use Rattle.model.specs.laws.Lists.{Inside}
 use Rattle.model.specs.laws.Valid.{count-sizes}
-use Rattle.places.specs.Columns.{columns, columnOf, floatsAt, floatSizes, placeAt}
-use Rattle.places.specs.laws.Columns.{inside-cons, inside-tail, column-grows, column-of-floats, floats-inside}
+use Rattle.places.specs.Columns.{columns, floatsAt, floatSizes, placeAt}
+use Rattle.places.specs.laws.Columns.{inside-cons, inside-tail, column-grows, column-of-floats}
 use Rattle.places.specs.Order.{Earlier}
-use Rattle.places.specs.laws.Places.{place-inside, forward-inside}
+use Rattle.places.specs.laws.Places.{place-inside}
 use Rattle.starts.specs.Beside.{Under, floatsHigh, floatKinds, beside, alone}
 
 module _ (g : Galley) (gap : Stream → ℕ → ℕ) (separation : ℕ) where
@@ -147,13 +146,6 @@ module _ (g : Galley) (i q : ℕ) (high : i ≤ g .stream 0 .size) (wide : q < c
           none : Earlier a b i q → ⊥
           none (inl l) = omega (arith, across)
           none (inr (e, l)) = omega (arith, lines)
-
-  -- and from no other column does one.
-  pub under-forward : (a b : ℕ) → a ≤ g .stream 0 .size → b < columns (floatSizes g) → forward g (placeAt g a b) (placeAt g i q) ≡ true
-      → Under g b q
-  under-forward a b h k f =
-      let t = forward-inside g (placeAt g a b) (placeAt g i q) (place-inside g a b h k) (place-inside g i q high wide) f in
-      unfold placeAt in inside-tail i a (floatsAt (floatSizes g) q) (floatsAt (floatSizes g) b) t
 
 -- A page that starts later in every stream fits where the earlier one does.
 pub fits-later : (g : Galley) (u u′ v : Place) → Inside u u′ → Inside v u → fits g u′ v ≡ true → fits g u v ≡ true

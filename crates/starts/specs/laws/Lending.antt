@@ -1,5 +1,5 @@
 -- What is lent for a column is enough for the window, the queue and the best starts.
-use Prim.Native.Nat.{ℕ, _+_, _-_, _≤_, _<_}
+use Prim.Native.Nat.{ℕ, _+_, _-_, _≤_}
 use native.Mathlib.Omega.{arith}
 use mathlib.Core.Path.{_≡_}
 use mathlib.Core.Bool.{Bool}
@@ -7,7 +7,7 @@ use mathlib.Core.List.{List}
 use lib.ListN.{length}
 use Rattle.model.specs.Galley.{Sides, single, double}
 use Rattle.galley.specs.declared.Galley.{Galley}
-use Rattle.galley.specs.Model.{textOf, floatsOf, sidesIn}
+use Rattle.galley.specs.Model.{floatsOf, sidesIn}
 use Rattle.blocks.specs.declared.heights.Heights.{Heights}
 use Rattle.blocks.specs.Heights.{noHeights, Addable, Stacked}
 use Rattle.blocks.specs.laws.Heights.{separation-most, Low, stacked-small}
@@ -15,7 +15,7 @@ use Rattle.places.specs.Address.{wordsNeeded, Stands}
 use Rattle.places.specs.laws.Address.{address-in, area-needed}
 use Rattle.window.specs.declared.slide.Window.{Window}
 use Rattle.window.specs.declared.queue.Queue.{Queue}
-use Rattle.window.specs.Slide.{Reachable, Slidable, Ends}
+use Rattle.window.specs.Slide.{Reachable, Slidable}
 use Rattle.window.specs.Queue.{FeedAsked, FrontAsked}
 use Rattle.window.specs.laws.Sums.{sums-small}
 use Rattle.starts.specs.Search.{before}

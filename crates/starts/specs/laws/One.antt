@@ -1,5 +1,5 @@
 -- One float stream, the figures: a column is the number of figures placed.
-use Prim.Native.Nat.{ℕ, suc, pred, _+_, _*_, _≤_, _<_}
+use Prim.Native.Nat.{ℕ, _+_, _*_, _≤_, _<_}
 use native.Mathlib.Nat.{suc-mul, div-one}
 use native.Mathlib.Omega.{arith}
 use mathlib.Core.Path.{_≡_, refl, sym, _∙_, ap}
@@ -7,10 +7,11 @@ use mathlib.Core.Bool.{Bool, true, false}
 use mathlib.Core.List.{List, [], _∷_}
 use lib.Dec.{ltb}
 use borrow.Author.Tests.{lt-ltb}
-use Rattle.model.specs.Gather.{one, sum, row}
+use Rattle.model.specs.Gather.{one, sum, total, row}
 use Rattle.model.specs.Galley.{Stream, count}
 use Rattle.model.specs.Height.{has, stacked}
 use Rattle.model.specs.Rules.{floor}
+use Rattle.model.specs.laws.Rules.{placed}
 use Rattle.theorems.specs.pages.Graph.{full}
 use Rattle.galley.specs.declared.Galley.{Galley}
 use Rattle.galley.specs.Model.{floatsOf, modelOf}
@@ -41,6 +42,11 @@ module _ (bytes : List ℕ) (g : Galley) where
   pub columns-one : columns (floatSizes (modelOf bytes g)) ≡ g .figures .count + 1
   unfolding floatSizes columns row
   columns-one = omega (arith, suc-mul (g .figures .count) 1)
+
+  -- So many blocks are placed there.
+  pub placed-one : (i c : ℕ) → placed (modelOf bytes g) (placeAt (modelOf bytes g) i c) ≡ i + c
+  unfolding placed total sum count
+  placed-one i c = rw (place-one i c) (omega arith)
 
   -- A column with no more figures is under another.
   pub under-one : (b q : ℕ) → b ≤ q → Under (modelOf bytes g) b q

@@ -21,7 +21,7 @@ use Rattle.places.specs.laws.Places.{place-inside, forward-earlier, line-at, co
 use Rattle.starts.specs.Search.{Search, goes}
 use Rattle.starts.specs.Choice.{Candidate}
 use Rattle.starts.specs.Beside.{Under, beside, alone, Sought}
-use Rattle.starts.specs.laws.Heights.{height-lines, height-alone, forward-under, under-forward, fits-later}
+use Rattle.starts.specs.laws.Heights.{height-lines, height-alone, forward-under, fits-later}
 
 -- The page's heights keep to the specification.
 pub record Keeps (g : Galley) (v : Place) (tight loose : ℕ) : Type 0 where
@@ -90,14 +90,7 @@ module _ (s : Search) (sought : Sought s) where
       and-left (fits (s .galley) (placeAt (s .galley) a b) (placeAt (s .galley) (s .line) (s .column))) _
       (and-right (forward (s .galley) (placeAt (s .galley) a b) (placeAt (s .galley) (s .line) (s .column))) _ (c .page))
 
-  -- A page starts only in columns under this one,
-  pub candidate-under : (a b x : ℕ) → Candidate s a b x → Under (s .galley) b (s .column)
-  candidate-under a b x c =
-      let l = c .line in
-      let k = c .column in
-      under-forward (s .galley) (s .line) (s .column) (sought .high) (sought .wide) a b (omega arith) (omega arith) (candidate-forward a b x c)
-
-  -- which are earlier, or this one with an earlier line,
+  -- A page starts only in earlier columns, or in this one with an earlier line,
   pub candidate-earlier : (a b x : ℕ) → Candidate s a b x → Earlier a b (s .line) (s .column)
   candidate-earlier a b x c =
       let l = c .line in

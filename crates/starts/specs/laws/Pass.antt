@@ -1,11 +1,11 @@
 -- One line of a pass: what its place knows once the lines before it and the floats alone are weighed.
-use Prim.Native.Nat.{ℕ, suc, _+_, _≤_, _<_}
+use Prim.Native.Nat.{ℕ, _+_, _≤_, _<_}
 use native.Mathlib.Omega.{arith}
-use mathlib.Core.Path.{_≡_, refl, ap}
+use mathlib.Core.Path.{_≡_, refl}
 use mathlib.Core.Bool.{Bool, true, false, _&&_}
 use mathlib.Core.List.{List}
 use lib.Dec.{eqb}
-use borrow.Author.Tests.{lt-ltb, eqb-true, ne-eqb}
+use borrow.Author.Tests.{lt-ltb, ne-eqb}
 use Rattle.model.specs.Gather.{pick}
 use Rattle.model.specs.Rules.{floor}
 use Rattle.galley.specs.declared.Galley.{Galley}
@@ -19,8 +19,8 @@ use Rattle.window.specs.Queue.{linesOf, Lines}
 use Rattle.starts.specs.declared.sweep.Pass.{Pass}
 use Rattle.starts.specs.Better.{chosen}
 use Rattle.starts.specs.Choice.{Starts, Between}
-use Rattle.starts.specs.Read.{tableIn, sideOf, searchOf, allPlaced, Placed}
-use Rattle.starts.specs.Sweep.{Lent, passLoad, Passing, aloneOf, weighed, Ended, Knows, number, Swept, Changed, sweepEnd}
+use Rattle.starts.specs.Read.{tableIn, sideOf, searchOf, allPlaced}
+use Rattle.starts.specs.Sweep.{Lent, passLoad, Passing, aloneOf, weighed, Ended, number, Swept, Changed, sweepEnd}
 use Rattle.starts.specs.laws.One.{under-one, sought-one, bears-one, alone-one}
 use Rattle.starts.specs.laws.Sweep.{window-best, alone-best, improved}
 use Rattle.starts.specs.laws.Lending.{side-either, lent-placed, can-stand}

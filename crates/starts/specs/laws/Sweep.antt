@@ -9,7 +9,6 @@ use mathlib.Core.Bool.{Bool, true, false}
 use lib.Dec.{ltb}
 use borrow.Author.Tests.{ltb-true, ltb-false}
 use Rattle.model.specs.Gather.{pick}
-use Rattle.model.specs.Galley.{Place}
 use Rattle.model.specs.Height.{stacked}
 use Rattle.model.specs.Rules.{floor}
 use Rattle.theorems.specs.pages.Graph.{full}
@@ -26,7 +25,7 @@ use Rattle.window.specs.Queue.{Lines}
 use Rattle.starts.specs.Better.{chosen, startAt}
 use Rattle.starts.specs.Search.{Table, Search, goes, startFrom, bestStart}
 use Rattle.starts.specs.Choice.{Candidate, Starts, Any, Above, Level, Between}
-use Rattle.starts.specs.Beside.{Under, beside, alone, Bears, Sought}
+use Rattle.starts.specs.Beside.{Under, alone, Bears, Sought}
 use Rattle.starts.specs.laws.Choice.{best-chosen}
 use Rattle.starts.specs.laws.Found.{start-best, best-start}
 use Rattle.starts.specs.laws.Pages.{Keeps, goes-lines, goes-alone, candidate-earlier}

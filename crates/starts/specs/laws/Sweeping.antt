@@ -4,7 +4,7 @@ use native.Mathlib.Nat.{le-refl}
 use native.Mathlib.Decide.{decLe}
 use native.Mathlib.Omega.{arith}
 use mathlib.Core.Path.{_≡_, refl, sym, ap, _∙_}
-use mathlib.Core.Bool.{Bool, true, false}
+use mathlib.Core.Bool.{true, false}
 use mathlib.Core.List.{List}
 use lib.ListN.{length}
 use borrow.Author.Tests.{eq-eqb, ne-eqb}
@@ -16,11 +16,10 @@ use Rattle.blocks.specs.Heights.{noHeights, Room, Stacked, blockBefore}
 use Rattle.blocks.specs.laws.Heights.{stacked-nothing, stacked-room, back-stacked}
 use Rattle.places.specs.declared.Entry.{Entry}
 use Rattle.places.specs.laws.Best.{best-as}
-use Rattle.window.specs.Sums.{Sums}
 use Rattle.starts.specs.declared.sweep.Pass.{Pass}
-use Rattle.starts.specs.Choice.{Candidate, Between}
+use Rattle.starts.specs.Choice.{Candidate}
 use Rattle.starts.specs.Read.{sideOf, searchOf, allPlaced}
-use Rattle.starts.specs.Sweep.{Lent, Scratch, Summed, passLoad, Passing, weighed, Ended, LinesStand, LastBest, Known, number, Swept, fresh, sweepEnd, Cleared}
+use Rattle.starts.specs.Sweep.{Summed, passLoad, Passing, weighed, Ended, LinesStand, LastBest, Known, number, Swept, fresh, Cleared}
 use Rattle.starts.specs.Swept.{ColumnSweep, ColumnSweepRun, ColumnSwept, Sweep, SweepRun, SweepDone, SideSweep, SideDone, LastLine, LineDone}
 use Rattle.starts.specs.laws.One.{under-one, sought-one, alone-one}
 use Rattle.starts.specs.laws.Pages.{column-over}

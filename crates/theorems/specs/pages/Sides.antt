@@ -12,12 +12,6 @@ use Rattle.model.specs.Best.{allowed}
 use Rattle.theorems.specs.turns.Waiting.{pageCost}
 use Rattle.theorems.specs.pages.Graph.{side}
 
--- Before the first page the side is 0.
-pub side-zero : (sides : Sides) → side sides 0 ≡ 0
-unfolding side
-side-zero single = refl
-side-zero (double f) = refl
-
 -- The side of a side is that side.
 pub side-side : (sides : Sides) (q : ℕ) → side sides (side sides q) ≡ side sides q
 unfolding side

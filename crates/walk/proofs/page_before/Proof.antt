@@ -1,5 +1,4 @@
 -- `page_before` goes one page back: to the start that the entry holds, on the side before.
-use mathlib.Core.Path.{ap, _∙_}
 use borrow.Author.Needs.{needs}
 use Rattle.galley.specs.Model.{sidesIn}
 use Rattle.filling.specs.laws.Entered.{side-low}

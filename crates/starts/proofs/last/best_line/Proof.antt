@@ -1,7 +1,7 @@
 -- `best_line` meets its contract. The loop's invariant: of the window's lines before a the entry is the best.
 use Prim.Native.Nat.{_-_, _≤_}
 use native.Mathlib.Omega.{arith}
-use mathlib.Core.Path.{_≡_, refl, _∙_}
+use mathlib.Core.Path.{_≡_, refl}
 use mathlib.Core.Logic.{_⊎_, inl, inr}
 use Rattle.places.specs.Best.{Best}
 use Rattle.window.specs.Queue.{linesOf, Lines}

@@ -1,6 +1,5 @@
 -- `sweep` meets its contract. The loop's invariant is `SweepRun`: the sides before c know the starts of the pass too.
 use Prim.Native.Nat.{_-_}
-use native.Mathlib.Omega.{arith}
 use Rattle.starts.specs.Swept.{SweepRun}
 use Rattle.starts.specs.laws.Sweeping.{sweep-first, sweep-last, sweep-side, sweep-line, sweep-next}
 use borrow.Author.Needs.{needs}

@@ -1,5 +1,5 @@
 -- `sweep_side` meets its contract. The loop's invariant is `SideRun`: the lines above line i know the starts of the pass too.
-use Prim.Native.Nat.{_+_, _-_}
+use Prim.Native.Nat.{_-_}
 use native.Mathlib.Omega.{arith}
 use Rattle.starts.specs.Swept.{SideRun}
 use Rattle.starts.specs.laws.Lending.{figures-add}

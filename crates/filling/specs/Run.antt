@@ -1,0 +1,52 @@
+-- What holds at each turn of the filling loops.
+use Prim.Native.Nat.{ℕ, suc, _+_, _-_, _*_, _≤_}
+use mathlib.Core.Path.{_≡_}
+use mathlib.Core.List.{List}
+use lib.ListN.{length}
+use Rattle.galley.specs.Model.{textOf, modelOf}
+use Rattle.rules.specs.Waiting.{Walked}
+use Rattle.window.specs.declared.slide.Window.{Window}
+use Rattle.window.specs.Slide.{Ends}
+use Rattle.starts.specs.Read.{tableIn}
+use Rattle.filling.specs.declared.side.Task.{Task}
+use Rattle.filling.specs.declared.side.End.{End}
+use Rattle.filling.specs.declared.side.Windows.{Windows}
+use Rattle.filling.specs.Fill.{fillSides, fillColumn, fillColumns, filled}
+use Rattle.filling.specs.Filled.{Filled}
+use Rattle.filling.specs.Next.{plain, Queues, Waits}
+
+-- The sides before c of a place are filled.
+pub record SidesRun (bytes : List ℕ) (task : Task) (w₀ w words₀ words ends₀ ends : List ℕ) (windows : Windows) (end : End) (c : ℕ)
+    : Type 0 where
+  pub within : c ≤ task .galley .spec .sides
+  pub sized : length w ≡ length w₀
+  pub wordsSized : length words ≡ length words₀
+  pub endsSized : length ends ≡ length ends₀
+  pub filled : w ≡ fillSides (modelOf bytes (task .galley)) (task .origin) (end .line) (end .column) c w₀
+  pub entries : Filled (modelOf bytes (task .galley)) (task .origin) (tableIn (task .galley) w) (end .line) (end .column)
+  pub queued : Queues (task .galley) w words ends (end .column) (windows .from) (windows .to) c
+  pub waits : Waits bytes (task .galley) w (end .column) (2 * end .line + c)
+
+-- Column j is filled above line i, and the queues are those of the window of the line above: the words are now w, and what is left of
+-- the column makes them what the whole makes of w₀.
+pub record LastRun (bytes : List ℕ) (task : Task) (w₀ w words₀ words : List ℕ) (j waiting : ℕ) (window : Window) (ends : List ℕ)
+    (i : ℕ) : Type 0 where
+  pub within : i ≤ suc (task .galley .text .count)
+  pub sized : length w ≡ length w₀
+  pub wordsSized : length words ≡ length words₀
+  pub walked : Walked bytes (task .galley .figures) i j waiting
+  pub entries : Filled (modelOf bytes (task .galley)) (task .origin) (tableIn (task .galley) w) i j
+  pub run : fillColumn (modelOf bytes (task .galley)) (task .origin) j (suc (task .galley .text .count) - i) i w
+      ≡ fillColumn (modelOf bytes (task .galley)) (task .origin) j (suc (task .galley .text .count)) 0 w₀
+  pub slid : Ends (textOf bytes (task .galley .text)) (plain (task .galley)) window i
+  pub queued : Queues (task .galley) w words ends j window window 0
+  pub waits : Waits bytes (task .galley) w j (2 * i)
+
+-- The columns before j are filled.
+pub record ColumnsRun (bytes : List ℕ) (task : Task) (w₀ w words₀ words : List ℕ) (j : ℕ) : Type 0 where
+  pub within : j ≤ suc (task .galley .figures .count)
+  pub sized : length w ≡ length w₀
+  pub wordsSized : length words ≡ length words₀
+  pub entries : Filled (modelOf bytes (task .galley)) (task .origin) (tableIn (task .galley) w) 0 j
+  pub run : fillColumns (modelOf bytes (task .galley)) (task .origin) (suc (task .galley .figures .count) - j) j w
+      ≡ filled (modelOf bytes (task .galley)) (task .origin) w₀

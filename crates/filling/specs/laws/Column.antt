@@ -1,0 +1,246 @@
+-- The lines of a column one after another, and the columns: what is left makes of the words what the whole makes of those at the start.
+use Prim.Native.Nat.{ℕ, suc, _+_, _-_, _*_, _≤_, _<_}
+use native.Mathlib.Numerals.{add-one}
+use native.Mathlib.Omega.{arith}
+use mathlib.Core.Path.{_≡_, refl, sym, _∙_, ap}
+use mathlib.Core.Logic.{inl, inr}
+use mathlib.Core.Bool.{false}
+use mathlib.Core.List.{List, [], _∷_}
+use lib.ListN.{length}
+use Rattle.model.specs.Rules.{floor}
+use Rattle.galley.specs.declared.Galley.{Galley}
+use Rattle.galley.specs.Model.{textOf, floatsOf, modelOf, sidesIn}
+use Rattle.blocks.specs.Heights.{noHeights}
+use Rattle.rules.specs.Waiting.{waits}
+use Rattle.rules.specs.laws.Walked.{walked-none, walked-here, walked-on}
+use Rattle.places.specs.Order.{Earlier}
+use Rattle.places.specs.Columns.{columns, floatSizes}
+use Rattle.places.specs.laws.Table.{table-other}
+use Rattle.window.specs.declared.slide.Window.{Window}
+use Rattle.window.specs.Slide.{Slidable, Open, Slid}
+use Rattle.window.specs.laws.Slide.{ends-first, ends-next}
+use Rattle.starts.specs.Read.{tableIn}
+use Rattle.starts.specs.Sweep.{Lent, Scratched, fresh, more}
+use Rattle.starts.specs.Swept.{ColumnSwept}
+use Rattle.starts.specs.laws.One.{columns-one}
+use Rattle.starts.specs.laws.Pass.{least-low}
+use Rattle.starts.specs.laws.Cells.{scratched-length}
+use Rattle.starts.specs.laws.Lending.{lent-sized, can-slide}
+use Rattle.filling.specs.declared.side.Task.{Task}
+use Rattle.filling.specs.Fill.{tall, fillColumn, fillColumns, filled}
+use Rattle.filling.specs.Next.{Next, plain, PlaceNext, PlaceFilled, ColumnNext, LastNext, TableNext}
+use Rattle.filling.specs.Run.{LastRun, ColumnsRun}
+use Rattle.filling.specs.laws.Entered.{side-low}
+use Rattle.filling.specs.laws.Fill.{length-place, length-column, room-kept, filled-start, filled-next, filled-place, filled-to}
+use Rattle.filling.specs.laws.Over.{column-over}
+use Rattle.filling.specs.laws.Price.{dearest-light}
+use Rattle.filling.specs.laws.NewEntry.{no-figures}
+use Rattle.filling.specs.laws.Queues.{queues-none}
+use Rattle.filling.specs.laws.Sides.{sides-count, lent-roomy, lent-wide}
+
+-- Stores in a column before it is filled change nothing of it,
+pub scratched-same : {bytes : List ℕ} {task : Task} {w : List ℕ} {j : ℕ} → Next bytes task w 0 j → (v : List ℕ)
+    → Scratched (task .galley) j w v
+    → fillColumn (modelOf bytes (task .galley)) (task .origin) j (suc (task .galley .text .count)) 0 v
+    ≡ fillColumn (modelOf bytes (task .galley)) (task .origin) j (suc (task .galley .text .count)) 0 w
+unfolding tall
+scratched-same next v fresh = refl
+scratched-same {bytes} {task} {w} {j} next v (more x y i c e s l m p) =
+    let g = task .galley in
+    let spec = next .lent .sound .specRanged in
+    let sides = sides-count (g .spec .sides) (g .folio) (spec .sidesSome) (spec .sidesTwo) in
+    ap (fillColumn (modelOf bytes g) (task .origin) j (suc (g .text .count)) 0) p
+    ∙ column-over (modelOf bytes g) (task .origin) j (lent-wide (next .lent)) i c e l (omega (arith, spec .sidesTwo)) (rw sides m)
+    (suc (g .text .count)) 0 x (room-kept (scratched-length g j w x s) (lent-roomy (next .lent))) (omega arith) (omega arith)
+    ∙ scratched-same next x s
+
+-- and leave the columns before.
+scratched-other : (g : Galley) (j : ℕ) → g .spec .sides ≤ 2 → (w v : List ℕ) → Scratched g j w v → (a b d : ℕ) → a ≤ g .text .count
+    → b < j → d ≤ 1 → tableIn g v a b d ≡ tableIn g w a b d
+scratched-other g j two w v fresh a b d l h k = refl
+scratched-other g j two w v (more x y i c e s p m q) a b d l h k =
+    ap (λ u. tableIn g u a b d) q
+    ∙ table-other (g .text .count + 1) i j c a b d x e (omega arith) (omega arith) (omega (arith, two)) k (λ r. omega (arith, r .1))
+    ∙ scratched-other g j two w x s a b d l h k
+
+-- So with the starts in earlier columns known the column can be filled.
+pub column-last : {bytes : List ℕ} {task : Task} {w sums words : List ℕ} {j : ℕ} → ColumnNext bytes task w sums words j
+    → (v words′ : List ℕ) → length words′ ≡ length words → ColumnSwept bytes (task .galley) w v j
+    → LastNext bytes task v sums words′ j
+column-last {task = task} {w} {j = j} column v words′ sized done =
+    record {
+      column =
+          record {
+            next =
+                record {
+                  lent = lent-sized v (scratched-length (task .galley) j w v (done .kept)) (column .next .lent);
+                  cheap = column .next .cheap;
+                  filled =
+                      record {
+                        entered = λ a b c x s l h k e.
+                            column .next .filled .entered a b c x s l h k
+                            (sym
+                            (scratched-other (task .galley) j (column .next .lent .sound .specRanged .sidesTwo) w v (done .kept) a b c h
+                            (before a b l) (side-low (sidesIn (task .galley)) c k))
+                            ∙ e);
+                      };
+                };
+            summed = column .summed;
+            scratch = omega (arith, column .scratch);
+          };
+      known = done .known;
+    }
+  where
+    before : (a b : ℕ) → Earlier a b 0 j → b < j
+    before a b (inl l) = l
+    before a b (inr (e, l)) = absurd (omega arith)
+
+-- One line after another.
+module _ {bytes : List ℕ} {task : Task} {w₀ sums words₀ : List ℕ} {j : ℕ} (last : LastNext bytes task w₀ sums words₀ j) where
+  lent-first : Lent bytes (task .galley) w₀ j
+  lent-first = last .column .next .lent
+
+  -- Before the first line the queues are empty.
+  pub last-first : LastRun bytes task w₀ w₀ words₀ words₀ j 0 (record { low = 0; high = 0 }) (0 ∷ 0 ∷ 4000 ∷ 4000 ∷ []) 0
+  last-first =
+      record {
+        within = omega arith;
+        sized = refl;
+        wordsSized = refl;
+        walked = walked-none (lent-first .sound .figures) 0 j (lent-first .column);
+        entries = last .column .next .filled;
+        run = let e : suc (task .galley .text .count) - 0 ≡ suc (task .galley .text .count) = omega arith in rw e;
+        slid = ends-first (textOf bytes (task .galley .text)) (plain (task .galley)) 0;
+        queued = queues-none (task .galley) w₀ words₀ j (lent-first .sound .specRanged .sidesTwo);
+        waits = λ k c l m n. last .known k c l m;
+      }
+
+  -- After the last line the column is filled.
+  pub last-done : {w words ends : List ℕ} {waiting : ℕ} {window : Window} {i : ℕ}
+      → LastRun bytes task w₀ w words₀ words j waiting window ends i → task .galley .text .count < i
+      → w ≡ fillColumn (modelOf bytes (task .galley)) (task .origin) j (suc (task .galley .text .count)) 0 w₀
+  unfolding fillColumn
+  last-done {i = i} run l =
+      let n : suc (task .galley .text .count) - i ≡ 0 = omega (arith, run .within) in
+      rw n at (run .run)
+
+  module _ {w words ends : List ℕ} {waiting : ℕ} {window : Window} {i : ℕ}
+      (run : LastRun bytes task w₀ w words₀ words j waiting window ends i) (at : i ≤ task .galley .text .count) where
+    lent : Lent bytes (task .galley) w j
+    lent = lent-sized w (run .sized) lent-first
+
+    -- The window can be moved on to line i,
+    pub last-slides : Slidable sums (plain (task .galley)) window i
+    last-slides =
+        can-slide lent (last .column .summed) false j noHeights (no-figures bytes (task .galley) j) (floor (modelOf bytes (task .galley)) false)
+        (least-low bytes (task .galley) (lent .sound) false) window i at (run .slid .low) (run .slid .high)
+
+    module _ (waiting′ : ℕ) (found : waiting′ ≡ waits (floatsOf bytes (task .galley .figures)) i j) (new : Window)
+        (slid : Slid sums (plain (task .galley)) window i new) where
+      opened : Open (textOf bytes (task .galley .text)) (plain (task .galley)) new i
+      opened = slid .opens (textOf bytes (task .galley .text)) (task .galley .text .count) (last .column .summed .rows) at (run .slid)
+
+      -- the place can be filled,
+      pub last-place : PlaceNext bytes task w sums words ends (record { from = window; to = new })
+          (record { line = i; column = j; side = 0; waiting = waiting′ })
+      last-place =
+          record {
+            next = record { lent = lent; cheap = last .column .next .cheap; filled = run .entries };
+            ending = record { line = at; found = found };
+            summed = last .column .summed;
+            scratch = omega (arith, last .column .scratch, run .wordsSized);
+            slides = record { low = slid .low; high = slid .high; opened = opened };
+            queued =
+                record { pair = run .queued .pair; moved = λ c l. absurd (omega arith); still = run .queued .still };
+            waits = run .waits;
+          }
+
+      -- and is.
+      pub last-next : (v words′ : List ℕ) → length words′ ≡ length words → (next : List ℕ)
+          → PlaceFilled bytes task w v words′ next (record { from = window; to = new })
+          (record { line = i; column = j; side = 0; waiting = waiting′ })
+          → LastRun bytes task w₀ v words₀ words′ j waiting′ new next (i + 1)
+      unfolding fillColumn tall
+      last-next v words′ sized next done =
+          let m = modelOf bytes (task .galley) in
+          let n : 2 * i + 2 ≡ 2 * (i + 1) = omega arith in
+          let s : i + 1 ≡ suc i = omega arith in
+          let rest : suc (task .galley .text .count) - i ≡ suc (suc (task .galley .text .count) - suc i) = omega arith in
+          record {
+            within = omega arith;
+            sized = ap length (done .filled) ∙ length-place m (task .origin) i j w ∙ run .sized;
+            wordsSized = sized ∙ run .wordsSized;
+            walked =
+                walked-on (walked-here (lent .sound .figures) i j waiting′ (lent .column) found) (i + 1) j waiting′ (omega arith)
+                (omega arith) (lent .column) (omega arith);
+            entries =
+                rw (s, done .filled)
+                (filled-place m (dearest-light bytes (task .galley) (lent .sound)) (task .origin) i j at (lent-wide lent) w (lent-roomy lent)
+                (run .entries));
+            run = rw (s, done .filled) (rw rest at (run .run));
+            slid = rw add-one (ends-next (textOf bytes (task .galley .text)) (plain (task .galley)) new i opened);
+            queued = done .queued;
+            waits = rw n at (done .waits);
+          }
+
+-- One column after another.
+module _ {bytes : List ℕ} {task : Task} {w₀ sums words₀ : List ℕ} (table : TableNext bytes task w₀ sums words₀) where
+  -- At first no column is filled.
+  pub columns-first : ColumnsRun bytes task w₀ w₀ words₀ words₀ 0
+  unfolding filled
+  columns-first =
+      let g = task .galley in
+      let e : suc (g .figures .count) - 0 ≡ columns (floatSizes (modelOf bytes g)) = omega (arith, columns-one bytes g) in
+      record {
+        within = omega arith;
+        sized = refl;
+        wordsSized = refl;
+        entries = filled-start (modelOf bytes g) (dearest-light bytes g (table .fillable .sound)) (task .origin) (tableIn g w₀);
+        run = rw e;
+      }
+
+  module _ {w words : List ℕ} {j : ℕ} (run : ColumnsRun bytes task w₀ w words₀ words j) where
+    -- After the last column the table is filled.
+    pub columns-done : task .galley .figures .count < j → w ≡ filled (modelOf bytes (task .galley)) (task .origin) w₀
+    unfolding fillColumns
+    columns-done l =
+        let n : suc (task .galley .figures .count) - j ≡ 0 = omega (arith, run .within) in
+        rw n at (run .run)
+
+    module _ (some : j ≤ task .galley .figures .count) where
+      -- The next column can be filled,
+      pub columns-column : ColumnNext bytes task w sums words j
+      columns-column =
+          record {
+            next =
+                record {
+                  lent =
+                      record { sound = table .fillable .sound; column = some; room = omega (arith, table .fillable .room, run .sized) };
+                  cheap = table .fillable .cheap;
+                  filled = run .entries;
+                };
+            summed = table .summed;
+            scratch = omega (arith, table .scratch, run .wordsSized);
+          }
+
+      -- and is.
+      pub columns-next : (v words′ : List ℕ) → length words′ ≡ length words
+          → v ≡ fillColumn (modelOf bytes (task .galley)) (task .origin) j (suc (task .galley .text .count)) 0 w
+          → ColumnsRun bytes task w₀ v words₀ words′ (j + 1)
+      unfolding fillColumns tall
+      columns-next v words′ sized e =
+          let g = task .galley in
+          let m = modelOf bytes g in
+          let lent = columns-column .next .lent in
+          let light = dearest-light bytes g (lent .sound) in
+          let s : j + 1 ≡ suc j = omega arith in
+          let rest : suc (g .figures .count) - j ≡ suc (suc (g .figures .count) - suc j) = omega arith in
+          let whole = filled-to m light (task .origin) j (lent-wide lent) (suc (g .text .count)) 0 w (omega arith) (lent-roomy lent) (run .entries) in
+          let next = filled-next m light (task .origin) (tableIn g (fillColumn m (task .origin) j (suc (g .text .count)) 0 w)) j whole in
+          record {
+            within = omega arith;
+            sized = ap length e ∙ length-column m (task .origin) j (suc (g .text .count)) 0 w ∙ run .sized;
+            wordsSized = sized ∙ run .wordsSized;
+            entries = rw (s, e) next;
+            run = rw (s, e) (rw rest at (run .run));
+          }

@@ -1,0 +1,75 @@
+// The work area filled with the entry of every place, column by column: document 01, "Making".
+ghost use mathlib.Core.Path.{_≡_};
+ghost use Prim.Native.Nat.{suc};
+ghost use Rattle.galley.specs.Model.{modelOf};
+ghost use Rattle.filling.specs.Fill.{fillColumn, filled};
+ghost use Rattle.filling.specs.Next.{LastNext, ColumnNext, TableNext, Fillable};
+use crate::side::End;
+use crate::side::Task;
+use crate::side::Windows;
+use blocks::heights::Heights;
+use galley::Galley;
+use places::Origin;
+use window::slide::Window;
+
+// The places of column j, from no line to all lines, each of which holds its best start in an earlier column. A start in the column
+// itself has its entry there by the time that a queue takes it up.
+fn last_sweep(s: &[u8], task: Task, work: &mut [u32], sums: &[u32], words: &mut [u32], j: usize)
+    requires { ⌜ LastNext (now s) task (now work) (now sums) (now words) j ⌝ }
+    ensures { λ _. ⌜ now (work .exit) ≡ fillColumn (modelOf (now (s .entry)) (task .galley)) (task .origin) j (suc (task .galley .text .count)) 0 (now (work .entry)) ⌝ }
+{
+    let g = task.galley;
+    let least = rules::rules::floor_of(g, false);
+    let load = starts::read::load_of(g, false, Heights { tight: 0, loose: 0 }, least);
+    let mut waiting = 0;
+    let mut span = Window { low: 0, high: 0 };
+    let mut ends = [0, 0, 4000, 4000];
+    let mut i = 0;
+    while i <= g.text.count {
+        waiting = rules::waiting::waiting_floats(s, g.figures, i, j, waiting);
+        let from = span;
+        span = window::slide::slide(sums, load, from, i);
+        let windows = Windows { from, to: span };
+        let end = End {
+            line: i,
+            column: j,
+            side: 0,
+            waiting,
+        };
+        crate::side::fill_place(s, task, work, sums, words, &mut ends, windows, end);
+        i += 1;
+    }
+}
+
+// Column j: first the starts in the columns before it, then those in the column itself.
+fn fill_column(s: &[u8], task: Task, work: &mut [u32], sums: &[u32], words: &mut [u32], j: usize)
+    requires { ⌜ ColumnNext (now s) task (now work) (now sums) (now words) j ⌝ }
+    ensures { λ _. ⌜ now (work .exit) ≡ fillColumn (modelOf (now (s .entry)) (task .galley)) (task .origin) j (suc (task .galley .text .count)) 0 (now (work .entry)) ⌝ }
+{
+    starts::sweep::sweep_column(s, task.galley, work, sums, words, j);
+    last_sweep(s, task, work, sums, words, j);
+}
+
+// All columns.
+fn fill_columns(s: &[u8], task: Task, work: &mut [u32], sums: &[u32], words: &mut [u32])
+    requires { ⌜ TableNext (now s) task (now work) (now sums) (now words) ⌝ }
+    ensures { λ _. ⌜ now (work .exit) ≡ filled (modelOf (now (s .entry)) (task .galley)) (task .origin) (now (work .entry)) ⌝ }
+{
+    let mut j = 0;
+    while j <= task.galley.figures.count {
+        fill_column(s, task, work, sums, words, j);
+        j += 1;
+    }
+}
+
+// The whole table from an origin on, whatever the work area held before.
+pub fn fill(s: &[u8], g: Galley, origin: Origin, work: &mut [u32])
+    requires { ⌜ Fillable (now s) g origin (now work) ⌝ }
+    ensures { λ _. ⌜ now (work .exit) ≡ filled (modelOf (now (s .entry)) g) origin (now (work .entry)) ⌝ }
+{
+    // For 4,000 lines: four sums to a line, and two words to a line for each side's queue, or for one queue and the windows.
+    let mut sums = [0u32; 16004];
+    let mut words = [0u32; 16002];
+    window::sums::gather(s, g.text, &mut sums);
+    fill_columns(s, Task { galley: g, origin }, work, &sums, &mut words);
+}

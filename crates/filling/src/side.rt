@@ -1,0 +1,151 @@
+// The sides of a place filled: their queues of starts moved on, and their entries put where they belong.
+ghost use mathlib.Core.Path.{_≡_};
+ghost use Rattle.galley.specs.Model.{modelOf};
+ghost use Rattle.places.specs.Best.{Best};
+ghost use Rattle.starts.specs.Search.{newEntry};
+ghost use Rattle.starts.specs.Choice.{Starts, Above};
+ghost use Rattle.starts.specs.Read.{tableIn, sideOf, searchOf};
+ghost use Rattle.filling.specs.Next.{LinesAbove, EntryNext, SideNext, SideFilled, PlaceNext, PlaceFilled};
+use blocks::heights::Heights;
+use galley::Galley;
+use places::Entry;
+use places::Origin;
+use window::queue::Queue;
+use window::slide::Window;
+
+// What is to be filled: the table of a galley, from an origin on.
+pub struct Task {
+    pub galley: Galley,
+    pub origin: Origin,
+}
+
+// The windows of a line: that of the line above it, and its own.
+pub struct Windows {
+    pub from: Window,
+    pub to: Window,
+}
+
+// Where a page ends: the line and the column, its side, and how many figures wait there.
+pub struct End {
+    pub line: usize,
+    pub column: usize,
+    pub side: usize,
+    pub waiting: usize,
+}
+
+// The best of the lines above in the column itself, as starts of a page that ends at a place. The last page may be short, and the
+// queue holds only the starts of full pages.
+fn lines_above(
+    s: &[u8],
+    g: Galley,
+    work: &[u32],
+    sums: &[u32],
+    words: &[u32],
+    queue: Queue,
+    end: End,
+) -> Entry
+    requires { ⌜ LinesAbove (now s) g (now work) (now sums) (now words) queue end ⌝ }
+    ensures { λ r. ⌜ Best (Starts (searchOf (now (s .entry)) g (now (work .entry)) (end .line) (end .column) (sideOf g (end .side))) (Above (end .column) (end .line))) r ⌝ }
+{
+    if !starts::read::is_full(g, end.line, end.column) {
+        return window::queue::front(words, queue, end.column);
+    }
+    let least = rules::rules::floor_of(g, true);
+    let load = starts::read::load_of(g, false, Heights { tight: 0, loose: 0 }, least);
+    let side = starts::read::side_before(g, end.side);
+    starts::last::last_lines(g, work, sums, load, end.column, side)
+}
+
+// The entry that a place gets on a side, whose words hold the best start in an earlier column.
+fn new_entry(
+    s: &[u8],
+    task: Task,
+    work: &[u32],
+    sums: &[u32],
+    words: &[u32],
+    queue: Queue,
+    end: End,
+) -> Entry
+    requires { ⌜ EntryNext (now s) task (now work) (now sums) (now words) queue end ⌝ }
+    ensures { λ r. ⌜ r ≡ newEntry (modelOf (now (s .entry)) (task .galley)) (task .origin) (tableIn (task .galley) (now (work .entry))) (end .line) (end .column) (end .side) ⌝ }
+{
+    let g = task.galley;
+    if starts::read::is_origin(g, task.origin, end.line, end.column, end.side) {
+        let origin = task.origin;
+        let place = origin.place;
+        return Entry::Least(origin.cost, place);
+    }
+    if !crate::price::may_stop(s, g, end.line, end.column, end.side) {
+        return Entry::Unreached;
+    }
+    let place = places::place_of(end.line, end.column);
+    let held = places::entry_of(work, g.text.count + 1, place, end.side);
+    let lines = lines_above(s, g, work, sums, words, queue, end);
+    let start = starts::choice::choose(held, lines);
+    let Entry::Least(x, from) = start else {
+        return Entry::Unreached;
+    };
+    let price = crate::price::price(g, end.line, end.column, end.side, end.waiting);
+    Entry::Least(x + price, from)
+}
+
+// One side of a place: the queue moved on to the window of its line, and the entry stored.
+fn fill_side(
+    s: &[u8],
+    task: Task,
+    work: &mut [u32],
+    sums: &[u32],
+    words: &mut [u32],
+    queue: Queue,
+    windows: Windows,
+    end: End,
+) -> Queue
+    requires { ⌜ SideNext (now s) task (now work) (now sums) (now words) queue windows end ⌝ }
+    ensures { λ r. ⌜ SideFilled (now (s .entry)) task (now (work .entry)) (now (work .exit)) (now (words .entry)) (now (words .exit)) queue windows end r ⌝ }
+{
+    let tall = task.galley.text.count + 1;
+    let side = starts::read::side_before(task.galley, end.side);
+    let moved = window::queue::advance(
+        work,
+        tall,
+        end.column,
+        side,
+        words,
+        queue,
+        windows.from.high,
+        windows.to,
+    );
+    let entry = new_entry(s, task, work, sums, words, moved, end);
+    let place = places::place_of(end.line, end.column);
+    places::store(work, tall, place, end.side, entry);
+    moved
+}
+
+// Every side that occurs, from side 0 on, each with its queue, whose head and tail stand in `ends`.
+pub fn fill_place(
+    s: &[u8],
+    task: Task,
+    work: &mut [u32],
+    sums: &[u32],
+    words: &mut [u32],
+    ends: &mut [u32],
+    windows: Windows,
+    end: End,
+)
+    requires { ⌜ PlaceNext (now s) task (now work) (now sums) (now words) (now ends) windows end ⌝ }
+    ensures { λ _. ⌜ PlaceFilled (now (s .entry)) task (now (work .entry)) (now (work .exit)) (now (words .exit)) (now (ends .exit)) windows end ⌝ }
+{
+    let mut c = 0;
+    while c < task.galley.spec.sides as usize {
+        let here = End {
+            line: end.line,
+            column: end.column,
+            side: c,
+            waiting: end.waiting,
+        };
+        let queue = window::queue::queue_of(ends, c);
+        let moved = fill_side(s, task, work, sums, words, queue, windows, here);
+        window::queue::push(ends, c, moved.head as u32, moved.tail as u32);
+        c += 1;
+    }
+}
