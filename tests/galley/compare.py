@@ -44,8 +44,7 @@ def due(data):
     if answer[0] == 'refused':
         return answer
     held = answer[1]
-    spec = (*held.spec[:7], held.spec.edition, held.spec.lastmin or 0)
-    return ('galley', spec, held.folio, *([(*block[:4], block.legal) for block in blocks] for blocks in held.streams))
+    return ('galley', (*held.spec[:7], held.spec.edition, held.spec.lastmin or 0), held.folio, *([(*block[:4], block.legal) for block in blocks] for blocks in held.streams))
 
 
 class Tally(counts.Tally):
@@ -64,21 +63,21 @@ KEPT = record(b'FK', 20, 0, 0, 1)
 END = b'ED'
 A = SPEC + 3 * LINE + FIGURE + END
 A_FROM_38 = SPEC + FOLIO + 3 * LINE + FIGURE + END
-A_SECOND = SECOND + FOLIO + 3 * LINE + FIGURE + END
-FIRST_EDITION, SECOND_EDITION = (30, 30, 0, 0, 1, 1, 1, 1, 0), (30, 30, 0, 0, 1, 1, 1, 2, 20)
+A_SECOND = SECOND + 3 * LINE + FIGURE + END
+FIRST_VALUES = (30, 30, 0, 0, 1, 1, 1, 1, 0)
 
 
 def case_a(tally):
-    for what, data, spec, folio in (('case A', A, FIRST_EDITION, 1), ('case A from folio 38', A_FROM_38, FIRST_EDITION, 38),
-                                    ('case A of the second edition', A_SECOND, SECOND_EDITION, 38)):
-        tally.same(what, data, ('galley', spec, folio, 3 * [(10, 0, 0, 1, 1)], [(20, 0, 0, 1, 1)]))
+    for what, data, values, folio in (('case A', A, FIRST_VALUES, 1), ('case A from folio 38', A_FROM_38, FIRST_VALUES, 38),
+                                      ('case A in the second edition', A_SECOND, (30, 30, 0, 0, 1, 1, 1, 2, 20), 1)):
+        tally.same(what, data, ('galley', values, folio, 3 * [(10, 0, 0, 1, 1)], [(20, 0, 0, 1, 1)]))
         for at in range(len(data)):
             for byte in range(256):
                 tally.same(f'{what} with byte {at} set to {byte}', data[:at] + bytes([byte]) + data[at + 1:])
 
 
 def cuts(tally):
-    for parts in (A, A_FROM_38, A_SECOND, SPEC + 2 * LINE + FIGURE + KEPT + FIGURE + END, SPEC + LINE + END):
+    for parts in (A, A_FROM_38, A_SECOND, SECOND + FOLIO + LINE + END, SPEC + 2 * LINE + FIGURE + KEPT + FIGURE + END, SPEC + LINE + END):
         for at in range(len(parts)):
             tally.same(f'cut at {at}', parts[:at], ('refused', 1))
             tally.same(f'two bytes lost at {at}', parts[:at] + parts[at + 2:])
@@ -87,7 +86,7 @@ def cuts(tally):
 
 
 def marks(tally):
-    for parts in ([SPEC, LINE, LINE, FIGURE, FIGURE, END], [SPEC, FOLIO, LINE, KEPT, FIGURE, END], [SECOND, LINE, FIGURE, END]):
+    for parts in ([SPEC, LINE, LINE, FIGURE, FIGURE, END], [SPEC, FOLIO, LINE, KEPT, FIGURE, END], [SECOND, FOLIO, LINE, END]):
         for at in range(len(parts)):
             before = b''.join(parts[:at])
             for mark in MARKS:
@@ -102,7 +101,7 @@ def marks(tally):
 
 def ranges(tally):
     for kind, before, after, fields in ((b'GS', b'', LINE + END, (30, 40, 5, 6, 1, 1, 1)),
-                                        (b'G2', b'', LINE + END, (30, 40, 5, 6, 1, 1, 1, 35)),
+                                        (b'G2', b'', LINE + END, (30, 40, 5, 6, 1, 1, 1, 20)),
                                         (b'FO', SPEC, LINE + END, (38,)),
                                         (b'TL', SPEC, END, (10, 5, 6, 1)),
                                         (b'FG', SPEC + 3 * LINE, END, (10, 5, 6, 2)),
@@ -130,23 +129,8 @@ def citations(tally):
     tally.same('3 before 6', two + record(b'FG', 100_001, 0, 0, 9) + END, ('refused', 3, 66))
 
 
-def editions(tally):
-    for last in (0, 29, 30):
-        held = record(b'G2', 30, 30, 0, 0, 1, 1, 1, last)
-        tally.same(f'lastMin {last}', held + LINE + END, ('galley', (30, 30, 0, 0, 1, 1, 1, 2, last), 1))
-    tally.same('lastMin above htMax', record(b'G2', 30, 30, 0, 0, 1, 1, 1, 31) + LINE + END, ('refused', 3, 0))
-    tally.same('a second edition cut short', SECOND[:33], ('refused', 1, 0))
-    tally.same('a specification after a second edition', SECOND + SPEC + LINE + END, ('refused', 2, 34))
-    tally.same('a second edition after a specification', SPEC + SECOND + LINE + END, ('refused', 2, 30))
-    tally.same('two second editions', 2 * SECOND + LINE + END, ('refused', 2, 34))
-    tally.same('a folio after a second edition', SECOND + FOLIO + LINE + END, ('galley', SECOND_EDITION, 38))
-    tally.same('a second edition after a folio', SPEC + FOLIO + SECOND + LINE + END, ('refused', 2, 36))
-    tally.same('no line after a second edition', SECOND + END, ('refused', 5, 34))
-    tally.same('4,001 lines after a second edition', SECOND + FOLIO + 4_001 * LINE + END, ('refused', 4, 72_040))
-
-
 def folios(tally):
-    tally.same('from folio 9,999', SPEC + record(b'FO', 9_999) + LINE + END, ('galley', FIRST_EDITION, 9_999))
+    tally.same('from folio 9,999', SPEC + record(b'FO', 9_999) + LINE + END, ('galley', FIRST_VALUES, 9_999))
     tally.same('folio 0', SPEC + record(b'FO', 0) + LINE + END, ('refused', 3, 30))
     tally.same('folio 10,000', SPEC + record(b'FO', 10_000) + LINE + END, ('refused', 3, 30))
     tally.same('a folio cut short', SPEC + FOLIO[:5], ('refused', 1, 30))
@@ -163,7 +147,7 @@ def folios(tally):
 
 def kept(tally):
     held = [(20, 0, 0, 1, legal) for legal in (0, 1, 0)]
-    tally.same('kept, not kept, kept last', SPEC + LINE + KEPT + FIGURE + KEPT + END, ('galley', FIRST_EDITION, 1, [(10, 0, 0, 1, 1)], held))
+    tally.same('kept, not kept, kept last', SPEC + LINE + KEPT + FIGURE + KEPT + END, ('galley', FIRST_VALUES, 1, [(10, 0, 0, 1, 1)], held))
     for n in range(1, 201, 33):
         data = SPEC + LINE + n * KEPT + (200 - n) * FIGURE
         tally.same(f'{n} kept of 200', data + END, ('galley',))
@@ -177,6 +161,24 @@ def kept(tally):
     for first, second in ((b'FG', b'FK'), (b'FK', b'FG'), (b'FK', b'FK')):
         figures = record(first, 1, 0, 0, 2) + record(second, 1, 0, 0, 1)
         tally.same(f'{second} cited before {first}', SPEC + 2 * LINE + figures + END, ('refused', 7, 84))
+
+
+def editions(tally):
+    for high, last in ((1, 0), (1, 1), (40, 30), (40, 40), (100_000, 100_000)):
+        values = (0, high, 0, 0, 1, 1, 1, 2, last)
+        tally.same(f'lastMin {last} of htMax {high}', record(b'G2', *values[:7], last) + LINE + END, ('galley', values, 1))
+        tally.same(f'lastMin above htMax {high}', record(b'G2', *values[:7], high + 1) + LINE + END, ('refused', 3, 0))
+    tally.same('a second specification, first GS', SPEC + SECOND + LINE + END, ('refused', 2, 30))
+    tally.same('a second specification, first G2', SECOND + SPEC + LINE + END, ('refused', 2, 34))
+    tally.same('G2 twice', 2 * SECOND + LINE + END, ('refused', 2, 34))
+    tally.same('G2 cut short', SECOND[:33], ('refused', 1, 0))
+    tally.same('G2 with the fields of GS', b'G2' + SPEC[2:], ('refused', 1, 0))
+    tally.same('G2 after a line', SPEC + LINE + SECOND + END, ('refused', 2, 48))
+    tally.same('no line after G2', SECOND + END, ('refused', 5, 34))
+    tally.same('a folio after G2', SECOND + FOLIO + LINE + END, ('galley', (30, 30, 0, 0, 1, 1, 1, 2, 20), 38))
+    tally.same('a folio out of range after G2', SECOND + record(b'FO', 0) + LINE + END, ('refused', 3, 34))
+    tally.same('6 after G2 and a folio', SECOND + FOLIO + LINE + record(b'FG', 1, 0, 0, 2) + END, ('refused', 6, 58))
+    tally.same('4,001 lines after G2', SECOND + 4_001 * LINE + END, ('refused', 4, 72_034))
 
 
 def limits(tally):
@@ -195,18 +197,14 @@ def limits(tally):
     tally.same('one byte', b'G', ('refused', 1, 0))
 
 
-def specification(draw):
-    fields = [draw.randrange(40), draw.randrange(60), draw.randrange(3), draw.randrange(4), draw.randrange(1, 3), draw.randrange(1_002),
-              draw.randrange(1_002)]
-    return draw.choice((record(b'GS', *fields), record(b'G2', *fields, draw.randrange(60))))
-
-
 def chance(tally):
     draw = random.Random(SEED)
     for _ in range(RANDOM_GALLEYS):
         lines, figures = draw.randrange(6), draw.randrange(4)
         data = bytearray(
-            specification(draw)
+            draw.choice((b'GS', b'G2')) + record(b'', draw.randrange(40), draw.randrange(60), draw.randrange(3), draw.randrange(4),
+                                                 draw.randrange(1, 3), draw.randrange(1_002), draw.randrange(1_002))
+            + draw.choice((b'', record(b'', draw.randrange(60))))
             + draw.choice((b'', record(b'FO', draw.randrange(10_010))))
             + b''.join(record(b'TL', draw.randrange(100_001), draw.randrange(5), draw.randrange(3, 9), draw.randrange(2))
                        for _ in range(lines))
@@ -214,10 +212,10 @@ def chance(tally):
                        for cite in sorted(draw.randrange(1, 7) for _ in range(figures)))
             + END)
         for _ in range(draw.randrange(3)):
-            data[draw.randrange(len(data))] = draw.choice(b'\0\1GS2TLFGEDFOK\xff')
+            data[draw.randrange(len(data))] = draw.choice(b'\0\1GSTLFGEDFOK2\xff')
         tally.same('a random galley', bytes(data))
     for _ in range(RANDOM_STRINGS):
-        tally.same('a random string', bytes(draw.choice(b'\0\1GS2TLFGEDFOK') for _ in range(draw.randrange(80))))
+        tally.same('a random string', bytes(draw.choice(b'\0\1GSTLFGEDFOK2') for _ in range(draw.randrange(80))))
 
 
 def main():

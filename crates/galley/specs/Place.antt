@@ -28,6 +28,13 @@ FK = 0x464b
 abbrev pub ED : ℕ
 ED = 0x4544
 
+-- The mark of a specification, and its bytes, by its edition (document 02, S-11).
+abbrev pub specMark : ℕ → ℕ
+specMark edition = pick (eqb edition 2) G2 GS
+
+abbrev pub specSize : ℕ → ℕ
+specSize edition = pick (eqb edition 2) 34 30
+
 -- The mark of a figure: another one where it is kept with the next.
 abbrev pub figureMark : Bool → ℕ
 figureMark kept = pick kept FK FG
@@ -57,9 +64,10 @@ abbrev pub rowOf : ℕ → ℕ → ℕ → ℕ → ℕ → Kind
 rowOf stage earliest latest most size =
     record { stage = stage; earliest = earliest; latest = latest; most = most; size = size }
 
--- The kind of record that a mark opens. The specification, of either edition (document 02, S-11), is first and comes once, a folio
--- may stand straight after it (S-1), figures, kept with the next one or not (S-3), follow all lines, and the end follows all of them;
--- an unknown mark fits nowhere, and only its two bytes are known.
+-- The kind of record that a mark opens. The specification, of either edition, is first and comes once, a folio may stand straight after it (document
+-- 02, S-1), figures follow all lines, kept with the next one or not (document
+-- 02, S-3), and the end follows all of them; an unknown mark fits nowhere, and only its two bytes are
+-- known.
 unfoldable pub kindOf : ℕ → Kind
 kindOf mark =
     pick (eqb mark GS) (rowOf spec nothing nothing 1 30)
@@ -70,13 +78,6 @@ kindOf mark =
     (pick (eqb mark FK) (rowOf figure spec figure 200 18)
     (pick (eqb mark ED) (rowOf end spec figure 1 2)
     (rowOf nothing spec nothing 0 2)))))))
-
--- The mark of a specification of an edition, and its bytes (document 02, S-11).
-abbrev pub specMark : ℕ → ℕ
-specMark edition = pick (eqb edition 2) G2 GS
-
-abbrev pub specEnd : ℕ → ℕ
-specEnd edition = pick (eqb edition 2) 34 30
 
 -- A record that comes too soon or too late in the order of stages: number 2.
 abbrev pub misplaced : Kind → Sofar → Bool

@@ -1,8 +1,7 @@
 -- The ranges that number 3 guards: document 01, "The galley file".
 use Prim.Native.Nat.{ℕ, _≤_}
-use mathlib.Core.Bool.{Bool, _&&_}
-use mathlib.Core.Logic.{_⊎_}
 use mathlib.Core.Path.{_≡_}
+use mathlib.Core.Bool.{Bool, _&&_}
 use lib.Dec.{leb}
 use Rattle.galley.specs.declared.Spec.{Spec}
 use Rattle.galley.specs.declared.Block.{Block}
@@ -34,11 +33,7 @@ blockInRange b = leb (b .height) 100000 && leb (b .least) (b .most) && leb (b .m
 abbrev pub lineInRange : Line → Bool
 lineInRange l = blockInRange (l .block) && leb (l .legal) 1
 
--- A specification of the first edition, which holds the last page to no height, or of the second (document 02, S-11).
-abbrev pub Edition : Spec → Type 0
-Edition g = ((g .edition ≡ 1) × (g .lastmin ≡ 0)) ⊎ (g .edition ≡ 2)
-
--- The same as inequalities: a specification in range, of one of the editions.
+-- The same as inequalities: a specification in range.
 pub record SpecRanged (g : Spec) : Type 0 where
   pub htmins : g .htmin ≤ g .htmax
   pub htmaxSome : 1 ≤ g .htmax
@@ -50,7 +45,12 @@ pub record SpecRanged (g : Spec) : Type 0 where
   pub alphas : g .alpha ≤ 1000
   pub betas : g .beta ≤ 1000
   pub lastmins : g .lastmin ≤ g .htmax
-  pub edition : Edition g
+
+-- The first or the second edition; the first asks nothing of the last page (document 02, S-11).
+pub record Edition (g : Spec) : Type 0 where
+  pub some : 1 ≤ g .edition
+  pub two : g .edition ≤ 2
+  pub plain : g .edition ≡ 1 → g .lastmin ≡ 0
 
 -- A first folio in range.
 pub record FolioRanged (f : ℕ) : Type 0 where

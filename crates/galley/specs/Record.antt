@@ -7,7 +7,7 @@ use lib.Dec.{ltb, eqb}
 use Rattle.model.specs.Gather.{pick}
 use Rattle.galley.specs.Word.{wordAt, markAt}
 use Rattle.galley.specs.Range.{specInRange, folioInRange, blockInRange, lineInRange}
-use Rattle.galley.specs.Place.{GS, G2, FO, TL, FG, ED, kindOf, FK}
+use Rattle.galley.specs.Place.{GS, G2, FO, TL, FG, FK, ED, kindOf}
 use Rattle.galley.specs.declared.Spec.{Spec}
 use Rattle.galley.specs.declared.Block.{Block}
 use Rattle.galley.specs.declared.Line.{Line}
@@ -15,7 +15,7 @@ use Rattle.galley.specs.declared.Figure.{Figure}
 use Rattle.galley.specs.declared.Record.{Record}
 use Rattle.galley.specs.declared.Record.the-variants as found
 
--- The fields after the mark of a specification of an edition, in which the last page is held to lastMin.
+-- The fields after a `GS`, or after a `G2`, with the edition and the least height of the last page (document 02, S-11).
 abbrev pub specOf : ℕ → ℕ → List ℕ → ℕ → Spec
 specOf edition lastmin bytes at =
     record {
@@ -93,7 +93,7 @@ lineAt bytes at = ranged (lineInRange (lineOf bytes at)) (found.Line (lineOf byt
 abbrev pub figureAt : Bool → List ℕ → ℕ → Record
 figureAt kept bytes at = ranged (blockInRange (blockOf bytes at)) (found.Figure (figureOf kept bytes at)) at
 
--- What the fields after a mark say: a `G2` has an eighth, lastMin, which is 0 under `GS` (document 02, S-11); an unknown mark is 2.
+-- What the fields after a mark say; an unknown mark is 2.
 unfoldable pub fieldsOf : ℕ → List ℕ → ℕ → Record
 fieldsOf mark bytes at =
     pick (eqb mark GS) (specAt 1 0 bytes at)

@@ -4,10 +4,10 @@ use mathlib.Core.List.{List}
 use mathlib.Core.Logic.{_⊎_}
 use mathlib.Core.Path.{_≡_}
 use lib.ListN.{length}
-use Rattle.galley.specs.Record.{legalAt, citeAt, blockOf, lineOf, figureOf, recordAt, isKept}
-use Rattle.galley.specs.Place.{specEnd}
+use Rattle.galley.specs.Record.{legalAt, citeAt, blockOf, lineOf, figureOf, isKept, recordAt}
+use Rattle.galley.specs.Place.{specSize}
 use Rattle.galley.specs.Block.{offset, fieldOf}
-use Rattle.galley.specs.Range.{SpecRanged, BlockRanged}
+use Rattle.galley.specs.Range.{SpecRanged, Edition, BlockRanged}
 use Rattle.galley.specs.declared.Stream.{Stream}
 use Rattle.galley.specs.declared.Galley.{Galley}
 use Rattle.galley.specs.declared.Record.{Record}
@@ -25,9 +25,8 @@ Reads bytes stream due = (k : ℕ) → 1 ≤ k → k ≤ stream .count → recor
 -- The first folio stands in an `FO` straight after the specification, or there is none and it is 1; line 1 follows.
 abbrev pub Opening : List ℕ → Galley → Type 0
 Opening bytes g =
-    let after = specEnd (g .spec .edition) in
-    ((g .folio ≡ 1) × (g .text .first ≡ after))
-    ⊎ ((recordAt bytes after ≡ found.Folio (g .folio)) × (g .text .first ≡ after + 6))
+    let end = specSize (g .spec .edition) in
+    ((g .folio ≡ 1) × (g .text .first ≡ end)) ⊎ ((recordAt bytes end ≡ found.Folio (g .folio)) × (g .text .first ≡ end + 6))
 
 -- Citations never decrease along the stream.
 abbrev pub Growing : List ℕ → Stream → Type 0
@@ -51,6 +50,7 @@ pub record Sound (bytes : List ℕ) (g : Galley) : Type 0 where
   pub fewLines : g .text .count ≤ 4000
   pub fewFigures : g .figures .count ≤ 200
   pub specRanged : SpecRanged (g .spec)
+  pub edition : Edition (g .spec)
   pub specRead : recordAt bytes 0 ≡ found.Spec (g .spec)
   pub someFolio : 1 ≤ g .folio
   pub fewFolios : g .folio ≤ 9999

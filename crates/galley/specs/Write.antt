@@ -1,11 +1,11 @@
 -- A galley's bytes from its values: document 01, "The galley file".
 use Prim.Native.Nat.{ℕ, _/_, _%_, _≤_}
-use mathlib.Core.Bool.{Bool, true, false}
 use mathlib.Core.List.{List, [], _∷_}
+use mathlib.Core.Bool.{Bool}
+use lib.Dec.{eqb}
 use Rattle.model.specs.Gather.{pick}
 use lib.ListN.{length}
-use lib.Dec.{eqb}
-use Rattle.galley.specs.Range.{SpecRanged, FolioRanged, LineRanged, BlockRanged}
+use Rattle.galley.specs.Range.{SpecRanged, Edition, FolioRanged, LineRanged, BlockRanged}
 use Rattle.galley.specs.declared.Spec.{Spec}
 use Rattle.galley.specs.declared.Block.{Block}
 use Rattle.galley.specs.declared.Line.{Line}
@@ -15,19 +15,16 @@ use Rattle.galley.specs.declared.Figure.{Figure}
 abbrev pub word : ℕ → List ℕ → List ℕ
 word w rest = w / 256 / 256 / 256 % 256 ∷ w / 256 / 256 % 256 ∷ w / 256 % 256 ∷ w % 256 ∷ rest
 
--- The seven fields that a specification of either edition has.
-abbrev pub fieldBytes : Spec → List ℕ → List ℕ
-fieldBytes g rest =
-    word (g .htmin) (word (g .htmax) (word (g .smin) (word (g .smax) (word (g .sides) (word (g .alpha) (word (g .beta) rest))))))
+-- A `GS` with its fields in front of what follows it, or a `G2` with one field more.
+abbrev pub specBytesIn : Bool → Spec → List ℕ → List ℕ
+specBytesIn second g rest =
+    71 ∷ pick second 50 83
+    ∷ word (g .htmin) (word (g .htmax) (word (g .smin) (word (g .smax) (word (g .sides) (word (g .alpha) (word (g .beta)
+    (pick second (word (g .lastmin) rest) rest)))))))
 
--- A `GS` with its fields, or a `G2` with lastMin after them, in front of what follows.
-abbrev pub editionBytes : Bool → Spec → List ℕ → List ℕ
-editionBytes false g rest = 71 ∷ 83 ∷ fieldBytes g rest
-editionBytes true g rest = 71 ∷ 50 ∷ fieldBytes g (word (g .lastmin) rest)
-
--- A specification by its edition.
+-- The mark goes by the edition.
 abbrev pub specBytes : Spec → List ℕ → List ℕ
-specBytes g rest = editionBytes (eqb (g .edition) 2) g rest
+specBytes g = specBytesIn (eqb (g .edition) 2) g
 
 -- The heights of a block.
 abbrev pub blockBytes : Block → List ℕ → List ℕ
@@ -96,5 +93,6 @@ pub record BlocksInRange (ls : List Line) (fs : List Figure) : Type 0 where
 -- Values that a galley may have.
 pub record InRange (g : Spec) (o : Stated) (ls : List Line) (fs : List Figure) : Type 0 where
   pub spec : SpecRanged g
+  pub edition : Edition g
   pub folio : StatedRanged o
   pub blocks : BlocksInRange ls fs

@@ -7,8 +7,7 @@ mod records; // records.rt: the record at an offset
 pub mod whole; // whole.rt: a galley, record by record
 pub mod word; // word.rt: bytes, fields and marks
 
-// The page specification that a `GS` holds, or a `G2`: then the edition is 2, and the last page is held to `lastmin`. In the first
-// edition that is 0.
+// The page specification that `GS` holds, or `G2` in its second edition; the least height of the last page is 0 in the first.
 pub struct Spec {
     pub htmin: u32,
     pub htmax: u32,

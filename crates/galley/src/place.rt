@@ -86,16 +86,13 @@ fn is_too_many(kind: Kind, so: Sofar) -> bool
 pub fn unfit_for(kind: Kind, so: Sofar) -> u32
     ensures { λ r. ⌜ r ≡ unfit kind so ⌝ }
 {
-    let misplaced = is_misplaced(kind, so);
-    let early = is_too_early(kind, so);
-    let many = is_too_many(kind, so);
-    if misplaced {
+    if is_misplaced(kind, so) {
         return 2;
     }
-    if early {
+    if is_too_early(kind, so) {
         return 5;
     }
-    if many {
+    if is_too_many(kind, so) {
         return 4;
     }
     0

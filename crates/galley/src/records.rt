@@ -31,7 +31,7 @@ fn ranged(fine: bool, found: Record, at: usize) -> Record
     }
 }
 
-// A specification of an edition, in which the last page is held to `lastmin`.
+// A specification of an edition, with the least height of the last page.
 fn spec_at(s: &[u8], at: usize, edition: u32, lastmin: u32) -> Record
     requires { ⌜ at + 30 ≤ length (now s) ⌝ }
     ensures { λ r. ⌜ r ≡ specAt edition lastmin (now (s .entry)) at ⌝ }

@@ -31,40 +31,38 @@ fn opened(spec: Spec, folio: u32, at: usize) -> Galley
     }
 }
 
-// The galley with so many lines, the figures being still to come.
-fn with_line(g: Galley, lines: usize, at: usize) -> Galley
-    ensures { λ r. ⌜ r ≡ withLine g lines at ⌝ }
+// One line more, the figures being still to come. Only what changes is set, which is cheaper than a galley made anew.
+fn with_line(mut so: Sofar) -> Sofar
+    ensures { λ r. ⌜ r ≡ holding so (withLine (so .galley) (so .count) (so .at)) (so .last) ⌝ }
 {
-    let spec = g.spec;
-    Galley {
-        spec,
-        folio: g.folio,
-        text: Stream {
-            first: g.text.first,
-            count: lines,
-        },
-        figures: Stream {
-            first: at,
-            count: 0,
-        },
-    }
+    let mut galley = so.galley;
+    let text = Stream {
+        first: galley.text.first,
+        count: so.count,
+    };
+    let figures = Stream {
+        first: so.at,
+        count: 0,
+    };
+    galley.text = text;
+    galley.figures = figures;
+    so.galley = galley;
+    so
 }
 
-// The galley with so many figures.
-fn with_figure(g: Galley, figures: usize) -> Galley
-    ensures { λ r. ⌜ r ≡ withFigure g figures ⌝ }
+// One figure more, whose citation is the last.
+fn with_figure(mut so: Sofar, cite: u32) -> Sofar
+    ensures { λ r. ⌜ r ≡ holding so (withFigure (so .galley) (so .count)) cite ⌝ }
 {
-    let spec = g.spec;
-    let text = g.text;
-    Galley {
-        spec,
-        folio: g.folio,
-        text,
-        figures: Stream {
-            first: g.figures.first,
-            count: figures,
-        },
-    }
+    let mut galley = so.galley;
+    let figures = Stream {
+        first: galley.figures.first,
+        count: so.count,
+    };
+    galley.figures = figures;
+    so.galley = galley;
+    so.last = cite;
+    so
 }
 
 // Nothing was read yet.
@@ -152,7 +150,7 @@ fn cited(so: Sofar, f: Figure, at: usize) -> Step
     if falls {
         return refused(7, at);
     }
-    Step::On(holding(so, with_figure(so.galley, so.count), f.cite))
+    Step::On(with_figure(so, f.cite))
 }
 
 // The end, if nothing follows it: 8.
@@ -175,9 +173,7 @@ fn after(s: &[u8], so: Sofar, found: Record, at: usize) -> Step
     match found {
         Record::Spec(g) => Step::On(holding(so, opened(g, 1, so.at), so.last)),
         Record::Folio(f) => Step::On(holding(so, opened(so.galley.spec, f, so.at), so.last)),
-        Record::Line(_l) => {
-            Step::On(holding(so, with_line(so.galley, so.count, so.at), so.last))
-        }
+        Record::Line(_l) => Step::On(with_line(so)),
         Record::Figure(f) => cited(so, f, at),
         Record::End => closed(s, so),
         Record::Refused { number, place: _p } => refused(number, at),

@@ -12,7 +12,7 @@ use Rattle.galley.specs.declared.Galley as galley
 use Rattle.galley.specs.declared.Reading.{Reading}
 use Rattle.galley.specs.declared.Reading.the-variants.{Galley, Refused}
 
--- The number and place of a refusal, or the specification, the first folio and the counts after two zeros.
+-- The number and place of a refusal, or the specification with its edition, the first folio and the counts after two zeros.
 unfoldable pub wordsOf : Reading → List ℕ
 wordsOf (Galley g) =
     0 ∷ 0 ∷ g .spec .htmin ∷ g .spec .htmax ∷ g .spec .smin ∷ g .spec .smax ∷ g .spec .sides ∷ g .spec .alpha

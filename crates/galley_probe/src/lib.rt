@@ -10,7 +10,7 @@ use galley::Galley;
 use galley::Reading;
 use galley::Stream;
 
-// A refusal's number and place, or 0 and 0; then the specification, the first folio and the counts of lines and
+// A refusal's number and place, or 0 and 0; then the specification with its edition, the first folio and the counts of lines and
 // figures.
 #[no_mangle]
 pub extern "C" fn galley_probe_read(bytes: &[u8], out: &mut [u32; 14])

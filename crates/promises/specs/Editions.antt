@@ -1,9 +1,8 @@
 -- The editions of the page specification (document 02, S-11): a galley under `GS` is held to what it was held to before there was a
 -- second edition, so that every answer of its marking and its making is what it was.
 use Prim.Native.Nat.{ℕ, _≤_, _<_}
-use native.Mathlib.Omega.{arith}
 use mathlib.Core.Path.{_≡_}
-use mathlib.Core.Logic.{inl, inr, _↔_}
+use mathlib.Core.Logic.{_↔_}
 use mathlib.Core.Bool.{Bool, _||_}
 use mathlib.Core.List.{List}
 use lib.Dec.{eqb, leb}
@@ -15,7 +14,6 @@ use Rattle.galley.specs.declared.Galley.{Galley}
 use Rattle.galley.specs.declared.Reading.the-variants as reads
 use Rattle.galley.specs.Whole.{galleyOf}
 use Rattle.galley.specs.Model.{modelOf}
-use Rattle.galley.specs.Range.{Edition}
 use Rattle.galley.specs.laws.Sound.{sound}
 
 -- What the first edition asks of the height of a page.
@@ -30,12 +28,9 @@ pub record FirstEdition (bytes : List ℕ) (g : Galley) : Type 0 where
 
 -- It holds of every galley that names the first edition.
 pub first-edition : (bytes : List ℕ) (g : Galley) → galleyOf bytes ≡ reads.Galley g → g .spec .edition ≡ 1 → FirstEdition bytes g
-first-edition bytes g read first = go (sound bytes g read .specRanged .edition)
-  where
-    go : Edition (g .spec) → FirstEdition bytes g
-    go (inl (_, none)) =
-        record {
-          rule16 = λ last u v. fills-first (modelOf bytes g) last u v none;
-          under = λ p height. under-first (modelOf bytes g) p height none;
-        }
-    go (inr second) = absurd (omega arith)
+first-edition bytes g read first =
+    let none = sound bytes g read .edition .plain first in
+    record {
+      rule16 = λ last u v. fills-first (modelOf bytes g) last u v none;
+      under = λ p height. under-first (modelOf bytes g) p height none;
+    }

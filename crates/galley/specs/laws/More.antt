@@ -8,12 +8,12 @@ use lib.ListN.{length}
 use lib.Dec.{eqb}
 use borrow.Author.Tests.{eqb-true}
 use Rattle.galley.specs.Word.{wordAt}
-use Rattle.galley.specs.Place.{nothing, spec, line, figure, FO, TL, FG, rowOf, kindOf, specEnd}
-use Rattle.galley.specs.Record.{citeAt, lineOf, figureOf, recordAt, isKept}
+use Rattle.galley.specs.Place.{spec, line, figure, specMark, FO, TL, FG, kindOf}
+use Rattle.galley.specs.Record.{citeAt, lineOf, figureOf, isKept, recordAt}
 use Rattle.galley.specs.Whole.{opened, withLine, withFigure, moved, holding, cited}
 use Rattle.galley.specs.Range.{FolioRanged}
 use Rattle.galley.specs.laws.Pick.{pick-has}
-use Rattle.galley.specs.laws.Place.{spec-end, Fits}
+use Rattle.galley.specs.laws.Place.{spec-kind, spec-small, Fits}
 use Rattle.galley.specs.laws.Reached.{counted-more, Head, Reached, reached-empty, reads-more, no-citations, citations-more}
 use Rattle.galley.specs.declared.Kind.{Kind}
 use Rattle.galley.specs.declared.Spec.{Spec}
@@ -42,30 +42,33 @@ module _ (bytes : List ℕ) (so : Sofar) (r : Reached bytes so) where
       }
 
   -- A galley whose streams are still to come.
-  open-reached : (g : Spec) (f : ℕ) (kind : Kind) → Fits kind so → 1 ≤ kind .most → kind .most ≤ 4000
-      → kind .stage < line → so .at + kind .size ≤ 40 → so .at + kind .size ≤ length bytes
-      → let next = moved so kind in
+  open-reached : (g : Spec) (f : ℕ) (mark : ℕ) → Fits (kindOf mark) so → 1 ≤ kindOf mark .most → kindOf mark .most ≤ 4000
+      → kindOf mark .stage < line → so .at + kindOf mark .size ≤ 40 → so .at + kindOf mark .size ≤ length bytes
+      → let next = moved so (kindOf mark) in
       Head bytes (holding next (opened g f (next .at)) (next .last)) → Reached bytes (holding next (opened g f (next .at)) (next .last))
-  open-reached g f kind fits some many early first there head =
+  open-reached g f mark fits some many early first there head =
       reached-empty bytes _
       (record { fewLines = omega arith; fewFigures = omega arith; first = first; follow = omega arith; due = omega arith; within = there })
-      (omega (arith, more-few kind fits some)) early refl refl head
+      (omega (arith, more-few (kindOf mark) fits some)) early refl refl head
 
   -- A specification comes first.
-  pub spec-reached : (g : Spec) → let kind = rowOf spec nothing nothing 1 (specEnd (g .edition)) in
+  pub spec-reached : (g : Spec) → let kind = kindOf (specMark (g .edition)) in
       Fits kind so → recordAt bytes (so .at) ≡ found.Spec g → so .at + kind .size ≤ length bytes
       → let next = moved so kind in Reached bytes (holding next (opened g 1 (next .at)) (next .last))
   spec-reached g fits e there =
-      let zero = r .head .starts (omega (arith, fits .late)) in
-      let short = spec-end (g .edition) .1 in
-      open-reached g 1 (rowOf spec nothing nothing 1 (specEnd (g .edition))) fits (omega arith) (omega arith) (omega arith) (omega arith) there
+      let row = spec-kind (g .edition) in
+      let small = spec-small (g .edition) in
+      let late = rw row at (fits .late) in
+      let zero = r .head .starts (omega (arith, late)) in
+      open-reached g 1 (specMark (g .edition)) fits (rw row (omega arith)) (rw row (omega arith)) (rw row (omega arith)) (rw row (omega arith)) there
+      (rw row
       (record {
         starts = λ l. absurd (omega arith);
         ends = λ e. omega arith;
         specRead = λ l. rw zero at e;
         folio = record { some = omega arith; few = omega arith };
         opens = λ l. inl (refl, omega arith);
-      })
+      }))
 
   -- A folio comes straight after it.
   pub folio-reached : (f : ℕ) → Fits (kindOf FO) so → recordAt bytes (so .at) ≡ found.Folio f → FolioRanged f
@@ -74,8 +77,8 @@ module _ (bytes : List ℕ) (so : Sofar) (r : Reached bytes so) where
   unfolding kindOf
   folio-reached f fits e fine there =
       let here = r .head .ends (omega (arith, fits .soon, fits .late)) in
-      let short = spec-end (so .galley .spec .edition) .1 in
-      open-reached (so .galley .spec) f (kindOf FO) fits (omega arith) (omega arith) (omega arith) (omega arith) there
+      let small = spec-small (so .galley .spec .edition) in
+      open-reached (so .galley .spec) f FO fits (omega arith) (omega arith) (omega arith) (omega arith) there
       (record {
         starts = λ l. absurd (omega arith);
         ends = λ e. absurd (omega arith);

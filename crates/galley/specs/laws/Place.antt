@@ -6,7 +6,7 @@ use mathlib.Core.Path.{_≡_, refl, sym}
 use lib.Dec.{eqb, ltb, leb}
 use borrow.Author.Tests.{ltb-true, ltb-false, leb-false, eqb-true, eqb-false, le-ltb, lt-ltb, lt-leb, eq-eqb, ne-eqb}
 use Rattle.model.specs.Gather.{pick}
-use Rattle.galley.specs.Place.{GS, G2, FO, TL, FG, ED, nothing, spec, folio, line, rowOf, kindOf, specMark, specEnd, misplaced, tooEarly, tooMany, unfit, FK, figureMark}
+use Rattle.galley.specs.Place.{GS, G2, FO, TL, FG, FK, ED, specMark, specSize, nothing, spec, line, figureMark, rowOf, kindOf, misplaced, tooEarly, tooMany, unfit}
 use Rattle.galley.specs.laws.Pick.{pick-has, or-false, and-false}
 use Rattle.galley.specs.declared.Kind.{Kind}
 use Rattle.galley.specs.declared.Sofar.{Sofar}
@@ -26,27 +26,17 @@ kind-sized mark =
     Sized : Kind → Type 0
     Sized kind = (2 ≤ kind .size) × (kind .size ≤ 100)
 
--- The row of a specification of an edition,
-pub spec-kind : (edition : ℕ) → kindOf (specMark edition) ≡ rowOf spec nothing nothing 1 (specEnd edition)
+-- A specification of either edition comes first, and they differ in their bytes alone.
+pub spec-kind : (edition : ℕ) → kindOf (specMark edition) ≡ rowOf spec nothing nothing 1 (specSize edition)
 unfolding kindOf
 spec-kind edition = go (eqb edition 2)
   where
-    go : (b : Bool) → kindOf (pick b G2 GS) ≡ rowOf spec nothing nothing 1 (pick b 34 30)
+    go : (second : Bool) → kindOf (pick second G2 GS) ≡ rowOf spec nothing nothing 1 (pick second 34 30)
     go true = refl
     go false = refl
 
--- and of a folio.
-pub folio-kind : kindOf FO ≡ rowOf folio spec spec 1 6
-unfolding kindOf
-folio-kind = refl
-
--- The bytes of a specification.
-pub spec-end : (edition : ℕ) → (30 ≤ specEnd edition) × (specEnd edition ≤ 34)
-spec-end edition = go (eqb edition 2)
-  where
-    go : (b : Bool) → (30 ≤ pick b 34 30) × (pick b 34 30 ≤ 34)
-    go true = omega arith
-    go false = omega arith
+pub spec-small : (edition : ℕ) → specSize edition ≤ 34
+spec-small edition = pick-has (_≤ 34) (eqb edition 2) 34 30 (λ _. omega arith) (λ _. omega arith)
 
 -- A kept figure is a figure.
 pub figure-kind : (kept : Bool) → kindOf (figureMark kept) ≡ kindOf FG

@@ -4,7 +4,7 @@ use mathlib.Core.Bool.{Bool, true, false, _&&_, true≢false}
 use mathlib.Core.Path.{_≡_, refl, sym}
 use lib.Dec.{leb}
 use borrow.Author.Tests.{leb-true, le-leb}
-use Rattle.galley.specs.Range.{specInRange, folioInRange, blockInRange, lineInRange, Edition, SpecRanged, FolioRanged, BlockRanged, LineRanged}
+use Rattle.galley.specs.Range.{specInRange, folioInRange, blockInRange, lineInRange, SpecRanged, FolioRanged, BlockRanged, LineRanged}
 use Rattle.galley.specs.declared.Spec.{Spec}
 use Rattle.galley.specs.declared.Block.{Block}
 use Rattle.galley.specs.declared.Line.{Line}
@@ -13,11 +13,11 @@ and-true : (a b : Bool) → (a && b) ≡ true → (a ≡ true) × (b ≡ true)
 and-true true b h = (refl, h)
 and-true false b h = absurd (true≢false (sym h))
 
-pub spec-ranged : (g : Spec) → Edition g → specInRange g ≡ true → SpecRanged g
+pub spec-ranged : (g : Spec) → specInRange g ≡ true → SpecRanged g
 unfolding specInRange
-spec-ranged g edition h =
-    let z = and-true _ (leb (g .lastmin) (g .htmax)) h in
-    let a = and-true _ (leb (g .beta) 1000) (z .0) in
+spec-ranged g h =
+    let last = and-true _ (leb (g .lastmin) (g .htmax)) h in
+    let a = and-true _ (leb (g .beta) 1000) (last .0) in
     let b = and-true _ (leb (g .alpha) 1000) (a .0) in
     let c = and-true _ (leb (g .sides) 2) (b .0) in
     let d = and-true _ (leb 1 (g .sides)) (c .0) in
@@ -35,8 +35,7 @@ spec-ranged g edition h =
       sidesTwo = leb-true _ _ (c .1);
       alphas = leb-true _ _ (b .1);
       betas = leb-true _ _ (a .1);
-      lastmins = leb-true _ _ (z .1);
-      edition = edition;
+      lastmins = leb-true _ _ (last .1);
     }
 
 pub folio-ranged : (f : ℕ) → folioInRange f ≡ true → FolioRanged f

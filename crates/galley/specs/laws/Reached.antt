@@ -11,8 +11,8 @@ use lib.Dec.{eqb}
 use borrow.Author.Tests.{eqb-true, eqb-false}
 use Rattle.model.specs.Gather.{pick}
 use Rattle.galley.specs.Word.{wordAt}
-use Rattle.galley.specs.Place.{spec, line, figure, specEnd}
-use Rattle.galley.specs.Record.{citeAt, lineOf, figureOf, recordAt, isKept}
+use Rattle.galley.specs.Place.{specSize, spec, line, figure}
+use Rattle.galley.specs.Record.{citeAt, lineOf, figureOf, isKept, recordAt}
 use Rattle.galley.specs.Whole.{beginning}
 use Rattle.galley.specs.Range.{FolioRanged}
 use Rattle.galley.specs.Block.{fieldOf}
@@ -49,7 +49,7 @@ pub record Shape (bytes : List ℕ) (g : Galley) (at : ℕ) : Type 0 where
 -- What is known of what stands before line 1: the specification, and an `FO` or none.
 pub record Head (bytes : List ℕ) (so : Sofar) : Type 0 where
   pub starts : so .stage < spec → so .at ≡ 0
-  pub ends : so .stage ≡ spec → so .at ≡ specEnd (so .galley .spec .edition)
+  pub ends : so .stage ≡ spec → so .at ≡ specSize (so .galley .spec .edition)
   pub specRead : spec ≤ so .stage → recordAt bytes 0 ≡ found.Spec (so .galley .spec)
   pub folio : FolioRanged (so .galley .folio)
   pub opens : spec ≤ so .stage → Opening bytes (so .galley)

@@ -3,17 +3,17 @@ use Prim.Native.Nat.{ℕ, _+_, _-_, _≤_}
 use native.Mathlib.Omega.{arith}
 use mathlib.Core.Bool.{Bool, true, false}
 use mathlib.Core.List.{List}
-use mathlib.Core.Logic.{inl, inr}
 use mathlib.Core.Path.{_≡_, refl}
 use lib.ListN.{length}
 use lib.Dec.{ltb, eqb}
 use borrow.Author.Tests.{ltb-false, eqb-true}
-use Rattle.galley.specs.Word.{wordAt, markAt}
-use Rattle.galley.specs.Range.{specInRange, folioInRange, blockInRange, lineInRange, Edition, SpecRanged, FolioRanged, BlockRanged, LineRanged}
-use Rattle.galley.specs.Place.{GS, G2, FO, TL, FG, ED, specMark, kindOf, FK, figureMark}
-use Rattle.galley.specs.Record.{specOf, openingFolio, blockOf, lineOf, figureOf, ranged, specAt, fieldsOf, recordAt, isKept, figureAt}
+use Rattle.galley.specs.Word.{markAt, wordAt}
+use Rattle.galley.specs.Range.{specInRange, folioInRange, blockInRange, lineInRange, SpecRanged, Edition, FolioRanged, BlockRanged, LineRanged}
+use Rattle.galley.specs.Place.{GS, G2, FO, TL, FG, FK, ED, specMark, figureMark, kindOf}
+use Rattle.galley.specs.Record.{specOf, specAt, openingFolio, blockOf, lineOf, figureOf, isKept, figureAt, ranged, fieldsOf, recordAt}
 use Rattle.galley.specs.laws.Pick.{pick-has}
 use Rattle.galley.specs.laws.Range.{spec-ranged, folio-ranged, block-ranged, line-ranged}
+use Rattle.galley.specs.declared.Spec.{Spec}
 use Rattle.galley.specs.declared.Figure.{Figure}
 use Rattle.galley.specs.declared.Record.{Record}
 use Rattle.galley.specs.declared.Record.the-variants as found
@@ -24,6 +24,11 @@ pub record Stands {A : Type 0} (Fine : A → Type 0) (bytes : List ℕ) (at mark
   pub there : at + kindOf mark .size ≤ length bytes
   pub same : value ≡ fields
   pub fine : Fine fields
+
+-- A specification in range, of one of the editions.
+pub record SpecFine (g : Spec) : Type 0 where
+  pub ranged : SpecRanged g
+  pub edition : Edition g
 
 -- A figure whose heights are in range.
 abbrev pub FigureRanged : Figure → Type 0
@@ -41,7 +46,7 @@ pub record RefusedAt (at number place : ℕ) : Type 0 where
 
 -- What a record that was read at an offset tells.
 unfoldable pub Found : List ℕ → ℕ → Record → Type 0
-Found bytes at (found.Spec g) = Stands SpecRanged bytes at (specMark (g .edition)) g (specOf (g .edition) (g .lastmin) bytes at)
+Found bytes at (found.Spec g) = Stands SpecFine bytes at (specMark (g .edition)) g g
 Found bytes at (found.Folio f) = Stands FolioRanged bytes at FO f (openingFolio bytes at)
 Found bytes at (found.Line l) = Stands LineRanged bytes at TL l (lineOf bytes at)
 Found bytes at (found.Figure f) = Stands FigureRanged bytes at (figureMark (f .kept)) f (figureOf (isKept bytes at) bytes at)
@@ -68,15 +73,14 @@ module _ (bytes : List ℕ) (at : ℕ) where
       let is = eqb-true (markAt bytes at) mark e in
       record { marked = is; there = rw is at there; same = refl; fine = fine }
 
-  -- A specification of an edition.
-  spec-found : (mark edition lastmin : ℕ) → Edition (specOf edition lastmin bytes at) → specMark edition ≡ mark
-      → eqb (markAt bytes at) mark ≡ true → at + kindOf (markAt bytes at) .size ≤ length bytes
-      → Found bytes at (specAt edition lastmin bytes at)
+  -- A specification is of the edition that its mark says.
+  spec-found : (edition lastmin : ℕ) → eqb (markAt bytes at) (specMark edition) ≡ true → at + kindOf (markAt bytes at) .size ≤ length bytes
+      → Edition (specOf edition lastmin bytes at) → Found bytes at (specAt edition lastmin bytes at)
   unfolding Found
-  spec-found mark edition lastmin either is e there =
+  spec-found edition lastmin e there of =
       let g = specOf edition lastmin bytes at in
-      ranged-found (specInRange g) (found.Spec g) (λ r.
-      rw is (stands SpecRanged mark g e there (spec-ranged g either r)))
+      ranged-found (specInRange g) (found.Spec g)
+      (λ r. stands SpecFine (specMark edition) g e there (record { ranged = spec-ranged g r; edition = of }))
 
   -- A figure is kept where its mark says so.
   figure-found : (kept : Bool) → eqb (markAt bytes at) (figureMark kept) ≡ true → at + kindOf (markAt bytes at) .size ≤ length bytes
@@ -97,8 +101,9 @@ module _ (bytes : List ℕ) (at : ℕ) where
   fields-found there =
       let mark = markAt bytes at in
       pick-has (Found bytes at) (eqb mark GS) _ _ (λ e.
-      spec-found GS 1 0 (inl (refl, refl)) refl e there) (λ _.
-      pick-has (Found bytes at) (eqb mark G2) _ _ (λ e. spec-found G2 2 (wordAt bytes (at + 30)) (inr refl) refl e there) (λ _.
+      spec-found 1 0 e there (record { some = omega arith; two = omega arith; plain = λ _. refl })) (λ _.
+      pick-has (Found bytes at) (eqb mark G2) _ _ (λ e.
+      spec-found 2 (wordAt bytes (at + 30)) e there (record { some = omega arith; two = omega arith; plain = λ z. absurd (omega arith) })) (λ _.
       pick-has (Found bytes at) (eqb mark FO) _ _ (λ e.
       ranged-found (folioInRange (openingFolio bytes at)) (found.Folio (openingFolio bytes at)) (λ r.
       stands FolioRanged FO (openingFolio bytes at) e there (folio-ranged (openingFolio bytes at) r))) (λ _.

@@ -6,7 +6,7 @@ use mathlib.Core.Path.{_≡_, _∙_}
 use lib.ListN.{length}
 use borrow.Author.Tests.{le-ltb, ne-eqb}
 use Rattle.galley.specs.Word.{markAt}
-use Rattle.galley.specs.Place.{FO, TL, FG, ED, specMark, kindOf, figureMark}
+use Rattle.galley.specs.Place.{specMark, FO, TL, FG, ED, figureMark, kindOf}
 use Rattle.galley.specs.Record.{recordAt}
 use Rattle.galley.specs.Whole.{opened, withLine, withFigure, moved, holding, cited, closed, after, stepFrom}
 use Rattle.galley.specs.laws.Place.{kind-sized, figure-kind, Fits, fits-unfit}
@@ -31,8 +31,8 @@ module _ (bytes : List ℕ) (so : Sofar) where
         fits-unfit (kindOf mark) so fits,
       )
 
-  pub spec-step : (g : Spec) → let kind = kindOf (specMark (g .edition)) in recordAt bytes (so .at) ≡ found.Spec g → Fits kind so
-      → let next = moved so kind in stepFrom bytes so ≡ On (holding next (opened g 1 (next .at)) (next .last))
+  pub spec-step : (g : Spec) → recordAt bytes (so .at) ≡ found.Spec g → Fits (kindOf (specMark (g .edition))) so
+      → let next = moved so (kindOf (specMark (g .edition))) in stepFrom bytes so ≡ On (holding next (opened g 1 (next .at)) (next .last))
   unfolding Found after
   spec-step g e fits = let h = rw e at (found-at bytes (so .at)) in fit-step (specMark (g .edition)) (h .marked) (h .there) fits ∙ rw e
 

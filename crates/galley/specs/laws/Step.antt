@@ -3,20 +3,20 @@ use Prim.Native.Nat.{ℕ, _+_, _-_, _≤_, _<_}
 use native.Mathlib.Omega.{arith}
 use mathlib.Core.Bool.{_||_}
 use mathlib.Core.List.{List}
-use mathlib.Core.Path.{_≡_, refl, ap, _∙_}
+use mathlib.Core.Path.{_≡_, refl}
 use lib.ListN.{length}
 use lib.Dec.{ltb, eqb}
 use borrow.Author.Tests.{ltb-true, ltb-false, eqb-false}
 use Rattle.galley.specs.Word.{markAt}
-use Rattle.galley.specs.Place.{line, FO, TL, FG, ED, kindOf, misplaced, tooEarly, tooMany, unfit}
-use Rattle.galley.specs.Record.{lineOf, figureOf, recordAt, isKept}
+use Rattle.galley.specs.Place.{line, specMark, FO, TL, FG, ED, kindOf, misplaced, tooEarly, tooMany, unfit}
+use Rattle.galley.specs.Record.{lineOf, figureOf, isKept, recordAt}
 use Rattle.galley.specs.Whole.{moved, refused, cited, closed, after, stepFrom}
 use Rattle.galley.specs.Block.{offset}
-use Rattle.galley.specs.Range.{SpecRanged, BlockRanged, LineRanged}
+use Rattle.galley.specs.Range.{BlockRanged, LineRanged}
 use Rattle.galley.specs.Sound.{Sound}
 use Rattle.galley.specs.laws.Pick.{pick-has, or-false}
-use Rattle.galley.specs.laws.Place.{kind-sized, spec-kind, spec-end, Fits, unfit-fits, figure-kind}
-use Rattle.galley.specs.laws.Record.{Found, found-at}
+use Rattle.galley.specs.laws.Place.{kind-sized, figure-kind, Fits, unfit-fits}
+use Rattle.galley.specs.laws.Record.{SpecFine, Found, found-at}
 use Rattle.galley.specs.laws.Reached.{Reached}
 use Rattle.galley.specs.laws.More.{spec-reached, folio-reached, line-reached, figure-reached}
 use Rattle.galley.specs.declared.Kind.{Kind}
@@ -43,9 +43,9 @@ Fine bytes so (Done reading) = Right bytes reading
 
 -- A record that was read is in range.
 module _ (bytes : List ℕ) (at : ℕ) where
-  spec-read-ranged : {g : Spec} → recordAt bytes at ≡ found.Spec g → SpecRanged g
+  spec-read-fine : {g : Spec} → recordAt bytes at ≡ found.Spec g → SpecFine g
   unfolding Found
-  spec-read-ranged e = let h = rw e at (found-at bytes at) in rw (h .same) (h .fine)
+  spec-read-fine e = (rw e at (found-at bytes at)) .fine
 
   line-read-ranged : {l : Line} → recordAt bytes at ≡ found.Line l → LineRanged l
   unfolding Found
@@ -87,7 +87,8 @@ module _ (bytes : List ℕ) (so : Sofar) (r : Reached bytes so) where
         someLines = fits .timely (omega arith);
         fewLines = r .shape .fewLines;
         fewFigures = r .shape .fewFigures;
-        specRanged = spec-read-ranged bytes 0 (r .head .specRead (fits .soon));
+        specRanged = spec-read-fine bytes 0 (r .head .specRead (fits .soon)) .ranged;
+        edition = spec-read-fine bytes 0 (r .head .specRead (fits .soon)) .edition;
         specRead = r .head .specRead (fits .soon);
         someFolio = r .head .folio .some;
         fewFolios = r .head .folio .few;
@@ -111,8 +112,7 @@ module _ (bytes : List ℕ) (so : Sofar) (r : Reached bytes so) where
       → Fine bytes so (after bytes (moved so (kindOf (markAt bytes (so .at)))) (so .at) found)
   unfolding after Found Fine
   after-fine (found.Spec g) e h fits =
-      let is = ap kindOf (h .marked) ∙ spec-kind (g .edition) in
-      rw is (omega (arith, spec-end (g .edition) .0), spec-reached bytes so r g (rw is at fits) e (rw (spec-kind (g .edition)) at (h .there)))
+      rw (h .marked) (omega (arith, kind-sized (specMark (g .edition))), spec-reached bytes so r g (rw (h .marked) at fits) e (h .there))
   after-fine (found.Folio f) e h fits =
       rw (h .marked) (omega (arith, kind-sized FO), folio-reached bytes so r f (rw (h .marked) at fits) e (rw (h .same) (h .fine)) (h .there))
   after-fine (found.Line l) e h fits =

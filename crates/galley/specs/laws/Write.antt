@@ -2,21 +2,19 @@
 use Prim.Native.Nat.{ℕ, _+_, _-_, _*_, _/_, _%_, _≤_, _<_}
 use native.Mathlib.Omega.{arith}
 use native.Mathlib.Nat.{add-assoc}
-use mathlib.Core.Bool.{true, false}
-use mathlib.Core.List.{List, _∷_, _++_}
-use mathlib.Core.Logic.{inl, inr}
-use mathlib.Core.Path.{_≡_, refl, sym, ap, _∙_}
+use mathlib.Core.List.{List, [], _∷_, _++_}
 use mathlib.Core.Bool.{Bool, true, false}
+use mathlib.Core.Path.{_≡_, refl, ap, _∙_}
+use lib.Dec.{eqb}
 use lib.ListN.{length, getD, length-append}
 use lib.Seq.{getD-append-add}
-use lib.Dec.{eqb}
-use borrow.Author.Tests.{le-ltb}
+use borrow.Author.Tests.{le-ltb, eqb-true, eqb-false}
 use Rattle.model.specs.Gather.{pick}
 use Rattle.galley.specs.Word.{wordAt, markAt}
-use Rattle.galley.specs.Place.{GS, G2, FO, TL, ED, kindOf, figureMark}
-use Rattle.galley.specs.Range.{Edition, SpecRanged, FolioRanged, BlockRanged, LineRanged}
-use Rattle.galley.specs.Record.{heightAt, leastAt, mostAt, citeAt, specOf, blockOf, lineOf, figureOf, fieldsOf, recordAt, isKept, figureAt}
-use Rattle.galley.specs.Write.{word, fieldBytes, editionBytes, specBytes, folioBytes, stated, blockBytes, lineBytes, figureBytes}
+use Rattle.galley.specs.Place.{GS, G2, specSize, FO, TL, ED, figureMark, kindOf}
+use Rattle.galley.specs.Range.{SpecRanged, Edition, FolioRanged, BlockRanged, LineRanged}
+use Rattle.galley.specs.Record.{heightAt, leastAt, mostAt, citeAt, specOf, blockOf, lineOf, figureOf, isKept, figureAt, fieldsOf, recordAt}
+use Rattle.galley.specs.Write.{word, specBytesIn, specBytes, folioBytes, stated, blockBytes, lineBytes, figureBytes}
 use Rattle.galley.specs.laws.Place.{figure-kind}
 use Rattle.galley.specs.laws.Record.{kept-mark}
 use Rattle.galley.specs.laws.Range.{ranged-spec, ranged-folio, ranged-block, ranged-line}
@@ -129,14 +127,13 @@ figure-after before rest f r small =
     (rw (figure-kind (f .kept)) (omega arith))
     (figure-read (f .kept) _ _ ∙ simp (h .0, h .1, ranged-block (f .block) r))
 
--- A specification that was written has its fields, after either mark,
-spec-fields : (before rest : List ℕ) (n edition lastmin : ℕ) (g : Spec) → SpecRanged g → g .edition ≡ edition → g .lastmin ≡ lastmin
-    → specOf edition lastmin (before ++ 71 ∷ n ∷ fieldBytes g rest) (length before) ≡ g
+-- A specification that was written has its fields, and it is read back.
+spec-fields : (before rest : List ℕ) (second : Bool) (g : Spec) (edition lastmin : ℕ) → SpecRanged g → g .edition ≡ edition
+    → g .lastmin ≡ lastmin → specOf edition lastmin (before ++ specBytesIn second g rest) (length before) ≡ g
 unfolding wordAt
-spec-fields before rest n edition lastmin g r e l =
-    let tail : List ℕ = 71 ∷ n ∷ fieldBytes g rest in
-    rw (← e, ← l)
-    (simp (
+spec-fields before rest second g edition lastmin r e l =
+    let tail = specBytesIn second g rest in
+    simp (
       word-back before tail 2 (g .htmin) (omega arith) refl,
       word-back before tail 6 (g .htmax) (omega arith) refl,
       word-back before tail 10 (g .smin) (omega arith) refl,
@@ -144,29 +141,43 @@ spec-fields before rest n edition lastmin g r e l =
       word-back before tail 18 (g .sides) (omega arith) refl,
       word-back before tail 22 (g .alpha) (omega arith) refl,
       word-back before tail 26 (g .beta) (omega arith) refl,
-    ))
+    )
+    (rw (← e, ← l))
 
--- and it is read back.
-pub spec-after : (before rest : List ℕ) (g : Spec) → SpecRanged g
-    → recordAt (before ++ specBytes g rest) (length before) ≡ found.Spec g
+spec-after-in : (before rest : List ℕ) (second : Bool) (g : Spec) → SpecRanged g → Edition g → eqb (g .edition) 2 ≡ second
+    → recordAt (before ++ specBytesIn second g rest) (length before) ≡ found.Spec g
 unfolding wordAt kindOf markAt fieldsOf
-spec-after before rest g r = go (r .edition)
-  where
-    by-edition : {n : ℕ} → g .edition ≡ n
-        → recordAt (before ++ specBytes g rest) (length before) ≡ recordAt (before ++ editionBytes (eqb n 2) g rest) (length before)
-    by-edition e = ap (λ n. recordAt (before ++ editionBytes (eqb n 2) g rest) (length before)) e
+spec-after-in before rest true g r e two =
+    let tail = specBytesIn true g rest in
+    written before tail G2 (found.Spec g) refl (omega arith) (omega arith)
+    (simp (
+      word-back before tail 30 (g .lastmin) (omega arith) refl,
+      spec-fields before rest true g 2 (g .lastmin) r (eqb-true (g .edition) 2 two) refl,
+      ranged-spec g r,
+    ))
+spec-after-in before rest false g r e one =
+    let first : g .edition ≡ 1 = let s = e .some in let t = e .two in omega (arith, eqb-false (g .edition) 2 one) in
+    written before (specBytesIn false g rest) GS (found.Spec g) refl (omega arith) (omega arith)
+    (simp (spec-fields before rest false g 1 0 r first (e .plain first), ranged-spec g r))
 
-    go : Edition g → recordAt (before ++ specBytes g rest) (length before) ≡ found.Spec g
-    go (inl (first, none)) =
-        by-edition first
-        ∙ written before (editionBytes false g rest) GS (found.Spec g) refl (omega arith) (omega arith)
-        (simp (spec-fields before rest 83 1 0 g r first none, ranged-spec g r))
-    go (inr second) =
-        let tail = editionBytes true g rest in
-        let last = word-back before tail 30 (g .lastmin) (omega arith) refl in
-        by-edition second
-        ∙ written before tail G2 (found.Spec g) refl (omega arith) (omega arith)
-        (simp (spec-fields before (word (g .lastmin) rest) 50 2 _ g r second (sym last), ranged-spec g r))
+pub spec-after : (before rest : List ℕ) (g : Spec) → SpecRanged g → Edition g
+    → recordAt (before ++ specBytes g rest) (length before) ≡ found.Spec g
+spec-after before rest g r e = spec-after-in before rest (eqb (g .edition) 2) g r e refl
+
+-- Its bytes, and what follows it.
+pub spec-long : (g : Spec) → length (specBytes g []) ≡ specSize (g .edition)
+spec-long g = go (eqb (g .edition) 2)
+  where
+    go : (second : Bool) → length (specBytesIn second g []) ≡ pick second 34 30
+    go true = refl
+    go false = refl
+
+pub spec-joins : (g : Spec) (rest : List ℕ) → specBytes g [] ++ rest ≡ specBytes g rest
+spec-joins g rest = go (eqb (g .edition) 2)
+  where
+    go : (second : Bool) → specBytesIn second g [] ++ rest ≡ specBytesIn second g rest
+    go true = refl
+    go false = refl
 
 -- So is a folio.
 pub folio-after : (before rest : List ℕ) (f : ℕ) → FolioRanged f

@@ -17,8 +17,8 @@ unfolding kindOf
 kind-of-spec =
     tie.close
     (tie.spec
-    (λ c κs. search needs) (λ c κs. search needs) (λ c κs. search needs) (λ c κs. search needs)
-    (λ c κs. search needs) (λ c κs. search needs) (λ c κs. search needs) (λ c κs. search needs)
+    (λ c κs. search needs) (λ c κs. search needs) (λ c κs. search needs) (λ c κs. search needs) (λ c κs. search needs) (λ c κs. search needs)
+    (λ c κs. search needs) (λ c κs. search needs)
     (λ c. simp (c .before .match .keys1) (c .row .ensures))
     (λ c. simp (c .before .match .keys2) (c .row2 .ensures))
     (λ c. simp (c .before .match .keys3) (c .row3 .ensures))

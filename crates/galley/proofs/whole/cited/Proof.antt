@@ -17,7 +17,6 @@ cited-spec =
     simp (← c .before .before .before .before .before .before .size .ensures, c .before .before .if1 .left, c .before .if2 .taken)
     (c .refused2 .ensures))
     (λ c κs. search needs)
-    (λ c κs. search needs)
     (λ c.
-    simp (← c .before .before .before .before .before .before .before .size .ensures, c .before .before .before .if1 .left, c .before .before .if2 .left)
+    simp (← c .before .before .before .before .before .before .size .ensures, c .before .before .if1 .left, c .before .if2 .left)
     cc))
