@@ -32,6 +32,11 @@ returns-2 c =
     (e .column) (e .side) (sym (origin .is-origin .ensures) ∙ asked .before .if1 .left)
     (sym (asked .may-stop .ensures) ∙ not-true (asked .may-stop .result) (c .if2 .taken)))
 
+add-tall : tie.Need-add-entry-of
+add-tall c =
+    let start = c .before .before .before .before .before .before .before .before .before .before .before in
+    omega (arith, start .pre .next .lent .sound .fewLines)
+
 entry-of-requires : tie.Need-entry-of-requires
 entry-of-requires c κs =
     let start = c .before .before .before .before .before .before .before .before .before .before .before in
@@ -112,7 +117,7 @@ new-entry-spec =
     (λ c κs. search needs)
     returns-2
     (λ c κs. search needs)
-    (λ c. search needs)
+    add-tall
     entry-of-requires
     (λ c κs. search needs)
     (λ c κs. search needs)
