@@ -7,7 +7,7 @@ use Rattle.galley.specs.Whole.{galleyOf}
 use Rattle.galley.specs.Word.{wordAt, markAt}
 use Rattle.galley.specs.Range.{specInRange, blockInRange}
 use Rattle.galley.specs.Place.{kindOf}
-use Rattle.galley.specs.Record.{lineOf, figureOf, fieldsOf, recordAt}
+use Rattle.galley.specs.Record.{lineOf, floatOf, fieldsOf, recordAt}
 use Rattle.galley.specs.Whole.{cited, closed, after, stepFrom, settled, readFrom}
 use Rattle.galley.specs.Block.{offset}
 use Rattle.galley.specs.declared.Galley.{Galley}
@@ -34,6 +34,7 @@ galleyA =
       folio = 1;
       text = record { first = 30; count = 3 };
       figures = record { first = 84; count = 1 };
+      tables = record { first = 102; count = 0 };
     }
 
 -- Case A reads without refusal.
@@ -46,6 +47,6 @@ a-line : lineOf caseA (offset (galleyA .text) 3) ≡ record { block = record { h
 unfolding wordAt
 a-line = refl
 
-a-figure : figureOf false caseA (offset (galleyA .figures) 1) ≡ record { block = record { height = 20; least = 0; most = 0 }; cite = 1; kept = false }
+a-figure : floatOf false caseA (offset (galleyA .figures) 1) ≡ record { block = record { height = 20; least = 0; most = 0 }; cite = 1; kept = false }
 unfolding wordAt
 a-figure = refl

@@ -1,4 +1,5 @@
--- A galley that was read, as the page model has it: the text is stream 0, the figures are stream 1.
+-- A galley that was read, as the page model has it: the text is stream 0, the figures are stream 1, and the tables, where there are
+-- any, are stream 2.
 use Prim.Native.Nat.{ℕ, zero, suc}
 use mathlib.Core.Bool.{Bool, not}
 use mathlib.Core.List.{List}
@@ -35,14 +36,19 @@ legalOf bytes stream k =
 abbrev pub textOf : List ℕ → Stream → model.Stream
 textOf bytes text = streamOf bytes text (legalOf bytes text) (λ k. 0)
 
--- Floats, figures today: the last field is the citation.
+-- Floats, figures or tables: the last field is the citation.
 abbrev pub floatsOf : List ℕ → Stream → model.Stream
 floatsOf bytes floats = streamOf bytes floats (legalOf bytes floats) (fieldOf bytes floats citeAt)
 
--- The stream of a number: the text is 0.
+-- The stream of a number: the text is 0, the figures are 1, the tables are 2.
 abbrev pub streamsOf : List ℕ → Galley → ℕ → model.Stream
 streamsOf bytes g zero = textOf bytes (g .text)
-streamsOf bytes g (suc s) = floatsOf bytes (g .figures)
+streamsOf bytes g (suc zero) = floatsOf bytes (g .figures)
+streamsOf bytes g (suc (suc s)) = floatsOf bytes (g .tables)
+
+-- How many streams of floats there are (document 02, S-4): 1, the figures, or 2 where there are tables.
+unfoldable pub floatStreams : Galley → ℕ
+floatStreams g = pick (eqb (g .tables .count) 0) 1 2
 
 -- The sidedness of a galley, by its field `sides` and its first folio.
 abbrev pub sidesIn : Galley → model.Sides
@@ -63,6 +69,6 @@ modelOf bytes g =
             beta = g .spec .beta;
             lastmin = g .spec .lastmin;
           };
-      floats = 1;
+      floats = floatStreams g;
       stream = streamsOf bytes g;
     }

@@ -25,15 +25,21 @@ FG = 0x4647
 abbrev pub FK : ℕ
 FK = 0x464b
 
+abbrev pub TB : ℕ
+TB = 0x5442
+
 abbrev pub ED : ℕ
 ED = 0x4544
 
--- The mark of a specification, and its bytes, by its edition (document 02, S-11).
+-- The mark of a specification, and its bytes, by its edition (document 02, S-11): whether it is the second.
 abbrev pub specMark : ℕ → ℕ
 specMark edition = pick (eqb edition 2) G2 GS
 
+abbrev pub sizeIn : Bool → ℕ
+sizeIn second = pick second 34 30
+
 abbrev pub specSize : ℕ → ℕ
-specSize edition = pick (eqb edition 2) 34 30
+specSize edition = sizeIn (eqb edition 2)
 
 -- The mark of a figure: another one where it is kept with the next.
 abbrev pub figureMark : Bool → ℕ
@@ -55,8 +61,11 @@ line = 3
 abbrev pub figure : ℕ
 figure = 4
 
+abbrev pub table : ℕ
+table = 5
+
 abbrev pub end : ℕ
-end = 5
+end = 6
 
 -- A kind of record: the stage that it reaches, the first and the last stage after which it may come, how many there may be of
 -- its stage, and its bytes.
@@ -64,10 +73,9 @@ abbrev pub rowOf : ℕ → ℕ → ℕ → ℕ → ℕ → Kind
 rowOf stage earliest latest most size =
     record { stage = stage; earliest = earliest; latest = latest; most = most; size = size }
 
--- The kind of record that a mark opens. The specification, of either edition, is first and comes once, a folio may stand straight after it (document
--- 02, S-1), figures follow all lines, kept with the next one or not (document
--- 02, S-3), and the end follows all of them; an unknown mark fits nowhere, and only its two bytes are
--- known.
+-- The kind of record that a mark opens. The specification, of either edition, is first and comes once, a folio may stand straight
+-- after it (document 02, S-1), figures follow all lines, kept with the next one or not (document 02, S-3), tables follow all
+-- figures (document 02, S-4), and the end follows all of them; an unknown mark fits nowhere, and only its two bytes are known.
 unfoldable pub kindOf : ℕ → Kind
 kindOf mark =
     pick (eqb mark GS) (rowOf spec nothing nothing 1 30)
@@ -76,8 +84,9 @@ kindOf mark =
     (pick (eqb mark TL) (rowOf line spec line 4000 18)
     (pick (eqb mark FG) (rowOf figure spec figure 200 18)
     (pick (eqb mark FK) (rowOf figure spec figure 200 18)
-    (pick (eqb mark ED) (rowOf end spec figure 1 2)
-    (rowOf nothing spec nothing 0 2)))))))
+    (pick (eqb mark TB) (rowOf table spec table 50 18)
+    (pick (eqb mark ED) (rowOf end spec table 1 2)
+    (rowOf nothing spec nothing 0 2))))))))
 
 -- A record that comes too soon or too late in the order of stages: number 2.
 abbrev pub misplaced : Kind → Sofar → Bool
@@ -85,9 +94,9 @@ misplaced kind so = ltb (so .stage) (kind .earliest) || ltb (kind .latest) (so .
 
 -- What belongs after the lines, before any line: number 5.
 abbrev pub tooEarly : Kind → Sofar → Bool
-tooEarly kind so = ltb line (kind .stage) && eqb (so .galley .text .count) 0
+tooEarly kind so = ltb line (kind .stage) && eqb (so .lines) 0
 
--- Line 4,001 or figure 201: number 4.
+-- Line 4,001, figure 201 or table 51: number 4.
 abbrev pub tooMany : Kind → Sofar → Bool
 tooMany kind so = eqb (kind .stage) (so .stage) && leb (kind .most) (so .count)
 

@@ -1,11 +1,12 @@
 -- The ranges that number 3 guards: document 01, "The galley file".
 use Prim.Native.Nat.{ℕ, _≤_}
 use mathlib.Core.Path.{_≡_}
-use mathlib.Core.Bool.{Bool, _&&_}
+use mathlib.Core.Bool.{Bool, false, _&&_}
 use lib.Dec.{leb}
 use Rattle.galley.specs.declared.Spec.{Spec}
 use Rattle.galley.specs.declared.Block.{Block}
 use Rattle.galley.specs.declared.Line.{Line}
+use Rattle.galley.specs.declared.Float.{Float}
 
 -- Least heights do not pass greatest ones, sides is 1 or 2, and every field keeps to its limit.
 unfoldable pub specInRange : Spec → Bool
@@ -67,3 +68,12 @@ pub record BlockRanged (b : Block) : Type 0 where
 pub record LineRanged (l : Line) : Type 0 where
   pub block : BlockRanged (l .block)
   pub legals : l .legal ≤ 1
+
+-- A figure whose heights are in range.
+abbrev pub FigureRanged : Float → Type 0
+FigureRanged f = BlockRanged (f .block)
+
+-- A table whose heights are in range; no table is kept with the next (document 02, S-4).
+pub record TableRanged (f : Float) : Type 0 where
+  pub block : BlockRanged (f .block)
+  pub free : f .kept ≡ false

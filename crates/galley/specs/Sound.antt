@@ -1,10 +1,11 @@
 -- What a galley that reads without refusal keeps to: document 01, "The galley file".
 use Prim.Native.Nat.{ℕ, _+_, _*_, _≤_}
 use mathlib.Core.List.{List}
+use mathlib.Core.Bool.{false}
 use mathlib.Core.Logic.{_⊎_}
 use mathlib.Core.Path.{_≡_}
 use lib.ListN.{length}
-use Rattle.galley.specs.Record.{legalAt, citeAt, blockOf, lineOf, figureOf, isKept, recordAt}
+use Rattle.galley.specs.Record.{legalAt, citeAt, blockOf, lineOf, floatOf, isKept, recordAt}
 use Rattle.galley.specs.Place.{specSize}
 use Rattle.galley.specs.Block.{offset, fieldOf}
 use Rattle.galley.specs.Range.{SpecRanged, Edition, BlockRanged}
@@ -39,16 +40,22 @@ pub record SoundCitations (bytes : List ℕ) (floats : Stream) (lines : ℕ) : T
   pub line : (k : ℕ) → 1 ≤ k → k ≤ floats .count → fieldOf bytes floats citeAt k ≤ lines
   pub grow : Growing bytes floats
 
--- The number of the line that figure k cites.
-abbrev pub citation : List ℕ → Galley → ℕ → ℕ
-citation bytes g k = fieldOf bytes (g .figures) citeAt k
+-- Floats of one stream, no more than there may be, each read where its number says.
+pub record SoundFloats (bytes : List ℕ) (floats : Stream) (lines most : ℕ) (due : ℕ → Record) : Type 0 where
+  pub few : floats .count ≤ most
+  pub sound : SoundStream bytes floats
+  pub read : Reads bytes floats due
+  pub citations : SoundCitations bytes floats lines
 
--- From 1 to 4,000 lines and up to 200 figures, each read where its number says, every field in range, citations that name
+-- The number of the line that block k of a stream of floats cites.
+abbrev pub citation : List ℕ → Stream → ℕ → ℕ
+citation bytes floats k = fieldOf bytes floats citeAt k
+
+-- From 1 to 4,000 lines, up to 200 figures and up to 50 tables, each read where its number says, every field in range, citations that name
 -- lines and never decrease, and nothing between or after the records.
 pub record Sound (bytes : List ℕ) (g : Galley) : Type 0 where
   pub someLines : 1 ≤ g .text .count
   pub fewLines : g .text .count ≤ 4000
-  pub fewFigures : g .figures .count ≤ 200
   pub specRanged : SpecRanged (g .spec)
   pub edition : Edition (g .spec)
   pub specRead : recordAt bytes 0 ≡ found.Spec (g .spec)
@@ -58,8 +65,8 @@ pub record Sound (bytes : List ℕ) (g : Galley) : Type 0 where
   pub text : SoundStream bytes (g .text)
   pub textRead : Reads bytes (g .text) (λ at. found.Line (lineOf bytes at))
   pub legals : (k : ℕ) → 1 ≤ k → k ≤ g .text .count → fieldOf bytes (g .text) legalAt k ≤ 1
-  pub figures : SoundStream bytes (g .figures)
-  pub figuresRead : Reads bytes (g .figures) (λ at. found.Figure (figureOf (isKept bytes at) bytes at))
-  pub citations : SoundCitations bytes (g .figures) (g .text .count)
+  pub figures : SoundFloats bytes (g .figures) (g .text .count) 200 (λ at. found.Figure (floatOf (isKept bytes at) bytes at))
+  pub tables : SoundFloats bytes (g .tables) (g .text .count) 50 (λ at. found.Table (floatOf false bytes at))
   pub follow : g .figures .first ≡ g .text .first + g .text .count * 18
-  pub ends : g .figures .first + g .figures .count * 18 + 2 ≡ length bytes
+  pub followTables : g .tables .first ≡ g .figures .first + g .figures .count * 18
+  pub ends : g .tables .first + g .tables .count * 18 + 2 ≡ length bytes

@@ -1,5 +1,5 @@
 -- A galley read record by record: document 01, "The galley file" and "Numbers that turn work away".
-use Prim.Native.Nat.{ℕ, zero, suc, _+_, _-_, _≤_}
+use Prim.Native.Nat.{ℕ, zero, suc, _+_, _-_, _*_, _≤_}
 use mathlib.Core.Bool.{_||_}
 use mathlib.Core.List.{List}
 use lib.ListN.{length}
@@ -7,9 +7,8 @@ use lib.Dec.{ltb, eqb}
 use Rattle.model.specs.Gather.{pick}
 use Rattle.galley.specs.Word.{markAt}
 use Rattle.galley.specs.Place.{nothing, kindOf, unfit}
-use Rattle.galley.specs.Record.{recordAt}
+use Rattle.galley.specs.Record.{HasSpec, isSecond, specOf, recordAt}
 use Rattle.galley.specs.declared.Spec.{Spec}
-use Rattle.galley.specs.declared.Figure.{Figure}
 use Rattle.galley.specs.declared.Galley.{Galley}
 use Rattle.galley.specs.declared.Kind.{Kind}
 use Rattle.galley.specs.declared.Sofar.{Sofar}
@@ -20,77 +19,102 @@ use Rattle.galley.specs.declared.Reading.the-variants as reads
 use Rattle.galley.specs.declared.Step.{Step}
 use Rattle.galley.specs.declared.Step.the-variants.{On, Done}
 
--- The galley of a specification and a first folio (document 02, S-1): its streams are still to come, at an offset.
-abbrev pub opened : Spec → ℕ → ℕ → Galley
-opened g f at = record { spec = g; folio = f; text = record { first = at; count = 0 }; figures = record { first = at; count = 0 } }
-
--- The galley with so many lines, the figures being still to come.
-abbrev pub withLine : Galley → ℕ → ℕ → Galley
-withLine g lines at =
-    record {
-      spec = g .spec;
-      folio = g .folio;
-      text = record { first = g .text .first; count = lines };
-      figures = record { first = at; count = 0 };
-    }
-
--- The galley with so many figures.
-abbrev pub withFigure : Galley → ℕ → Galley
-withFigure g figures =
-    record {
-      spec = g .spec;
-      folio = g .folio;
-      text = g .text;
-      figures = record { first = g .figures .first; count = figures };
-    }
-
--- Nothing was read yet.
+-- Nothing was read yet; without a record that says so the first folio is 1.
 abbrev pub beginning : Sofar
-beginning =
-    record {
-      galley = opened (record { htmin = 0; htmax = 0; smin = 0; smax = 0; sides = 0; alpha = 0; beta = 0; edition = 0; lastmin = 0 }) 1 0;
-      stage = nothing;
-      count = 0;
-      last = 0;
-      at = 0;
-    }
+beginning = record { stage = nothing; count = 0; last = 0; at = 0; folio = 1; first = 0; lines = 0; figures = 0; tables = 0 }
 
--- One record more of a kind: its stage is reached, and the next record is due after it.
+-- One record more of a kind: its stage is reached, and the next record is due after it. Records are counted, and the line cited
+-- last is known, from the first of a stage on.
 abbrev pub moved : Sofar → Kind → Sofar
 moved so kind =
+    let same = eqb (kind .stage) (so .stage) in
     record {
-      galley = so .galley;
       stage = kind .stage;
-      count = pick (eqb (kind .stage) (so .stage)) (so .count + 1) 1;
-      last = so .last;
+      count = pick same (so .count + 1) 1;
+      last = pick same (so .last) 0;
       at = so .at + kind .size;
+      folio = so .folio;
+      first = so .first;
+      lines = so .lines;
+      figures = so .figures;
+      tables = so .tables;
     }
 
--- The same with another galley, and another line cited last.
-abbrev pub holding : Sofar → Galley → ℕ → Sofar
-holding so g last = record { galley = g; stage = so .stage; count = so .count; last = last; at = so .at }
+-- So far with these counts, and this line cited last.
+abbrev pub counting : Sofar → ℕ → ℕ → ℕ → ℕ → Sofar
+counting so lines figures tables last =
+    record {
+      stage = so .stage;
+      count = so .count;
+      last = last;
+      at = so .at;
+      folio = so .folio;
+      first = so .first;
+      lines = lines;
+      figures = figures;
+      tables = tables;
+    }
+
+-- A specification or a first folio (document 02, S-1) more: the text is still to come, after it.
+abbrev pub withFolio : Sofar → ℕ → Sofar
+withFolio so f =
+    record {
+      stage = so .stage;
+      count = so .count;
+      last = so .last;
+      at = so .at;
+      folio = f;
+      first = so .at;
+      lines = so .lines;
+      figures = so .figures;
+      tables = so .tables;
+    }
+
+-- A line more, or a figure or a table, whose citation is the last.
+abbrev pub withLine : Sofar → Sofar
+withLine so = counting so (so .count) (so .figures) (so .tables) (so .last)
+
+abbrev pub withFigure : Sofar → ℕ → Sofar
+withFigure so cite = counting so (so .lines) (so .count) (so .tables) cite
+
+abbrev pub withTable : Sofar → ℕ → Sofar
+withTable so cite = counting so (so .lines) (so .figures) (so .count) cite
 
 -- Reading is done with a refusal.
 abbrev pub refused : ℕ → ℕ → Step
 refused number at = Done (reads.Refused number at)
 
--- A figure that cites line 0 or a line above m is 6; one that cites a line before the last figure's is 7.
-unfoldable pub cited : Sofar → Figure → ℕ → Step
-cited so f at =
-    pick (eqb (f .cite) 0 || ltb (so .galley .text .count) (f .cite)) (refused 6 at)
-    (pick (ltb (f .cite) (so .last)) (refused 7 at)
-    (On (holding so (withFigure (so .galley) (so .count)) (f .cite))))
+-- A float that cites line 0 or a line above m is 6; one that cites a line before the one cited last in its stream is 7.
+unfoldable pub cited : Sofar → ℕ → Sofar → ℕ → Step
+cited so cite next at =
+    pick (eqb cite 0 || ltb (so .lines) cite) (refused 6 at)
+    (pick (ltb cite (so .last)) (refused 7 at)
+    (On next))
 
--- Bytes after the end are 8, at the first of them.
+-- The galley of a specification and all that was read after it: figures follow the lines, tables the figures.
+abbrev pub galleySoFar : Spec → Sofar → Galley
+galleySoFar g so =
+    record {
+      spec = g;
+      folio = so .folio;
+      text = record { first = so .first; count = so .lines };
+      figures = record { first = so .first + so .lines * 18; count = so .figures };
+      tables = record { first = so .first + so .lines * 18 + so .figures * 18; count = so .tables };
+    }
+
+-- Bytes after the end are 8, at the first of them. The specification stands at the start of the bytes.
 unfoldable pub closed : List ℕ → Sofar → Step
-closed bytes so = pick (ltb (so .at) (length bytes)) (refused 8 (so .at)) (Done (reads.Galley (so .galley)))
+closed bytes so =
+    pick (ltb (so .at) (length bytes)) (refused 8 (so .at))
+    (Done (reads.Galley (galleySoFar (specOf (isSecond bytes 0) bytes 0) so)))
 
 -- How reading goes on after the record at an offset.
 unfoldable pub after : List ℕ → Sofar → ℕ → Record → Step
-after bytes so at (found.Spec g) = On (holding so (opened g 1 (so .at)) (so .last))
-after bytes so at (found.Folio f) = On (holding so (opened (so .galley .spec) f (so .at)) (so .last))
-after bytes so at (found.Line l) = On (holding so (withLine (so .galley) (so .count) (so .at)) (so .last))
-after bytes so at (found.Figure f) = cited so f at
+after bytes so at (found.Spec g) = On (withFolio so 1)
+after bytes so at (found.Folio f) = On (withFolio so f)
+after bytes so at (found.Line l) = On (withLine so)
+after bytes so at (found.Figure f) = cited so (f .cite) (withFigure so (f .cite)) at
+after bytes so at (found.Table f) = cited so (f .cite) (withTable so (f .cite)) at
 after bytes so at found.End = closed bytes so
 after bytes so at (found.Refused number place) = refused number at
 
@@ -122,3 +146,17 @@ galleyOf bytes = readFrom bytes (suc (length bytes)) beginning
 pub record Small (so : Sofar) : Type 0 where
   pub counts : so .count ≤ 4000
   pub ats : so .at ≤ 80000
+  pub firsts : so .first ≤ 80000
+  pub lines : so .lines ≤ 4000
+  pub figures : so .figures ≤ 4000
+
+-- So small that what is made of them fits.
+pub record Fitting (so : Sofar) : Type 0 where
+  pub ats : so .at ≤ 100000
+  pub firsts : so .first ≤ 100000
+  pub lines : so .lines ≤ 4000
+  pub figures : so .figures ≤ 4000
+
+-- A specification was read at the start of the bytes.
+abbrev pub Opened : List ℕ → Type 0
+Opened bytes = HasSpec bytes 0 (isSecond bytes 0)

@@ -5,11 +5,11 @@ use mathlib.Core.Bool.{Bool}
 use lib.Dec.{eqb}
 use Rattle.model.specs.Gather.{pick}
 use lib.ListN.{length}
-use Rattle.galley.specs.Range.{SpecRanged, Edition, FolioRanged, LineRanged, BlockRanged}
+use Rattle.galley.specs.Range.{SpecRanged, Edition, FolioRanged, LineRanged, FigureRanged, TableRanged}
 use Rattle.galley.specs.declared.Spec.{Spec}
 use Rattle.galley.specs.declared.Block.{Block}
 use Rattle.galley.specs.declared.Line.{Line}
-use Rattle.galley.specs.declared.Figure.{Figure}
+use Rattle.galley.specs.declared.Float.{Float}
 
 -- A field in front of what follows it: four bytes, the most significant first.
 abbrev pub word : ℕ → List ℕ → List ℕ
@@ -35,8 +35,12 @@ abbrev pub lineBytes : Line → List ℕ → List ℕ
 lineBytes l rest = 84 ∷ 76 ∷ blockBytes (l .block) (word (l .legal) rest)
 
 -- An `FG` with its fields, or an `FK` where it is kept with the next figure.
-abbrev pub figureBytes : Figure → List ℕ → List ℕ
+abbrev pub figureBytes : Float → List ℕ → List ℕ
 figureBytes f rest = 70 ∷ pick (f .kept) 75 71 ∷ blockBytes (f .block) (word (f .cite) rest)
+
+-- A `TB` with its fields.
+abbrev pub tableBytes : Float → List ℕ → List ℕ
+tableBytes f rest = 84 ∷ 66 ∷ blockBytes (f .block) (word (f .cite) rest)
 
 -- Records one after the other.
 unfoldable pub each : {A : Type 0} → (A → List ℕ → List ℕ) → List A → List ℕ → List ℕ
@@ -62,9 +66,9 @@ folioBytes (stated f) rest = 70 ∷ 79 ∷ word f rest
 abbrev pub headBytes : Spec → Stated → List ℕ → List ℕ
 headBytes g o rest = specBytes g (folioBytes o rest)
 
--- The specification, the folio, the lines, the figures and the end.
-unfoldable pub bytesOf : Spec → Stated → List Line → List Figure → List ℕ
-bytesOf g o ls fs = headBytes g o (each lineBytes ls (each figureBytes fs (69 ∷ 68 ∷ [])))
+-- The specification, the folio, the lines, the figures, the tables and the end.
+unfoldable pub bytesOf : Spec → Stated → List Line → List Float → List Float → List ℕ
+bytesOf g o ls fs ts = headBytes g o (each lineBytes ls (each figureBytes fs (each tableBytes ts (69 ∷ 68 ∷ []))))
 
 -- A folio that is stated is in range.
 abbrev pub StatedRanged : Stated → Type 0
@@ -76,23 +80,25 @@ unfoldable pub LinesRanged : List Line → Type 0
 LinesRanged [] = Unit {0}
 LinesRanged (l ∷ ls) = LineRanged l × LinesRanged ls
 
--- Every figure is in range and cites one of m lines, none before the line cited last.
-unfoldable pub FiguresRanged : ℕ → ℕ → List Figure → Type 0
-FiguresRanged m last [] = Unit {0}
-FiguresRanged m last (f ∷ fs) =
-    BlockRanged (f .block) × (1 ≤ f .cite) × (f .cite ≤ m) × (last ≤ f .cite) × FiguresRanged m (f .cite) fs
+-- Every float of a stream is in range and cites one of m lines, none before the line cited last.
+unfoldable pub FloatsRanged : (Float → Type 0) → ℕ → ℕ → List Float → Type 0
+FloatsRanged Fine m last [] = Unit {0}
+FloatsRanged Fine m last (f ∷ fs) =
+    Fine f × (1 ≤ f .cite) × (f .cite ≤ m) × (last ≤ f .cite) × FloatsRanged Fine m (f .cite) fs
 
--- Lines and figures that a galley may have.
-pub record BlocksInRange (ls : List Line) (fs : List Figure) : Type 0 where
+-- Lines, figures and tables that a galley may have.
+pub record BlocksInRange (ls : List Line) (fs ts : List Float) : Type 0 where
   pub some : 1 ≤ length ls
   pub fewLines : length ls ≤ 4000
   pub fewFigures : length fs ≤ 200
+  pub fewTables : length ts ≤ 50
   pub lines : LinesRanged ls
-  pub figures : FiguresRanged (length ls) 0 fs
+  pub figures : FloatsRanged FigureRanged (length ls) 0 fs
+  pub tables : FloatsRanged TableRanged (length ls) 0 ts
 
 -- Values that a galley may have.
-pub record InRange (g : Spec) (o : Stated) (ls : List Line) (fs : List Figure) : Type 0 where
+pub record InRange (g : Spec) (o : Stated) (ls : List Line) (fs ts : List Float) : Type 0 where
   pub spec : SpecRanged g
   pub edition : Edition g
   pub folio : StatedRanged o
-  pub blocks : BlocksInRange ls fs
+  pub blocks : BlocksInRange ls fs ts

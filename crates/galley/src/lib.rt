@@ -20,7 +20,7 @@ pub struct Spec {
     pub lastmin: u32,
 }
 
-// The height of a block, a line or a figure, and the least and the greatest height of the space after it.
+// The height of a block, a line, a figure or a table, and the least and the greatest height of the space after it.
 pub struct Block {
     pub height: u32,
     pub least: u32,
@@ -33,20 +33,20 @@ pub struct Line {
     pub legal: u32,
 }
 
-// A figure, the number of the line that cites it, and whether it is kept with the next one.
-pub struct Figure {
+// A figure or a table, the number of the line that cites it, and whether it is kept with the next one, as only a figure can be.
+pub struct Float {
     pub block: Block,
     pub cite: u32,
     pub kept: bool,
 }
 
-// Where the fields of a line or a figure stand, counted from its mark.
+// Where the fields of a block stand, counted from its mark.
 pub const HEIGHT: usize = 2;
 
 pub const LEAST: usize = 6;
 
 pub const MOST: usize = 10;
-// The last field: of a line whether a page may end after it, of a figure its citation.
+// The last field: of a line whether a page may end after it, of a float its citation.
 pub const LEGAL: usize = 14;
 
 pub const CITE: usize = 14;
@@ -56,12 +56,13 @@ pub enum Record {
     Spec(Spec),
     Folio(u32),
     Line(Line),
-    Figure(Figure),
+    Figure(Float),
+    Table(Float),
     End,
     Refused { number: u32, place: usize },
 }
 
-// One stream of blocks, the lines or the figures: how many there are, and the offset of the first, from which every other is
+// One stream of blocks, the lines, the figures or the tables: how many there are, and the offset of the first, from which every other is
 // found.
 pub struct Stream {
     pub first: usize,
@@ -74,6 +75,7 @@ pub struct Galley {
     pub folio: u32,
     pub text: Stream,
     pub figures: Stream,
+    pub tables: Stream,
 }
 
 // What reading a whole galley gives.
@@ -92,14 +94,19 @@ pub struct Kind {
     pub size: usize,
 }
 
-// How far reading has come: the galley as far as it was read, the stage reached, how many records of that stage there were, the
-// line cited last, and where the next record is due.
+// How far reading has come: the stage reached, how many records of that stage there were, the line cited last in it, where the
+// next record is due, the folio of the first page, where the text begins, and how many blocks of each stream there were. The
+// specification is not carried along: it stands at the start of the bytes, and is read once, at the end.
 pub struct Sofar {
-    pub galley: Galley,
     pub stage: u32,
     pub count: usize,
-    pub last: u32,
+    pub last: usize,
     pub at: usize,
+    pub folio: u32,
+    pub first: usize,
+    pub lines: usize,
+    pub figures: usize,
+    pub tables: usize,
 }
 
 // What one record more gives: reading goes on, or it is done.

@@ -17,6 +17,8 @@ pub const FG: u32 = 0x4647;
 
 pub const FK: u32 = 0x464b;
 
+pub const TB: u32 = 0x5442;
+
 pub const ED: u32 = 0x4544;
 
 // The stages of a galley, in the order in which its records come.
@@ -30,7 +32,9 @@ pub const LINE: u32 = 3;
 
 pub const FIGURE: u32 = 4;
 
-pub const END: u32 = 5;
+pub const TABLE: u32 = 5;
+
+pub const END: u32 = 6;
 
 // A kind from its row.
 fn row(stage: u32, earliest: u32, latest: u32, most: usize, size: usize) -> Kind
@@ -56,7 +60,8 @@ pub fn kind_of(mark: u32) -> Kind
         TL => row(LINE, SPEC, LINE, 4000, 18),
         FG => row(FIGURE, SPEC, FIGURE, 200, 18),
         FK => row(FIGURE, SPEC, FIGURE, 200, 18),
-        ED => row(END, SPEC, FIGURE, 1, 2),
+        TB => row(TABLE, SPEC, TABLE, 50, 18),
+        ED => row(END, SPEC, TABLE, 1, 2),
         _ => row(NOTHING, SPEC, NOTHING, 0, 2),
     }
 }
@@ -72,7 +77,7 @@ fn is_misplaced(kind: Kind, so: Sofar) -> bool
 fn is_too_early(kind: Kind, so: Sofar) -> bool
     ensures { λ r. ⌜ r ≡ tooEarly kind so ⌝ }
 {
-    (LINE < kind.stage) & (so.galley.text.count == 0)
+    (LINE < kind.stage) & (so.lines == 0)
 }
 
 // Whether there are as many of its stage as there may be: number 4.

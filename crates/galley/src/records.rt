@@ -2,10 +2,14 @@
 ghost use mathlib.Core.Path.{_≡_};
 ghost use Prim.Native.Nat.{_+_, _≤_};
 ghost use lib.ListN.{length};
+ghost use lib.Dec.{ltb};
+ghost use mathlib.Core.Bool.{false};
+ghost use Rattle.model.specs.Gather.{pick};
 ghost use Rattle.galley.specs.Place.{kindOf};
-ghost use Rattle.galley.specs.Record.{blockOf, ranged, specAt, folioAt, lineAt, figureAt, fieldsOf, recordAt};
+ghost use Rattle.galley.specs.declared.Record.the-variants as found;
+ghost use Rattle.galley.specs.Record.{HasSpec, blockOf, ranged, lastLeast, specOf, specAt, folioAt, lineAt, floatOf, floatAt, fieldsOf, recordAt};
 use crate::Block;
-use crate::Figure;
+use crate::Float;
 use crate::Line;
 use crate::Record;
 use crate::Spec;
@@ -15,6 +19,7 @@ use crate::place::FK;
 use crate::place::FO;
 use crate::place::G2;
 use crate::place::GS;
+use crate::place::TB;
 use crate::place::TL;
 
 // A record whose fields are in range, or 3.
@@ -31,12 +36,30 @@ fn ranged(fine: bool, found: Record, at: usize) -> Record
     }
 }
 
-// A specification of an edition, with the least height of the last page.
-fn spec_at(s: &[u8], at: usize, edition: u32, lastmin: u32) -> Record
-    requires { ⌜ at + 30 ≤ length (now s) ⌝ }
-    ensures { λ r. ⌜ r ≡ specAt edition lastmin (now (s .entry)) at ⌝ }
+// The least height of the last page, which only the second edition states.
+fn last_least(s: &[u8], at: usize, second: bool) -> u32
+    requires { ⌜ HasSpec (now s) at second ⌝ }
+    ensures { λ r. ⌜ r ≡ lastLeast second (now (s .entry)) at ⌝ }
 {
-    let g = Spec {
+    if second {
+        return crate::word::word_at(s, at + 30);
+    }
+    0
+}
+
+// The second edition or the first.
+fn edition_of(second: bool) -> u32
+    ensures { λ r. ⌜ r ≡ pick second 2 1 ⌝ }
+{
+    if second { 2 } else { 1 }
+}
+
+// The fields of a specification, of the second edition or the first.
+pub fn spec_of(s: &[u8], at: usize, second: bool) -> Spec
+    requires { ⌜ HasSpec (now s) at second ⌝ }
+    ensures { λ r. ⌜ r ≡ specOf second (now (s .entry)) at ⌝ }
+{
+    Spec {
         htmin: crate::word::word_at(s, at + 2),
         htmax: crate::word::word_at(s, at + 6),
         smin: crate::word::word_at(s, at + 10),
@@ -44,9 +67,17 @@ fn spec_at(s: &[u8], at: usize, edition: u32, lastmin: u32) -> Record
         sides: crate::word::word_at(s, at + 18),
         alpha: crate::word::word_at(s, at + 22),
         beta: crate::word::word_at(s, at + 26),
-        edition,
-        lastmin,
-    };
+        edition: edition_of(second),
+        lastmin: last_least(s, at, second),
+    }
+}
+
+// A specification.
+fn spec_at(s: &[u8], at: usize, second: bool) -> Record
+    requires { ⌜ HasSpec (now s) at second ⌝ }
+    ensures { λ r. ⌜ r ≡ specAt second (now (s .entry)) at ⌝ }
+{
+    let g = spec_of(s, at, second);
     ranged(crate::range::spec_in_range(g), Record::Spec(g), at)
 }
 
@@ -82,15 +113,34 @@ fn line_at(s: &[u8], at: usize) -> Record
     ranged(fine, Record::Line(Line { block, legal }), at)
 }
 
-// A figure, kept with the next one or not; its citation is tested where its place is known.
+// The fields of a float, kept with the next one or not.
+fn float_of(s: &[u8], at: usize, kept: bool) -> Float
+    requires { ⌜ at + 18 ≤ length (now s) ⌝ }
+    ensures { λ r. ⌜ r ≡ floatOf kept (now (s .entry)) at ⌝ }
+{
+    Float {
+        block: block_fields(s, at),
+        cite: crate::word::word_at(s, at + crate::CITE),
+        kept,
+    }
+}
+
+// A figure; its citation is tested where its place is known.
 fn figure_at(s: &[u8], at: usize, kept: bool) -> Record
     requires { ⌜ at + 18 ≤ length (now s) ⌝ }
-    ensures { λ r. ⌜ r ≡ figureAt kept (now (s .entry)) at ⌝ }
+    ensures { λ r. ⌜ r ≡ floatAt found.Figure kept (now (s .entry)) at ⌝ }
 {
-    let block = block_fields(s, at);
-    let cite = crate::word::word_at(s, at + crate::CITE);
-    let found = Record::Figure(Figure { block, cite, kept });
-    ranged(crate::range::block_in_range(block), found, at)
+    let f = float_of(s, at, kept);
+    ranged(crate::range::block_in_range(f.block), Record::Figure(f), at)
+}
+
+// A table, which is never kept.
+fn table_at(s: &[u8], at: usize) -> Record
+    requires { ⌜ at + 18 ≤ length (now s) ⌝ }
+    ensures { λ r. ⌜ r ≡ floatAt found.Table false (now (s .entry)) at ⌝ }
+{
+    let f = float_of(s, at, false);
+    ranged(crate::range::block_in_range(f.block), Record::Table(f), at)
 }
 
 // What the fields after a mark say; an unknown mark is 2.
@@ -98,19 +148,33 @@ fn fields_of(mark: u32, s: &[u8], at: usize) -> Record
     requires { ⌜ at + kindOf mark .size ≤ length (now s) ⌝ }
     ensures { λ r. ⌜ r ≡ fieldsOf mark (now (s .entry)) at ⌝ }
 {
+    let second = mark == G2;
+    if (mark == GS) | second {
+        return spec_at(s, at, second);
+    }
     match mark {
-        GS => spec_at(s, at, 1, 0),
-        G2 => spec_at(s, at, 2, crate::word::word_at(s, at + 30)),
         FO => folio_at(s, at),
         TL => line_at(s, at),
         FG => figure_at(s, at, false),
         FK => figure_at(s, at, true),
+        TB => table_at(s, at),
         ED => Record::End,
         _ => Record::Refused {
             number: 2,
             place: at,
         },
     }
+}
+
+// Whether so few bytes are left that a record with this mark is not there whole. No record has more than 34 bytes, so that its size
+// matters only near the end.
+fn is_short(left: usize, mark: u32) -> bool
+    ensures { λ r. ⌜ r ≡ ltb left (kindOf mark .size) ⌝ }
+{
+    if 34 <= left {
+        return false;
+    }
+    left < crate::place::kind_of(mark).size
 }
 
 // The record at any offset, also past the end: its mark is there, its fields are there and in range.
@@ -125,7 +189,7 @@ pub fn record_at(s: &[u8], at: usize) -> Record
         };
     }
     let mark = crate::word::mark_at(s, at);
-    if left < crate::place::kind_of(mark).size {
+    if is_short(left, mark) {
         return Record::Refused {
             number: 1,
             place: at,

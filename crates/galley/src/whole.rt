@@ -2,8 +2,8 @@
 ghost use mathlib.Core.Path.{_≡_};
 ghost use Prim.Native.Nat.{_+_, _≤_};
 ghost use Rattle.model.specs.Gather.{pick};
-ghost use Rattle.galley.specs.Whole.{Small, beginning, moved, holding, refused, opened, withLine, withFigure, cited, closed, after, stepFrom, galleyOf};
-use crate::Figure;
+ghost use Rattle.galley.specs.declared.Record.the-variants as records;
+ghost use Rattle.galley.specs.Whole.{Small, Fitting, Opened, beginning, moved, refused, withFolio, withLine, withFigure, withTable, cited, galleySoFar, closed, after, stepFrom, galleyOf};
 use crate::Galley;
 use crate::Kind;
 use crate::Reading;
@@ -13,80 +13,56 @@ use crate::Spec;
 use crate::Step;
 use crate::Stream;
 
-// The galley of a specification and a first folio: its streams are still to come, at an offset.
-fn opened(spec: Spec, folio: u32, at: usize) -> Galley
-    ensures { λ r. ⌜ r ≡ opened spec folio at ⌝ }
-{
-    Galley {
-        spec,
-        folio,
-        text: Stream {
-            first: at,
-            count: 0,
-        },
-        figures: Stream {
-            first: at,
-            count: 0,
-        },
-    }
-}
-
-// One line more, the figures being still to come. Only what changes is set, which is cheaper than a galley made anew.
-fn with_line(mut so: Sofar) -> Sofar
-    ensures { λ r. ⌜ r ≡ holding so (withLine (so .galley) (so .count) (so .at)) (so .last) ⌝ }
-{
-    let mut galley = so.galley;
-    let text = Stream {
-        first: galley.text.first,
-        count: so.count,
-    };
-    let figures = Stream {
-        first: so.at,
-        count: 0,
-    };
-    galley.text = text;
-    galley.figures = figures;
-    so.galley = galley;
-    so
-}
-
-// One figure more, whose citation is the last.
-fn with_figure(mut so: Sofar, cite: u32) -> Sofar
-    ensures { λ r. ⌜ r ≡ holding so (withFigure (so .galley) (so .count)) cite ⌝ }
-{
-    let mut galley = so.galley;
-    let figures = Stream {
-        first: galley.figures.first,
-        count: so.count,
-    };
-    galley.figures = figures;
-    so.galley = galley;
-    so.last = cite;
-    so
-}
-
 // Nothing was read yet.
 fn beginning() -> Sofar
     ensures { λ r. ⌜ r ≡ beginning ⌝ }
 {
-    let spec = Spec {
-        htmin: 0,
-        htmax: 0,
-        smin: 0,
-        smax: 0,
-        sides: 0,
-        alpha: 0,
-        beta: 0,
-        edition: 0,
-        lastmin: 0,
-    };
     Sofar {
-        galley: opened(spec, 1, 0),
         stage: crate::place::NOTHING,
         count: 0,
         last: 0,
         at: 0,
+        folio: 1,
+        first: 0,
+        lines: 0,
+        figures: 0,
+        tables: 0,
     }
+}
+
+// A specification or a folio more: the text is still to come, after it.
+fn with_folio(mut so: Sofar, folio: u32) -> Sofar
+    ensures { λ r. ⌜ r ≡ withFolio so folio ⌝ }
+{
+    so.folio = folio;
+    so.first = so.at;
+    so
+}
+
+// One line more.
+fn with_line(mut so: Sofar) -> Sofar
+    ensures { λ r. ⌜ r ≡ withLine so ⌝ }
+{
+    so.lines = so.count;
+    so
+}
+
+// One figure more, whose citation is the last.
+fn with_figure(mut so: Sofar, cite: usize) -> Sofar
+    ensures { λ r. ⌜ r ≡ withFigure so cite ⌝ }
+{
+    so.figures = so.count;
+    so.last = cite;
+    so
+}
+
+// One table more, whose citation is the last.
+fn with_table(mut so: Sofar, cite: usize) -> Sofar
+    ensures { λ r. ⌜ r ≡ withTable so cite ⌝ }
+{
+    so.tables = so.count;
+    so.last = cite;
+    so
 }
 
 // One more of a stage, or the first.
@@ -97,32 +73,24 @@ fn one_more(same: bool, count: usize) -> usize
     if same { count + 1 } else { 1 }
 }
 
-// One record more of a kind: its stage is reached, and the next record is due after it.
-fn moved(so: Sofar, kind: Kind) -> Sofar
-    requires { ⌜ (Small so) × (kind .size ≤ 100) ⌝ }
-    ensures { λ r. ⌜ r ≡ moved so kind ⌝ }
+// What goes on with the same stage, or begins anew.
+fn kept(same: bool, last: usize) -> usize
+    ensures { λ r. ⌜ r ≡ pick same last 0 ⌝ }
 {
-    let galley = so.galley;
-    Sofar {
-        galley,
-        stage: kind.stage,
-        count: one_more(kind.stage == so.stage, so.count),
-        last: so.last,
-        at: so.at + kind.size,
-    }
+    if same { last } else { 0 }
 }
 
-// The same with another galley, and another line cited last.
-fn holding(so: Sofar, galley: Galley, last: u32) -> Sofar
-    ensures { λ r. ⌜ r ≡ holding so galley last ⌝ }
+// One record more of a kind: its stage is reached, and the next record is due after it. Citations begin anew with a stage.
+fn moved(mut so: Sofar, kind: Kind) -> Sofar
+    requires { ⌜ (Small so) × (kind .size ≤ 34) ⌝ }
+    ensures { λ r. ⌜ r ≡ moved so kind ⌝ }
 {
-    Sofar {
-        galley,
-        stage: so.stage,
-        count: so.count,
-        last,
-        at: so.at,
-    }
+    let same = kind.stage == so.stage;
+    so.stage = kind.stage;
+    so.count = one_more(same, so.count);
+    so.last = kept(same, so.last);
+    so.at = so.at + kind.size;
+    so
 }
 
 // Reading is done with a refusal.
@@ -136,45 +104,77 @@ fn refused(number: u32, at: usize) -> Step
     })
 }
 
-// One figure more, if its citation is right: 6, then 7.
-fn cited(so: Sofar, f: Figure, at: usize) -> Step
+// One float more, if its citation is right: 6, then 7.
+fn cited(so: Sofar, cite: usize, next: Sofar, at: usize) -> Step
     requires { ⌜ at ≤ 100000 ⌝ }
-    ensures { λ r. ⌜ r ≡ cited so f at ⌝ }
+    ensures { λ r. ⌜ r ≡ cited so cite next at ⌝ }
 {
-    let cite = crate::word::size(f.cite);
-    let beyond = (cite == 0) | (so.galley.text.count < cite);
-    let falls = f.cite < so.last;
+    let beyond = (cite == 0) | (so.lines < cite);
+    let falls = cite < so.last;
     if beyond {
         return refused(6, at);
     }
     if falls {
         return refused(7, at);
     }
-    Step::On(with_figure(so, f.cite))
+    Step::On(next)
 }
 
-// The end, if nothing follows it: 8.
+// The galley of a specification, and of streams that follow one another.
+fn galley_so_far(spec: Spec, so: Sofar) -> Galley
+    requires { ⌜ Fitting so ⌝ }
+    ensures { λ r. ⌜ r ≡ galleySoFar spec so ⌝ }
+{
+    let figures = so.first + so.lines * 18;
+    let tables = figures + so.figures * 18;
+    Galley {
+        spec,
+        folio: so.folio,
+        text: Stream {
+            first: so.first,
+            count: so.lines,
+        },
+        figures: Stream {
+            first: figures,
+            count: so.figures,
+        },
+        tables: Stream {
+            first: tables,
+            count: so.tables,
+        },
+    }
+}
+
+// The end, if nothing follows it: 8. The specification is read at the start of the bytes.
 fn closed(s: &[u8], so: Sofar) -> Step
-    requires { ⌜ so .at ≤ 100000 ⌝ }
+    requires { ⌜ (Fitting so) × (Opened (now s)) ⌝ }
     ensures { λ r. ⌜ r ≡ closed (now (s .entry)) so ⌝ }
 {
     if so.at < s.len() {
         return refused(8, so.at);
     }
-    let galley = so.galley;
-    Step::Done(Reading::Galley(galley))
+    let second = crate::word::mark_at(s, 0) == crate::place::G2;
+    let spec = crate::records::spec_of(s, 0, second);
+    Step::Done(Reading::Galley(galley_so_far(spec, so)))
 }
 
 // How reading goes on after the record at an offset.
 fn after(s: &[u8], so: Sofar, found: Record, at: usize) -> Step
-    requires { ⌜ (at ≤ 100000) × (so .at ≤ 100000) ⌝ }
+    requires { ⌜ (at ≤ 100000) × (Fitting so) × (found ≡ records.End → Opened (now s)) ⌝ }
     ensures { λ r. ⌜ r ≡ after (now (s .entry)) so at found ⌝ }
 {
     match found {
-        Record::Spec(g) => Step::On(holding(so, opened(g, 1, so.at), so.last)),
-        Record::Folio(f) => Step::On(holding(so, opened(so.galley.spec, f, so.at), so.last)),
+        Record::Spec(_g) => Step::On(with_folio(so, 1)),
+        Record::Folio(f) => Step::On(with_folio(so, f)),
         Record::Line(_l) => Step::On(with_line(so)),
-        Record::Figure(f) => cited(so, f, at),
+        Record::Figure(f) => {
+            let cite = crate::word::size(f.cite);
+            cited(so, cite, with_figure(so, cite), at)
+        }
+        Record::Table(f) => {
+            let cite = crate::word::size(f.cite);
+            cited(so, cite, with_table(so, cite), at)
+        }
         Record::End => closed(s, so),
         Record::Refused { number, place: _p } => refused(number, at),
     }
@@ -182,7 +182,7 @@ fn after(s: &[u8], so: Sofar, found: Record, at: usize) -> Step
 
 // The next record, in its place.
 fn step_from(s: &[u8], so: Sofar) -> Step
-    requires { ⌜ Small so ⌝ }
+    requires { ⌜ (Small so) × (1 ≤ so .stage → Opened (now s)) ⌝ }
     ensures { λ r. ⌜ r ≡ stepFrom (now (s .entry)) so ⌝ }
 {
     let at = so.at;

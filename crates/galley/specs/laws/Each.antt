@@ -12,7 +12,7 @@ use Rattle.galley.specs.declared.Sofar.{Sofar}
 use Rattle.galley.specs.declared.Step.the-variants.{On}
 
 -- What follows them may be written with them or after them.
-pub each-append : {A : Type 0} (write : A → List ℕ → List ℕ)
+each-append : {A : Type 0} (write : A → List ℕ → List ℕ)
     → ((a : A) (rest more : List ℕ) → write a rest ++ more ≡ write a (rest ++ more))
     → (rs : List A) (rest : List ℕ) → each write rs [] ++ rest ≡ each write rs rest
 unfolding each
@@ -28,6 +28,16 @@ each-length write long (r ∷ rs) rest =
     let more = each-length write long rs rest in
     let this = long r (each write rs rest) in
     omega arith
+
+-- What was written before them and they themselves come before the rest, so many bytes long.
+module _ {A : Type 0} (write : A → List ℕ → List ℕ) (bytes before : List ℕ) (rs : List A) where
+  pub each-split : ((a : A) (rest more : List ℕ) → write a rest ++ more ≡ write a (rest ++ more))
+      → (rest : List ℕ) → bytes ≡ before ++ each write rs rest → bytes ≡ (before ++ each write rs []) ++ rest
+  each-split joins rest e = e ∙ ap (before ++_) (sym (each-append write joins rs rest)) ∙ sym (append-assoc before (each write rs []) rest)
+
+  pub each-far : ((a : A) (rest : List ℕ) → length (write a rest) ≡ 18 + length rest)
+      → length (before ++ each write rs []) ≡ length before + length rs * 18
+  each-far long = simp length-append (omega (arith, each-length write long rs []))
 
 -- A record goes on to what holds of those after it.
 pub record Goes {A : Type 0} (bytes : List ℕ) (Left : List A → Sofar → Type 0) (so : Sofar) (rest : List A) : Type 0 where

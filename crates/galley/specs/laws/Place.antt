@@ -6,13 +6,13 @@ use mathlib.Core.Path.{_≡_, refl, sym}
 use lib.Dec.{eqb, ltb, leb}
 use borrow.Author.Tests.{ltb-true, ltb-false, leb-false, eqb-true, eqb-false, le-ltb, lt-ltb, lt-leb, eq-eqb, ne-eqb}
 use Rattle.model.specs.Gather.{pick}
-use Rattle.galley.specs.Place.{GS, G2, FO, TL, FG, FK, ED, specMark, specSize, nothing, spec, line, figureMark, rowOf, kindOf, misplaced, tooEarly, tooMany, unfit}
+use Rattle.galley.specs.Place.{GS, G2, FO, TL, FG, FK, TB, ED, specMark, specSize, nothing, spec, line, figureMark, rowOf, kindOf, misplaced, tooEarly, tooMany, unfit}
 use Rattle.galley.specs.laws.Pick.{pick-has, or-false, and-false}
 use Rattle.galley.specs.declared.Kind.{Kind}
 use Rattle.galley.specs.declared.Sofar.{Sofar}
 
 -- A record has a mark, and none is long.
-pub kind-sized : (mark : ℕ) → (2 ≤ kindOf mark .size) × (kindOf mark .size ≤ 100)
+pub kind-sized : (mark : ℕ) → (2 ≤ kindOf mark .size) × (kindOf mark .size ≤ 34)
 unfolding kindOf
 kind-sized mark =
     pick-has Sized (eqb mark GS) _ _ (λ _. omega arith) (λ _.
@@ -21,10 +21,11 @@ kind-sized mark =
     pick-has Sized (eqb mark TL) _ _ (λ _. omega arith) (λ _.
     pick-has Sized (eqb mark FG) _ _ (λ _. omega arith) (λ _.
     pick-has Sized (eqb mark FK) _ _ (λ _. omega arith) (λ _.
-    pick-has Sized (eqb mark ED) _ _ (λ _. omega arith) (λ _. omega arith)))))))
+    pick-has Sized (eqb mark TB) _ _ (λ _. omega arith) (λ _.
+    pick-has Sized (eqb mark ED) _ _ (λ _. omega arith) (λ _. omega arith))))))))
   where
     Sized : Kind → Type 0
-    Sized kind = (2 ≤ kind .size) × (kind .size ≤ 100)
+    Sized kind = (2 ≤ kind .size) × (kind .size ≤ 34)
 
 -- A specification of either edition comes first, and they differ in their bytes alone.
 pub spec-kind : (edition : ℕ) → kindOf (specMark edition) ≡ rowOf spec nothing nothing 1 (specSize edition)
@@ -49,7 +50,7 @@ figure-kind false = refl
 pub record Fits (kind : Kind) (so : Sofar) : Type 0 where
   pub soon : kind .earliest ≤ so .stage
   pub late : so .stage ≤ kind .latest
-  pub timely : line < kind .stage → 1 ≤ so .galley .text .count
+  pub timely : line < kind .stage → 1 ≤ so .lines
   pub few : so .stage ≡ kind .stage → so .count < kind .most
 
 none-picked : (m e t : Bool) → _≡_ {A = ℕ} (pick m 2 (pick e 5 (pick t 4 0))) 0 → (m ≡ false) × (e ≡ false) × (t ≡ false)
@@ -67,8 +68,8 @@ unfit-fits kind so h =
       soon = ltb-false (so .stage) (kind .earliest) (m .0);
       late = ltb-false (kind .latest) (so .stage) (m .1);
       timely = λ l.
-          let none = and-false (ltb line (kind .stage)) (eqb (so .galley .text .count) 0) (t .1) (lt-ltb line (kind .stage) l) in
-          omega (arith, eqb-false (so .galley .text .count) 0 none);
+          let none = and-false (ltb line (kind .stage)) (eqb (so .lines) 0) (t .1) (lt-ltb line (kind .stage) l) in
+          omega (arith, eqb-false (so .lines) 0 none);
       few = λ e.
           leb-false (kind .most) (so .count)
           (and-false (eqb (kind .stage) (so .stage)) (leb (kind .most) (so .count)) (t .2) (eq-eqb (kind .stage) (so .stage) (sym e)));
@@ -84,8 +85,8 @@ fits-unfit kind so f =
     simp (
       le-ltb (so .stage) (kind .earliest) (f .soon),
       le-ltb (kind .latest) (so .stage) (f .late),
-      and-not (ltb line (kind .stage)) (eqb (so .galley .text .count) 0)
-          (λ l. ne-eqb (so .galley .text .count) 0 (λ z. let some = f .timely (ltb-true line (kind .stage) l) in omega arith)),
+      and-not (ltb line (kind .stage)) (eqb (so .lines) 0)
+          (λ l. ne-eqb (so .lines) 0 (λ z. let some = f .timely (ltb-true line (kind .stage) l) in omega arith)),
       and-not (eqb (kind .stage) (so .stage)) (leb (kind .most) (so .count))
           (λ e. lt-leb (kind .most) (so .count) (f .few (sym (eqb-true (kind .stage) (so .stage) e)))),
     )

@@ -11,13 +11,14 @@ use lib.Dec.{eqb}
 use borrow.Author.Tests.{eqb-true, eqb-false}
 use Rattle.model.specs.Gather.{pick}
 use Rattle.galley.specs.Word.{wordAt}
-use Rattle.galley.specs.Place.{specSize, spec, line, figure}
-use Rattle.galley.specs.Record.{citeAt, lineOf, figureOf, isKept, recordAt}
-use Rattle.galley.specs.Whole.{beginning}
+use Rattle.galley.specs.Place.{specSize, spec, line, figure, table}
+use Rattle.galley.specs.Record.{isSecond, specOf, citeAt, lineOf, floatOf, isKept, recordAt}
+use Rattle.galley.specs.Whole.{beginning, galleySoFar}
 use Rattle.galley.specs.Range.{FolioRanged}
 use Rattle.galley.specs.Block.{fieldOf}
 use Rattle.galley.specs.Sound.{Opening, Reads, SoundCitations}
 use Rattle.galley.specs.declared.Stream.{Stream}
+use Rattle.galley.specs.declared.Spec.{Spec}
 use Rattle.galley.specs.declared.Galley.{Galley}
 use Rattle.galley.specs.declared.Record.{Record}
 use Rattle.galley.specs.declared.Record.the-variants as found
@@ -37,34 +38,47 @@ counted-more stage n so c up = go (eqb stage (so .stage)) refl
     go true e = let s = c .here (sym (eqb-true stage (so .stage) e)) in omega arith
     go false e = let z = c .before (omega (arith, eqb-false stage (so .stage) e)) in omega arith
 
+-- The specification at the start of the bytes, and the galley with it as far as it was read.
+abbrev pub specIn : List ℕ → Spec
+specIn bytes = specOf (isSecond bytes 0) bytes 0
+
+abbrev pub galleyIn : List ℕ → Sofar → Galley
+galleyIn bytes so = galleySoFar (specIn bytes) so
+
 -- The galley's bytes up to where reading has come.
-pub record Shape (bytes : List ℕ) (g : Galley) (at : ℕ) : Type 0 where
-  pub fewLines : g .text .count ≤ 4000
-  pub fewFigures : g .figures .count ≤ 200
-  pub first : g .text .first ≤ 40
-  pub follow : g .figures .first ≡ g .text .first + g .text .count * 18
-  pub due : at ≡ g .figures .first + g .figures .count * 18
-  pub within : at ≤ length bytes
+pub record Shape (bytes : List ℕ) (so : Sofar) : Type 0 where
+  pub fewLines : so .lines ≤ 4000
+  pub fewFigures : so .figures ≤ 200
+  pub fewTables : so .tables ≤ 50
+  pub first : so .first ≤ 40
+  pub due : so .at ≡ so .first + so .lines * 18 + so .figures * 18 + so .tables * 18
+  pub within : so .at ≤ length bytes
 
 -- What is known of what stands before line 1: the specification, and an `FO` or none.
 pub record Head (bytes : List ℕ) (so : Sofar) : Type 0 where
   pub starts : so .stage < spec → so .at ≡ 0
-  pub ends : so .stage ≡ spec → so .at ≡ specSize (so .galley .spec .edition)
-  pub specRead : spec ≤ so .stage → recordAt bytes 0 ≡ found.Spec (so .galley .spec)
-  pub folio : FolioRanged (so .galley .folio)
-  pub opens : spec ≤ so .stage → Opening bytes (so .galley)
+  pub ends : so .stage ≡ spec → so .at ≡ specSize (specIn bytes .edition)
+  pub specRead : spec ≤ so .stage → recordAt bytes 0 ≡ found.Spec (specIn bytes)
+  pub folio : FolioRanged (so .folio)
+  pub opens : spec ≤ so .stage → Opening bytes (galleyIn bytes so)
 
--- What holds of all that was read, with the last citation.
+-- What is known of the floats of one stream, which a stage counts: those read so far, and that none of them cites a line after
+-- the one cited last.
+pub record Floats (bytes : List ℕ) (so : Sofar) (stage : ℕ) (floats : Stream) (due : ℕ → Record) : Type 0 where
+  pub counted : Counted stage (floats .count) so
+  pub read : Reads bytes floats due
+  pub citations : SoundCitations bytes floats (so .lines)
+  pub lasts : so .stage ≡ stage → (k : ℕ) → 1 ≤ k → k ≤ floats .count → fieldOf bytes floats citeAt k ≤ so .last
+
+-- What holds of all that was read.
 pub record Reached (bytes : List ℕ) (so : Sofar) : Type 0 where
-  pub shape : Shape bytes (so .galley) (so .at)
+  pub shape : Shape bytes so
   pub count : so .count ≤ 4000
-  pub lines : Counted line (so .galley .text .count) so
-  pub figures : Counted figure (so .galley .figures .count) so
+  pub lines : Counted line (so .lines) so
   pub head : Head bytes so
-  pub textRead : Reads bytes (so .galley .text) (λ at. found.Line (lineOf bytes at))
-  pub figuresRead : Reads bytes (so .galley .figures) (λ at. found.Figure (figureOf (isKept bytes at) bytes at))
-  pub citations : SoundCitations bytes (so .galley .figures) (so .galley .text .count)
-  pub citesLast : (k : ℕ) → 1 ≤ k → k ≤ so .galley .figures .count → fieldOf bytes (so .galley .figures) citeAt k ≤ so .last
+  pub text : Reads bytes (galleyIn bytes so .text) (λ at. found.Line (lineOf bytes at))
+  pub figures : Floats bytes so figure (galleyIn bytes so .figures) (λ at. found.Figure (floatOf (isKept bytes at) bytes at))
+  pub tables : Floats bytes so table (galleyIn bytes so .tables) (λ at. found.Table (floatOf false bytes at))
 
 -- What holds of each number from 1 to n, and of n + 1, holds of each from 1 to n + 1.
 upto-more : (P : ℕ → Type 0) (n : ℕ) → ((k : ℕ) → 1 ≤ k → k ≤ n → P k) → P (n + 1) → (k : ℕ) → 1 ≤ k → k ≤ n + 1 → P k
@@ -78,17 +92,8 @@ reads-more bytes due first n at so here top =
     let there : at ≡ first + (n + 1 - 1) * 18 = omega arith in
     upto-more (λ k. recordAt bytes (first + (k - 1) * 18) ≡ due (first + (k - 1) * 18)) n so (rw there at top)
 
--- No figure, no citation.
-pub no-citations : (bytes : List ℕ) (floats : Stream) (lines : ℕ) → floats .count ≡ 0 → SoundCitations bytes floats lines
-no-citations bytes floats lines none =
-    record {
-      some = λ k one h. absurd (omega arith);
-      line = λ k one h. absurd (omega arith);
-      grow = λ j k one less h. absurd (omega arith);
-    }
-
--- One figure more, that cites one of the lines and none before the last line cited.
-pub citations-more : (bytes : List ℕ) (first n lines last cite : ℕ)
+-- One float more, that cites one of the lines and none before the last line cited.
+citations-more : (bytes : List ℕ) (first n lines last cite : ℕ)
     → SoundCitations bytes (record { first = first; count = n }) lines
     → ((k : ℕ) → 1 ≤ k → k ≤ n → fieldOf bytes (record { first = first; count = n }) citeAt k ≤ last)
     → wordAt bytes (first + n * 18 + citeAt) ≡ cite → 1 ≤ cite → cite ≤ lines → last ≤ cite
@@ -115,28 +120,77 @@ citations-more bytes first n lines last cite so upto there one in-lines grows = 
     lasts : (k : ℕ) → 1 ≤ k → k ≤ n + 1 → citation k ≤ cite
     lasts = upto-more (λ k. citation k ≤ cite) n (λ k one h. omega (arith, upto k one h)) (omega (arith, here))
 
+-- No float of a stage that is still to come.
+pub floats-none : (bytes : List ℕ) (so : Sofar) (stage : ℕ) (floats : Stream) (due : ℕ → Record) → so .stage < stage → floats .count ≡ 0
+    → Floats bytes so stage floats due
+floats-none bytes so stage floats due early none =
+    record {
+      counted = record { here = λ e. absurd (omega arith); before = λ _. none };
+      read = λ k one h. absurd (omega arith);
+      citations =
+          record {
+            some = λ k one h. absurd (omega arith);
+            line = λ k one h. absurd (omega arith);
+            grow = λ j k one less h. absurd (omega arith);
+          };
+      lasts = λ e. absurd (omega arith);
+    }
+
+module _ {bytes : List ℕ} {so : Sofar} {stage : ℕ} {floats : Stream} {due : ℕ → Record} (r : Floats bytes so stage floats due) (next : Sofar)
+    (same : next .lines ≡ so .lines) where
+  -- The floats of a stage that is past stay as they are.
+  pub floats-kept : stage < next .stage → Floats bytes next stage floats due
+  floats-kept past =
+      record {
+        counted = record { here = λ e. absurd (omega arith); before = λ l. absurd (omega arith) };
+        read = r .read;
+        citations = rw same (r .citations);
+        lasts = λ e. absurd (omega arith);
+      }
+
+  -- None of a stage that begins cites a line, and those of the stage reached cite none after the last.
+  floats-last : so .stage ≤ stage → (k : ℕ) → 1 ≤ k → k ≤ floats .count
+      → fieldOf bytes floats citeAt k ≤ pick (eqb stage (so .stage)) (so .last) 0
+  floats-last up k one h = go (eqb stage (so .stage)) refl
+    where
+      go : (b : Bool) → eqb stage (so .stage) ≡ b → fieldOf bytes floats citeAt k ≤ pick b (so .last) 0
+      go true e = r .lasts (sym (eqb-true stage (so .stage) e)) k one h
+      go false e = let z = r .counted .before (omega (arith, eqb-false stage (so .stage) e)) in absurd (omega arith)
+
+  -- One float more of the stage, read where the stream went to so far and rightly cited.
+  pub floats-more : so .stage ≤ stage → recordAt bytes (floats .first + floats .count * 18) ≡ due (floats .first + floats .count * 18)
+      → wordAt bytes (floats .first + floats .count * 18 + citeAt) ≡ next .last → 1 ≤ next .last → next .last ≤ so .lines
+      → pick (eqb stage (so .stage)) (so .last) 0 ≤ next .last → next .stage ≡ stage → next .count ≡ floats .count + 1
+      → Floats bytes next stage (record { first = floats .first; count = floats .count + 1 }) due
+  floats-more up read there one within grows at more =
+      let c = citations-more bytes (floats .first) (floats .count) (so .lines) _ (next .last) (r .citations) (floats-last up) there one within grows in
+      record {
+        counted = record { here = λ _. more; before = λ l. absurd (omega arith) };
+        read = reads-more bytes due (floats .first) (floats .count) _ (r .read) refl read;
+        citations = rw same (c .0);
+        lasts = λ _. c .1;
+      }
+
 -- A galley that has no block yet.
-pub reached-empty : (bytes : List ℕ) (so : Sofar) → Shape bytes (so .galley) (so .at) → so .count ≤ 4000 → so .stage < line
-    → so .galley .text .count ≡ 0 → so .galley .figures .count ≡ 0 → Head bytes so → Reached bytes so
-reached-empty bytes so shape count early noLines noFigures head =
+pub reached-empty : (bytes : List ℕ) (so : Sofar) → Shape bytes so → so .count ≤ 4000 → so .stage < line
+    → so .lines ≡ 0 → so .figures ≡ 0 → so .tables ≡ 0 → Head bytes so → Reached bytes so
+reached-empty bytes so shape count early noLines noFigures noTables head =
     record {
       shape = shape;
       count = count;
       lines = record { here = λ e. absurd (omega arith); before = λ l. noLines };
-      figures = record { here = λ e. absurd (omega arith); before = λ l. noFigures };
       head = head;
-      textRead = λ k one h. absurd (omega arith);
-      figuresRead = λ k one h. absurd (omega arith);
-      citations = no-citations bytes (so .galley .figures) (so .galley .text .count) noFigures;
-      citesLast = λ k one h. absurd (omega arith);
+      text = λ k one h. absurd (omega arith);
+      figures = floats-none bytes so figure _ _ (omega arith) noFigures;
+      tables = floats-none bytes so table _ _ (omega arith) noTables;
     }
 
 -- Nothing was read at first.
 pub reached-none : (bytes : List ℕ) → Reached bytes beginning
 reached-none bytes =
-    let nowhere : Shape bytes (beginning .galley) 0
-    = record { fewLines = omega arith; fewFigures = omega arith; first = omega arith; follow = refl; due = refl; within = omega arith } in
-    reached-empty bytes beginning nowhere (omega arith) (omega arith) refl refl
+    reached-empty bytes beginning
+    (record { fewLines = omega arith; fewFigures = omega arith; fewTables = omega arith; first = omega arith; due = refl; within = omega arith })
+    (omega arith) (omega arith) refl refl refl
     (record {
       starts = λ l. refl;
       ends = λ e. absurd (omega arith);

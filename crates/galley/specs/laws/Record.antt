@@ -1,20 +1,20 @@
 -- What is known of the record at an offset once it was read.
 use Prim.Native.Nat.{ℕ, _+_, _-_, _≤_}
 use native.Mathlib.Omega.{arith}
-use mathlib.Core.Bool.{Bool, true, false}
+use mathlib.Core.Bool.{Bool, true, false, _||_, true≢false}
 use mathlib.Core.List.{List}
-use mathlib.Core.Path.{_≡_, refl}
+use mathlib.Core.Path.{_≡_, refl, sym}
 use lib.ListN.{length}
 use lib.Dec.{ltb, eqb}
 use borrow.Author.Tests.{ltb-false, eqb-true}
-use Rattle.galley.specs.Word.{markAt, wordAt}
-use Rattle.galley.specs.Range.{specInRange, folioInRange, blockInRange, lineInRange, SpecRanged, Edition, FolioRanged, BlockRanged, LineRanged}
-use Rattle.galley.specs.Place.{GS, G2, FO, TL, FG, FK, ED, specMark, figureMark, kindOf}
-use Rattle.galley.specs.Record.{specOf, specAt, openingFolio, blockOf, lineOf, figureOf, isKept, figureAt, ranged, fieldsOf, recordAt}
+use Rattle.model.specs.Gather.{pick}
+use Rattle.galley.specs.Word.{markAt}
+use Rattle.galley.specs.Range.{specInRange, folioInRange, blockInRange, lineInRange, SpecRanged, Edition, FolioRanged, LineRanged, FigureRanged, TableRanged}
+use Rattle.galley.specs.Place.{GS, G2, FO, TL, FG, FK, TB, ED, specMark, figureMark, kindOf}
+use Rattle.galley.specs.Record.{HasSpec, isSecond, specOf, specAt, openingFolio, blockOf, lineOf, floatOf, isKept, floatAt, ranged, fieldsOf, recordAt}
 use Rattle.galley.specs.laws.Pick.{pick-has}
 use Rattle.galley.specs.laws.Range.{spec-ranged, folio-ranged, block-ranged, line-ranged}
 use Rattle.galley.specs.declared.Spec.{Spec}
-use Rattle.galley.specs.declared.Figure.{Figure}
 use Rattle.galley.specs.declared.Record.{Record}
 use Rattle.galley.specs.declared.Record.the-variants as found
 
@@ -30,10 +30,6 @@ pub record SpecFine (g : Spec) : Type 0 where
   pub ranged : SpecRanged g
   pub edition : Edition g
 
--- A figure whose heights are in range.
-abbrev pub FigureRanged : Figure → Type 0
-FigureRanged f = BlockRanged (f .block)
-
 -- The end has no field.
 abbrev pub Ending : Unit {0} → Type 0
 Ending none = Unit {0}
@@ -46,10 +42,11 @@ pub record RefusedAt (at number place : ℕ) : Type 0 where
 
 -- What a record that was read at an offset tells.
 unfoldable pub Found : List ℕ → ℕ → Record → Type 0
-Found bytes at (found.Spec g) = Stands SpecFine bytes at (specMark (g .edition)) g g
+Found bytes at (found.Spec g) = Stands SpecFine bytes at (specMark (g .edition)) g (specOf (isSecond bytes at) bytes at)
 Found bytes at (found.Folio f) = Stands FolioRanged bytes at FO f (openingFolio bytes at)
 Found bytes at (found.Line l) = Stands LineRanged bytes at TL l (lineOf bytes at)
-Found bytes at (found.Figure f) = Stands FigureRanged bytes at (figureMark (f .kept)) f (figureOf (isKept bytes at) bytes at)
+Found bytes at (found.Figure f) = Stands FigureRanged bytes at (figureMark (f .kept)) f (floatOf (isKept bytes at) bytes at)
+Found bytes at (found.Table f) = Stands TableRanged bytes at TB f (floatOf false bytes at)
 Found bytes at found.End = Stands Ending bytes at ED tt tt
 Found bytes at (found.Refused number place) = RefusedAt at number place
 
@@ -57,6 +54,19 @@ Found bytes at (found.Refused number place) = RefusedAt at number place
 pub kept-mark : (kept : Bool) → eqb (figureMark kept) FK ≡ kept
 kept-mark true = refl
 kept-mark false = refl
+
+-- Where there is a specification's size there is room for its fields.
+pub spec-room : (bytes : List ℕ) (at mark : ℕ) → (eqb mark GS || eqb mark G2) ≡ true → at + kindOf mark .size ≤ length bytes
+    → HasSpec bytes at (eqb mark G2)
+unfolding kindOf
+spec-room bytes at mark h there = go (eqb mark GS) (eqb mark G2) refl refl h
+  where
+    go : (first second : Bool) → eqb mark GS ≡ first → eqb mark G2 ≡ second → (first || second) ≡ true → HasSpec bytes at second
+    go first true a b h =
+        let long = rw (eqb-true mark G2 b) at there in record { plain = omega (arith, long); longer = λ _. long }
+    go true false a b h =
+        let long = rw (eqb-true mark GS a) at there in record { plain = long; longer = λ z. absurd (true≢false (sym z)) }
+    go false false a b h = absurd (true≢false (sym h))
 
 module _ (bytes : List ℕ) (at : ℕ) where
   refused-found : (number : ℕ) → 1 ≤ number → number ≤ 3 → Found bytes at (found.Refused number at)
@@ -74,20 +84,45 @@ module _ (bytes : List ℕ) (at : ℕ) where
       record { marked = is; there = rw is at there; same = refl; fine = fine }
 
   -- A specification is of the edition that its mark says.
-  spec-found : (edition lastmin : ℕ) → eqb (markAt bytes at) (specMark edition) ≡ true → at + kindOf (markAt bytes at) .size ≤ length bytes
-      → Edition (specOf edition lastmin bytes at) → Found bytes at (specAt edition lastmin bytes at)
+  spec-found : (second : Bool) → markAt bytes at ≡ pick second G2 GS → isSecond bytes at ≡ second
+      → at + kindOf (markAt bytes at) .size ≤ length bytes → Found bytes at (specAt second bytes at)
   unfolding Found
-  spec-found edition lastmin e there of =
-      let g = specOf edition lastmin bytes at in
-      ranged-found (specInRange g) (found.Spec g)
-      (λ r. stands SpecFine (specMark edition) g e there (record { ranged = spec-ranged g r; edition = of }))
+  spec-found true marked second there =
+      ranged-found (specInRange (specOf true bytes at)) (found.Spec (specOf true bytes at)) (λ r.
+      record {
+        marked = marked;
+        there = rw marked at there;
+        same = rw second;
+        fine = rw second (record {
+          ranged = spec-ranged (specOf true bytes at) r;
+          edition = record { some = omega arith; two = omega arith; plain = λ z. absurd (omega arith) };
+        });
+      })
+  spec-found false marked second there =
+      ranged-found (specInRange (specOf false bytes at)) (found.Spec (specOf false bytes at)) (λ r.
+      record {
+        marked = marked;
+        there = rw marked at there;
+        same = rw second;
+        fine = rw second (record {
+          ranged = spec-ranged (specOf false bytes at) r;
+          edition = record { some = omega arith; two = omega arith; plain = λ _. refl };
+        });
+      })
+
+  -- Either mark opens one.
+  spec-marked : (first second : Bool) → eqb (markAt bytes at) GS ≡ first → isSecond bytes at ≡ second → (first || second) ≡ true
+      → markAt bytes at ≡ pick second G2 GS
+  spec-marked first true a b h = eqb-true (markAt bytes at) G2 b
+  spec-marked true false a b h = eqb-true (markAt bytes at) GS a
+  spec-marked false false a b h = absurd (true≢false (sym h))
 
   -- A figure is kept where its mark says so.
   figure-found : (kept : Bool) → eqb (markAt bytes at) (figureMark kept) ≡ true → at + kindOf (markAt bytes at) .size ≤ length bytes
-      → Found bytes at (figureAt kept bytes at)
+      → Found bytes at (floatAt found.Figure kept bytes at)
   unfolding Found
   figure-found kept e there =
-      ranged-found (blockInRange (blockOf bytes at)) (found.Figure (figureOf kept bytes at)) (λ r.
+      ranged-found (blockInRange (blockOf bytes at)) (found.Figure (floatOf kept bytes at)) (λ r.
       let marked = eqb-true (markAt bytes at) (figureMark kept) e in
       record {
         marked = marked;
@@ -100,10 +135,8 @@ module _ (bytes : List ℕ) (at : ℕ) where
   unfolding fieldsOf Found
   fields-found there =
       let mark = markAt bytes at in
-      pick-has (Found bytes at) (eqb mark GS) _ _ (λ e.
-      spec-found 1 0 e there (record { some = omega arith; two = omega arith; plain = λ _. refl })) (λ _.
-      pick-has (Found bytes at) (eqb mark G2) _ _ (λ e.
-      spec-found 2 (wordAt bytes (at + 30)) e there (record { some = omega arith; two = omega arith; plain = λ z. absurd (omega arith) })) (λ _.
+      pick-has (Found bytes at) (eqb mark GS || eqb mark G2) _ _
+      (λ e. spec-found (eqb mark G2) (spec-marked (eqb mark GS) (eqb mark G2) refl refl e) refl there) (λ _.
       pick-has (Found bytes at) (eqb mark FO) _ _ (λ e.
       ranged-found (folioInRange (openingFolio bytes at)) (found.Folio (openingFolio bytes at)) (λ r.
       stands FolioRanged FO (openingFolio bytes at) e there (folio-ranged (openingFolio bytes at) r))) (λ _.
@@ -112,6 +145,9 @@ module _ (bytes : List ℕ) (at : ℕ) where
       stands LineRanged TL (lineOf bytes at) e there (line-ranged (lineOf bytes at) r))) (λ _.
       pick-has (Found bytes at) (eqb mark FG) _ _ (λ e. figure-found false e there) (λ _.
       pick-has (Found bytes at) (eqb mark FK) _ _ (λ e. figure-found true e there) (λ _.
+      pick-has (Found bytes at) (eqb mark TB) _ _ (λ e.
+      ranged-found (blockInRange (blockOf bytes at)) (found.Table (floatOf false bytes at)) (λ r.
+      stands TableRanged TB (floatOf false bytes at) e there (record { block = block-ranged (blockOf bytes at) r; free = refl }))) (λ _.
       pick-has (Found bytes at) (eqb mark ED) _ _ (λ e. stands Ending ED tt e there tt)
       (λ _. refused-found 2 (omega arith) (omega arith))))))))
 

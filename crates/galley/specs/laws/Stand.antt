@@ -6,14 +6,16 @@ use mathlib.Core.Path.{_≡_, _∙_}
 use lib.ListN.{length}
 use borrow.Author.Tests.{le-ltb, ne-eqb}
 use Rattle.galley.specs.Word.{markAt}
-use Rattle.galley.specs.Place.{specMark, FO, TL, FG, ED, figureMark, kindOf}
+use Rattle.galley.specs.Place.{specMark, FO, TL, FG, TB, ED, figureMark, kindOf}
 use Rattle.galley.specs.Record.{recordAt}
-use Rattle.galley.specs.Whole.{opened, withLine, withFigure, moved, holding, cited, closed, after, stepFrom}
+use Rattle.galley.specs.Whole.{moved, withFolio, withLine, withFigure, withTable, cited, closed, after, stepFrom}
 use Rattle.galley.specs.laws.Place.{kind-sized, figure-kind, Fits, fits-unfit}
 use Rattle.galley.specs.laws.Record.{Found, found-at}
+use Rattle.galley.specs.laws.Reached.{galleyIn}
+use Rattle.galley.specs.declared.Kind.{Kind}
 use Rattle.galley.specs.declared.Spec.{Spec}
 use Rattle.galley.specs.declared.Line.{Line}
-use Rattle.galley.specs.declared.Figure.{Figure}
+use Rattle.galley.specs.declared.Float.{Float}
 use Rattle.galley.specs.declared.Record.the-variants as found
 use Rattle.galley.specs.declared.Reading.the-variants as reads
 use Rattle.galley.specs.declared.Sofar.{Sofar}
@@ -32,36 +34,50 @@ module _ (bytes : List ℕ) (so : Sofar) where
       )
 
   pub spec-step : (g : Spec) → recordAt bytes (so .at) ≡ found.Spec g → Fits (kindOf (specMark (g .edition))) so
-      → let next = moved so (kindOf (specMark (g .edition))) in stepFrom bytes so ≡ On (holding next (opened g 1 (next .at)) (next .last))
+      → stepFrom bytes so ≡ On (withFolio (moved so (kindOf (specMark (g .edition)))) 1)
   unfolding Found after
   spec-step g e fits = let h = rw e at (found-at bytes (so .at)) in fit-step (specMark (g .edition)) (h .marked) (h .there) fits ∙ rw e
 
   pub folio-step : (f : ℕ) → recordAt bytes (so .at) ≡ found.Folio f → Fits (kindOf FO) so
-      → let next = moved so (kindOf FO) in stepFrom bytes so ≡ On (holding next (opened (so .galley .spec) f (next .at)) (next .last))
+      → stepFrom bytes so ≡ On (withFolio (moved so (kindOf FO)) f)
   unfolding Found after
   folio-step f e fits = let h = rw e at (found-at bytes (so .at)) in fit-step FO (h .marked) (h .there) fits ∙ rw e
 
   pub line-step : (l : Line) → recordAt bytes (so .at) ≡ found.Line l → Fits (kindOf TL) so
-      → let next = moved so (kindOf TL) in stepFrom bytes so ≡ On (holding next (withLine (so .galley) (next .count) (next .at)) (next .last))
+      → stepFrom bytes so ≡ On (withLine (moved so (kindOf TL)))
   unfolding Found after
   line-step l e fits = let h = rw e at (found-at bytes (so .at)) in fit-step TL (h .marked) (h .there) fits ∙ rw e
 
-  pub figure-step : (f : Figure) → recordAt bytes (so .at) ≡ found.Figure f → Fits (kindOf FG) so
-      → 1 ≤ f .cite → f .cite ≤ so .galley .text .count → so .last ≤ f .cite
-      → let next = moved so (kindOf FG) in stepFrom bytes so ≡ On (holding next (withFigure (so .galley) (next .count)) (f .cite))
-  unfolding Found after cited
+  -- A float goes on where it is rightly cited.
+  cited-on : (kind : Kind) (cite : ℕ) (next : Sofar) → 1 ≤ cite → cite ≤ so .lines → moved so kind .last ≤ cite
+      → cited (moved so kind) cite next (so .at) ≡ On next
+  unfolding cited
+  cited-on kind cite next one within grows =
+      simp (
+        ne-eqb cite 0 (λ z. omega arith),
+        le-ltb (so .lines) cite within,
+        le-ltb cite (moved so kind .last) grows,
+      )
+
+  pub figure-step : (f : Float) → recordAt bytes (so .at) ≡ found.Figure f → Fits (kindOf FG) so
+      → 1 ≤ f .cite → f .cite ≤ so .lines → moved so (kindOf FG) .last ≤ f .cite
+      → stepFrom bytes so ≡ On (withFigure (moved so (kindOf FG)) (f .cite))
+  unfolding Found after
   figure-step f e fits one within grows =
       let h = rw e at (found-at bytes (so .at)) in
       rw (figure-kind (f .kept)) at (fit-step (figureMark (f .kept)) (h .marked) (h .there) (rw (figure-kind (f .kept)) fits))
-      ∙ simp (
-        e,
-        ne-eqb (f .cite) 0 (λ z. omega arith),
-        le-ltb (so .galley .text .count) (f .cite) within,
-        le-ltb (f .cite) (so .last) grows,
-      )
+      ∙ rw e (cited-on (kindOf FG) (f .cite) _ one within grows)
+
+  pub table-step : (f : Float) → recordAt bytes (so .at) ≡ found.Table f → Fits (kindOf TB) so
+      → 1 ≤ f .cite → f .cite ≤ so .lines → moved so (kindOf TB) .last ≤ f .cite
+      → stepFrom bytes so ≡ On (withTable (moved so (kindOf TB)) (f .cite))
+  unfolding Found after
+  table-step f e fits one within grows =
+      let h = rw e at (found-at bytes (so .at)) in
+      fit-step TB (h .marked) (h .there) fits ∙ rw e (cited-on (kindOf TB) (f .cite) _ one within grows)
 
   pub end-step : recordAt bytes (so .at) ≡ found.End → Fits (kindOf ED) so → so .at + 2 ≡ length bytes
-      → stepFrom bytes so ≡ Done (reads.Galley (so .galley))
+      → stepFrom bytes so ≡ Done (reads.Galley (galleyIn bytes so))
   unfolding Found after closed kindOf
   end-step e fits whole =
       let h = rw e at (found-at bytes (so .at)) in

@@ -4,9 +4,10 @@ use native.Mathlib.Omega.{arith}
 use mathlib.Core.List.{List}
 use mathlib.Core.Path.{_≡_, refl, sym, _∙_}
 use lib.ListN.{length}
-use Rattle.galley.specs.Whole.{Small, beginning, settled, stepFrom, readFrom, galleyOf}
+use Rattle.galley.specs.Place.{spec}
+use Rattle.galley.specs.Whole.{Small, Opened, beginning, settled, stepFrom, readFrom, galleyOf}
 use Rattle.galley.specs.laws.Reached.{Reached, reached-none}
-use Rattle.galley.specs.laws.Step.{Fine, step-fine}
+use Rattle.galley.specs.laws.Step.{Fine, reached-opened, step-fine}
 use Rattle.galley.specs.declared.Reading.{Reading}
 use Rattle.galley.specs.declared.Sofar.{Sofar}
 use Rattle.galley.specs.declared.Step.the-variants.{On, Done}
@@ -30,7 +31,13 @@ underway-none bytes = record { reached = reached-none bytes; turns = length byte
 
 -- Small counts and offsets.
 pub underway-small : {bytes : List ℕ} {so : Sofar} → Underway bytes so → Small so
-underway-small u = let s = u .reached .shape in record { counts = u .reached .count; ats = omega arith }
+underway-small u =
+    let s = u .reached .shape in
+    record { counts = u .reached .count; ats = omega arith; firsts = omega arith; lines = s .fewLines; figures = omega arith }
+
+-- Once the specification was read, it stands at the start.
+pub underway-opened : {bytes : List ℕ} {so : Sofar} → Underway bytes so → spec ≤ so .stage → Opened bytes
+underway-opened u begun = reached-opened (u .reached) begun
 
 module _ {bytes : List ℕ} {so : Sofar} (u : Underway bytes so) where
   -- Reading goes on, farther on.

@@ -4,24 +4,24 @@ use native.Mathlib.Omega.{arith}
 use native.Mathlib.Nat.{add-assoc}
 use mathlib.Core.List.{List, [], _∷_, _++_}
 use mathlib.Core.Bool.{Bool, true, false}
-use mathlib.Core.Path.{_≡_, refl, ap, _∙_}
+use mathlib.Core.Path.{_≡_, refl, sym, ap, _∙_}
 use lib.Dec.{eqb}
 use lib.ListN.{length, getD, length-append}
 use lib.Seq.{getD-append-add}
 use borrow.Author.Tests.{le-ltb, eqb-true, eqb-false}
 use Rattle.model.specs.Gather.{pick}
 use Rattle.galley.specs.Word.{wordAt, markAt}
-use Rattle.galley.specs.Place.{GS, G2, specSize, FO, TL, ED, figureMark, kindOf}
-use Rattle.galley.specs.Range.{SpecRanged, Edition, FolioRanged, BlockRanged, LineRanged}
-use Rattle.galley.specs.Record.{heightAt, leastAt, mostAt, citeAt, specOf, blockOf, lineOf, figureOf, isKept, figureAt, fieldsOf, recordAt}
-use Rattle.galley.specs.Write.{word, specBytesIn, specBytes, folioBytes, stated, blockBytes, lineBytes, figureBytes}
+use Rattle.galley.specs.Place.{GS, G2, specSize, FO, TL, TB, ED, figureMark, kindOf}
+use Rattle.galley.specs.Range.{SpecRanged, Edition, FolioRanged, BlockRanged, LineRanged, FigureRanged, TableRanged}
+use Rattle.galley.specs.Record.{heightAt, leastAt, mostAt, citeAt, lastLeast, specOf, blockOf, lineOf, floatOf, isKept, floatAt, fieldsOf, recordAt}
+use Rattle.galley.specs.Write.{word, specBytesIn, specBytes, folioBytes, stated, blockBytes, lineBytes, figureBytes, tableBytes}
 use Rattle.galley.specs.laws.Place.{figure-kind}
 use Rattle.galley.specs.laws.Record.{kept-mark}
 use Rattle.galley.specs.laws.Range.{ranged-spec, ranged-folio, ranged-block, ranged-line}
 use Rattle.galley.specs.declared.Spec.{Spec}
 use Rattle.galley.specs.declared.Block.{Block}
 use Rattle.galley.specs.declared.Line.{Line}
-use Rattle.galley.specs.declared.Figure.{Figure}
+use Rattle.galley.specs.declared.Float.{Float}
 use Rattle.galley.specs.declared.Record.{Record}
 use Rattle.galley.specs.declared.Record.the-variants as found
 
@@ -98,7 +98,7 @@ line-after before rest l r =
     written before (lineBytes l rest) TL (found.Line l) refl (omega arith) (omega arith) (simp (h .0, h .1, ranged-line l r))
 
 -- The mark that was written for a figure.
-marked-figure : (f : Figure) (rest : List ℕ) → markAt (figureBytes f rest) 0 ≡ figureMark (f .kept)
+marked-figure : (f : Float) (rest : List ℕ) → markAt (figureBytes f rest) 0 ≡ figureMark (f .kept)
 unfolding markAt
 marked-figure f rest = go (f .kept)
   where
@@ -106,19 +106,19 @@ marked-figure f rest = go (f .kept)
     go true = refl
     go false = refl
 
-figure-read : (kept : Bool) (bytes : List ℕ) (at : ℕ) → fieldsOf (figureMark kept) bytes at ≡ figureAt kept bytes at
+figure-read : (kept : Bool) (bytes : List ℕ) (at : ℕ) → fieldsOf (figureMark kept) bytes at ≡ floatAt found.Figure kept bytes at
 unfolding fieldsOf
 figure-read true bytes at = refl
 figure-read false bytes at = refl
 
 -- So has a figure, and so is it.
-pub figure-fields : (before rest : List ℕ) (f : Figure) → BlockRanged (f .block) → f .cite ≤ 4000
-    → let bytes = before ++ figureBytes f rest in figureOf (isKept bytes (length before)) bytes (length before) ≡ f
+pub figure-fields : (before rest : List ℕ) (f : Float) → FigureRanged f → f .cite ≤ 4000
+    → let bytes = before ++ figureBytes f rest in floatOf (isKept bytes (length before)) bytes (length before) ≡ f
 figure-fields before rest f r small =
     let h = block-back before rest 70 (pick (f .kept) 75 71) (f .cite) (f .block) r small in
     simp (mark-after before (figureBytes f rest), marked-figure f rest, kept-mark (f .kept), h .0, h .1)
 
-pub figure-after : (before rest : List ℕ) (f : Figure) → BlockRanged (f .block) → f .cite ≤ 4000
+pub figure-after : (before rest : List ℕ) (f : Float) → FigureRanged f → f .cite ≤ 4000
     → recordAt (before ++ figureBytes f rest) (length before) ≡ found.Figure f
 unfolding kindOf
 figure-after before rest f r small =
@@ -127,11 +127,26 @@ figure-after before rest f r small =
     (rw (figure-kind (f .kept)) (omega arith))
     (figure-read (f .kept) _ _ ∙ simp (h .0, h .1, ranged-block (f .block) r))
 
+-- So has a table, and so is it.
+pub table-fields : (before rest : List ℕ) (f : Float) → TableRanged f → f .cite ≤ 4000
+    → floatOf false (before ++ tableBytes f rest) (length before) ≡ f
+table-fields before rest f r small =
+    let h = block-back before rest 84 66 (f .cite) (f .block) (r .block) small in simp (h .0, h .1, ← r .free)
+
+pub table-after : (before rest : List ℕ) (f : Float) → TableRanged f → f .cite ≤ 4000
+    → recordAt (before ++ tableBytes f rest) (length before) ≡ found.Table f
+unfolding kindOf markAt fieldsOf
+table-after before rest f r small =
+    let h = block-back before rest 84 66 (f .cite) (f .block) (r .block) small in
+    written before (tableBytes f rest) TB (found.Table f) refl (omega arith) (omega arith)
+    (simp (h .0, h .1, ranged-block (f .block) (r .block)) (rw (← r .free)))
+
 -- A specification that was written has its fields, and it is read back.
-spec-fields : (before rest : List ℕ) (second : Bool) (g : Spec) (edition lastmin : ℕ) → SpecRanged g → g .edition ≡ edition
-    → g .lastmin ≡ lastmin → specOf edition lastmin (before ++ specBytesIn second g rest) (length before) ≡ g
+spec-fields : (before rest : List ℕ) (second : Bool) (g : Spec) → SpecRanged g → g .edition ≡ pick second 2 1
+    → g .lastmin ≡ lastLeast second (before ++ specBytesIn second g rest) (length before)
+    → specOf second (before ++ specBytesIn second g rest) (length before) ≡ g
 unfolding wordAt
-spec-fields before rest second g edition lastmin r e l =
+spec-fields before rest second g r e l =
     let tail = specBytesIn second g rest in
     simp (
       word-back before tail 2 (g .htmin) (omega arith) refl,
@@ -149,16 +164,13 @@ spec-after-in : (before rest : List ℕ) (second : Bool) (g : Spec) → SpecRang
 unfolding wordAt kindOf markAt fieldsOf
 spec-after-in before rest true g r e two =
     let tail = specBytesIn true g rest in
+    let least : wordAt (before ++ tail) (length before + 30) ≡ g .lastmin = word-back before tail 30 (g .lastmin) (omega arith) refl in
     written before tail G2 (found.Spec g) refl (omega arith) (omega arith)
-    (simp (
-      word-back before tail 30 (g .lastmin) (omega arith) refl,
-      spec-fields before rest true g 2 (g .lastmin) r (eqb-true (g .edition) 2 two) refl,
-      ranged-spec g r,
-    ))
+    (simp (spec-fields before rest true g r (eqb-true (g .edition) 2 two) (sym least), ranged-spec g r))
 spec-after-in before rest false g r e one =
     let first : g .edition ≡ 1 = let s = e .some in let t = e .two in omega (arith, eqb-false (g .edition) 2 one) in
     written before (specBytesIn false g rest) GS (found.Spec g) refl (omega arith) (omega arith)
-    (simp (spec-fields before rest false g 1 0 r first (e .plain first), ranged-spec g r))
+    (simp (spec-fields before rest false g r first (e .plain first), ranged-spec g r))
 
 pub spec-after : (before rest : List ℕ) (g : Spec) → SpecRanged g → Edition g
     → recordAt (before ++ specBytes g rest) (length before) ≡ found.Spec g

@@ -1,9 +1,7 @@
--- `galley::records::figure_at` meets its contract. The heights are those of the block, and the last field is the word that the
--- definition reads.
-use native.Mathlib.Omega.{arith}
-use ghost.Mode.{_$_}
+-- `galley::records::figure_at` meets its contract. Its fields are those of a float.
+use borrow.Author.Needs.{needs}
 use Rattle.galley.proofs.records.figure_at.Statement.{statement}
 use Rattle.galley.proofs.records.figure_at.Tie as tie
 
 pub figure-at-spec : {M : Type 1} → statement M
-figure-at-spec = tie.close ((λ (a, b, c, d, e). tie.spec a b c d e (λ c. cc)) $ omega arith)
+figure-at-spec = tie.close (tie.spec (λ c κs. search needs) (λ c κs. search needs) (λ c κs. search needs) (λ c. cc))

@@ -1,21 +1,21 @@
 -- `galley::records::record_at` meets its contract. The mark is there, the fields are there and in range, as the definition asks.
-use mathlib.Core.Path.{_≡_}
+use mathlib.Core.Path.{_≡_, sym, _∙_}
 use native.Mathlib.Omega.{arith}
-use lib.Dec.{ltb}
-use borrow.Author.Tests.{lt-ltb, le-ltb}
+use borrow.Author.Tests.{lt-ltb, le-ltb, ltb-false}
 use borrow.Author.Needs.{needs}
 use denote.Ref.{now}
 use Rattle.model.specs.Gather.{pick}
+use Rattle.galley.specs.Place.{kindOf}
 use Rattle.galley.specs.Record.{fieldsOf, recordAt}
 use Rattle.galley.specs.declared.Record.the-variants as found
 use Rattle.galley.proofs.records.record_at.Statement.{statement}
 use Rattle.galley.proofs.records.record_at.Tie as tie
 
 -- Once the mark is there, the size of its kind decides.
-marked : (c : tie.After-kind-of)
+marked : (c : tie.After-is-short)
     → let a = c .before .before .before .before .before .args in
     recordAt (now (a .s)) (a .at)
-    ≡ pick (ltb (c .before .before .before .left-from .result) (c .kind-of .result .size)) (found.Refused 1 (a .at))
+    ≡ pick (c .is-short .result) (found.Refused 1 (a .at))
     (fieldsOf (c .before .mark-at .result) (now (a .s)) (a .at))
 unfolding recordAt
 marked c =
@@ -23,7 +23,7 @@ marked c =
       ← c .before .before .before .left-from .ensures,
       le-ltb _ _ (c .before .before .if1 .left),
       ← c .before .mark-at .ensures,
-      ← c .kind-of .ensures,
+      ← c .is-short .ensures,
     )
 
 returns : tie.Need-returns
@@ -38,6 +38,9 @@ record-at-spec =
     returns
     (λ c κs. search needs)
     (λ c κs. search needs)
-    (λ c. simp (marked (c .before .before), lt-ltb _ _ (c .if2 .taken)))
-    (λ c κs. rw (← c .before .before .kind-of .ensures) (omega arith))
-    (λ c. simp (marked (c .before .before .before), le-ltb _ _ (c .before .if2 .left)) (c .fields-of .ensures)))
+    (λ c. simp (marked (c .before), c .if2 .taken))
+    (λ c κs.
+    let whole = ltb-false (c .before .before .before .before .left-from .result) (kindOf (c .before .before .mark-at .result) .size)
+    (sym (c .before .is-short .ensures) ∙ c .if2 .left) in
+    omega arith)
+    (λ c. simp (marked (c .before .before), c .before .if2 .left) (c .fields-of .ensures)))

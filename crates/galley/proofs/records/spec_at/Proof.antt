@@ -1,10 +1,7 @@
--- `galley::records::spec_at` meets its contract. Each field is the word that the definition reads.
-use native.Mathlib.Omega.{arith}
-use ghost.Mode.{_$_}
+-- `galley::records::spec_at` meets its contract. Its fields are those of a specification.
+use borrow.Author.Needs.{needs}
 use Rattle.galley.proofs.records.spec_at.Statement.{statement}
 use Rattle.galley.proofs.records.spec_at.Tie as tie
 
 pub spec-at-spec : {M : Type 1} → statement M
-spec-at-spec =
-    tie.close
-    ((λ (a, b, c, d, e, f, g, h, i, j, k, l, m, n, o, p). tie.spec a b c d e f g h i j k l m n o p (λ c. cc)) $ omega arith)
+spec-at-spec = tie.close (tie.spec (λ c κs. search needs) (λ c κs. search needs) (λ c κs. search needs) (λ c. cc))

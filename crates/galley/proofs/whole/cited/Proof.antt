@@ -10,13 +10,7 @@ cited-spec =
     tie.close
     (tie.spec
     (λ c κs. search needs)
+    (λ c. simp (c .before .if1 .taken) (c .refused .ensures))
     (λ c κs. search needs)
-    (λ c. simp (← c .before .before .before .before .before .size .ensures, c .before .if1 .taken) (c .refused .ensures))
-    (λ c κs. search needs)
-    (λ c.
-    simp (← c .before .before .before .before .before .before .size .ensures, c .before .before .if1 .left, c .before .if2 .taken)
-    (c .refused2 .ensures))
-    (λ c κs. search needs)
-    (λ c.
-    simp (← c .before .before .before .before .before .before .size .ensures, c .before .before .if1 .left, c .before .if2 .left)
-    cc))
+    (λ c. simp (c .before .before .if1 .left, c .before .if2 .taken) (c .refused2 .ensures))
+    (λ c. simp (c .before .if1 .left, c .if2 .left)))

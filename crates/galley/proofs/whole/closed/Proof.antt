@@ -1,4 +1,4 @@
--- `galley::whole::closed` meets its contract. By whether anything follows.
+-- `galley::whole::closed` meets its contract. By whether anything follows; the specification is that of the definition.
 use borrow.Author.Needs.{needs}
 use borrow.Author.Tests.{lt-ltb, le-ltb}
 use Rattle.galley.specs.Whole.{closed}
@@ -9,4 +9,8 @@ pub closed-spec : {M : Type 1} → statement M
 unfolding closed
 closed-spec =
     tie.close
-    (tie.spec (λ c κs. search needs) (λ c. simp (lt-ltb _ _ (c .before .if1 .taken)) (c .refused .ensures)) (λ c. simp (le-ltb _ _ (c .before .if1 .left))))
+    (tie.spec (λ c κs. search needs) (λ c. simp (lt-ltb _ _ (c .before .if1 .taken)) (c .refused .ensures))
+    (λ c κs. search needs)
+    (λ c κs. rw (c .mark-at .ensures) (c .before .before .before .before .pre .1))
+    (λ c κs. search needs)
+    (λ c. simp (le-ltb _ _ (c .before .before .before .if1 .left)) cc))

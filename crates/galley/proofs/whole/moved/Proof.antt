@@ -4,4 +4,4 @@ use Rattle.galley.proofs.whole.moved.Statement.{statement}
 use Rattle.galley.proofs.whole.moved.Tie as tie
 
 pub moved-spec : {M : Type 1} → statement M
-moved-spec = tie.close (tie.spec (λ c κs. search needs) (λ c. search needs) (λ c. cc))
+moved-spec = tie.close (tie.spec (λ c κs. search needs) (λ c κs. search needs) (λ c. search needs) (λ c. cc))

@@ -4,7 +4,7 @@ use Prim.Native.Nat.{_-_}
 use mathlib.Core.Path.{sym, _∙_}
 use borrow.Author.Needs.{needs}
 use lib.ListN.{length}
-use Rattle.galley.specs.laws.Underway.{Underway, underway-none, underway-small, underway-farther, underway-on, underway-done}
+use Rattle.galley.specs.laws.Underway.{Underway, underway-none, underway-small, underway-opened, underway-farther, underway-on, underway-done}
 use Rattle.galley.proofs.whole.read_galley.Statement.{statement}
 use Rattle.galley.proofs.whole.read_galley.Tie as tie
 
@@ -22,7 +22,7 @@ read-galley-spec =
     μ-loop
     (λ c κs. search needs)
     (λ c. rw (c .beginning .ensures) (underway-none _))
-    (λ c κs. underway-small (c .loop .inv))
+    (λ c κs. (underway-small (c .loop .inv), underway-opened (c .loop .inv)))
     (λ c. search needs)
     (λ c. underway-farther (c .before .before .before .before .loop .inv) (sym (c .before .before .before .step-from .ensures) ∙ c .before .step .given .1))
     (λ c. underway-on (c .before .before .before .before .loop .inv) (sym (c .before .before .before .step-from .ensures) ∙ c .before .step .given .1))

@@ -1,5 +1,5 @@
 -- `galley::whole::step_from` meets its contract. The mark is there and fits, as the definition asks, and the record decides the rest.
-use mathlib.Core.Path.{_≡_}
+use mathlib.Core.Path.{_≡_, sym, _∙_}
 use Prim.Native.Nat.{_≤_}
 use native.Mathlib.Omega.{arith}
 use lib.Dec.{ltb}
@@ -8,8 +8,10 @@ use borrow.Author.Needs.{needs}
 use denote.Ref.{now}
 use Rattle.model.specs.Gather.{pick}
 use Rattle.galley.specs.Record.{recordAt}
-use Rattle.galley.specs.Whole.{moved, refused, after, stepFrom}
+use Rattle.galley.specs.Whole.{Opened, moved, refused, after, stepFrom}
 use Rattle.galley.specs.laws.Place.{kind-sized}
+use Rattle.galley.specs.laws.Step.{end-begun}
+use Rattle.galley.specs.declared.Record.the-variants as found
 use Rattle.galley.proofs.whole.step_from.Statement.{statement}
 use Rattle.galley.proofs.whole.step_from.Tie as tie
 
@@ -34,8 +36,21 @@ returns : tie.Need-returns
 unfolding stepFrom
 returns c = simp (← c .before .before .left-from .ensures, lt-ltb _ _ (c .before .if1 .taken)) (c .refused .ensures)
 
-short : (c : tie.After-kind-of) → c .kind-of .result .size ≤ 100
+short : (c : tie.After-kind-of) → c .kind-of .result .size ≤ 34
 short c = rw (c .kind-of .ensures) (kind-sized (c .before .mark-at .result) .1)
+
+-- The end comes after a specification.
+opened : (c : tie.After-moved)
+    → let s = now (c .before .before .before .before .before .before .before .before .before .args .s) in
+    c .before .read-record .result ≡ found.End → Opened s
+opened c e =
+    let start = c .before .before .before .before .before .before .before .before .before in
+    let unfit = c .before .before .before .unfit-for in
+    let none : unfit .result ≡ 0 = omega (arith, c .before .before .if2 .left) in
+    start .pre .1
+    (end-begun (now (start .args .s)) (start .args .so)
+    (rw (c .before .before .before .before .kind-of .ensures, c .before .before .before .before .before .mark-at .ensures) at (sym (unfit .ensures)) ∙ none)
+    (sym (c .before .read-record .ensures) ∙ e))
 
 pub step-from-spec : {M : Type 1} → statement M
 step-from-spec =
@@ -45,5 +60,5 @@ step-from-spec =
     (λ c. simp (marked (c .before .before), lt-ltb _ _ (c .before .if2 .taken)) (c .refused2 .ensures))
     (λ c κs. search needs)
     (λ c κs. (search needs, short (c .before .before .before)))
-    (λ c κs. (search needs, rw (c .moved .ensures) (omega (arith, short (c .before .before .before .before)))))
+    (λ c κs. (search needs, rw (c .moved .ensures) (omega (arith, short (c .before .before .before .before))), opened c))
     (λ c. simp (marked (c .before .before .before .before), le-ltb _ _ (c .before .before .before .if2 .left)) cc))
