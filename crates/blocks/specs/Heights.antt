@@ -1,5 +1,5 @@
 -- The heights of a page, block by block (paper, section 2, on white space; document 01, "One page").
-use Prim.Native.Nat.{ℕ, _+_, _≤_}
+use Prim.Native.Nat.{ℕ, _+_, _*_, _≤_}
 use mathlib.Core.Bool.{Bool, true}
 use mathlib.Core.List.{List}
 use mathlib.Core.Path.{_≡_}
@@ -14,25 +14,13 @@ use Rattle.galley.specs.Block.{fieldOf}
 use Rattle.galley.specs.Sound.{SoundStream}
 use Rattle.blocks.specs.declared.heights.Heights.{Heights}
 
--- The separation of a page that has both kinds, else 0.
-abbrev pub separation : Bool → ℕ → ℕ
-separation mixed s = pick mixed s 0
-
--- The heights of a page before its first block: its separation.
-unfoldable pub apartBy : Spec → Bool → Heights
-apartBy spec mixed = record { tight = separation mixed (spec .smin); loose = separation mixed (spec .smax) }
-
 -- The heights of a page that has nothing.
 abbrev pub noHeights : Heights
 noHeights = record { tight = 0; loose = 0 }
 
--- The heights of lines and figures together, with the separation of a page that has both kinds.
-abbrev pub together : Spec → Bool → Heights → Heights → Heights
-together spec mixed lines figures =
-    record {
-      tight = lines .tight + figures .tight + separation mixed (spec .smin);
-      loose = lines .loose + figures .loose + separation mixed (spec .smax);
-    }
+-- The heights with n separations more, each at its least and at its greatest: one for each kind beyond the first (document 02, S-4).
+abbrev pub separated : Spec → ℕ → Heights → Heights
+separated spec n h = record { tight = h .tight + n * spec .smin; loose = h .loose + n * spec .smax }
 
 -- What block k adds: its own height, and the space after block `gap`, of the field at `at`, where that is on the page.
 unfoldable pub added : List ℕ → Stream → ℕ → ℕ → ℕ → Bool → ℕ
@@ -67,14 +55,13 @@ pub record Joint (bytes : List ℕ) (stream : Stream) (h : Heights) (k gap : ℕ
   pub some : 1 ≤ k
   pub space : spaced ≡ true → (1 ≤ gap) × (gap ≤ stream .count)
 
--- Heights and separations whose sum is a word.
-pub record Addable (spec : Spec) (lines figures : Heights) : Type 0 where
+-- Heights and separations, of at most four kinds, whose sum is a word.
+pub record Separable (spec : Spec) (n : ℕ) (h : Heights) : Type 0 where
+  pub few : n ≤ 3
   pub smin : spec .smin ≤ 100000
   pub smax : spec .smax ≤ 100000
-  pub lineTight : lines .tight ≤ 1000000000
-  pub lineLoose : lines .loose ≤ 1000000000
-  pub figureTight : figures .tight ≤ 1000000000
-  pub figureLoose : figures .loose ≤ 1000000000
+  pub tight : h .tight ≤ 1000000000
+  pub loose : h .loose ≤ 1000000000
 
 -- h is the height of blocks a + 1 to b of a stream of the page model, at least and at greatest spaces.
 pub record Stacked (st : model.Stream) (a b : ℕ) (h : Heights) : Type 0 where

@@ -1,3 +1,4 @@
--- The heights of a page, block by block: definitions first, then the laws about them.
+-- The heights of a page, block by block, and the counts of what is placed: definitions first, then the laws about them.
 pub mod Heights
+pub mod Counts
 pub mod laws

@@ -1,3 +1,4 @@
--- The laws of heights.
+-- The laws of heights and of the words of a page.
 pub mod Stacked
 pub mod Heights
+pub mod Counts

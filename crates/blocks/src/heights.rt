@@ -1,7 +1,7 @@
 // The heights of a page, block by block: a marking goes forward from the page's start, a search back from its end.
 ghost use mathlib.Core.Path.{_≡_};
 ghost use Prim.Native.Nat.{_+_};
-ghost use Rattle.blocks.specs.Heights.{Joint, Room, Addable, apartBy, putOn, withBlock, blockBefore, together};
+ghost use Rattle.blocks.specs.Heights.{Joint, Room, Separable, putOn, withBlock, blockBefore, separated};
 use galley::Galley;
 use galley::Stream;
 
@@ -9,19 +9,6 @@ use galley::Stream;
 pub struct Heights {
     pub tight: u32,
     pub loose: u32,
-}
-
-// The heights of a page before its first block: a separation where it is to have both kinds.
-pub fn apart_by(g: Galley, mixed: bool) -> Heights
-    ensures { λ r. ⌜ r ≡ apartBy (g .spec) mixed ⌝ }
-{
-    if mixed {
-        return Heights {
-            tight: g.spec.smin,
-            loose: g.spec.smax,
-        };
-    }
-    Heights { tight: 0, loose: 0 }
 }
 
 // The heights with block k more, and with the space after block `gap` where that is on the page.
@@ -63,14 +50,13 @@ pub fn block_before(s: &[u8], stream: Stream, heights: Heights, a: usize, b: usi
     put_on(s, stream, heights, a + 1, a + 1, a + 1 < b)
 }
 
-// The heights of a page of these lines and figures, apart where it has both kinds.
-pub fn page_heights(g: Galley, mixed: bool, lines: Heights, figures: Heights) -> Heights
-    requires { ⌜ Addable (g .spec) lines figures ⌝ }
-    ensures { λ r. ⌜ r ≡ together (g .spec) mixed lines figures ⌝ }
+// The heights with so many separations more: a page of several kinds has one for each kind beyond the first.
+pub fn separated(g: Galley, n: u32, heights: Heights) -> Heights
+    requires { ⌜ Separable (g .spec) n heights ⌝ }
+    ensures { λ r. ⌜ r ≡ separated (g .spec) n heights ⌝ }
 {
-    let apart = apart_by(g, mixed);
     Heights {
-        tight: lines.tight + figures.tight + apart.tight,
-        loose: lines.loose + figures.loose + apart.loose,
+        tight: heights.tight + n * g.spec.smin,
+        loose: heights.loose + n * g.spec.smax,
     }
 }

@@ -16,12 +16,13 @@ use Rattle.galley.specs.declared.Reading.the-variants.{Galley, Refused}
 unfoldable pub wordsOf : Reading → List ℕ
 wordsOf (Galley g) =
     0 ∷ 0 ∷ g .spec .htmin ∷ g .spec .htmax ∷ g .spec .smin ∷ g .spec .smax ∷ g .spec .sides ∷ g .spec .alpha
-    ∷ g .spec .beta ∷ g .spec .edition ∷ g .spec .lastmin ∷ g .folio ∷ g .text .count ∷ g .figures .count ∷ []
-wordsOf (Refused number place) = number ∷ place ∷ 0 ∷ 0 ∷ 0 ∷ 0 ∷ 0 ∷ 0 ∷ 0 ∷ 0 ∷ 0 ∷ 0 ∷ 0 ∷ 0 ∷ []
+    ∷ g .spec .beta ∷ g .spec .edition ∷ g .spec .lastmin ∷ g .folio ∷ g .text .count ∷ g .figures .count
+    ∷ g .tables .count ∷ []
+wordsOf (Refused number place) = number ∷ place ∷ 0 ∷ 0 ∷ 0 ∷ 0 ∷ 0 ∷ 0 ∷ 0 ∷ 0 ∷ 0 ∷ 0 ∷ 0 ∷ 0 ∷ 0 ∷ []
 
--- The stream of a number: 0 is the text, any other the figures.
+-- The stream of a number: 0 is the text, 1 the figures, any other the tables.
 abbrev pub streamAt : galley.Galley → ℕ → Stream
-streamAt g number = pick (eqb number 0) (g .text) (g .figures)
+streamAt g number = pick (eqb number 0) (g .text) (pick (eqb number 1) (g .figures) (g .tables))
 
 abbrev zeros : List ℕ
 zeros = 0 ∷ 0 ∷ 0 ∷ 0 ∷ 0 ∷ []
@@ -36,7 +37,7 @@ blockWords bytes number k (Galley g) =
     ∷ pick (legalOf bytes stream k) 1 0 ∷ []))
 blockWords bytes number k (Refused refusal place) = zeros
 
--- How many figures wait with i lines and j figures placed, or 0 where the galley is refused.
-unfoldable pub waitingOf : List ℕ → ℕ → ℕ → Reading → ℕ
-waitingOf bytes i j (Galley g) = waits (floatsOf bytes (g .figures)) i j
-waitingOf bytes i j (Refused number place) = 0
+-- How many floats of a stream wait with i lines and j of its floats placed, or 0 where the galley is refused.
+unfoldable pub waitingOf : List ℕ → ℕ → ℕ → ℕ → Reading → ℕ
+waitingOf bytes number i j (Galley g) = waits (floatsOf bytes (streamAt g number)) i j
+waitingOf bytes number i j (Refused refusal place) = 0

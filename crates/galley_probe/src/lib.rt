@@ -1,4 +1,4 @@
-// The reader of galleys, and the walk over the figures that wait, for tests in another language: what they find, as words.
+// The reader of galleys, and the walk over the floats that wait, for tests in another language: what they find, as words.
 ghost use mathlib.Core.Path.{_≡_};
 ghost use Prim.Native.Nat.{_≤_};
 ghost use Rattle.model.specs.Gather.{pick};
@@ -10,10 +10,10 @@ use galley::Galley;
 use galley::Reading;
 use galley::Stream;
 
-// A refusal's number and place, or 0 and 0; then the specification with its edition, the first folio and the counts of lines and
-// figures.
+// A refusal's number and place, or 0 and 0; then the specification with its edition, the first folio and the counts of lines,
+// figures and tables.
 #[no_mangle]
-pub extern "C" fn galley_probe_read(bytes: &[u8], out: &mut [u32; 14])
+pub extern "C" fn galley_probe_read(bytes: &[u8], out: &mut [u32; 15])
     ensures { λ r. ⌜ now (out .exit) ≡ wordsOf (galleyOf (now (bytes .entry))) ⌝ }
 {
     let reading = galley::whole::read_galley(bytes);
@@ -35,10 +35,11 @@ pub extern "C" fn galley_probe_read(bytes: &[u8], out: &mut [u32; 14])
                 g.folio,
                 g.text.count as u32,
                 g.figures.count as u32,
+                g.tables.count as u32,
             ];
         }
         Reading::Refused { number, place } => {
-            *out = [number, place, 0, 0, 0, 0, 0, 0, 0, 0, 0, 0, 0, 0];
+            *out = [number, place, 0, 0, 0, 0, 0, 0, 0, 0, 0, 0, 0, 0, 0];
         }
     }
 }
@@ -50,14 +51,17 @@ fn flag(test: bool) -> u32
     if test { 1 } else { 0 }
 }
 
-// The stream of a number: 0 is the text, any other the figures.
+// The stream of a number: 0 is the text, 1 the figures, any other the tables.
 fn stream_at(g: Galley, number: usize) -> Stream
     ensures { λ r. ⌜ r ≡ streamAt g number ⌝ }
 {
     if number == 0 {
         return g.text;
     }
-    g.figures
+    if number == 1 {
+        return g.figures;
+    }
+    g.tables
 }
 
 // The four fields of block k of a stream and whether a page may end after it, or zeros where there is none.
@@ -100,19 +104,26 @@ fn known_from(s: &[u8], floats: Stream, earlier: usize, i: usize, j: usize) -> u
     0
 }
 
-// How many figures wait with i lines and j figures placed, by a walk that goes on from one for an earlier line; 0 where the
-// galley is refused or has fewer figures.
+// How many floats of a stream wait with i lines and j of its floats placed, by a walk that goes on from one for an earlier line; 0
+// where the galley is refused or the stream has fewer floats.
 #[no_mangle]
-pub extern "C" fn galley_probe_waiting(bytes: &[u8], earlier: usize, i: usize, j: usize) -> u32
-    ensures { λ r. ⌜ r ≡ waitingOf (now (bytes .entry)) i j (galleyOf (now (bytes .entry))) ⌝ }
+pub extern "C" fn galley_probe_waiting(
+    bytes: &[u8],
+    number: usize,
+    earlier: usize,
+    i: usize,
+    j: usize,
+) -> u32
+    ensures { λ r. ⌜ r ≡ waitingOf (now (bytes .entry)) number i j (galleyOf (now (bytes .entry))) ⌝ }
 {
     let reading = galley::whole::read_galley(bytes);
     let Reading::Galley(g) = reading else {
         return 0;
     };
-    if g.figures.count < j {
+    let floats = stream_at(g, number);
+    if floats.count < j {
         return 0;
     }
-    let known = known_from(bytes, g.figures, earlier, i, j);
-    rules::waiting::waiting_floats(bytes, g.figures, i, j, known) as u32
+    let known = known_from(bytes, floats, earlier, i, j);
+    rules::waiting::waiting_floats(bytes, floats, i, j, known) as u32
 }

@@ -1,4 +1,5 @@
 -- Marking, in the order of reading: definitions first, then the laws about them.
 pub mod Mark
 pub mod Parts
+pub mod Heights
 pub mod laws

@@ -1,6 +1,6 @@
--- The laws behind marking: a galley that was read, one page's tests, its height, its waiting figures, and the run over the
--- pages.
+-- The laws behind marking: a galley that was read, one page's tests, its next block, its heights, and the run over the pages.
 pub mod Faults
+pub mod Next
 pub mod Heights
 pub mod Rest
 pub mod Run

@@ -1,5 +1,5 @@
 -- The laws of rules and counts.
-pub mod Two
+pub mod Page
 pub mod Waiting
 pub mod Walked
 pub mod Counts

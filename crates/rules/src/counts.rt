@@ -2,6 +2,7 @@
 ghost use mathlib.Core.Path.{_≡_};
 ghost use Prim.Native.Nat.{_*_};
 ghost use Rattle.rules.specs.Parts.{leavesTurned, PageLimits, CountLimits, finished};
+use blocks::Counts;
 use galley::Galley;
 use model::answer::Answer;
 use model::page::Page;
@@ -17,11 +18,13 @@ fn leaves_turned(g: Galley, pages: u32) -> u32
 }
 
 // 18 where the last page does not end at the full place, else p, X, Y, T.
-pub fn finish(g: Galley, pages: u32, a: usize, b: usize, x: u32) -> Answer
+pub fn finish(g: Galley, pages: u32, at: Counts, x: u32) -> Answer
     requires { ⌜ CountLimits g pages x ⌝ }
-    ensures { λ r. ⌜ r ≡ finished g pages a b x ⌝ }
+    ensures { λ r. ⌜ r ≡ finished g pages at x ⌝ }
 {
-    if (a == g.text.count) & (b == g.figures.count) {
+    if (at.lines == g.text.count)
+        & ((at.figures == g.figures.count) & (at.tables == g.tables.count))
+    {
         let y = leaves_turned(g, pages);
         return Answer::Counted {
             pages,

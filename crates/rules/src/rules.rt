@@ -1,37 +1,47 @@
 // The rules of a list and of a page that ask for no height: 12, 13, 14, 17, and 16 for a height that is known.
 ghost use mathlib.Core.Path.{_≡_};
-ghost use mathlib.Core.Bool.{_&&_};
-ghost use mathlib.Core.List.{List, [], _∷_};
+ghost use mathlib.Core.Bool.{Bool, _&&_, _||_};
+ghost use mathlib.Core.List.{List};
 ghost use Prim.Native.Nat.{ℕ, _≤_};
 ghost use lib.ListN.{length};
 ghost use lib.Dec.{leb, ltb};
-ghost use Rattle.model.specs.Gather.{implies};
+ghost use Rattle.model.specs.Gather.{implies, one};
 ghost use Rattle.model.specs.Rules.{forward, mayEnd, closes, floor, cited};
 ghost use Rattle.model.specs.Answers.{counted};
-ghost use Rattle.galley.specs.Model.{streamOf, legalOf, floatsOf, modelOf};
+ghost use Rattle.model.specs.Leaf.{ends};
+ghost use Rattle.galley.specs.Model.{streamOf, legalOf, floatsOf, sidesIn, modelOf};
 ghost use Rattle.galley.specs.Sound.{SoundStream, Sound};
-ghost use Rattle.rules.specs.Parts.{faultFrom, startFault};
+ghost use Rattle.blocks.specs.Counts.{placeOf, Proper, Within};
+ghost use Rattle.rules.specs.Parts.{citeOf, citedFrom, kindsOn, faultFrom, startFault};
+use blocks::Counts;
 use galley::Galley;
 use galley::Stream;
 use model::page::Page;
 
 // 12: there are words, whole pages of them, and no more pages than blocks.
 pub fn is_counted(g: Galley, words: usize) -> bool
-    requires { ⌜ (g .text .count ≤ 4000) × (g .figures .count ≤ 200) ⌝ }
+    requires { ⌜ (g .text .count ≤ 4000) × (g .figures .count ≤ 200) × (g .tables .count ≤ 50) ⌝ }
     ensures { λ r. ⌜ ((bytes ws : List ℕ) → length ws ≡ words → r ≡ counted (modelOf bytes g) ws) ⌝ }
 {
-    (0 < words) & (words % 2 == 0) & (words <= 2 * (g.text.count + g.figures.count))
+    let w = blocks::page_words(g);
+    (0 < words)
+        & (words % w == 0)
+        & (words <= w * (g.text.count + g.figures.count + g.tables.count))
 }
 
 // 13: no count falls or passes its stream's, and the page is not empty.
-fn is_forward(g: Galley, a: usize, b: usize, i: usize, j: usize) -> bool
-    ensures { λ r. ⌜ ((bytes : List ℕ) → r ≡ forward (modelOf bytes g) (a ∷ b ∷ []) (i ∷ j ∷ [])) ⌝ }
+fn is_forward(g: Galley, u: Counts, v: Counts) -> bool
+    ensures { λ r. ⌜ ((bytes : List ℕ) → Proper g u → Proper g v → r ≡ forward (modelOf bytes g) (placeOf g u) (placeOf g v)) ⌝ }
 {
-    (((a <= i) & (i <= g.text.count)) & ((b <= j) & (j <= g.figures.count))) & ((a < i) | (b < j))
+    let lines = (u.lines <= v.lines) & (v.lines <= g.text.count);
+    let figures = (u.figures <= v.figures) & (v.figures <= g.figures.count);
+    let tables = (u.tables <= v.tables) & (v.tables <= g.tables.count);
+    let some = (u.lines < v.lines) | ((u.figures < v.figures) | (u.tables < v.tables));
+    (lines & (figures & tables)) & some
 }
 
 // 14, for one stream: a page may end before its first block, after its last, or in a space that allows it.
-fn may_end(s: &[u8], stream: Stream, k: usize) -> bool
+pub fn may_end(s: &[u8], stream: Stream, k: usize) -> bool
     requires { ⌜ SoundStream (now s) stream ⌝ }
     ensures { λ r. ⌜ ((cite : ℕ → ℕ) → r ≡ mayEnd (streamOf (now (s .entry)) stream (legalOf (now (s .entry)) stream) cite) k) ⌝ }
 {
@@ -42,11 +52,12 @@ fn may_end(s: &[u8], stream: Stream, k: usize) -> bool
 }
 
 // 14: a page may end where every stream lets it end.
-pub fn may_close(s: &[u8], g: Galley, i: usize, j: usize) -> bool
-    requires { ⌜ Sound (now s) g ⌝ }
-    ensures { λ r. ⌜ r ≡ closes (modelOf (now (s .entry)) g) (i ∷ j ∷ []) ⌝ }
+pub fn may_close(s: &[u8], g: Galley, v: Counts) -> bool
+    requires { ⌜ (Sound (now s) g) × (Proper g v) ⌝ }
+    ensures { λ r. ⌜ r ≡ closes (modelOf (now (s .entry)) g) (placeOf g v) ⌝ }
 {
-    may_end(s, g.text, i) & may_end(s, g.figures, j)
+    may_end(s, g.text, v.lines)
+        & (may_end(s, g.figures, v.figures) & may_end(s, g.tables, v.tables))
 }
 
 // 17, for one stream of floats: where it is asked, the last float placed is cited by a line already placed.
@@ -58,6 +69,53 @@ pub fn is_cited(s: &[u8], floats: Stream, asked: bool, i: usize, j: usize) -> bo
         return galley::word::size(blocks::field(s, floats, j, galley::CITE)) <= i;
     }
     true
+}
+
+// 17: the last float placed of each stream is.
+pub fn are_cited(s: &[u8], g: Galley, asked: bool, v: Counts) -> bool
+    requires { ⌜ (Sound (now s) g) × (Within g v) ⌝ }
+    ensures { λ r. ⌜ ((q : ℕ) (last : Bool) → asked ≡ (ends (sidesIn g) q || last) → r ≡ cited (modelOf (now (s .entry)) g) q last (placeOf g v)) ⌝ }
+{
+    is_cited(s, g.figures, asked, v.lines, v.figures)
+        & is_cited(s, g.tables, asked, v.lines, v.tables)
+}
+
+// The line that cites float j of a stream, 0 where there is no float.
+fn cite_of(s: &[u8], floats: Stream, j: usize) -> usize
+    requires { ⌜ (SoundStream (now s) floats) × (j ≤ floats .count) ⌝ }
+    ensures { λ r. ⌜ r ≡ citeOf (floatsOf (now (s .entry)) floats) j ⌝ }
+{
+    if 0 < j {
+        return galley::word::size(blocks::field(s, floats, j, galley::CITE));
+    }
+    0
+}
+
+// The line from which on 17 lets a page end with these floats, whatever lines it has: the last float placed of each stream is cited.
+pub fn cited_from(s: &[u8], g: Galley, v: Counts) -> usize
+    requires { ⌜ (Sound (now s) g) × (Within g v) ⌝ }
+    ensures { λ r. ⌜ r ≡ citedFrom (now (s .entry)) g v ⌝ }
+{
+    let figure = cite_of(s, g.figures, v.figures);
+    let table = cite_of(s, g.tables, v.tables);
+    if figure < table {
+        return table;
+    }
+    figure
+}
+
+// 1 for a test that holds, else 0.
+fn one(test: bool) -> u32
+    ensures { λ r. ⌜ (r ≡ one test) × (r ≤ 1) ⌝ }
+{
+    if test { 1 } else { 0 }
+}
+
+// How many kinds a page from u to v has: of streams that it has a block of.
+pub fn kinds_on(u: Counts, v: Counts) -> u32
+    ensures { λ r. ⌜ (r ≡ kindsOn u v) × (r ≤ 3) ⌝ }
+{
+    one(u.lines < v.lines) + (one(u.figures < v.figures) + one(u.tables < v.tables))
 }
 
 // The first that is broken of a rule and the one after it, or 0.
@@ -74,13 +132,13 @@ fn first_fault(rule: u32, kept: bool, next: bool) -> u32
     rule
 }
 
-// The first of 13 and 14 that a page from (a, b) to (i, j) breaks, or 0.
-pub fn start_fault(s: &[u8], g: Galley, a: usize, b: usize, i: usize, j: usize) -> u32
-    requires { ⌜ Sound (now s) g ⌝ }
-    ensures { λ r. ⌜ r ≡ startFault (modelOf (now (s .entry)) g) (a ∷ b ∷ []) (i ∷ j ∷ []) ⌝ }
+// The first of 13 and 14 that a page from u to v breaks, or 0.
+pub fn start_fault(s: &[u8], g: Galley, u: Counts, v: Counts) -> u32
+    requires { ⌜ (Sound (now s) g) × (Proper g u) × (Proper g v) ⌝ }
+    ensures { λ r. ⌜ r ≡ startFault (modelOf (now (s .entry)) g) (placeOf g u) (placeOf g v) ⌝ }
 {
-    let forward = is_forward(g, a, b, i, j);
-    let closes = may_close(s, g, i, j);
+    let forward = is_forward(g, u, v);
+    let closes = may_close(s, g, v);
     first_fault(13, forward, closes)
 }
 
@@ -92,12 +150,12 @@ pub fn floor_of(g: Galley, last: bool) -> u32
 }
 
 // The first of 16 and 17 that a page of this loosest height breaks, or 0.
-pub fn end_fault(s: &[u8], g: Galley, loose: u32, page: Page, last: bool, i: usize, j: usize) -> u32
-    requires { ⌜ (Sound (now s) g) × (j ≤ g .figures .count) ⌝ }
-    ensures { λ r. ⌜ r ≡ faultFrom 16 (leb (floor (modelOf (now (s .entry)) g) last) loose) (cited (modelOf (now (s .entry)) g) (page .0) last (i ∷ j ∷ [])) ⌝ }
+pub fn end_fault(s: &[u8], g: Galley, loose: u32, page: Page, last: bool, v: Counts) -> u32
+    requires { ⌜ (Sound (now s) g) × (Within g v) ⌝ }
+    ensures { λ r. ⌜ r ≡ faultFrom 16 (leb (floor (modelOf (now (s .entry)) g) last) loose) (cited (modelOf (now (s .entry)) g) (page .0) last (placeOf g v)) ⌝ }
 {
     let fills = floor_of(g, last) <= loose;
     let asked = model::page::ends_spread(g.spec.sides, g.folio, page) | last;
-    let cited = is_cited(s, g.figures, asked, i, j);
+    let cited = are_cited(s, g, asked, v);
     first_fault(16, fills, cited)
 }

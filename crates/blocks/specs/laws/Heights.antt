@@ -1,5 +1,6 @@
 -- What putting a block on does to heights: they are those of the page model with one block more.
 use Prim.Native.Nat.{ℕ, _+_, _-_, _*_, _≤_, _<_}
+use native.Mathlib.Nat.{mul-le-mul}
 use native.Mathlib.Omega.{arith}
 use mathlib.Core.Path.{_≡_, refl, sym, _∙_}
 use mathlib.Core.Bool.{Bool, true, false}
@@ -9,19 +10,23 @@ use borrow.Author.Tests.{leb-true, leb-false, ltb-true}
 use Rattle.model.specs.Gather.{pick}
 use Rattle.model.specs.Galley as model
 use Rattle.model.specs.Height.{stacked}
+use Rattle.galley.specs.declared.Spec.{Spec}
 use Rattle.galley.specs.declared.Stream.{Stream}
 use Rattle.galley.specs.Model.{streamOf}
 use Rattle.galley.specs.Record.{leastAt, mostAt}
 use Rattle.galley.specs.Block.{fieldOf}
 use Rattle.galley.specs.Sound.{SoundStream}
 use Rattle.blocks.specs.declared.heights.Heights.{Heights}
-use Rattle.blocks.specs.Heights.{separation, noHeights, added, putOn, withBlock, blockBefore, Room, Stacked}
+use Rattle.blocks.specs.Heights.{noHeights, Separable, added, putOn, withBlock, blockBefore, Room, Stacked}
 use Rattle.blocks.specs.laws.Stacked.{stacked-none, stacked-next, stacked-front, stacked-low}
 
--- A separation is within document 01's limit.
-pub separation-most : (mixed : Bool) (s : ℕ) → s ≤ 100000 → separation mixed s ≤ 100000
-separation-most true s h = h
-separation-most false s h = omega arith
+-- Few separations within document 01's limit are small.
+pub record Apart (spec : Spec) (n : ℕ) : Type 0 where
+  pub tight : n * spec .smin ≤ 300000
+  pub loose : n * spec .smax ≤ 300000
+
+pub separated-low : {spec : Spec} {n : ℕ} {h : Heights} → Separable spec n h → Apart spec n
+separated-low s = record { tight = mul-le-mul (s .few) (s .smin); loose = mul-le-mul (s .few) (s .smax) }
 
 -- No block, no height.
 pub stacked-nothing : (st : model.Stream) (a b : ℕ) → b ≤ a → Stacked st a b noHeights

@@ -1,32 +1,17 @@
 -- `galley_probe::galley_probe_block` meets its contract. Block k is there once its number is tested, since a galley that reads
 -- is sound.
-use Prim.Native.Nat.{ℕ, _+_, _*_, _≤_}
-use mathlib.Core.Bool.{Bool, true, false}
-use mathlib.Core.List.{List}
+use Prim.Native.Nat.{ℕ, _≤_}
 use mathlib.Core.Path.{sym, _∙_}
 use native.Mathlib.Omega.{arith}
-use lib.Dec.{eqb}
-use lib.ListN.{length}
 use denote.Ref.{now}
 use borrow.Author.Tests.{lt-ltb, le-ltb}
 use borrow.Author.Needs.{needs}
-use Rattle.model.specs.Gather.{pick}
 use Rattle.galley.specs.Block.{Has}
-use Rattle.galley.specs.Sound.{Sound}
 use Rattle.galley.specs.laws.Sound.{sound}
-use Rattle.galley.specs.declared.Galley.{Galley}
-use Rattle.galley_probe.specs.Words.{streamAt, blockWords}
+use Rattle.galley_probe.specs.Words.{blockWords}
+use Rattle.galley_probe.specs.laws.Stream.{stream-sound}
 use Rattle.galley_probe.proofs.galley_probe_block.Statement.{statement}
 use Rattle.galley_probe.proofs.galley_probe_block.Tie as tie
-
--- Each stream lies within the bytes.
-stream-within : (bytes : List ℕ) (g : Galley) (number : ℕ) → Sound bytes g
-    → streamAt g number .first + streamAt g number .count * 18 ≤ length bytes
-stream-within bytes g number so = go (eqb number 0)
-  where
-    go : (t : Bool) → pick t (g .text) (g .figures) .first + pick t (g .text) (g .figures) .count * 18 ≤ length bytes
-    go true = so .text .within
-    go false = so .figures .within
 
 returns : tie.Need-returns
 unfolding blockWords
@@ -57,7 +42,7 @@ has c at inside =
     let a = c .before .before .before .before .before .before .before .before .before .args in
     let read = sym (c .before .before .before .before .before .before .before .read-galley .ensures) ∙ c .before .before .before .before .before .reading .given .1 in
     record {
-      within = rw (c .before .before .before .stream-at .ensures) (stream-within (now (a .bytes)) _ (a .number) (sound _ _ read));
+      within = rw (c .before .before .before .stream-at .ensures) (stream-sound (now (a .bytes)) _ (a .number) (sound _ _ read) .0 .within);
       low = c .before .before .if1 .left;
       high = c .if2 .left;
       field = inside;

@@ -12,13 +12,16 @@ cast-t8 : tie.Need-cast-t8
 cast-t8 c = omega (arith, sound _ _ (sym (c .before .before .before .before .before .read-galley .ensures) ∙ c .before .before .before .reading .given .1) .fewLines)
 
 cast-t9 : tie.Need-cast-t9
-cast-t9 c = omega (arith, sound _ _ (sym (c .before .before .before .before .before .before .read-galley .ensures) ∙ c .before .before .before .before .reading .given .1) .fewFigures)
+cast-t9 c = omega (arith, sound _ _ (sym (c .before .before .before .before .before .before .read-galley .ensures) ∙ c .before .before .before .before .reading .given .1) .figures .few)
+
+cast-t10 : tie.Need-cast-t10
+cast-t10 c = omega (arith, sound _ _ (sym (c .before .before .before .before .before .before .before .read-galley .ensures) ∙ c .before .before .before .before .before .reading .given .1) .tables .few)
 
 returns : tie.Need-returns
 unfolding wordsOf
 returns c =
     simp
-    (sym (c .before .before .before .before .before .before .before .read-galley .ensures) ∙ c .before .before .before .before .before .reading .given .1)
+    (sym (c .before .before .before .before .before .before .before .before .read-galley .ensures) ∙ c .before .before .before .before .before .before .reading .given .1)
 
 returns-2 : tie.Need-returns-2
 unfolding wordsOf
@@ -29,4 +32,4 @@ returns-2 c =
 pub galley-probe-read-spec : {M : Type 1} → statement M
 galley-probe-read-spec =
     tie.close
-    (tie.spec (λ c κs. search needs) (λ c. search needs) cast-t8 cast-t9 (λ c. search needs) returns returns-2)
+    (tie.spec (λ c κs. search needs) (λ c. search needs) cast-t8 cast-t9 cast-t10 (λ c. search needs) returns returns-2)

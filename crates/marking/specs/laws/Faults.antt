@@ -41,8 +41,8 @@ module _ (M : model.Galley) (q : ℕ) (last : Bool) (u v : model.Place) (n : ℕ
 
   -- 16 or 17, or none.
   pub broken-end : n ≤ 0 → fits M u v ≡ true → (d : Bool) → fills M last u v ≡ d
-      → faultFrom 16 d (cited M q last v) ≡ broken M q last u v
+      → (end : ℕ) → end ≡ faultFrom 16 d (cited M q last v) → end ≡ broken M q last u v
   unfolding broken
-  broken-end h fit d full =
+  broken-end h fit d full end is =
       let both = none-first (forward M u v) (closes M v) n e h in
-      rw (both .0, both .1, fit, full) (sym (end-first d (cited M q last v)))
+      rw (both .0, both .1, fit, full, is) (sym (end-first d (cited M q last v)))

@@ -1,187 +1,181 @@
--- One page of a run: what is known of it once 13 and 14 are tested, and how each way of leaving it goes on.
-use Prim.Native.Nat.{ℕ, zero, suc, _+_, _-_, _*_, _/_, _≤_, _<_}
+-- One page of a run: what is known of it once 13 and 14 are tested, and how each way of leaving it goes on. `words` is what a page takes, as the code has it.
+use Prim.Native.Nat.{ℕ, _+_, _*_, _/_, _≤_, _<_}
+use native.Mathlib.Nat.{mul-le-mul}
 use native.Mathlib.Omega.{arith}
 use mathlib.Core.Path.{_≡_, refl, sym, _∙_}
-use mathlib.Core.Bool.{_&&_}
-use mathlib.Core.List.{List, [], _∷_}
-use lib.ListN.{length, getD}
-use lib.Dec.{eqb, leb, ltb}
+use mathlib.Core.Bool.{Bool, true, false}
+use mathlib.Core.List.{List}
+use lib.ListN.{length}
+use lib.Dec.{eqb, leb}
 use Rattle.model.specs.declared.answer.Answer.the-variants.{Refused}
-use Rattle.model.specs.Galley.{Place, count}
 use Rattle.model.specs.Rules.{floor, cited, broken}
-use Rattle.model.specs.laws.Rules.{Forward, forward-at}
 use Rattle.galley.specs.declared.Galley.{Galley}
-use Rattle.galley.specs.declared.Stream.{Stream}
-use Rattle.galley.specs.Sound.{SoundStream, Sound}
-use Rattle.galley.specs.Model.{floatsOf, modelOf}
-use Rattle.blocks.specs.declared.heights.Heights.{Heights}
-use Rattle.blocks.specs.Heights.{apartBy, withBlock, Room}
-use Rattle.blocks.specs.laws.Heights.{separation-most, Grown, with-grown}
-use Rattle.rules.specs.Parts.{faultFrom, startFault}
-use Rattle.rules.specs.Waiting.{waits, Walked, waitingAt}
-use Rattle.marking.specs.Parts.{WholePages}
-use Rattle.rules.specs.laws.Two.{separation-two, blocks-two}
-use Rattle.rules.specs.laws.Walked.{walked-on}
-use Rattle.marking.specs.laws.Heights.{PageSoFar, oneMore, page-start, page-placed, page-more, page-over, page-fits, page-fills}
+use Rattle.galley.specs.Model.{modelOf}
+use Rattle.blocks.specs.declared.Counts.{Counts}
+use Rattle.blocks.specs.Counts.{pageWords, placeOf, countsIn, Proper}
+use Rattle.blocks.specs.laws.Counts.{words-most, within-proper, in-proper}
+use Rattle.rules.specs.declared.waiting.Waiting.{Waiting}
+use Rattle.rules.specs.Parts.{Ahead, faultFrom, startFault, CountLimits, finished}
+use Rattle.rules.specs.laws.Page.{ahead}
+use Rattle.rules.specs.Waiting.{waitingOf, WalkingOn, waitingAt}
+use Rattle.marking.specs.declared.heights.Laid.{Laid}
+use Rattle.marking.specs.Parts.{pagesIn, WholePages}
+use Rattle.marking.specs.Heights.{barePage, isLaid, withNext, Open}
 use Rattle.marking.specs.laws.Faults.{broken-start, goes-forward, broken-over, broken-end}
-use Rattle.marking.specs.laws.Run.{Run, wholly, run-refused, run-next}
+use Rattle.marking.specs.laws.Next.{left}
+use Rattle.marking.specs.laws.Heights.{SoFar, so-far-bare, so-far-open, so-far-next, so-far-less, page-over, page-fits, page-fills}
+use Rattle.marking.specs.laws.Rest.{rest-long}
+use Rattle.marking.specs.laws.Run.{Run, wholly, pageAt, brokenAt, run-refused, run-next, run-finish}
 
--- Page `done` + 1 goes from (a, b) to (i, j), and `start` is the first of 13 and 14 that it breaks, or 0.
-pub record Begun (bytes : List ℕ) (g : Galley) (ws : List ℕ) (done a b w x i j start : ℕ) : Type 0 where
+-- Page `done` + 1 goes from `at` to v, and `start` is the first of 13 and 14 that it breaks, or 0.
+pub record Begun (bytes : List ℕ) (g : Galley) (ws : List ℕ) (done : ℕ) (at : Counts) (w : Waiting) (x : ℕ) (v : Counts) (start : ℕ) : Type 0 where
   pub listed : WholePages bytes g ws
-  pub run : Run bytes g ws done a b w x
-  pub more : done < length ws / 2
-  pub line : i ≡ getD ws (2 * done) 0
-  pub figure : j ≡ getD ws (2 * done + 1) 0
-  pub fault : start ≡ startFault (modelOf bytes g) (a ∷ b ∷ []) (i ∷ j ∷ [])
+  pub run : Run bytes g ws done at w x
+  pub more : done < pagesIn g ws
+  pub here : v ≡ pageAt g ws done
+  pub fault : start ≡ startFault (modelOf bytes g) (placeOf g at) (placeOf g v)
 
-pub begins : (bytes : List ℕ) (g : Galley) (ws : List ℕ) (done a b w x i j start : ℕ) → WholePages bytes g ws
-    → Run bytes g ws done a b w x → (done ≡ length ws / 2 → ⊥) → i ≡ getD ws (2 * done) 0 → j ≡ getD ws (2 * done + 1) 0
-    → start ≡ startFault (modelOf bytes g) (a ∷ b ∷ []) (i ∷ j ∷ []) → Begun bytes g ws done a b w x i j start
-begins bytes g ws done a b w x i j start listed run left line figure fault =
-    let within = run .within in
-    record { listed = listed; run = run; more = omega arith; line = line; figure = figure; fault = fault }
+module _ (bytes : List ℕ) (g : Galley) (ws : List ℕ) (listed : WholePages bytes g ws) {words : ℕ} (is : words ≡ pageWords g)
+    {done : ℕ} {at : Counts} {w : Waiting} {x : ℕ} (run : Run bytes g ws done at w x) where
+  -- A page is left where not all are done.
+  pub page-left : (done ≡ length ws / words → ⊥) → done < length ws / words
+  page-left left = let up : done ≤ length ws / words = rw is (run .within) in omega arith
 
-module _ {bytes : List ℕ} {g : Galley} {ws : List ℕ} {done a b w x i j start : ℕ} (p : Begun bytes g ws done a b w x i j start) where
+  module _ (more : done < length ws / words) where
+    -- The words of the page are there, and there are few pages.
+    pub page-there : words * done + pageWords g ≤ length ws
+    page-there = rw is (rest-long g ws (pagesIn g ws) done (listed .whole) (rw is at more))
+
+    pub page-few : words * done ≤ 12750
+    page-few =
+        let few : words ≤ 3 = omega (arith, words-most g) in
+        let low : done ≤ 4250 = omega (arith, run .within, listed .few) in
+        mul-le-mul few low
+
+    pub begins : {v : Counts} {start : ℕ} → v ≡ countsIn g ws (words * done)
+        → start ≡ startFault (modelOf bytes g) (placeOf g at) (placeOf g v) → Begun bytes g ws done at w x v start
+    begins {v} {start} read found = record { listed = listed; run = run; more = rw is at more; here = rw is at read; fault = found }
+
+  -- After the last page: the limits of the counts, and the answer.
+  module _ (done-all : done ≡ length ws / words) where
+    all : done ≡ pagesIn g ws
+    all = rw is at done-all
+
+    pub run-limits : CountLimits g (length ws / words) x
+    run-limits =
+        let most = run .most in
+        let e = all in
+        rw is
+        (record {
+          numbered =
+              record { some = listed .some; few = listed .few; folio = listed .sound .someFolio; folios = listed .sound .fewFolios };
+          most = omega arith;
+          ranged = listed .sound .specRanged;
+        })
+
+    pub run-finished : finished g (length ws / words) at x ≡ wholly bytes g ws
+    run-finished = rw is (run-finish bytes g (listed .sound) ws (listed .whole) run all (pagesIn g ws) refl)
+
+-- The counts at both ends of a page are proper.
+pub begun-proper : {bytes : List ℕ} {g : Galley} {ws : List ℕ} {done : ℕ} {at : Counts} {w : Waiting} {x : ℕ} → Run bytes g ws done at w x
+    → {v : Counts} (from : ℕ) → v ≡ countsIn g ws from → (Proper g at) × (Proper g v)
+begun-proper {g = g} {ws = ws} run from e = (within-proper g (run .placed), rw e (in-proper g ws from))
+
+-- The page is the last one, as the model asks and as the code does.
+abbrev lastOf : Galley → List ℕ → ℕ → Bool
+lastOf g ws done = eqb (done + 1) (pagesIn g ws)
+
+module _ {bytes : List ℕ} {g : Galley} {ws : List ℕ} {done : ℕ} {at : Counts} {w : Waiting} {x : ℕ} {v : Counts} {start : ℕ}
+    (p : Begun bytes g ws done at w x v start) where
+  from-proper : Proper g at
+  from-proper = within-proper g (p .run .placed)
+
+  to-proper : Proper g v
+  to-proper = rw (p .here) (in-proper g ws (pageWords g * done))
+
   -- A rule that is broken on the page ends the run.
-  refused : (n : ℕ) → n ≡ broken (modelOf bytes g) (done + 1) (eqb (done + 1) (length ws / 2)) (a ∷ b ∷ []) (i ∷ j ∷ []) → 0 < n
+  refused : (n : ℕ) → n ≡ broken (modelOf bytes g) (done + 1) (lastOf g ws done) (placeOf g at) (placeOf g v) → 0 < n
       → Refused n (done + 1) ≡ wholly bytes g ws
-  refused n e h =
-      run-refused bytes g (p .listed .sound) ws (p .listed .whole) (p .run) (p .more) i j (p .line) (p .figure) n e h
+  refused n e h = run-refused bytes g (p .listed .sound) ws (p .listed .whole) (p .run) (p .more) n (rw (p .here) at e) h
 
   -- 13 or 14.
   pub begun-refused : 0 < start → Refused start (done + 1) ≡ wholly bytes g ws
   begun-refused h =
-      refused start
-      (broken-start (modelOf bytes g) (done + 1) (eqb (done + 1) (length ws / 2)) (a ∷ b ∷ []) (i ∷ j ∷ []) start (p .fault) h) h
+      refused start (broken-start (modelOf bytes g) (done + 1) (lastOf g ws done) (placeOf g at) (placeOf g v) start (p .fault) h) h
 
   -- Otherwise the page goes forward.
-  pub begun-onward : start ≤ 0 → Forward (modelOf bytes g) (a ∷ b ∷ []) (i ∷ j ∷ [])
-  begun-onward fine =
-      forward-at (modelOf bytes g) (a ∷ b ∷ []) (i ∷ j ∷ [])
-      (goes-forward (modelOf bytes g) (done + 1) (eqb (done + 1) (length ws / 2)) (a ∷ b ∷ []) (i ∷ j ∷ []) start (p .fault) fine)
+  pub begun-ahead : start ≤ 0 → Ahead g at v
+  begun-ahead fine =
+      ahead bytes g at v from-proper to-proper
+      (goes-forward (modelOf bytes g) (done + 1) (lastOf g ws done) (placeOf g at) (placeOf g v) start (p .fault) fine)
 
--- The same page, which breaks neither 13 nor 14, with its heights so far, which are those of its blocks up to v.
-pub record Underway (bytes : List ℕ) (g : Galley) (ws : List ℕ) (done a b w x i j start : ℕ) (v : Place) (h : Heights) : Type 0 where
-  pub begun : Begun bytes g ws done a b w x i j start
+-- The same page, which breaks neither 13 nor 14, with the blocks that it has so far.
+pub record Underway (bytes : List ℕ) (g : Galley) (ws : List ℕ) (done : ℕ) (at : Counts) (w : Waiting) (x : ℕ) (v : Counts) (start : ℕ) (laid : Laid) : Type 0 where
+  pub begun : Begun bytes g ws done at w x v start
   pub fine : start ≤ 0
-  pub onward : Forward (modelOf bytes g) (a ∷ b ∷ []) (i ∷ j ∷ [])
-  pub soFar : PageSoFar (modelOf bytes g) (a ∷ b ∷ []) v (i ∷ j ∷ []) h
+  pub ahead : Ahead g at v
+  pub soFar : SoFar bytes g at v laid
 
--- At first it has its separation alone.
-pub underway-start : {bytes : List ℕ} {g : Galley} {ws : List ℕ} {done a b w x i j start : ℕ}
-    → Begun bytes g ws done a b w x i j start → start ≤ 0
-    → Underway bytes g ws done a b w x i j start (a ∷ b ∷ []) (apartBy (g .spec) (ltb a i && ltb b j))
-unfolding apartBy
-underway-start {bytes} {g} {a = a} {b = b} {i = i} {j = j} p fine =
-    let on = begun-onward p fine in
-    let ranged = p .listed .sound .specRanged in
-    record {
-      begun = p;
-      fine = fine;
-      onward = on;
-      soFar =
-          page-start (modelOf bytes g) (a ∷ b ∷ []) (i ∷ j ∷ []) (apartBy (g .spec) (ltb a i && ltb b j)) (on .up)
-          (sym (separation-two bytes g (g .spec .smin) a b i j)) (sym (separation-two bytes g (g .spec .smax) a b i j))
-          (separation-most (ltb a i && ltb b j) (g .spec .smin) (omega arith))
-          (separation-most (ltb a i && ltb b j) (g .spec .smax) (omega arith));
-    }
+-- At first it has none.
+pub underway-bare : {bytes : List ℕ} {g : Galley} {ws : List ℕ} {done : ℕ} {at : Counts} {w : Waiting} {x : ℕ} {v : Counts} {start : ℕ}
+    → Begun bytes g ws done at w x v start → start ≤ 0 → Underway bytes g ws done at w x v start (barePage g at v)
+underway-bare {bytes} {g} {at = at} {v = v} p fine =
+    let on = begun-ahead p fine in
+    record { begun = p; fine = fine; ahead = on; soFar = so-far-bare bytes g at v (p .listed .sound) on }
 
--- The records of stream s: the text is 0.
-abbrev pub recordsOf : Galley → ℕ → Stream
-recordsOf g zero = g .text
-recordsOf g (suc s) = g .figures
+module _ {bytes : List ℕ} {g : Galley} {ws : List ℕ} {done : ℕ} {at : Counts} {w : Waiting} {x : ℕ} {v : Counts} {start : ℕ} {laid : Laid}
+    (u : Underway bytes g ws done at w x v start laid) where
+  module _ (more : isLaid (laid .on) v ≡ false) where
+    -- There is room for the next block,
+    pub underway-open : Open bytes g v laid
+    underway-open = so-far-open bytes g at v (u .soFar) (u .begun .listed .sound) (u .ahead .within) more
 
--- A place of two streams is past another where each count is.
-pub past-two : {i j k f : ℕ} → i ≤ k → j ≤ f → (s : ℕ) → s ≤ 1 → count (i ∷ j ∷ []) s ≤ count (k ∷ f ∷ []) s
-unfolding count
-past-two lines figures zero l = lines
-past-two lines figures (suc zero) l = figures
-past-two lines figures (suc (suc s)) l = absurd (omega arith)
-
-module _ {bytes : List ℕ} {g : Galley} (so : Sound bytes g) where
-  stream-sound : (s : ℕ) → SoundStream bytes (recordsOf g s)
-  stream-sound zero = so .text
-  stream-sound (suc s) = so .figures
-
-  stream-size : (s : ℕ) → modelOf bytes g .stream s .size ≡ recordsOf g s .count
-  stream-size zero = refl
-  stream-size (suc s) = refl
-
-  stream-grown : (s a k : ℕ) (h : Heights) → a ≤ k → k < recordsOf g s .count
-      → Grown (modelOf bytes g .stream s) a k h (withBlock bytes (recordsOf g s) h a k)
-  stream-grown zero a k h = with-grown bytes (g .text) (so .text) a k h
-  stream-grown (suc s) a k h = with-grown bytes (g .figures) (so .figures) a k h
-
-module _ {bytes : List ℕ} {g : Galley} {ws : List ℕ} {done a b w x i j start : ℕ} {v : Place} {h : Heights}
-    (u : Underway bytes g ws done a b w x i j start v h) where
-  module _ (s : ℕ) (known : s ≤ 1) (less : count v s < count (i ∷ j ∷ []) s) where
-    within : count v s < recordsOf g s .count
-    within =
-        let size = stream-size (u .begun .listed .sound) s in
-        let top = u .onward .top s known in
-        omega arith
-
-    -- There is room for a block more of stream s.
-    pub underway-room : Room bytes (recordsOf g s) h (count v s + 1)
-    underway-room =
-        let so = u .begun .listed .sound in
-        let placed = page-placed _ _ _ (u .soFar) (u .onward) in
-        let all = blocks-two bytes g in
-        let m = so .fewLines in
-        let n = so .fewFigures in
-        let p = u .soFar in
-        let there = within in
-        record { sound = stream-sound so s; within = omega arith; tight = omega arith; loose = omega arith }
-
-    -- A block more of it.
-    pub underway-more : s < length v
-        → Underway bytes g ws done a b w x i j start (oneMore v s) (withBlock bytes (recordsOf g s) h (count (a ∷ b ∷ []) s) (count v s))
-    underway-more long =
+    -- and with it fewer are left.
+    pub underway-more : Underway bytes g ws done at w x v start (withNext bytes g at v laid)
+    underway-more =
         record {
           begun = u .begun;
           fine = u .fine;
-          onward = u .onward;
-          soFar =
-              page-more (modelOf bytes g) _ _ (u .soFar) s known long less _
-              (stream-grown (u .begun .listed .sound) s _ _ h (u .soFar .from s known) within);
+          ahead = u .ahead;
+          soFar = so-far-next bytes g at v (u .soFar) (u .begun .listed .sound) (u .ahead .within) more;
         }
 
+    pub underway-less : left (withNext bytes g at v laid .on) v < left (laid .on) v
+    underway-less = so-far-less bytes g at v (u .soFar) (u .begun .listed .sound) (u .ahead .within) more
+
   -- 15 ends the run as soon as the page is too high.
-  pub underway-over : g .spec .htmax < h .tight → Refused 15 (done + 1) ≡ wholly bytes g ws
+  pub underway-over : g .spec .htmax < laid .heights .tight → Refused 15 (done + 1) ≡ wholly bytes g ws
   underway-over over =
       refused (u .begun) 15
-      (broken-over (modelOf bytes g) (done + 1) (eqb (done + 1) (length ws / 2)) (a ∷ b ∷ []) (i ∷ j ∷ []) start (u .begun .fault)
-      (u .fine) (page-over (modelOf bytes g) _ _ (u .soFar) over)) (omega arith)
+      (broken-over (modelOf bytes g) (done + 1) (lastOf g ws done) (placeOf g at) (placeOf g v) start (u .begun .fault) (u .fine)
+      (page-over bytes g at v (u .soFar) (from-proper (u .begun)) (to-proper (u .begun)) over)) (omega arith)
 
-  module _ (low : h .tight ≤ g .spec .htmax) (whole : (s : ℕ) → s ≤ 1 → count (i ∷ j ∷ []) s ≤ count v s) (n : ℕ)
+  module _ (low : laid .heights .tight ≤ g .spec .htmax) (whole : isLaid (laid .on) v ≡ true) {words : ℕ} (is : words ≡ pageWords g)
+      (n : ℕ)
       (e : n
-      ≡ faultFrom 16 (leb (floor (modelOf bytes g) (eqb (done + 1) (length ws / 2))) (h .loose))
-      (cited (modelOf bytes g) (done + 1) (eqb (done + 1) (length ws / 2)) (i ∷ j ∷ []))) where
-    at-end : n ≡ broken (modelOf bytes g) (done + 1) (eqb (done + 1) (length ws / 2)) (a ∷ b ∷ []) (i ∷ j ∷ [])
+      ≡ faultFrom 16 (leb (floor (modelOf bytes g) (eqb (done + 1) (length ws / words))) (laid .heights .loose))
+      (cited (modelOf bytes g) (done + 1) (eqb (done + 1) (length ws / words)) (placeOf g v))) where
+    at-end : n ≡ broken (modelOf bytes g) (done + 1) (lastOf g ws done) (placeOf g at) (placeOf g v)
     at-end =
-        e
-        ∙ broken-end (modelOf bytes g) (done + 1) (eqb (done + 1) (length ws / 2)) (a ∷ b ∷ []) (i ∷ j ∷ []) start
-        (u .begun .fault) (u .fine) (page-fits (modelOf bytes g) _ _ (u .soFar) whole low)
-        (leb (floor (modelOf bytes g) (eqb (done + 1) (length ws / 2))) (h .loose))
-        (page-fills (modelOf bytes g) _ _ (u .soFar) whole (eqb (done + 1) (length ws / 2)))
+        broken-end (modelOf bytes g) (done + 1) (lastOf g ws done) (placeOf g at) (placeOf g v) start (u .begun .fault) (u .fine)
+        (page-fits bytes g at v (u .soFar) (from-proper (u .begun)) (to-proper (u .begun)) whole low)
+        (leb (floor (modelOf bytes g) (lastOf g ws done)) (laid .heights .loose))
+        (page-fills bytes g at v (u .soFar) (from-proper (u .begun)) (to-proper (u .begun)) whole (lastOf g ws done)) n (rw is at e)
 
     -- 16 or 17 ends the run.
     pub underway-ended : 0 < n → Refused n (done + 1) ≡ wholly bytes g ws
     underway-ended some = refused (u .begun) n at-end some
 
     -- A page that breaks none goes on to the next.
-    pub underway-next : n ≤ 0 → (w′ : ℕ) → w′ ≡ waits (floatsOf bytes (g .figures)) i j
-        → Run bytes g ws (done + 1) i j w′ (x + waitingAt g (done + 1) w′)
+    pub underway-next : n ≤ 0 → (w′ : Waiting) → w′ ≡ waitingOf bytes g v
+        → Run bytes g ws (done + 1) v w′ (x + waitingAt g (done + 1) (w′ .figures + w′ .tables))
     underway-next none w′ found =
         let p = u .begun in
         let zero : n ≡ 0 = omega arith in
-        run-next bytes g (p .listed .sound) ws (p .listed .whole) (p .run) (p .more) i j (p .line) (p .figure)
-        (sym at-end ∙ zero) w′ found
+        let fine : brokenAt bytes g ws done at ≡ 0 = rw (p .here) at (sym at-end ∙ zero) in
+        rw (p .here)
+        (run-next bytes g (p .listed .sound) ws (p .listed .whole) (p .run) (p .more) fine w′ (rw (p .here) at found))
 
-  -- The figures that waited and are not placed on this page still wait at its end.
-  pub underway-walked : (still : ℕ) → still ≡ w - (j - b) → Walked bytes (g .figures) i j still
-  unfolding count
-  underway-walked still e =
-      let on = u .onward in
-      walked-on (u .begun .run .walked) i j still (on .up 0 (omega arith)) (on .up 1 (omega arith)) (on .top 1 (omega arith)) e
+  -- What waited and is not placed on this page still waits at its end.
+  pub underway-walking : WalkingOn bytes g at v w
+  underway-walking = record { walking = u .begun .run .walking; ahead = u .ahead }

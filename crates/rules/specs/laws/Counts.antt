@@ -10,21 +10,21 @@ use Rattle.rules.specs.Parts.{leavesTurned, CountLimits}
 
 -- The parts of T.
 pub record Bounded (g : Galley) (p x : ℕ) : Type 0 where
-  pub waits : g .spec .alpha * x ≤ 840000000
-  pub leaves : g .spec .beta * leavesTurned g p ≤ 4200000
+  pub waits : g .spec .alpha * x ≤ 1062500000
+  pub leaves : g .spec .beta * leavesTurned g p ≤ 4250000
 
 pub few-bounded : (g : Galley) (p x : ℕ) → CountLimits g p x → Bounded g p x
 unfolding leavesTurned leaf
 few-bounded g p x few =
     let number = few .numbered .few in
     let sum = few .most in
-    let x-few : x ≤ 840000 = omega arith in
+    let x-few : x ≤ 1062500 = omega arith in
     record {
       waits = mul-le-mul (few .ranged .alphas) x-few;
       leaves = mul-le-mul (few .ranged .betas) (leaves-few (sidesIn g));
     }
   where
     -- Y is at most the number of pages.
-    leaves-few : (sides : Sides) → leaf sides p - leaf sides 1 ≤ 4200
+    leaves-few : (sides : Sides) → leaf sides p - leaf sides 1 ≤ 4250
     leaves-few single = omega arith
     leaves-few (double f) = omega arith

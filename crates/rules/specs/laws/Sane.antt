@@ -11,7 +11,7 @@ use Rattle.galley.specs.Model.{modelOf}
 use Rattle.galley.specs.Sound.{Sound}
 use Rattle.galley.specs.laws.Sound.{sound}
 
--- There is a line, and the figures are cited in order by lines that exist.
+-- There is a line, and the floats of each stream are cited in order by lines that exist.
 pub sound-sane : (bytes : List ℕ) (g : Galley) → Sound bytes g → Sane (modelOf bytes g)
 sound-sane bytes g so =
     record {
@@ -23,13 +23,18 @@ sound-sane bytes g so =
     cites : (s k : ℕ) → 1 ≤ s → Block (modelOf bytes g) s k
         → Block (modelOf bytes g) 0 (modelOf bytes g .stream s .cite k)
     cites zero k h b = absurd (omega arith)
-    cites (suc s) k h b =
-        record { stream = omega arith; first = so .citations .some k (b .first) (b .last); last = so .citations .line k (b .first) (b .last) }
+    cites (suc zero) k h b =
+        let c = so .figures .citations in
+        record { stream = omega arith; first = c .some k (b .first) (b .last); last = c .line k (b .first) (b .last) }
+    cites (suc (suc s)) k h b =
+        let c = so .tables .citations in
+        record { stream = omega arith; first = c .some k (b .first) (b .last); last = c .line k (b .first) (b .last) }
 
     grows : (s k : ℕ) → 1 ≤ s → Block (modelOf bytes g) s k → Block (modelOf bytes g) s (suc k)
         → modelOf bytes g .stream s .cite k ≤ modelOf bytes g .stream s .cite (suc k)
     grows zero k h b n = absurd (omega arith)
-    grows (suc s) k h b n = so .citations .grow k (suc k) (b .first) (omega arith) (n .last)
+    grows (suc zero) k h b n = so .figures .citations .grow k (suc k) (b .first) (omega arith) (n .last)
+    grows (suc (suc s)) k h b n = so .tables .citations .grow k (suc k) (b .first) (omega arith) (n .last)
 
 pub reads-sane : (bytes : List ℕ) (g : Galley) → galleyOf bytes ≡ reads.Galley g → Sane (modelOf bytes g)
 reads-sane bytes g e = sound-sane bytes g (sound bytes g e)

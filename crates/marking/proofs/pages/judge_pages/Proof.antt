@@ -1,135 +1,143 @@
 -- `judge_pages` meets its contract. The outer invariant is the run over the pages so far (laws/Run), the inner one the page under
--- way with its heights so far (laws/Page); each way of leaving a page is one law of laws/Page.
-use Prim.Native.Nat.{_+_, _-_, _≤_}
+-- way with the blocks that it has so far (laws/Page); each way of leaving a page is one law of laws/Page.
+use Prim.Native.Nat.{_+_, _-_, _/_, _≤_, _<_}
 use borrow.Author.Needs.{needs}
 use denote.Ref.{now}
-use ghost.Mode.{_$_}
-use mathlib.Core.Path.{_∙_}
+use lib.ListN.{length}
+use mathlib.Core.Path.{sym, _∙_}
 use native.Mathlib.Omega.{arith}
-use mathlib.Core.List.{[], _∷_}
-use Rattle.model.specs.Galley.{count}
-use Rattle.galley.specs.Model.{floatsOf}
-use Rattle.rules.specs.laws.Waiting.{waits-few}
-use Rattle.rules.specs.laws.Walked.{waiting-at-few}
-use Rattle.marking.specs.laws.Page.{Begun, begins, begun-refused, Underway, past-two, underway-start, underway-room, underway-more, underway-over, underway-ended, underway-next, underway-walked}
-use Rattle.marking.specs.laws.Run.{Run, run-start, run-finish}
+use Rattle.blocks.specs.laws.Counts.{words-least}
+use Rattle.rules.specs.laws.Walked.{waiting-few, waiting-at-few}
+use Rattle.marking.specs.laws.Next.{left}
+use Rattle.marking.specs.laws.Page.{Begun, page-left, page-there, page-few, begins, begun-proper, begun-refused, begun-ahead, run-limits, run-finished, Underway, underway-bare, underway-open, underway-more, underway-less, underway-over, underway-ended, underway-next, underway-walking}
+use Rattle.marking.specs.laws.Run.{Run, run-start}
 use Rattle.marking.proofs.pages.judge_pages.Statement.{statement}
 use Rattle.marking.proofs.pages.judge_pages.Tie as tie
 
 abbrev Inv-loop : tie.InvT-loop
-Inv-loop s g list pages done a b waiting x number i j start heights₀ k₀ f₀ heights k f = Underway s g list done a b waiting x i j start (k ∷ f ∷ []) heights
+Inv-loop s g list words pages done at waiting x number v start laid₀ laid = Underway s g list done at waiting x v start laid
 
 abbrev μ-loop : tie.MeasureT-loop
-μ-loop s g list pages done a b waiting x number i j start heights₀ k₀ f₀ heights k f = (i - k) + (j - f)
+μ-loop s g list words pages done at waiting x number v start laid₀ laid = left (laid .on) v
 
 abbrev Inv-pages : tie.InvT-pages
-Inv-pages s g list pages done₀ a₀ b₀ waiting₀ x₀ done a b waiting x = Run s g list done a b waiting x
+Inv-pages s g list words pages done₀ at₀ waiting₀ x₀ done at waiting x = Run s g list done at waiting x
 
 abbrev μ-pages : tie.MeasureT-pages
-μ-pages s g list pages done₀ a₀ b₀ waiting₀ x₀ done a b waiting x = pages - done
-
--- Once 13 and 14 are tested, this is what is known of the page.
-page : (c : tie.After-start-fault Inv-loop μ-loop Inv-pages μ-pages)
-    → Begun (now (c .before .before .before .before .before .before .before .before .before .args .s)) (c .before .before .before .before .before .before .before .before .before .args .g) (now (c .before .before .before .before .before .before .before .before .before .args .list)) (c .before .before .before .before .before .before .pages .done) (c .before .before .before .before .before .before .pages .a) (c .before .before .before .before .before .before .pages .b)
-    (c .before .before .before .before .before .before .pages .waiting) (c .before .before .before .before .before .before .pages .x) (c .before .before .before .size .result) (c .before .size2 .result) (c .start-fault .result)
-page c =
-    let st = c .before .before .before .before .before .before .before .before .before in
-    let pg = c .before .before .before .before .before .before .pages in
-    begins (now (st .args .s)) (st .args .g) (now (st .args .list)) (pg .done) (pg .a) (pg .b) (pg .waiting) (pg .x)
-    (c .before .before .before .size .result) (c .before .size2 .result) (c .start-fault .result) (st .pre) (pg .inv) (c .before .before .before .before .before .if1 .left) (c .before .before .before .size .ensures)
-    (c .before .size2 .ensures) (c .start-fault .ensures)
+μ-pages s g list words pages done₀ at₀ waiting₀ x₀ done at waiting x = pages - done
 
 pages-holds : tie.Need-pages-holds Inv-loop μ-loop Inv-pages μ-pages
 pages-holds c =
-    let st = c .before .before in
+    let st = c .before .before .before in
     run-start (now (st .args .s)) (st .args .g) (st .pre .sound) (now (st .args .list))
 
+cast-finish : tie.Need-cast-finish Inv-loop μ-loop Inv-pages μ-pages
+cast-finish c = omega (arith, c .if1 .taken, c .before .pages .inv .within, c .before .before .before .before .before .pre .few)
+
 finish-requires : tie.Need-finish-requires Inv-loop μ-loop Inv-pages μ-pages
-finish-requires c κs = search needs
+finish-requires c κs =
+    let st = c .before .before .before .before .before in
+    run-limits (now (st .args .s)) (st .args .g) (now (st .args .list)) (st .pre) (c .before .before .page-words .ensures .1) (c .before .pages .inv) (c .if1 .taken)
+
+-- There are few pages, and one is left.
+low : (c : tie.Else1 Inv-loop μ-loop Inv-pages μ-pages) → c .before .pages .done ≤ 4250
+low c = omega (arith, c .before .pages .inv .within, c .before .before .before .before .before .pre .few)
+
+more : (c : tie.Else1 Inv-loop μ-loop Inv-pages μ-pages)
+    → c .before .pages .done < length (now (c .before .before .before .before .before .args .list)) / c .before .before .page-words .result
+more c =
+    let st = c .before .before .before .before .before in
+    page-left (now (st .args .s)) (st .args .g) (now (st .args .list)) (st .pre) (c .before .before .page-words .ensures .1) (c .before .pages .inv) (c .if1 .left)
+
+mul-page-at : tie.Need-mul-page-at Inv-loop μ-loop Inv-pages μ-pages
+mul-page-at c =
+    let st = c .before .before .before .before .before in
+    omega (
+      arith,
+      page-few (now (st .args .s)) (st .args .g) (now (st .args .list)) (st .pre) (c .before .before .page-words .ensures .1) (c .before .pages .inv) (more c),
+    )
+
+page-at-requires : tie.Need-page-at-requires Inv-loop μ-loop Inv-pages μ-pages
+page-at-requires c κs =
+    let st = c .before .before .before .before .before in
+    page-there (now (st .args .s)) (st .args .g) (now (st .args .list)) (st .pre) (c .before .before .page-words .ensures .1) (c .before .pages .inv) (more c)
 
 start-fault-requires : tie.Need-start-fault-requires Inv-loop μ-loop Inv-pages μ-pages
-start-fault-requires c κs = search needs
+start-fault-requires c κs =
+    let both = begun-proper (c .before .before .pages .inv) _ (c .page-at .ensures) in
+    (c .before .before .before .before .before .before .pre .sound, both .0, both .1)
+
+-- Once 13 and 14 are tested, this is what is known of the page.
+page : (c : tie.After-start-fault Inv-loop μ-loop Inv-pages μ-pages)
+    → (let st = c .before .before .before .before .before .before .before in
+    let l = c .before .before .before .pages in
+    Begun (now (st .args .s)) (st .args .g) (now (st .args .list)) (l .done) (l .at) (l .waiting) (l .x) (c .before .page-at .result)
+    (c .start-fault .result))
+page c =
+    let st = c .before .before .before .before .before .before .before in
+    begins (now (st .args .s)) (st .args .g) (now (st .args .list)) (st .pre) (c .before .before .before .before .page-words .ensures .1) (c .before .before .before .pages .inv) (more (c .before .before))
+    (c .before .page-at .ensures) (c .start-fault .ensures)
+
+bare-page-requires : tie.Need-bare-page-requires Inv-loop μ-loop Inv-pages μ-pages
+bare-page-requires c κs = (c .before .before .before .before .before .before .before .before .pre .sound .specRanged, begun-ahead (page (c .before)) (c .if2 .left) .some)
 
 loop-holds : tie.Need-loop-holds Inv-loop μ-loop Inv-pages μ-pages
-loop-holds c = rw (c .apart-by .ensures) (underway-start (page (c .before .before)) (c .before .if2 .left))
+loop-holds c = rw (c .bare-page .ensures) (underway-bare (page (c .before .before)) (c .before .if2 .left))
 
-with-block-requires : tie.Need-with-block-requires Inv-loop μ-loop Inv-pages μ-pages
-unfolding count
-with-block-requires c κs = underway-room (c .before .before .before .before .loop .inv) 0 (omega arith) (c .if4 .taken)
+with-next-requires : tie.Need-with-next-requires Inv-loop μ-loop Inv-pages μ-pages
+with-next-requires c κs = underway-open (c .before .before .before .before .before .loop .inv) (sym (c .before .is-laid .ensures) ∙ c .if4 .left)
 
 loop-less : tie.Need-loop-less Inv-loop μ-loop Inv-pages μ-pages
-loop-less c = let more = c .before .if4 .taken in omega arith
+loop-less c = rw (c .with-next .ensures) (underway-less (c .before .before .before .before .before .before .loop .inv) (sym (c .before .before .is-laid .ensures) ∙ c .before .if4 .left))
 
 loop-again : tie.Need-loop-again Inv-loop μ-loop Inv-pages μ-pages
-unfolding count
-loop-again c =
-    rw (c .with-block .ensures)
-    (underway-more (c .before .before .before .before .before .loop .inv) 0 (omega arith) (c .before .if4 .taken) (omega arith))
+loop-again c = rw (c .with-next .ensures) (underway-more (c .before .before .before .before .before .before .loop .inv) (sym (c .before .before .is-laid .ensures) ∙ c .before .if4 .left))
 
-with-block-requires-2 : tie.Need-with-block-requires-2 Inv-loop μ-loop Inv-pages μ-pages
-unfolding count
-with-block-requires-2 c κs = underway-room (c .before .before .before .before .before .loop .inv) 1 (omega arith) (c .if5 .taken)
-
-loop-less-2 : tie.Need-loop-less-2 Inv-loop μ-loop Inv-pages μ-pages
-loop-less-2 c = let more = c .before .if5 .taken in omega arith
-
-loop-again-2 : tie.Need-loop-again-2 Inv-loop μ-loop Inv-pages μ-pages
-unfolding count
-loop-again-2 c =
-    rw (c .with-block2 .ensures)
-    (underway-more (c .before .before .before .before .before .before .loop .inv) 1 (omega arith) (c .before .if5 .taken) (omega arith))
-
-add-end-fault : tie.Need-add-end-fault Inv-loop μ-loop Inv-pages μ-pages
-add-end-fault c = omega (arith, c .before .before .before .before .before .before .before .before .before .before .before .before .before .before .pages .inv .within, c .before .before .before .before .before .before .before .before .before .before .before .before .before .before .before .before .before .pre .few)
+add-last : tie.Need-add-last Inv-loop μ-loop Inv-pages μ-pages
+add-last c = omega (arith, low (c .before .before .before .before .before .before .before .before .before .before))
 
 end-fault-requires : tie.Need-end-fault-requires Inv-loop μ-loop Inv-pages μ-pages
-unfolding count
-end-fault-requires c κs =
-    let page = c .before .before .before .before .before .loop .inv in
-    (page .begun .listed .sound, page .onward .top 1 (omega arith))
+end-fault-requires c κs = (c .before .before .before .before .before .before .before .before .before .before .before .before .before .before .before .pre .sound, c .before .before .before .before .before .loop .inv .ahead .within)
 
-sub-still-waiting : tie.Need-sub-still-waiting Inv-loop μ-loop Inv-pages μ-pages
-unfolding count
-sub-still-waiting c = c .before .before .before .before .before .before .before .loop .inv .onward .up 1 (omega arith)
+waiting-on-requires : tie.Need-waiting-on-requires Inv-loop μ-loop Inv-pages μ-pages
+waiting-on-requires c κs = underway-walking (c .before .before .before .before .before .before .before .loop .inv)
 
-waiting-floats-requires : tie.Need-waiting-floats-requires Inv-loop μ-loop Inv-pages μ-pages
-waiting-floats-requires c κs = underway-walked (c .before .before .before .before .before .before .before .before .loop .inv) (c .still-waiting .result) (c .still-waiting .ensures)
+-- No more floats wait than there are.
+few : (c : tie.After-waiting-on Inv-loop μ-loop Inv-pages μ-pages)
+    → c .waiting-on .result .figures + c .waiting-on .result .tables ≤ 250
+few c = rw (c .waiting-on .ensures) (waiting-few (c .before .before .before .before .before .before .before .before .before .before .before .before .before .before .before .before .before .before .pre .sound) _)
 
--- No more figures wait than there are.
-few : (c : tie.After-waiting-floats Inv-loop μ-loop Inv-pages μ-pages) → c .waiting-floats .result ≤ 200
-few c =
-    let a = c .before .before .before .before .before .before .before .before .before .before .before .before .before .before .before .before .before .before .before .before .before .args in
-    let waits = waits-few (floatsOf (now (a .s)) (a .g .figures)) (c .before .before .before .before .before .before .before .before .before .before .before .before .before .before .before .size .result) (c .before .before .before .before .before .before .before .before .before .before .before .before .before .size2 .result) in
-    omega (arith, waits, c .waiting-floats .ensures, c .before .before .before .before .before .before .before .before .before .before .before .before .before .before .before .before .before .before .before .before .before .pre .sound .fewFigures)
+add-waiting-at : tie.Need-add-waiting-at Inv-loop μ-loop Inv-pages μ-pages
+add-waiting-at c = omega (arith, few (c .before))
 
 waiting-at-requires : tie.Need-waiting-at-requires Inv-loop μ-loop Inv-pages μ-pages
-waiting-at-requires c κs = (omega (arith, c .before .before .before .before .before .before .before .before .before .loop .inv .begun .listed), few c)
+waiting-at-requires c κs = (c .before .before .before .before .before .before .before .before .before .before .before .before .before .before .before .before .before .before .before .pre .sound .someFolio, few (c .before))
 
 add-x : tie.Need-add-x Inv-loop μ-loop Inv-pages μ-pages
 add-x c =
-    let st = c .before .before .before .before .before .before .before .before .before .before .before .before .before .before .before .before .before .before .before .before .before .before in
-    let pg = c .before .before .before .before .before .before .before .before .before .before .before .before .before .before .before .before .before .before .before .pages in
-    let counted = waiting-at-few (st .args .g) (pg .done + 1) (c .before .waiting-floats .result) in
-    omega (arith, counted, c .waiting-at .ensures, few (c .before), pg .inv .most, pg .inv .within, st .pre .few)
+    let found = c .before .before .waiting-on .result in
+    let counted = waiting-at-few (c .before .before .before .before .before .before .before .before .before .before .before .before .before .before .before .before .before .before .before .before .args .g) (c .before .before .before .before .before .before .before .before .before .before .before .before .before .before .before .before .pages .done + 1) (found .figures + found .tables) in
+    omega (arith, counted, c .waiting-at .ensures, few (c .before .before), c .before .before .before .before .before .before .before .before .before .before .before .before .before .before .before .before .pages .inv .most, low (c .before .before .before .before .before .before .before .before .before .before .before .before .before .before .before))
+
+add-done : tie.Need-add-done Inv-loop μ-loop Inv-pages μ-pages
+add-done c = omega (arith, low (c .before .before .before .before .before .before .before .before .before .before .before .before .before .before .before))
 
 pages-less : tie.Need-pages-less Inv-loop μ-loop Inv-pages μ-pages
-pages-less c = let more = c .before .before .before .before .before .before .before .before .before .before .loop .inv .begun .more in omega arith
+pages-less c = omega (arith, more (c .before .before .before .before .before .before .before .before .before .before .before .before .before .before .before))
 
 pages-again : tie.Need-pages-again Inv-loop μ-loop Inv-pages μ-pages
 pages-again c =
     let end = c .before .before .before .before .end-fault in
-    let found = c .before .waiting-floats in
     rw (c .waiting-at .ensures)
-    (underway-next (c .before .before .before .before .before .before .before .before .before .before .loop .inv) (c .before .before .before .before .before .before .before .if3 .left) (past-two (c .before .before .before .before .before .before .if4 .left) (c .before .before .before .before .before .if5 .left)) (end .result) (end .ensures)
-    (c .before .before .before .if6 .left) (found .result) (found .ensures))
+    (underway-next (c .before .before .before .before .before .before .before .before .before .before .loop .inv) (c .before .before .before .before .before .before .before .if3 .left) (sym (c .before .before .before .before .before .before .is-laid .ensures) ∙ c .before .before .before .before .before .if4 .taken) (c .before .before .before .before .before .before .before .before .before .before .before .before .before .before .before .before .before .page-words .ensures .1) (end .result)
+    (end .ensures) (c .before .before .before .if5 .left) (c .before .before .waiting-on .result) (c .before .before .waiting-on .ensures))
 
 returns : tie.Need-returns Inv-loop μ-loop Inv-pages μ-pages
 returns c =
-    let st = c .before .before .before .before .before in
-    let pg = c .before .before .pages in
+    let st = c .before .before .before .before .before .before in
     c .finish .ensures
-    ∙ run-finish (now (st .args .s)) (st .args .g) (st .pre .sound) (now (st .args .list))
-    (st .pre .whole) (pg .inv) (c .before .if1 .taken) _ (search needs)
+    ∙ run-finished (now (st .args .s)) (st .args .g) (now (st .args .list)) (st .pre) (c .before .before .before .page-words .ensures .1) (c .before .before .pages .inv)
+    (c .before .if1 .taken)
 
 returns-2 : tie.Need-returns-2 Inv-loop μ-loop Inv-pages μ-pages
 returns-2 c = begun-refused (page (c .before)) (c .if2 .taken)
@@ -140,10 +148,43 @@ returns-3 c = underway-over (c .before .before .before .loop .inv) (c .if3 .take
 returns-4 : tie.Need-returns-4 Inv-loop μ-loop Inv-pages μ-pages
 returns-4 c =
     let end = c .before .end-fault in
-    underway-ended (c .before .before .before .before .before .before .before .loop .inv) (c .before .before .before .before .if3 .left) (past-two (c .before .before .before .if4 .left) (c .before .before .if5 .left)) (end .result) (end .ensures) (c .if6 .taken)
+    underway-ended (c .before .before .before .before .before .before .before .loop .inv) (c .before .before .before .before .if3 .left) (sym (c .before .before .before .is-laid .ensures) ∙ c .before .before .if4 .taken) (c .before .before .before .before .before .before .before .before .before .before .before .before .before .before .page-words .ensures .1) (end .result)
+    (end .ensures) (c .if5 .taken)
 
 pub judge-pages-spec : {M : Type 1} → statement M
 judge-pages-spec =
     tie.close
-    ((λ (a, b, c, d, e, f, g, h, i, j, k, l, m, n, o, p, q).
-    tie.spec Inv-loop μ-loop Inv-pages μ-pages pages-holds a finish-requires b c d e f g h i j k l start-fault-requires m loop-holds with-block-requires n loop-less loop-again with-block-requires-2 o loop-less-2 loop-again-2 add-end-fault end-fault-requires sub-still-waiting p waiting-floats-requires waiting-at-requires add-x q pages-less pages-again returns returns-2 returns-3 returns-4) $ omega arith)
+    (tie.spec
+    Inv-loop
+    μ-loop
+    Inv-pages
+    μ-pages
+    (λ c κs. search needs)
+    (λ c. omega (arith, c .page-words .ensures .1, words-least (c .before .before .before .args .g)))
+    pages-holds
+    cast-finish
+    finish-requires
+    (λ c. omega (arith, low c))
+    (λ c. omega (arith, low c))
+    mul-page-at
+    page-at-requires
+    start-fault-requires
+    bare-page-requires
+    loop-holds
+    (λ c κs. search needs)
+    with-next-requires
+    loop-less
+    loop-again
+    add-last
+    end-fault-requires
+    waiting-on-requires
+    add-waiting-at
+    waiting-at-requires
+    add-x
+    add-done
+    pages-less
+    pages-again
+    returns
+    returns-2
+    returns-3
+    returns-4)

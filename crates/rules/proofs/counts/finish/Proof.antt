@@ -9,10 +9,10 @@ use Rattle.rules.proofs.counts.finish.Tie as tie
 
 -- X and Y by their weights.
 weighted : (c : tie.After-leaves-turned)
-    → (let a = c .before .before .before .before .args in
-    (a .g .spec .alpha * a .x ≤ 840000000) × (a .g .spec .beta * c .leaves-turned .result ≤ 4200000))
+    → (let a = c .before .before .before .before .before .before .before .before .args in
+    (a .g .spec .alpha * a .x ≤ 1062500000) × (a .g .spec .beta * c .leaves-turned .result ≤ 4250000))
 weighted c =
-    let st = c .before .before .before .before in
+    let st = c .before .before .before .before .before .before .before .before in
     let parts = few-bounded (st .args .g) (st .args .pages) (st .args .x) (st .pre) in
     rw (c .leaves-turned .ensures) (parts .waits, parts .leaves)
 

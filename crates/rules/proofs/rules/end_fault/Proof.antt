@@ -1,8 +1,8 @@
--- `end_fault` meets its contract: its two tests are those of rule 16, for the floor, and of rule 17, for two streams.
+-- `end_fault` meets its contract: its two tests are those of rule 16, for the floor, and of rule 17.
 use borrow.Author.Needs.{needs}
 use denote.Ref.{now}
-use mathlib.Core.Path.{_∙_}
-use Rattle.rules.specs.laws.Two.{cited-two}
+use mathlib.Core.Bool.{_||_}
+use mathlib.Core.Path.{_∙_, ap}
 use Rattle.rules.proofs.rules.end_fault.Statement.{statement}
 use Rattle.rules.proofs.rules.end_fault.Tie as tie
 
@@ -12,9 +12,7 @@ returns c =
     c .first-fault .ensures
     ∙ rw (
       c .before .before .before .floor-of .ensures (now (a .s)),
-      c .before .is-cited .ensures,
-      cited-two (now (a .s)) (a .g) (a .page .0) (a .last) (a .i) (a .j),
-      c .before .before .ends-spread .ensures,
+      c .before .are-cited .ensures (a .page .0) (a .last) (ap (λ e. e || a .last) (c .before .before .ends-spread .ensures)),
     )
 
 pub end-fault-spec : {M : Type 1} → statement M

@@ -7,9 +7,9 @@ use Rattle.rules.proofs.rules.start_fault.Tie as tie
 
 returns : tie.Need-returns
 returns c =
-    let a = c .before .before .before .before .args in
+    let st = c .before .before .before .before in
     c .first-fault .ensures
-    ∙ rw (c .before .before .is-forward .ensures (now (a .s)), c .before .may-close .ensures)
+    ∙ rw (c .before .before .is-forward .ensures (now (st .args .s)) (st .pre .1) (st .pre .2), c .before .may-close .ensures)
 
 pub start-fault-spec : {M : Type 1} → statement M
 start-fault-spec = tie.close (tie.spec (λ c κs. search needs) (λ c κs. search needs) (λ c κs. search needs) returns)
