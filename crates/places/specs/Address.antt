@@ -13,15 +13,16 @@ address tall i j side = (j * tall + i) * 8 + side * 4
 unfoldable pub area : ℕ → ℕ → ℕ
 area tall wide = 8 * (tall * wide)
 
--- The words of the work area of m lines and n figures: 8·(m + 1)·(n + 1) (document 01, "Making").
+-- The words of the work area of m lines and so many columns: 8·(m + 1)·(n + 1) for n figures (document 01, "Making"), and
+-- 8·(m + 1)·(n + 1)·(k + 1) with k tables (document 02, S-4).
 unfoldable pub wordsNeeded : ℕ → ℕ → ℕ
-wordsNeeded m n = 8 * ((m + 1) * (n + 1))
+wordsNeeded m wide = 8 * ((m + 1) * wide)
 
--- A place of a galley of at most 4,000 lines and 200 figures, and a side (document 01, "Making").
+-- A place of a galley of at most 4,000 lines and 10,251 columns, and a side (document 01, "Making").
 pub record Inside (tall : ℕ) (place : Place) (side : ℕ) : Type 0 where
   pub high : tall ≤ 4001
   pub row : place .line < tall
-  pub wide : place .column ≤ 200
+  pub wide : place .column ≤ 10250
   pub either : side ≤ 1
 
 -- Its four words are within the work area (document 01, "Making").
@@ -29,10 +30,16 @@ pub record Stands (w : List ℕ) (tall : ℕ) (place : Place) (side : ℕ) : Typ
   pub inside : Inside tall place side
   pub room : address tall (place .line) (place .column) side + 4 ≤ length w
 
--- At most 4,000 lines and 200 figures (document 01, "Numbers that turn work away", 4).
-pub record Small (m n : ℕ) : Type 0 where
+-- A line of at most 4,000 and a column below 201 · 51, for 200 figures and 50 tables (document 01, "Numbers that turn work
+-- away", 4; document 02, S-4).
+pub record Small (i j : ℕ) : Type 0 where
+  pub line : i ≤ 4000
+  pub column : j ≤ 10250
+
+-- At most so many lines and columns.
+pub record Limited (m wide : ℕ) : Type 0 where
   pub lines : m ≤ 4000
-  pub figures : n ≤ 200
+  pub columns : wide ≤ 10251
 
 -- The four words from one offset on and the four from another have none in common (document 01, "Making").
 abbrev pub Apart : ℕ → ℕ → Type 0

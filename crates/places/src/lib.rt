@@ -8,10 +8,11 @@ ghost use mathlib.Core.List.{[], _∷_};
 ghost use lib.ListN.{length};
 ghost use lib.Seq.{sets};
 ghost use Rattle.places.specs.Entry.{less, entryAt, stored, cleared};
-ghost use Rattle.places.specs.Address.{address, wordsNeeded, Inside, Small, Stands};
+ghost use Rattle.places.specs.Address.{address, wordsNeeded, Inside, Small, Limited, Stands};
 ghost use Rattle.places.specs.Table.{tableOf};
 
-// Where a page starts, and where it ends: the lines placed so far, and the column, which is the figures placed so far.
+// Where a page starts, and where it ends: the lines placed so far, and the column, which is the number of the figures and tables
+// placed so far.
 pub struct Place {
     pub line: u32,
     pub column: u32,
@@ -31,7 +32,7 @@ pub struct Origin {
     pub cost: u32,
 }
 
-// The place of so many lines and figures.
+// The place of so many lines and a column.
 pub fn place_of(line: usize, column: usize) -> Place
     requires { ⌜ Small line column ⌝ }
     ensures { λ r. ⌜ r ≡ record { line = line; column = column } ⌝ }
@@ -116,10 +117,10 @@ pub fn clear(work: &mut [u32], n: usize)
     }
 }
 
-// The words that a galley of so many lines and figures needs.
-pub fn words_needed(lines: usize, figures: usize) -> usize
-    requires { ⌜ Small lines figures ⌝ }
-    ensures { λ r. ⌜ r ≡ wordsNeeded lines figures ⌝ }
+// The words that a galley of so many lines and columns needs.
+pub fn words_needed(lines: usize, columns: usize) -> usize
+    requires { ⌜ Limited lines columns ⌝ }
+    ensures { λ r. ⌜ r ≡ wordsNeeded lines columns ⌝ }
 {
-    8 * ((lines + 1) * (figures + 1))
+    8 * ((lines + 1) * columns)
 }

@@ -1,16 +1,19 @@
 -- The best starts of a column's places, gathered from the columns before it: what is lent, what is computed, and what is known.
 use Prim.Native.Nat.{ℕ, suc, _+_, _*_, _≤_, _<_}
 use mathlib.Core.Path.{_≡_}
-use mathlib.Core.Bool.{true}
+use mathlib.Core.Bool.{Bool}
 use mathlib.Core.List.{List}
 use lib.ListN.{length}
-use lib.Dec.{eqb, ltb}
+use lib.Dec.{ltb}
 use Rattle.model.specs.Gather.{pick}
 use Rattle.model.specs.Galley.{Stream}
+use Rattle.galley.specs.declared.Spec.{Spec}
 use Rattle.galley.specs.declared.Galley.{Galley}
-use Rattle.galley.specs.Model.{textOf, floatsOf}
+use Rattle.galley.specs.Model.{textOf, modelOf}
 use Rattle.galley.specs.Sound.{Sound}
-use Rattle.blocks.specs.Heights.{Stacked}
+use Rattle.blocks.specs.declared.heights.Heights.{Heights}
+use Rattle.blocks.specs.Heights.{separated}
+use Rattle.blocks.specs.laws.Heights.{Low}
 use Rattle.places.specs.declared.Entry.{Entry}
 use Rattle.places.specs.declared.Entry.the-variants.{Unreached}
 use Rattle.places.specs.Address.{wordsNeeded, address, Stands}
@@ -22,15 +25,17 @@ use Rattle.window.specs.Sums.{Sums}
 use Rattle.window.specs.Slide.{Slidable, Open}
 use Rattle.window.specs.Queue.{linesOf, Lines}
 use Rattle.starts.specs.declared.sweep.Pass.{Pass}
+use Rattle.starts.specs.declared.sweep.Row.{Row}
 use Rattle.starts.specs.Better.{chosen, startAt, taken}
 use Rattle.starts.specs.Choice.{Starts, Between}
-use Rattle.starts.specs.Read.{tableIn, sideOf, searchOf, loadOf}
+use Rattle.starts.specs.Beside.{Under, alone}
+use Rattle.starts.specs.Read.{tableIn, sideOf, searchOf, columnsIn, FewFloats, lastColumn, loadOf}
 
 -- A column of a galley that was read, in a work area that is long enough.
 pub record Lent (bytes : List ℕ) (g : Galley) (w : List ℕ) (j : ℕ) : Type 0 where
   pub sound : Sound bytes g
-  pub column : j ≤ g .figures .count
-  pub room : wordsNeeded (g .text .count) (g .figures .count) ≤ length w
+  pub column : j < columnsIn g
+  pub room : wordsNeeded (g .text .count) (columnsIn g) ≤ length w
 
 -- Room for two queues, or for one and the windows.
 abbrev pub Scratch : List ℕ → Type 0
@@ -43,12 +48,16 @@ pub record Summed (bytes : List ℕ) (g : Galley) (sums : List ℕ) : Type 0 whe
 
 -- What a page of the pass has beside its lines.
 abbrev pub passLoad : Galley → Pass → Load
-passLoad g pass = loadOf g true (pass .heights) (pass .least)
+passLoad g pass = loadOf g 1 (pass .heights) (pass .least)
 
--- A pass leads to a later column, and the figures between are not too tall alone.
+-- A pass leads to a later column from one that has no more of any stream, and the floats between, with these heights alone, are not
+-- too tall.
 pub record Passing (bytes : List ℕ) (g : Galley) (pass : Pass) : Type 0 where
   pub before : pass .from < pass .to
-  pub floats : Stacked (floatsOf bytes (g .figures)) (pass .from) (pass .to) (pass .heights)
+  pub under : Under (modelOf bytes g) (pass .from) (pass .to)
+  pub tight : pass .heights .tight ≡ alone (modelOf bytes g) (λ st. st .least) (g .spec .smin) (pass .from) (pass .to)
+  pub loose : pass .heights .loose ≡ alone (modelOf bytes g) (λ st. st .most) (g .spec .smax) (pass .from) (pass .to)
+  pub low : Low 60000000 (pass .heights)
   pub short : pass .heights .tight ≤ g .spec .htmax
 
 -- The page of floats alone that starts after line i.
@@ -111,15 +120,19 @@ pub record Changed (g : Galley) (w v : List ℕ) (i j c : ℕ) (e : Entry) : Typ
 
 -- The lines that a sweep takes: all, but for the last line of the last column, where a page may be short.
 abbrev pub sweepEnd : Galley → Pass → ℕ
-sweepEnd g pass = pick (eqb (pass .to) (g .figures .count)) (g .text .count) (g .text .count + 1)
+sweepEnd g pass = pick (lastColumn g (pass .to)) (g .text .count) (g .text .count + 1)
+
+-- A column of a galley within the limits.
+pub record Wide (g : Galley) (j : ℕ) : Type 0 where
+  pub few : g .text .count ≤ 4000
+  pub floats : FewFloats g
+  pub within : j < columnsIn g
 
 -- Column j stands in the work area.
 pub record ColumnRoom (g : Galley) (w : List ℕ) (j : ℕ) : Type 0 where
-  pub few : g .text .count ≤ 4000
-  pub narrow : j ≤ 200
-  pub within : j ≤ g .figures .count
+  pub wide : Wide g j
   pub two : g .spec .sides ≤ 2
-  pub room : wordsNeeded (g .text .count) (g .figures .count) ≤ length w
+  pub room : wordsNeeded (g .text .count) (columnsIn g) ≤ length w
 
 -- The places of column j before number n are unreached.
 abbrev pub Blank : Galley → List ℕ → ℕ → ℕ → Type 0
@@ -130,3 +143,20 @@ pub record Cleared (g : Galley) (w v : List ℕ) (j n m : ℕ) : Type 0 where
   pub sized : length v ≡ length w
   pub blank : Blank g w j n → Blank g v j m
   pub kept : Scratched g j w v
+
+-- Heights of figures and of tables whose sum, with a separation, is a word.
+pub record Layable (spec : Spec) (figures tables : Heights) : Type 0 where
+  pub smin : spec .smin ≤ 100000
+  pub smax : spec .smax ≤ 100000
+  pub first : Low 40000000 figures
+  pub second : Low 10000000 tables
+
+-- The heights of a page of figures and tables alone, apart where it has both.
+unfoldable pub floatsAlone : Spec → Heights → Heights → Bool → Heights
+floatsAlone spec figures tables both =
+    let floats : Heights = record { tight = figures .tight + tables .tight; loose = figures .loose + tables .loose } in
+    pick both (separated spec 1 floats) floats
+
+-- The tables of the columns that a row has to offer are fewer than this: no more than the end's, and in its own row fewer.
+unfoldable pub rowTop : Row → ℕ
+rowTop row = pick (ltb (row .figures) (row .end .figures)) (row .end .tables + 1) (row .end .tables)

@@ -16,8 +16,9 @@ use Rattle.window.specs.Slide.{Ends}
 use Rattle.window.specs.Queue.{linesOf, Held}
 use Rattle.window.specs.Windows.{Kept}
 use Rattle.starts.specs.declared.sweep.Pass.{Pass}
-use Rattle.starts.specs.Read.{sideOf}
-use Rattle.starts.specs.Sweep.{Lent, Scratch, Summed, passLoad, Passing, Known, number, Swept, Scratched, sweepEnd}
+use Rattle.starts.specs.declared.sweep.Row.{Row}
+use Rattle.starts.specs.Read.{sideOf, countsAt, rowOf}
+use Rattle.starts.specs.Sweep.{Lent, Scratch, Summed, passLoad, Passing, Known, number, Swept, Scratched, sweepEnd, rowTop}
 
 -- A column that no start is known of: the starts in the columns before it are to be known.
 pub record ColumnSweep (bytes : List ℕ) (g : Galley) (w sums words : List ℕ) (j : ℕ) : Type 0 where
@@ -25,21 +26,48 @@ pub record ColumnSweep (bytes : List ℕ) (g : Galley) (w sums words : List ℕ)
   pub summed : Summed bytes g sums
   pub scratch : Scratch words
 
--- The starts in columns from b on are known.
+-- The starts in rows from that of b figures on are known.
 pub record ColumnSweepRun (bytes : List ℕ) (g : Galley) (w₀ w words₀ words : List ℕ) (j : ℕ) (heights : Heights) (b : ℕ) : Type 0 where
   pub lent : Lent bytes g w j
   pub scratch : Scratch words
-  pub within : b ≤ j
+  pub within : b ≤ suc (countsAt g 0 j .figures)
   pub sized : length w ≡ length w₀
   pub wordsSized : length words ≡ length words₀
-  pub floats : Stacked (floatsOf bytes (g .figures)) b j heights
-  pub known : Known bytes g w j b
+  pub floats : Stacked (floatsOf bytes (g .figures)) b (countsAt g 0 j .figures) heights
+  pub known : Known bytes g w j (rowOf g b)
   pub kept : Scratched g j w₀ w
 
 -- The starts in all columns before are known, and nothing else has changed.
 pub record ColumnSwept (bytes : List ℕ) (g : Galley) (w v : List ℕ) (j : ℕ) : Type 0 where
   pub known : Known bytes g v j 0
   pub kept : Scratched g j w v
+
+-- A row whose starts are to be known, those in later rows being known.
+pub record RowSweep (bytes : List ℕ) (g : Galley) (w sums words : List ℕ) (row : Row) : Type 0 where
+  pub lent : Lent bytes g w (row .to)
+  pub summed : Summed bytes g sums
+  pub scratch : Scratch words
+  pub end : row .end ≡ countsAt g 0 (row .to)
+  pub within : row .figures ≤ row .end .figures
+  pub floats : Stacked (floatsOf bytes (g .figures)) (row .figures) (row .end .figures) (row .heights)
+  pub least : row .least ≡ floor (modelOf bytes g) false
+  pub known : Known bytes g w (row .to) (rowOf g (suc (row .figures)))
+
+-- The starts in the columns of the row with t tables and more are known.
+pub record RowRun (bytes : List ℕ) (g : Galley) (w₀ w words₀ words : List ℕ) (row : Row) (tables : Heights) (t : ℕ) : Type 0 where
+  pub lent : Lent bytes g w (row .to)
+  pub scratch : Scratch words
+  pub within : t ≤ rowTop row
+  pub sized : length w ≡ length w₀
+  pub wordsSized : length words ≡ length words₀
+  pub floats : Stacked (floatsOf bytes (g .tables)) t (row .end .tables) tables
+  pub known : Known bytes g w (row .to) (rowOf g (row .figures) + t)
+  pub kept : Scratched g (row .to) w₀ w
+
+-- The starts of the row are known.
+pub record RowSwept (bytes : List ℕ) (g : Galley) (w v : List ℕ) (row : Row) : Type 0 where
+  pub known : Known bytes g v (row .to) (rowOf g (row .figures))
+  pub kept : Scratched g (row .to) w v
 
 -- A pass whose starts are to be known, those in later columns being known.
 pub record Sweep (bytes : List ℕ) (g : Galley) (w sums words : List ℕ) (pass : Pass) : Type 0 where

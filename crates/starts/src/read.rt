@@ -1,15 +1,37 @@
-// What a search asks of a galley that was read: sides, the full place, and the heights that a page must keep to.
+// What a search asks of a galley that was read: its columns, sides, the full place, and the heights that a page must keep to.
 ghost use mathlib.Core.Path.{_≡_};
 ghost use Prim.Native.Nat.{_≤_};
 ghost use Rattle.theorems.specs.pages.Graph.{side};
 ghost use Rattle.galley.specs.Model.{sidesIn};
-ghost use Rattle.blocks.specs.Heights.{noHeights, Addable};
+ghost use Rattle.blocks.specs.Heights.{Separable};
 ghost use Rattle.starts.specs.Search.{begins};
-ghost use Rattle.starts.specs.Read.{sideOf, allPlaced, loadOf};
+ghost use Rattle.starts.specs.Read.{columnsIn, countsAt, FewFloats, sideOf, loadOf};
+use blocks::Counts;
 use blocks::heights::Heights;
 use galley::Galley;
 use places::Origin;
 use window::slide::Load;
+
+// How many columns there are: one for each number of figures and of tables placed so far.
+pub fn columns_of(g: Galley) -> usize
+    requires { ⌜ FewFloats g ⌝ }
+    ensures { λ r. ⌜ r ≡ columnsIn g ⌝ }
+{
+    (g.figures.count + 1) * (g.tables.count + 1)
+}
+
+// What is placed at a line and a column. Columns go by figures, then by tables.
+pub fn counts_at(g: Galley, line: usize, column: usize) -> Counts
+    requires { ⌜ FewFloats g ⌝ }
+    ensures { λ r. ⌜ r ≡ countsAt g line column ⌝ }
+{
+    let wide = g.tables.count + 1;
+    Counts {
+        lines: line,
+        figures: column / wide,
+        tables: column % wide,
+    }
+}
 
 // The side of a page by its number: 1 for an odd page of double-sided work, else 0.
 fn side_of(g: Galley, page: u32) -> usize
@@ -40,19 +62,12 @@ pub fn side_before(g: Galley, c: usize) -> usize
     0
 }
 
-// Whether every block is placed at (i, j): a page that ends there is the last.
-pub fn is_full(g: Galley, i: usize, j: usize) -> bool
-    ensures { λ r. ⌜ r ≡ allPlaced g i j ⌝ }
+// What a page of lines and these floats has beside its lines, with so many separations, and the heights that it must keep to.
+pub fn load_of(g: Galley, separations: u32, floats: Heights, least: u32) -> Load
+    requires { ⌜ Separable (g .spec) separations floats ⌝ }
+    ensures { λ r. ⌜ r ≡ loadOf g separations floats least ⌝ }
 {
-    (i == g.text.count) & (j == g.figures.count)
-}
-
-// What a page of lines and these floats has beside its lines, and the heights that it must keep to.
-pub fn load_of(g: Galley, mixed: bool, floats: Heights, least: u32) -> Load
-    requires { ⌜ Addable (g .spec) noHeights floats ⌝ }
-    ensures { λ r. ⌜ r ≡ loadOf g mixed floats least ⌝ }
-{
-    let page = blocks::heights::page_heights(g, mixed, Heights { tight: 0, loose: 0 }, floats);
+    let page = blocks::heights::separated(g, separations, floats);
     Load {
         tight: page.tight,
         loose: page.loose,

@@ -1,23 +1,35 @@
 // The best starts of pages that end in a column and start in an earlier one, for all places of the column at once: for each earlier
 // column one sweep down the lines on each side that occurs, with a queue of starting lines. The best start so far of a place stands
-// in the place's own words.
+// in the place's own words. Columns are taken back in their order, row by row: a row has as many figures throughout, and its columns
+// differ in tables.
 ghost use mathlib.Core.Path.{_≡_};
 ghost use Prim.Native.Nat.{_+_, _≤_, _<_};
 ghost use Rattle.places.specs.Address.{Stands};
-ghost use Rattle.starts.specs.Sweep.{aloneOf, weighed, Ended, sweepEnd, number, ColumnRoom, Cleared};
-ghost use Rattle.starts.specs.Swept.{ColumnSweep, ColumnSwept, Sweep, SweepDone, SideSweep, SideDone, LastLine, LineDone};
+ghost use Rattle.starts.specs.Sweep.{aloneOf, weighed, Ended, Wide, sweepEnd, number, ColumnRoom, Cleared, Layable, floatsAlone, rowTop};
+ghost use Rattle.starts.specs.Swept.{ColumnSweep, ColumnSwept, RowSweep, RowSwept, Sweep, SweepDone, SideSweep, SideDone, LastLine, LineDone};
+use blocks::Counts;
 use blocks::heights::Heights;
 use galley::Galley;
 use places::Entry;
 use window::queue::Queue;
 use window::slide::Window;
 
-// One sweep: starts in column `from`, for pages that end in column `to`, the floats between having these heights, and that are no
-// lower than `least`.
+// One sweep: starts in column `from`, for pages that end in column `to` and are no lower than `least`. A page of the floats between
+// alone has these heights, the separation of figures and tables with them; beside lines they have one more.
 pub struct Pass {
     pub from: usize,
     pub to: usize,
     pub heights: Heights,
+    pub least: u32,
+}
+
+// The columns with so many figures, for pages that end in column `to`, where so much is placed: the figures between have these
+// heights.
+pub struct Row {
+    pub figures: usize,
+    pub heights: Heights,
+    pub end: Counts,
+    pub to: usize,
     pub least: u32,
 }
 
@@ -47,10 +59,10 @@ fn improve(g: Galley, work: &mut [u32], lines: Entry, i: usize, c: usize, pass: 
 
 // The lines that a sweep takes: all, but for the last line of the last column, where a page may be short.
 fn sweep_end(g: Galley, pass: Pass) -> usize
-    requires { ⌜ g .text .count ≤ 4000 ⌝ }
+    requires { ⌜ Wide g (pass .to) ⌝ }
     ensures { λ r. ⌜ r ≡ sweepEnd g pass ⌝ }
 {
-    if pass.to == g.figures.count {
+    if pass.to + 1 == crate::read::columns_of(g) {
         return g.text.count;
     }
     g.text.count + 1
@@ -69,7 +81,7 @@ fn sweep_side(
     requires { ⌜ SideSweep (now s) g (now work) (now sums) (now words) c pass ⌝ }
     ensures { λ _. ⌜ SideDone (now (s .entry)) g (now (work .entry)) (now (work .exit)) (now (words .exit)) c pass ⌝ }
 {
-    let load = crate::read::load_of(g, true, pass.heights, pass.least);
+    let load = crate::read::load_of(g, 1, pass.heights, pass.least);
     let side = crate::read::side_before(g, c);
     let end = sweep_end(g, pass);
     let mut queue = Queue {
@@ -103,7 +115,7 @@ fn last_line(s: &[u8], g: Galley, work: &mut [u32], sums: &[u32], c: usize, pass
     requires { ⌜ LastLine (now s) g (now work) (now sums) c pass ⌝ }
     ensures { λ _. ⌜ LineDone (now (s .entry)) g (now (work .entry)) (now (work .exit)) c pass ⌝ }
 {
-    if pass.to < g.figures.count {
+    if pass.to + 1 < crate::read::columns_of(g) {
         return;
     }
     let heights = pass.heights;
@@ -113,7 +125,7 @@ fn last_line(s: &[u8], g: Galley, work: &mut [u32], sums: &[u32], c: usize, pass
         heights,
         least: rules::rules::floor_of(g, true),
     };
-    let load = crate::read::load_of(g, true, heights, last.least);
+    let load = crate::read::load_of(g, 1, heights, last.least);
     let side = crate::read::side_before(g, c);
     let lines = crate::last::last_lines(g, work, sums, load, pass.from, side);
     improve(g, work, lines, g.text.count, c, last);
@@ -157,8 +169,61 @@ fn clear_column(g: Galley, work: &mut [u32], j: usize)
     }
 }
 
-// The best starts in the columns before j, for every place of column j: from column j - 1 back to the first whose floats to column j
-// are too tall alone.
+// The heights of a page of figures and tables alone, apart where it has both.
+fn floats_alone(g: Galley, figures: Heights, tables: Heights, both: bool) -> Heights
+    requires { ⌜ Layable (g .spec) figures tables ⌝ }
+    ensures { λ r. ⌜ r ≡ floatsAlone (g .spec) figures tables both ⌝ }
+{
+    let floats = Heights {
+        tight: figures.tight + tables.tight,
+        loose: figures.loose + tables.loose,
+    };
+    if both {
+        return blocks::heights::separated(g, 1, floats);
+    }
+    floats
+}
+
+// The tables of the columns that a row has to offer are fewer than this: no more than the end's, and in its own row fewer.
+fn row_top(row: Row) -> usize
+    requires { ⌜ row .end .tables ≤ 50 ⌝ }
+    ensures { λ r. ⌜ r ≡ rowTop row ⌝ }
+{
+    if row.figures < row.end.figures {
+        return row.end.tables + 1;
+    }
+    row.end.tables
+}
+
+// The best starts in the columns of a row, for every place of the column where the pages end: back to the first whose floats to that
+// column are too tall alone.
+fn sweep_row(s: &[u8], g: Galley, work: &mut [u32], sums: &[u32], words: &mut [u32], row: Row)
+    requires { ⌜ RowSweep (now s) g (now work) (now sums) (now words) row ⌝ }
+    ensures { λ _. ⌜ RowSwept (now (s .entry)) g (now (work .entry)) (now (work .exit)) row ⌝ }
+{
+    let first = row.figures * (g.tables.count + 1);
+    let mut tables = Heights { tight: 0, loose: 0 };
+    let mut t = row_top(row);
+    while 0 < t {
+        t -= 1;
+        tables = blocks::heights::block_before(s, g.tables, tables, t, row.end.tables);
+        let both = (row.figures < row.end.figures) & (t < row.end.tables);
+        let floats = floats_alone(g, row.heights, tables, both);
+        if g.spec.htmax < floats.tight {
+            return;
+        }
+        let pass = Pass {
+            from: first + t,
+            to: row.to,
+            heights: floats,
+            least: row.least,
+        };
+        sweep(s, g, work, sums, words, pass);
+    }
+}
+
+// The best starts in the columns before j, for every place of column j: row by row, back to the first whose figures to column j are
+// too tall alone.
 pub fn sweep_column(
     s: &[u8],
     g: Galley,
@@ -171,21 +236,23 @@ pub fn sweep_column(
     ensures { λ _. ⌜ ColumnSwept (now (s .entry)) g (now (work .entry)) (now (work .exit)) j ⌝ }
 {
     clear_column(g, work, j);
+    let end = crate::read::counts_at(g, 0, j);
     let least = rules::rules::floor_of(g, false);
     let mut heights = Heights { tight: 0, loose: 0 };
-    let mut b = j;
+    let mut b = end.figures + 1;
     while 0 < b {
         b -= 1;
-        heights = blocks::heights::block_before(s, g.figures, heights, b, j);
+        heights = blocks::heights::block_before(s, g.figures, heights, b, end.figures);
         if g.spec.htmax < heights.tight {
             return;
         }
-        let pass = Pass {
-            from: b,
-            to: j,
+        let row = Row {
+            figures: b,
             heights,
+            end,
+            to: j,
             least,
         };
-        sweep(s, g, work, sums, words, pass);
+        sweep_row(s, g, work, sums, words, row);
     }
 }

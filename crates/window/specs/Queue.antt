@@ -129,4 +129,4 @@ pub record Advanced (work : List ℕ) (tall b side : ℕ) (old : List ℕ) (queu
 pub record FrontAsked (words : List ℕ) (queue : Queue) (b : ℕ) : Type 0 where
   pub order : queue .head ≤ queue .tail
   pub room : 2 * queue .tail ≤ length words
-  pub column : b ≤ 200
+  pub column : b ≤ 10250

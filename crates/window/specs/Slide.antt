@@ -1,4 +1,4 @@
--- The window of starting lines: the lines a from which a page to line i is neither too tall nor too short. With its figures
+-- The window of starting lines: the lines a from which a page to line i is neither too tall nor too short. With its floats
 -- fixed, a page grows with i and shrinks as a rises, so that neither end of the window falls.
 use Prim.Native.Nat.{ℕ, suc, _+_, _*_, _≤_, _<_}
 use mathlib.Core.List.{List}

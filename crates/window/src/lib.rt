@@ -1,4 +1,4 @@
-// The starting lines of pages that end with one line after another, for a fixed first and last figure. The usable ones are a
+// The starting lines of pages that end with one line after another, for a fixed first and last column. The usable ones are a
 // window whose two ends never fall, and a queue holds those of its lines that may still be the best start.
 pub mod queue; // queue.rt: the candidates of a window, from the least cost on
 pub mod slide; // slide.rt: the two ends of the window, moved on

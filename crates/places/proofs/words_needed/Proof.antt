@@ -8,4 +8,4 @@ use Rattle.places.proofs.words_needed.Tie as tie
 
 pub words-needed-spec : {M : Type 1} → statement M
 unfolding wordsNeeded
-words-needed-spec = tie.close ((λ (a, b, c, d, e). tie.spec a b c d e) $ omega (arith, words-small))
+words-needed-spec = tie.close ((λ (a, b, c, d). tie.spec a b c d) $ omega (arith, words-small))

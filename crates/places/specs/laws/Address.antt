@@ -8,7 +8,7 @@ use native.Mathlib.Omega.{arith}
 use lib.Dec.{ltb}
 use borrow.Author.Tests.{ltb-true, ltb-false}
 use Rattle.places.specs.declared.Place.{Place}
-use Rattle.places.specs.Address.{address, area, wordsNeeded, Inside, Small, Apart}
+use Rattle.places.specs.Address.{address, area, wordsNeeded, Inside, Limited, Apart}
 use Rattle.places.specs.Order.{Earlier}
 
 -- Numbers are in one of three orders.
@@ -84,15 +84,15 @@ pub address-in : (tall i j side wide : ℕ) → i < tall → j < wide → side �
 unfolding address area
 address-in tall i j side wide h l s = omega (arith, column-first tall j wide l, mul-comm tall wide)
 
--- For lines and figures these are the words needed.
-pub area-needed : (m n : ℕ) → area (m + 1) (n + 1) ≡ wordsNeeded m n
+-- With a row more than there are lines these are the words needed.
+pub area-needed : (m wide : ℕ) → area (m + 1) wide ≡ wordsNeeded m wide
 unfolding area wordsNeeded
-area-needed m n = refl
+area-needed m wide = refl
 
 -- The product in an address is small.
-pub column-small : (tall : ℕ) (place : Place) (side : ℕ) → Inside tall place side → place .column * tall ≤ 800200
+pub column-small : (tall : ℕ) (place : Place) (side : ℕ) → Inside tall place side → place .column * tall ≤ 41010250
 column-small tall place side r = mul-le-mul (r .wide) (r .high)
 
 -- The product in the words needed is small.
-pub words-small : (m n : ℕ) → Small m n → (m + 1) * (n + 1) ≤ 804201
-words-small m n r = mul-le-mul {n₁ = m + 1} {m₁ = n + 1} {n₂ = 4001} {m₂ = 201} (omega arith) (omega arith)
+pub words-small : (m wide : ℕ) → Limited m wide → (m + 1) * wide ≤ 41014251
+words-small m wide r = mul-le-mul {n₁ = m + 1} {m₁ = wide} {n₂ = 4001} {m₂ = 10251} (omega arith) (r .columns)

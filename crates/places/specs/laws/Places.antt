@@ -1,26 +1,31 @@
 -- Places of a galley by line and column: what is inside the full place, the first place and the last, and the orders.
-use Prim.Native.Nat.{ℕ, suc, _≤_, _<_}
-use native.Mathlib.Decide.{decLe, decLt}
+use Prim.Native.Nat.{ℕ, suc, _+_, _-_, _≤_, _<_}
+use native.Mathlib.Decide.{decLe, decLt, ℕ-discrete}
 use native.Mathlib.Omega.{arith}
 use mathlib.Core.Path.{_≡_, refl, sym, _∙_, ap}
 use mathlib.Core.Logic.{inl, inr, _↔_}
-use mathlib.Core.Bool.{true}
+use mathlib.Core.Bool.{Bool, true, false, _&&_}
 use mathlib.Core.List.{[], _∷_}
 use lib.ListN.{length, getD, List·getD-eq-default}
+use lib.Dec.{eqb}
+use borrow.Author.Tests.{eq-eqb, ne-eqb}
 use Rattle.model.specs.Gather.{row}
 use Rattle.model.specs.Galley.{Galley, Place, count, streams, zeros, sizes}
+use Rattle.model.specs.Answers.{same}
 use Rattle.model.specs.Order.{lex, geb}
 use Rattle.model.specs.Rules.{forward}
 use Rattle.model.specs.laws.Gather.{length-row}
 use Rattle.model.specs.laws.Rules.{Forward, forward-at, placed, placed-grows}
 use Rattle.model.specs.laws.Lists.{Inside}
+use Rattle.model.specs.laws.Valid.{same-true, same-refl}
 use Rattle.places.specs.Columns.{columns, floatsAt, floatSizes, floatPlace, placeAt, columnIn}
 use Rattle.places.specs.laws.Columns.{inside-head, inside-tail, inside-cons, column-below, floats-of-column, floats-inside, column-of-floats, column-grows, column-empty, floats-none, floats-all}
 use Rattle.places.specs.Order.{Earlier, NoLater}
 use Rattle.places.specs.laws.Ties.{place-first}
 
 module _ (g : Galley) where
-  sizes-cons : sizes g ≡ g .stream 0 .size ∷ floatSizes g
+  -- The sizes of a galley's streams are that of the text and those of the floats.
+  pub sizes-cons : sizes g ≡ g .stream 0 .size ∷ floatSizes g
   unfolding sizes streams floatSizes row
   sizes-cons = refl
 
@@ -82,6 +87,36 @@ module _ (g : Galley) where
   place-same i c a b h k e =
       let d : columnIn g (placeAt g i c) ≡ columnIn g (placeAt g a b) = ap (columnIn g) e in
       (ap (λ v. getD v 0 0) e, sym (column-at i c h) ∙ d ∙ column-at a b k)
+
+  -- Only the place of all lines and the last column is full.
+  pub full-at : (i c : ℕ) → c < columns (floatSizes g)
+      → same (placeAt g i c) (sizes g) ≡ (eqb i (g .stream 0 .size) && eqb (c + 1) (columns (floatSizes g)))
+  full-at i c k = go (same (placeAt g i c) (sizes g)) refl (ℕ-discrete i (g .stream 0 .size)) (ℕ-discrete (c + 1) (columns (floatSizes g)))
+    where
+      last : ℕ
+      last = columns (floatSizes g) - 1
+
+      next : suc last ≡ columns (floatSizes g)
+      next = omega (arith, k)
+
+      never : {A : Type 0} → _≡_ {A = Bool} true false → A
+      never e = let z : _≡_ {A = ℕ} 0 1 = cc in absurd (omega arith)
+
+      only : same (placeAt g i c) (sizes g) ≡ true → (i ≡ g .stream 0 .size) × (c ≡ last)
+      only e =
+          place-same i c (g .stream 0 .size) last k (omega (arith, next)) (same-true (placeAt g i c) (sizes g) e ∙ sym (place-all last next))
+
+      all : i ≡ g .stream 0 .size → c + 1 ≡ columns (floatSizes g) → same (placeAt g i c) (sizes g) ≡ true
+      all e f = rw (e, place-all c (omega arith)) (same-refl (sizes g))
+
+      go : (t : Bool) → same (placeAt g i c) (sizes g) ≡ t → Dec (i ≡ g .stream 0 .size) → Dec (c + 1 ≡ columns (floatSizes g))
+          → t ≡ (eqb i (g .stream 0 .size) && eqb (c + 1) (columns (floatSizes g)))
+      go true e (yes p) (yes q) = rw (eq-eqb i (g .stream 0 .size) p, eq-eqb (c + 1) (columns (floatSizes g)) q)
+      go false e (yes p) (yes q) = never (sym (all p q) ∙ e)
+      go true e (no p) d = absurd (p (only e .0))
+      go true e (yes p) (no q) = absurd (q (omega (arith, only e .1, next)))
+      go false e (no p) d = rw (ne-eqb i (g .stream 0 .size) p)
+      go false e (yes p) (no q) = rw (eq-eqb i (g .stream 0 .size) p, ne-eqb (c + 1) (columns (floatSizes g)) q)
 
   -- The tie order is that of line and column, later first.
   pub place-tie : (i c a b : ℕ) → c < columns (floatSizes g) → b < columns (floatSizes g)

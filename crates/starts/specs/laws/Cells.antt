@@ -20,7 +20,7 @@ use Rattle.places.specs.Best.{Best}
 use Rattle.places.specs.laws.Best.{best-none}
 use Rattle.starts.specs.Better.{wins, chosen, taken}
 use Rattle.starts.specs.Choice.{Starts, Between}
-use Rattle.starts.specs.Read.{tableIn, sideOf, searchOf}
+use Rattle.starts.specs.Read.{tableIn, sideOf, searchOf, columnsIn}
 use Rattle.starts.specs.Sweep.{Knows, Known, number, Swept, Scratched, fresh, more, Changed, Blank, ColumnRoom, Cleared}
 use Rattle.starts.specs.laws.Sweep.{best-same}
 use Rattle.starts.specs.laws.Lending.{side-either}
@@ -37,13 +37,13 @@ scratched-length g j w v (more x y i c e b l m p) =
     ap length p ∙ stored-length x (address (g .text .count + 1) i j c) e ∙ scratched-length g j w x b
 
 -- One store, of an entry or of the better of two, at a place of the work area.
-module _ (g : Galley) (w : List ℕ) (i j c : ℕ) (line : i ≤ g .text .count) (column : j ≤ g .figures .count) (occurs : c < g .spec .sides)
-    (two : g .spec .sides ≤ 2) (room : wordsNeeded (g .text .count) (g .figures .count) ≤ length w) where
+module _ (g : Galley) (w : List ℕ) (i j c : ℕ) (line : i ≤ g .text .count) (column : j < columnsIn g) (occurs : c < g .spec .sides)
+    (two : g .spec .sides ≤ 2) (room : wordsNeeded (g .text .count) (columnsIn g) ≤ length w) where
   pub stored-changes : (e : Entry) (v : List ℕ) → v ≡ stored w (address (g .text .count + 1) i j c) e → Changed g w v i j c e
   stored-changes e v p =
       let side : c ≤ 1 = omega arith in
-      let a = address-in (g .text .count + 1) i j c (g .figures .count + 1) (omega arith) (omega arith) side in
-      let n = area-needed (g .text .count) (g .figures .count) in
+      let a = address-in (g .text .count + 1) i j c (columnsIn g) (omega arith) column side in
+      let n = area-needed (g .text .count) (columnsIn g) in
       record {
         sized = ap length p ∙ stored-length w (address (g .text .count + 1) i j c) e;
         own =
@@ -127,10 +127,10 @@ swept-side c i few l m s =
       left = λ k d h h′ n. s .left k d h h′ (omega arith);
     }
 
--- In an unreached column no start is known, and there is none from column j on and before it.
-pub blank-known : (bytes : List ℕ) (g : Galley) (w : List ℕ) (j : ℕ) → g .text .count ≤ 4000 → g .spec .sides ≤ 2
-    → Blank g w j (number 2 0) → Known bytes g w j j
-blank-known bytes g w j few two blank k c l m =
+-- In an unreached column no start is known, and there is none from a column b on and before it that is no earlier.
+pub blank-known : (bytes : List ℕ) (g : Galley) (w : List ℕ) (j b : ℕ) → j ≤ b → g .text .count ≤ 4000 → g .spec .sides ≤ 2
+    → Blank g w j (number 2 0) → Known bytes g w j b
+blank-known bytes g w j b past few two blank k c l m =
     rw (blank k c l m (omega arith)) (best-none (λ a b x p. omega (arith, p .0 .0, p .0 .1)))
 
 -- Nothing is cleared at first,
@@ -150,10 +150,10 @@ cleared-then {g} {w} {v} {u} {j} a b =
 pub clear-next : {g : Galley} {w : List ℕ} {j : ℕ} (i c : ℕ) → ColumnRoom g w j → i ≤ g .text .count → c < g .spec .sides
     → (v : List ℕ) → v ≡ stored w (address (g .text .count + 1) i j c) Unreached → Cleared g w v j (number c i) (number c (i + 1))
 clear-next {g} {w} {j} i c asked line occurs v e =
-    let changed = stored-changes g w i j c line (asked .within) occurs (asked .two) (asked .room) Unreached v e in
+    let changed = stored-changes g w i j c line (asked .wide .within) occurs (asked .two) (asked .room) Unreached v e in
     record {
       sized = changed .sized;
-      blank = blank-next changed (asked .few) line (omega (arith, asked .two)) (asked .two) refl;
+      blank = blank-next changed (asked .wide .few) line (omega (arith, asked .two)) (asked .two) refl;
       kept = changed .kept;
     }
 
@@ -172,10 +172,4 @@ cleared-all c few l a =
 -- The column can be cleared further.
 pub clear-sized : {g : Galley} {w v : List ℕ} {j n m : ℕ} → Cleared g w v j n m → ColumnRoom g w j → ColumnRoom g v j
 clear-sized cleared asked =
-    record {
-      few = asked .few;
-      narrow = asked .narrow;
-      within = asked .within;
-      two = asked .two;
-      room = omega (arith, asked .room, cleared .sized);
-    }
+    record { wide = asked .wide; two = asked .two; room = omega (arith, asked .room, cleared .sized) }

@@ -1,9 +1,9 @@
 -- The height of a page is that of its lines and of what it has beside them; and when a page goes forward, by line and column.
 use Prim.Native.Nat.{ℕ, zero, suc, pred, _+_, _*_, _≤_, _<_}
-use native.Mathlib.Nat.{le-refl, le-suc-iff}
+use native.Mathlib.Nat.{le-refl, le-suc-iff, suc-mul}
 use native.Mathlib.Decide.{decLe, decLt}
 use native.Mathlib.Omega.{arith}
-use mathlib.Core.Path.{_≡_, refl, sym}
+use mathlib.Core.Path.{_≡_, refl, sym, _∙_, ap}
 use mathlib.Core.Logic.{_⊎_, inl, inr}
 use mathlib.Core.Bool.{true}
 use lib.ListN.{length, getD, List·getD-eq-default}
@@ -13,15 +13,15 @@ use Rattle.model.specs.Gather.{one, sum, total}
 use Rattle.model.specs.Galley.{Stream, Galley, Place, count, streams, sizes}
 use Rattle.model.specs.Height.{has, kinds, stacked, height, tightest}
 use Rattle.model.specs.Rules.{forward, fits}
-use Rattle.model.specs.laws.Gather.{sum-ext, length-row}
+use Rattle.model.specs.laws.Gather.{sum-ext, sum-zero, sum-has, length-row}
 use Rattle.model.specs.laws.Height.{between-none, tightest-grows}
-use Rattle.model.specs.laws.Rules.{forward-of}
+use Rattle.model.specs.laws.Rules.{forward-at, forward-of}
 use Rattle.model.specs.laws.Lists.{Inside}
 use Rattle.model.specs.laws.Valid.{count-sizes}
 use Rattle.places.specs.Columns.{columns, floatsAt, floatSizes, placeAt}
 use Rattle.places.specs.laws.Columns.{inside-cons, inside-tail, column-grows, column-of-floats}
 use Rattle.places.specs.Order.{Earlier}
-use Rattle.places.specs.laws.Places.{place-inside}
+use Rattle.places.specs.laws.Places.{place-inside, line-at}
 use Rattle.starts.specs.Beside.{Under, floatsHigh, floatKinds, beside, alone}
 
 module _ (g : Galley) (gap : Stream → ℕ → ℕ) (separation : ℕ) where
@@ -146,6 +146,48 @@ module _ (g : Galley) (i q : ℕ) (high : i ≤ g .stream 0 .size) (wide : q < c
           none : Earlier a b i q → ⊥
           none (inl l) = omega (arith, across)
           none (inr (e, l)) = omega (arith, lines)
+
+-- From an earlier column under another there is some kind of float,
+pub kinds-some : (g : Galley) (b q : ℕ) → q < columns (floatSizes g) → Under g b q → b < q → 0 < floatKinds g b q
+unfolding floatKinds has
+kinds-some g b q wide under l =
+    go (forward-at g (placeAt g 0 b) (placeAt g 0 q) (forward-under g 0 q (omega arith) wide 0 b (le-refl 0) (omega arith) under (inl l)) .more)
+  where
+    go : (s : ℕ) × (s ≤ g .floats) × (count (placeAt g 0 b) s < count (placeAt g 0 q) s)
+        → 0 < sum (g .floats) (λ s. one (ltb (count (placeAt g 0 b) s) (count (placeAt g 0 q) s)))
+    go (zero, k, m) = absurd (omega (arith, line-at g 0 b, line-at g 0 q))
+    go (suc s, k, m) =
+        let here = sum-has (g .floats) (λ s. one (ltb (count (placeAt g 0 b) s) (count (placeAt g 0 q) s))) (suc s) (omega arith) k in
+        let some = ap one (lt-ltb (count (placeAt g 0 b) (suc s)) (count (placeAt g 0 q) (suc s)) m) in
+        omega arith
+
+-- so that floats have one separation more beside lines than alone.
+pub beside-alone : (g : Galley) (gap : Stream → ℕ → ℕ) (separation b q : ℕ) → 0 < floatKinds g b q
+    → beside g gap separation b q ≡ alone g gap separation b q + separation
+unfolding beside alone
+beside-alone g gap separation b q some =
+    let next : floatKinds g b q ≡ suc (pred (floatKinds g b q)) = omega arith in
+    let times = ap (λ n. n * separation) next ∙ suc-mul (pred (floatKinds g b q)) separation in
+    omega arith
+
+-- From a column to itself there is no float, and so nothing beside lines.
+pub beside-none : (g : Galley) (gap : Stream → ℕ → ℕ) (separation q : ℕ) → beside g gap separation q q ≡ 0
+unfolding beside floatsHigh floatKinds has stacked
+beside-none g gap separation q =
+    rw (
+      sum-ext (g .floats) _ _ (λ k h l. low k) ∙ sum-zero (g .floats),
+      sum-ext (g .floats) _ _ (λ k h l. none k) ∙ sum-zero (g .floats),
+    ) (omega arith)
+  where
+    low : (k : ℕ) → stacked (g .stream k) (gap (g .stream k)) (count (placeAt g 0 q) k) (count (placeAt g 0 q) k) ≡ 0
+    low k =
+        let at = count (placeAt g 0 q) k in
+        let x = between-none (g .stream k .ht) at at (le-refl at) in
+        let y = between-none (gap (g .stream k)) at (pred at) (omega arith) in
+        unfold stacked in omega arith
+
+    none : (k : ℕ) → one (has (placeAt g 0 q) (placeAt g 0 q) k) ≡ 0
+    none k = unfold has in ap one (le-ltb (count (placeAt g 0 q) k) (count (placeAt g 0 q) k) (le-refl _))
 
 -- A page that starts later in every stream fits where the earlier one does.
 pub fits-later : (g : Galley) (u u′ v : Place) → Inside u u′ → Inside v u → fits g u′ v ≡ true → fits g u v ≡ true

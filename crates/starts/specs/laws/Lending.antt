@@ -1,16 +1,16 @@
 -- What is lent for a column is enough for the window, the queue and the best starts.
-use Prim.Native.Nat.{ℕ, _+_, _-_, _≤_}
+use Prim.Native.Nat.{ℕ, _+_, _-_, _≤_, _<_}
+use native.Mathlib.Nat.{mul-le-mul-right}
 use native.Mathlib.Omega.{arith}
 use mathlib.Core.Path.{_≡_}
-use mathlib.Core.Bool.{Bool}
 use mathlib.Core.List.{List}
 use lib.ListN.{length}
 use Rattle.model.specs.Galley.{Sides, single, double}
 use Rattle.galley.specs.declared.Galley.{Galley}
-use Rattle.galley.specs.Model.{floatsOf, sidesIn}
+use Rattle.galley.specs.Model.{sidesIn}
 use Rattle.blocks.specs.declared.heights.Heights.{Heights}
-use Rattle.blocks.specs.Heights.{noHeights, Addable, Stacked}
-use Rattle.blocks.specs.laws.Heights.{separation-most, Low, stacked-small}
+use Rattle.blocks.specs.Heights.{Separable}
+use Rattle.blocks.specs.laws.Heights.{Low}
 use Rattle.places.specs.Address.{wordsNeeded, Stands}
 use Rattle.places.specs.laws.Address.{address-in, area-needed}
 use Rattle.window.specs.declared.slide.Window.{Window}
@@ -19,8 +19,9 @@ use Rattle.window.specs.Slide.{Reachable, Slidable}
 use Rattle.window.specs.Queue.{FeedAsked, FrontAsked}
 use Rattle.window.specs.laws.Sums.{sums-small}
 use Rattle.starts.specs.Search.{before}
-use Rattle.starts.specs.Read.{sideOf, loadOf, Placed}
-use Rattle.starts.specs.Sweep.{Lent, Scratch, Summed}
+use Rattle.starts.specs.Read.{sideOf, columnsIn, FewFloats, loadOf, Placed}
+use Rattle.starts.specs.Sweep.{Lent, Scratch, Summed, Wide}
+use Rattle.starts.specs.laws.Columns.{few-floats, columns-few}
 
 -- The page before is on side 0 or 1.
 pub side-either : (g : Galley) (c : ℕ) → sideOf g c ≤ 1
@@ -32,17 +33,17 @@ side-either g c = go (sidesIn g)
     go (double f) = omega arith
 
 -- A place of a galley within the limits stands in a work area that is long enough.
-pub stands-in : (g : Galley) (w : List ℕ) (i b side : ℕ) → g .text .count ≤ 4000 → i ≤ g .text .count → b ≤ g .figures .count → b ≤ 200
-    → side ≤ 1 → wordsNeeded (g .text .count) (g .figures .count) ≤ length w
+pub stands-in : (g : Galley) (w : List ℕ) (i b side : ℕ) → g .text .count ≤ 4000 → FewFloats g → i ≤ g .text .count → b < columnsIn g
+    → side ≤ 1 → wordsNeeded (g .text .count) (columnsIn g) ≤ length w
     → Stands w (g .text .count + 1) (record { line = i; column = b }) side
-stands-in g w i b side few h k narrow l room =
+stands-in g w i b side few floats h k l room =
     record {
-      inside = record { high = omega arith; row = omega arith; wide = narrow; either = l };
+      inside = record { high = omega arith; row = omega arith; wide = omega (arith, columns-few g floats); either = l };
       room =
           omega (
             arith,
-            address-in (g .text .count + 1) i b side (g .figures .count + 1) (omega arith) (omega arith) l,
-            area-needed (g .text .count) (g .figures .count),
+            address-in (g .text .count + 1) i b side (columnsIn g) (omega arith) k l,
+            area-needed (g .text .count) (columnsIn g),
           );
     }
 
@@ -56,46 +57,40 @@ module _ {bytes : List ℕ} {g : Galley} {w : List ℕ} {j : ℕ} (lent : Lent b
   pub lent-placed : (i : ℕ) → i ≤ g .text .count → Placed bytes g i j
   lent-placed i h = record { sound = lent .sound; line = h; column = lent .column }
 
+  -- A column of a galley within the limits.
+  pub lent-wide : Wide g j
+  lent-wide = record { few = lent .sound .fewLines; floats = few-floats (lent .sound); within = lent .column }
+
   -- A place stands in the work area.
-  pub can-stand : (i b side : ℕ) → i ≤ g .text .count → b ≤ g .figures .count → side ≤ 1
+  pub can-stand : (i b side : ℕ) → i ≤ g .text .count → b < columnsIn g → side ≤ 1
       → Stands w (g .text .count + 1) (record { line = i; column = b }) side
-  can-stand i b side h k l = stands-in g w i b side (lent .sound .fewLines) h k (omega (arith, lent .sound .fewFigures)) l (lent .room)
+  can-stand i b side h k l = stands-in g w i b side (lent .sound .fewLines) (few-floats (lent .sound)) h k l (lent .room)
 
-  -- The figures of a page can be added to its lines.
-  figures-low : (b : ℕ) (figures : Heights) → Stacked (floatsOf bytes (g .figures)) b j figures → Low 40000000 figures
-  figures-low b figures floats =
-      let few = lent .sound .fewFigures in
-      let low = stacked-small bytes (g .figures) b j figures (lent .sound .figures) (lent .column) floats in
-      record { tight = omega arith; loose = omega arith }
-
-  pub figures-add : (b : ℕ) (figures : Heights) → Stacked (floatsOf bytes (g .figures)) b j figures
-      → Addable (g .spec) noHeights figures
-  figures-add b figures floats =
-      let low = figures-low b figures floats in
+  -- A separation or none can be added to floats.
+  pub floats-separable : (n : ℕ) (floats : Heights) → n ≤ 1 → Low 60000000 floats → Separable (g .spec) n floats
+  floats-separable n floats few low =
       let spec = lent .sound .specRanged in
       record {
+        few = omega arith;
         smin = omega (arith, spec .smins, spec .smaxs);
         smax = spec .smaxs;
-        lineTight = omega arith;
-        lineLoose = omega arith;
-        figureTight = omega (arith, low .tight);
-        figureLoose = omega (arith, low .loose);
+        tight = omega (arith, low .tight);
+        loose = omega (arith, low .loose);
       }
 
   -- Both ends of a window can be moved on to line i.
-  pub can-slide : {sums : List ℕ} → Summed bytes g sums → (mixed : Bool) (b : ℕ) (figures : Heights)
-      → Stacked (floatsOf bytes (g .figures)) b j figures → (least : ℕ) → least ≤ g .spec .htmax → (window : Window) (i : ℕ)
-      → i ≤ g .text .count → window .low ≤ i → window .high ≤ i → Slidable sums (loadOf g mixed figures least) window i
-  can-slide {sums} summed mixed b figures floats least under window i h low high =
-      let beside = figures-low b figures floats in
+  pub can-slide : {sums : List ℕ} → Summed bytes g sums → (n : ℕ) (floats : Heights) → n ≤ 1 → Low 60000000 floats
+      → (least : ℕ) → least ≤ g .spec .htmax → (window : Window) (i : ℕ)
+      → i ≤ g .text .count → window .low ≤ i → window .high ≤ i → Slidable sums (loadOf g n floats least) window i
+  can-slide {sums} summed n floats few beside least under window i h low high =
       let spec = lent .sound .specRanged in
-      let load = loadOf g mixed figures least in
-      let p = separation-most mixed (g .spec .smin) (omega (arith, spec .smins, spec .smaxs)) in
-      let q = separation-most mixed (g .spec .smax) (spec .smaxs) in
+      let load = loadOf g n floats least in
+      let p = mul-le-mul-right (g .spec .smin) few in
+      let q = mul-le-mul-right (g .spec .smax) few in
       record {
-        low = from 0 (load .tight) (load .htmax + 1) (window .low) (omega arith) (omega (arith, beside .tight))
+        low = from 0 (load .tight) (load .htmax + 1) (window .low) (omega arith) (omega (arith, beside .tight, spec .smins, spec .smaxs))
             (omega (arith, spec .htmaxs)) low;
-        high = from 1 (load .loose) (load .htmin) (window .high) (omega arith) (omega (arith, beside .loose))
+        high = from 1 (load .loose) (load .htmin) (window .high) (omega arith) (omega (arith, beside .loose, spec .smaxs))
             (omega (arith, spec .htmaxs)) high;
       }
     where
@@ -114,7 +109,7 @@ module _ {bytes : List ℕ} {g : Galley} {w : List ℕ} {j : ℕ} (lent : Lent b
           }
 
   -- A queue of the lines of column b can be moved on to a window that ends by line i.
-  pub can-feed : {words : List ℕ} → Scratch words → (b : ℕ) → b ≤ g .figures .count → (queue : Queue) (c from to i : ℕ)
+  pub can-feed : {words : List ℕ} → Scratch words → (b : ℕ) → b < columnsIn g → (queue : Queue) (c from to i : ℕ)
       → i ≤ g .text .count → from ≤ to → to ≤ i → queue .base ≤ 4000 → queue .base ≤ queue .head → queue .head ≤ queue .tail
       → queue .tail ≤ queue .base + from → FeedAsked w (g .text .count + 1) b (sideOf g c) words queue from to
   can-feed scratch b k queue c from to i h rises inside low based order short =
@@ -128,12 +123,12 @@ module _ {bytes : List ℕ} {g : Galley} {w : List ℕ} {j : ℕ} (lent : Lent b
       }
 
   -- The first entry of the queue of such a window can be read.
-  pub can-front : {words : List ℕ} → Scratch words → (b : ℕ) → b ≤ g .figures .count → (queue : Queue) (high : ℕ)
+  pub can-front : {words : List ℕ} → Scratch words → (b : ℕ) → b < columnsIn g → (queue : Queue) (high : ℕ)
       → high ≤ g .text .count → queue .base ≤ 4000 → queue .head ≤ queue .tail → queue .tail ≤ queue .base + high
       → FrontAsked words queue b
   can-front scratch b k queue high l low order short =
       record {
         order = order;
         room = omega (arith, scratch, lent .sound .fewLines);
-        column = omega (arith, lent .sound .fewFigures);
+        column = omega (arith, columns-few g (few-floats (lent .sound)));
       }

@@ -16,8 +16,8 @@ use Rattle.model.specs.laws.Lists.{Inside}
 use Rattle.theorems.specs.pages.Graph.{full}
 use Rattle.places.specs.Order.{Earlier}
 use Rattle.places.specs.Columns.{placeAt}
-use Rattle.places.specs.laws.Columns.{inside-cons}
-use Rattle.places.specs.laws.Places.{place-inside, forward-earlier, line-at, column-at}
+use Rattle.places.specs.laws.Columns.{inside-cons, inside-tail}
+use Rattle.places.specs.laws.Places.{place-inside, forward-inside, forward-earlier, line-at, column-at}
 use Rattle.starts.specs.Search.{Search, goes}
 use Rattle.starts.specs.Choice.{Candidate}
 use Rattle.starts.specs.Beside.{Under, beside, alone, Sought}
@@ -102,6 +102,17 @@ module _ (s : Search) (sought : Sought s) where
       let x : count (placeAt (s .galley) a b) 0 ≡ a = line-at (s .galley) a b in
       let y : count v 0 ≡ s .line = line-at (s .galley) (s .line) (s .column) in
       rw (e, h, x, y) at f
+
+  -- only in columns under this one,
+  pub candidate-under : (a b x : ℕ) → Candidate s a b x → Under (s .galley) b (s .column)
+  unfolding placeAt
+  candidate-under a b x c =
+      let l = c .line in
+      let k = c .column in
+      inside-tail (s .line) a _ _
+      (forward-inside (s .galley) (placeAt (s .galley) a b) v
+      (place-inside (s .galley) a b (omega (arith, sought .high)) (omega (arith, sought .wide)))
+      (place-inside (s .galley) (s .line) (s .column) (sought .high) (sought .wide)) (candidate-forward a b x c))
 
   -- and in none that is under a column whose floats alone are too tall.
   pub column-over : (b a b′ x : ℕ) → b ≤ s .column → Under (s .galley) b (s .column) → Under (s .galley) b′ b

@@ -1,11 +1,11 @@
 -- One line of a pass: what its place knows once the lines before it and the floats alone are weighed.
 use Prim.Native.Nat.{ℕ, _+_, _≤_, _<_}
 use native.Mathlib.Omega.{arith}
-use mathlib.Core.Path.{_≡_, refl}
+use mathlib.Core.Path.{_≡_, refl, sym, _∙_, ap}
 use mathlib.Core.Bool.{Bool, true, false, _&&_}
 use mathlib.Core.List.{List}
 use lib.Dec.{eqb}
-use borrow.Author.Tests.{lt-ltb, ne-eqb}
+use borrow.Author.Tests.{ne-eqb}
 use Rattle.model.specs.Gather.{pick}
 use Rattle.model.specs.Rules.{floor}
 use Rattle.galley.specs.declared.Galley.{Galley}
@@ -19,9 +19,11 @@ use Rattle.window.specs.Queue.{linesOf, Lines}
 use Rattle.starts.specs.declared.sweep.Pass.{Pass}
 use Rattle.starts.specs.Better.{chosen}
 use Rattle.starts.specs.Choice.{Starts, Between}
-use Rattle.starts.specs.Read.{tableIn, sideOf, searchOf, allPlaced}
+use Rattle.starts.specs.Beside.{Bears}
+use Rattle.starts.specs.Read.{tableIn, sideOf, searchOf, lastColumn, lastPlace}
 use Rattle.starts.specs.Sweep.{Lent, passLoad, Passing, aloneOf, weighed, Ended, number, Swept, Changed, sweepEnd}
-use Rattle.starts.specs.laws.One.{under-one, sought-one, bears-one, alone-one}
+use Rattle.starts.specs.laws.Heights.{kinds-some, beside-alone}
+use Rattle.starts.specs.laws.Columns.{columns-in, full-in, sought-in}
 use Rattle.starts.specs.laws.Sweep.{window-best, alone-best, improved}
 use Rattle.starts.specs.laws.Lending.{side-either, lent-placed, can-stand}
 use Rattle.starts.specs.laws.Cells.{taken-changes, swept-next}
@@ -33,8 +35,8 @@ least-low bytes g sound false = sound .specRanged .htmins
 
 -- The lines that a sweep takes are the galley's, and none of them ends the last page.
 pub end-inner : (g : Galley) (pass : Pass) (i : ℕ) → i < sweepEnd g pass
-    → (i ≤ g .text .count) × (allPlaced g i (pass .to) ≡ false)
-end-inner g pass i = go (eqb (pass .to) (g .figures .count))
+    → (i ≤ g .text .count) × (lastPlace g i (pass .to) ≡ false)
+end-inner g pass i = go (lastColumn g (pass .to))
   where
     last : (x : Bool) → (x && false) ≡ false
     last true = refl
@@ -62,28 +64,37 @@ module _ {bytes : List ℕ} {g : Galley} {w : List ℕ} {pass : Pass} (lent : Le
         side = side;
       }
 
-  module _ (least : pass .least ≡ floor (modelOf bytes g) (allPlaced g i (pass .to))) (window : Window)
+  module _ (least : pass .least ≡ floor (modelOf bytes g) (lastPlace g i (pass .to))) (window : Window)
       (opened : Open (textOf bytes (g .text)) (passLoad g pass) window i) (lines : Entry)
       (best : Best (Lines (linesOf w (g .text .count + 1) (pass .from) (sideOf g c)) (window .low) (window .high) (pass .from)) lines)
       (swept : Swept bytes g w (pass .to) (pass .from) (number c i)) where
     abbrev held : Entry
     held = tableIn g w i (pass .to) c
 
+    bears : Bears (searchOf bytes g w i (pass .to) (sideOf g c)) (pass .from) (passLoad g pass)
+    bears =
+        let model = modelOf bytes g in
+        let some = kinds-some model (pass .from) (pass .to) (omega (arith, lent .column, columns-in bytes g)) (passing .under) (passing .before) in
+        let tight = beside-alone model (λ st. st .least) (g .spec .smin) (pass .from) (pass .to) some in
+        let loose = beside-alone model (λ st. st .most) (g .spec .smax) (pass .from) (pass .to) some in
+        record {
+          tight = omega (arith, passing .tight);
+          loose = omega (arith, passing .loose);
+          htmin = least ∙ ap (floor model) (sym (full-in bytes g i (pass .to) (lent .column)));
+          htmax = refl;
+        }
+
     weighed-best : Best (Starts (searchOf bytes g w i (pass .to) (sideOf g c)) (Between (pass .from) (pass .to)))
         (chosen held (chosen lines (aloneOf g w i (sideOf g c) pass)))
     weighed-best =
         let s = searchOf bytes g w i (pass .to) (sideOf g c) in
-        let sought = sought-one bytes g w i (pass .to) (sideOf g c) (lent-placed lent i line) in
+        let sought = sought-in bytes g w i (pass .to) (sideOf g c) (lent-placed lent i line) in
         let left : pass .from ≤ pass .to = omega (arith, passing .before) in
-        let under = under-one bytes g (pass .from) (pass .to) left in
-        let mixed = lt-ltb (pass .from) (pass .to) (passing .before) in
-        let bears = bears-one bytes g (pass .from) (pass .to) (pass .heights) (passing .floats) w i (sideOf g c) true mixed (pass .least) least in
-        let (tight, loose) = alone-one bytes g (pass .from) (pass .to) (pass .heights) (passing .floats) (passing .before) in
         improved s (pass .from) (pass .to) (passing .before) held lines (aloneOf g w i (sideOf g c) pass)
         (swept .left i c line occurs (omega arith))
-        (window-best s sought (pass .from) left under (passLoad g pass) bears window opened lines best)
-        (alone-best s sought (pass .from) left under (passing .before) (pass .heights .tight) (pass .heights .loose) (pass .least)
-        tight loose (bears .htmin) (passing .short))
+        (window-best s sought (pass .from) left (passing .under) (passLoad g pass) bears window opened lines best)
+        (alone-best s sought (pass .from) left (passing .under) (passing .before) (pass .heights .tight) (pass .heights .loose)
+        (pass .least) (passing .tight) (passing .loose) (bears .htmin) (passing .short))
 
     module _ (v : List ℕ) (e : v ≡ weighed g w lines i c pass) where
       -- The place holds the better of what it held and of what is weighed,

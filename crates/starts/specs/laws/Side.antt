@@ -1,11 +1,12 @@
 -- The lines of a side in a sweep: what holds when it starts, at each line, and at its end.
 use Prim.Native.Nat.{ℕ, _+_, _≤_, _<_}
+use native.Mathlib.Nat.{le-refl}
 use native.Mathlib.Numerals.{add-one}
 use native.Mathlib.Decide.{decLt, ℕ-discrete}
 use native.Mathlib.Omega.{arith}
 use mathlib.Core.Path.{_≡_, refl, sym, ap, _∙_, subst}
 use mathlib.Core.Logic.{_⊎_, inl, inr}
-use mathlib.Core.Bool.{true, false}
+use mathlib.Core.Bool.{false}
 use mathlib.Core.List.{List}
 use lib.ListN.{length}
 use Rattle.model.specs.Galley.{Stream}
@@ -23,7 +24,7 @@ use Rattle.window.specs.laws.Held.{held-none, held-same, held-beside}
 use Rattle.window.specs.laws.Front.{front-best}
 use Rattle.window.specs.laws.Windows.{window-beside, kept-beside, ends-rise}
 use Rattle.starts.specs.declared.sweep.Pass.{Pass}
-use Rattle.starts.specs.Read.{sideOf, allPlaced}
+use Rattle.starts.specs.Read.{sideOf, columnsIn, lastPlace}
 use Rattle.starts.specs.Sweep.{Lent, passLoad, weighed, Ended, fresh, sweepEnd}
 use Rattle.starts.specs.Swept.{Windowed, Taken, SideSweep, SideRun, SideDone}
 use Rattle.starts.specs.laws.Lending.{side-either, lent-sized, can-slide, can-feed, can-front}
@@ -38,7 +39,7 @@ module _ {bytes : List ℕ} {g : Galley} {w₀ sums words₀ : List ℕ} {c : �
   abbrev column : List ℕ → ℕ → Entry
   column w = linesOf w (g .text .count + 1) (pass .from) (sideOf g c)
 
-  from-low : pass .from ≤ g .figures .count
+  from-low : pass .from < columnsIn g
   from-low = omega (arith, asked .passing .before, asked .lent .column)
 
   -- A side starts with nothing in its queue.
@@ -76,7 +77,7 @@ module _ {bytes : List ℕ} {g : Galley} {w₀ sums words₀ : List ℕ} {c : �
       line : i ≤ g .text .count
       line = end-inner g pass i next .0
 
-      least : pass .least ≡ floor (modelOf bytes g) (allPlaced g i (pass .to))
+      least : pass .least ≡ floor (modelOf bytes g) (lastPlace g i (pass .to))
       least = asked .least ∙ ap (floor (modelOf bytes g)) (sym (end-inner g pass i next .1))
 
       pub side-ended : Ended g w i c pass
@@ -86,7 +87,7 @@ module _ {bytes : List ℕ} {g : Galley} {w₀ sums words₀ : List ℕ} {c : �
       side-slides =
           record {
             slides =
-                can-slide lent-now (asked .summed) true (pass .from) (pass .heights) (asked .passing .floats) (pass .least)
+                can-slide lent-now (asked .summed) 1 (pass .heights) (le-refl 1) (asked .passing .low) (pass .least)
                 (rw (asked .least) (least-low bytes g (asked .lent .sound) false)) window i line (run .ends .low) (run .ends .high);
             few = omega (arith, line, asked .lent .sound .fewLines);
             room = omega (arith, asked .scratch, run .wordsSized);

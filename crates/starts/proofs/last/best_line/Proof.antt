@@ -25,7 +25,7 @@ loop-holds c =
 place-of-requires : tie.Need-place-of-requires Inv-loop μ-loop
 place-of-requires c κs =
     let inside = c .before .before .before .before .pre (c .before .before .loop .a) (c .if1 .taken) .inside in
-    record { lines = omega (arith, inside .row, inside .high); figures = inside .wide }
+    record { line = omega (arith, inside .row, inside .high); column = inside .wide }
 
 entry-of-requires : tie.Need-entry-of-requires Inv-loop μ-loop
 entry-of-requires c κs =

@@ -39,7 +39,7 @@ same-length : tie.Need-same-length Inv-loop μ-loop
 same-length c = search needs
 
 returns : tie.Need-returns Inv-loop μ-loop
-returns c = cleared-all (c .before .before .loop .c) (c .before .before .before .before .pre .few) (c .if1 .left) (c .before .before .loop .inv .1)
+returns c = cleared-all (c .before .before .loop .c) (c .before .before .before .before .pre .wide .few) (c .if1 .left) (c .before .before .loop .inv .1)
 
 pub clear-column-spec : {M : Type 1} → statement M
 clear-column-spec =

@@ -2,6 +2,7 @@
 use Prim.Native.Nat.{suc, _+_, _-_, _≤_}
 use native.Mathlib.Omega.{arith}
 use Rattle.starts.specs.Sweep.{number, Cleared}
+use Rattle.starts.specs.laws.Columns.{columns-few}
 use Rattle.starts.specs.laws.Lending.{stands-in}
 use Rattle.starts.specs.laws.Cells.{cleared-none, cleared-then, clear-next, clear-side, clear-sized}
 use borrow.Author.Needs.{needs}
@@ -19,6 +20,12 @@ loop-holds c =
     let a = c .before .args in
     (omega arith, cleared-none (a .g) (a .work .now) (a .j) (number (a .c) 0))
 
+place-of-requires : tie.Need-place-of-requires Inv-loop μ-loop
+place-of-requires c κs =
+    let start = c .before .before .before .before in
+    let wide = start .pre .0 .wide in
+    record { line = omega (arith, c .if1 .taken, wide .few); column = omega (arith, wide .within, columns-few (start .args .g) (wide .floats)) }
+
 store-requires : tie.Need-store-requires Inv-loop μ-loop
 store-requires c κs =
     let inside = c .before .before .before in
@@ -26,8 +33,8 @@ store-requires c κs =
     let st = inside .before .before .loop in
     let room = clear-sized (st .inv .1) (start .pre .0) in
     rw (c .before .before .place-of .ensures)
-    (stands-in (start .args .g) (st .work) (st .i) (start .args .j) (start .args .c) (room .few) (omega (arith, inside .if1 .taken))
-    (room .within) (room .narrow) (omega (arith, room .two, start .pre .1)) (room .room))
+    (stands-in (start .args .g) (st .work) (st .i) (start .args .j) (start .args .c) (room .wide .few) (room .wide .floats)
+    (omega (arith, inside .if1 .taken)) (room .wide .within) (omega (arith, room .two, start .pre .1)) (room .room))
 
 loop-again : tie.Need-loop-again Inv-loop μ-loop
 loop-again c =
@@ -44,7 +51,7 @@ returns : tie.Need-returns Inv-loop μ-loop
 returns c =
     let start = c .before .before .before .before in
     let st = c .before .before .loop in
-    clear-side _ (start .args .c) (st .i) (start .pre .0 .few) (omega (arith, c .if1 .left)) (st .inv .0) (st .inv .1)
+    clear-side _ (start .args .c) (st .i) (start .pre .0 .wide .few) (omega (arith, c .if1 .left)) (st .inv .0) (st .inv .1)
 
 pub clear-side-spec : {M : Type 1} → statement M
 clear-side-spec =
@@ -53,7 +60,7 @@ clear-side-spec =
     Inv-loop
     μ-loop
     loop-holds
-    (λ c κs. search needs)
+    place-of-requires
     (λ c. search needs)
     store-requires
     (λ c. search needs)

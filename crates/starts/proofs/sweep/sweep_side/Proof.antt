@@ -1,8 +1,9 @@
 -- `sweep_side` meets its contract. The loop's invariant is `SideRun`: the lines above line i know the starts of the pass too.
 use Prim.Native.Nat.{_-_}
+use native.Mathlib.Nat.{le-refl}
 use native.Mathlib.Omega.{arith}
 use Rattle.starts.specs.Swept.{SideRun}
-use Rattle.starts.specs.laws.Lending.{figures-add}
+use Rattle.starts.specs.laws.Lending.{lent-wide, floats-separable}
 use Rattle.starts.specs.laws.Pass.{end-inner}
 use Rattle.starts.specs.laws.Side.{side-first, side-last, side-slides, side-feeds, side-front, side-ended, side-next}
 use borrow.Author.Needs.{needs}
@@ -19,7 +20,10 @@ abbrev μ-loop : tie.MeasureT-loop
 load-of-requires : tie.Need-load-of-requires Inv-loop μ-loop
 load-of-requires c κs =
     let start = c .before .before .before .before in
-    figures-add (start .pre .lent) (start .args .pass .from) (start .args .pass .heights) (start .pre .passing .floats)
+    floats-separable (start .pre .lent) 1 (start .args .pass .heights) (le-refl 1) (start .pre .passing .low)
+
+sweep-end-requires : tie.Need-sweep-end-requires Inv-loop μ-loop
+sweep-end-requires c κs = lent-wide (c .before .before .before .before .before .before .pre .lent)
 
 loop-holds : tie.Need-loop-holds Inv-loop μ-loop
 loop-holds c = side-first (c .before .before .before .before .before .before .before .pre)
@@ -104,7 +108,7 @@ sweep-side-spec =
     μ-loop
     load-of-requires
     (λ c κs. search needs)
-    (λ c κs. search needs)
+    sweep-end-requires
     loop-holds
     window-of-requires
     add-advance

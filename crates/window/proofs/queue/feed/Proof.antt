@@ -36,7 +36,7 @@ loop-holds c =
 place-of-requires : tie.Need-place-of-requires Inv-loop μ-loop
 place-of-requires c κs =
     let stands = c .before .before .before .before .pre .stands (c .before .loop .a) (c .loop-test .taken) in
-    record { lines = omega (arith, stands .inside .row, stands .inside .high); figures = stands .inside .wide }
+    record { line = omega (arith, stands .inside .row, stands .inside .high); column = stands .inside .wide }
 
 entry-of-requires : tie.Need-entry-of-requires Inv-loop μ-loop
 entry-of-requires c κs =

@@ -1,0 +1,252 @@
+-- The columns of a row, one sweep after another: back from the tables of the column where pages end, until the floats are too tall.
+use Prim.Native.Nat.{ℕ, suc, _+_, _-_, _≤_, _<_}
+use native.Mathlib.Nat.{le-refl}
+use native.Mathlib.Omega.{arith}
+use mathlib.Core.Path.{_≡_, refl, sym, ap, _∙_}
+use mathlib.Core.Logic.{_⊎_, inl, inr}
+use mathlib.Core.Bool.{Bool, true, false, _&&_}
+use mathlib.Core.List.{List}
+use lib.ListN.{length}
+use lib.Dec.{ltb}
+use borrow.Author.Tests.{ltb-true, ltb-false}
+use Rattle.model.specs.Gather.{pick}
+use Rattle.galley.specs.declared.Galley.{Galley}
+use Rattle.galley.specs.Model.{floatsOf, modelOf}
+use Rattle.blocks.specs.declared.Counts.{Counts}
+use Rattle.blocks.specs.declared.heights.Heights.{Heights}
+use Rattle.blocks.specs.Counts.{Within}
+use Rattle.blocks.specs.Heights.{noHeights, Room, Stacked, blockBefore}
+use Rattle.blocks.specs.laws.Heights.{stacked-nothing, stacked-small, stacked-room, back-stacked}
+use Rattle.starts.specs.declared.sweep.Pass.{Pass}
+use Rattle.starts.specs.declared.sweep.Row.{Row}
+use Rattle.starts.specs.Choice.{Candidate}
+use Rattle.starts.specs.Beside.{Under, alone}
+use Rattle.starts.specs.Read.{searchOf, countsAt, rowOf}
+use Rattle.starts.specs.Sweep.{fresh, Layable, floatsAlone, rowTop}
+use Rattle.starts.specs.Swept.{RowSweep, RowRun, RowSwept, Sweep, SweepDone}
+use Rattle.starts.specs.laws.Columns.{few-floats, columns-few, row-next, row-grows, row-of, row-figures, row-tables, row-before, row-since, within-at, under-at}
+use Rattle.starts.specs.laws.Floats.{alone-at, alone-low}
+use Rattle.starts.specs.laws.Lending.{lent-sized}
+use Rattle.starts.specs.laws.Cells.{scratched-then}
+use Rattle.starts.specs.laws.Past.{known-past, start-under, start-short}
+
+-- A row offers columns with no more tables than the end, and the end's own row one less.
+abbrev Offered : Row → ℕ → Type 0
+Offered row top =
+    ((row .figures < row .end .figures) × (top ≡ row .end .tables + 1)) ⊎ ((row .end .figures ≤ row .figures) × (top ≡ row .end .tables))
+
+offered : (row : Row) → Offered row (rowTop row)
+unfolding rowTop
+offered row = go (ltb (row .figures) (row .end .figures)) refl
+  where
+    go : (t : Bool) → ltb (row .figures) (row .end .figures) ≡ t → Offered row (pick t (row .end .tables + 1) (row .end .tables))
+    go true e = inl (ltb-true (row .figures) (row .end .figures) e, refl)
+    go false e = inr (omega (arith, ltb-false (row .figures) (row .end .figures) e), refl)
+
+-- A row: its sweeps one after another.
+module _ {bytes : List ℕ} {g : Galley} {w₀ sums words₀ : List ℕ} {row : Row} (asked : RowSweep bytes g w₀ sums words₀ row) where
+  end-figures : row .end .figures ≡ countsAt g 0 (row .to) .figures
+  end-figures = ap (λ (c : Counts). c .figures) (asked .end)
+
+  end-tables : row .end .tables ≡ countsAt g 0 (row .to) .tables
+  end-tables = ap (λ (c : Counts). c .tables) (asked .end)
+
+  end-within : Within g (countsAt g 0 (row .to))
+  end-within = within-at g 0 (row .to) (omega arith) (asked .lent .column)
+
+  -- The end stands in its own row.
+  end-stands : rowOf g (row .end .figures) + row .end .tables ≡ row .to
+  end-stands = rw (end-figures, end-tables) (row-of g 0 (row .to))
+
+  tables-few : row .end .tables ≤ g .tables .count
+  tables-few = omega (arith, end-tables, end-within .tables)
+
+  -- Counts and columns are small.
+  pub end-few : row .end .tables ≤ 50
+  end-few = omega (arith, tables-few, asked .lent .sound .tables .few)
+
+  pub row-small : rowOf g (row .figures) ≤ 10250
+  row-small =
+      omega (
+        arith,
+        row-grows g (row .figures) (row .end .figures) (asked .within),
+        end-stands,
+        asked .lent .column,
+        columns-few g (few-floats (asked .lent .sound)),
+      )
+
+  -- A column of the row stands at its tables.
+  in-row : (x : ℕ) → rowOf g (row .figures) ≤ x → x < rowOf g (suc (row .figures))
+      → (countsAt g 0 x .figures ≡ row .figures) × (rowOf g (row .figures) + countsAt g 0 x .tables ≡ x)
+  in-row x low high =
+      let e : countsAt g 0 x .figures ≡ row .figures =
+      omega (arith, row-since g 0 (row .figures) x low, row-before g 0 (row .figures) x high) in
+      (e, ap (λ b. rowOf g b + countsAt g 0 x .tables) (sym e) ∙ row-of g 0 x)
+
+  -- Before the first sweep no more is known than in the row after it: the columns past the top are not under the end.
+  pub row-first : RowRun bytes g w₀ w₀ words₀ words₀ row noHeights (rowTop row)
+  row-first =
+      record {
+        lent = asked .lent;
+        scratch = asked .scratch;
+        within = le-refl _;
+        sized = refl;
+        wordsSized = refl;
+        floats = stacked-nothing (floatsOf bytes (g .tables)) (rowTop row) (row .end .tables) (high (offered row));
+        known =
+            known-past bytes g w₀ (row .to) (rowOf g (row .figures) + rowTop row) (rowOf g (suc (row .figures)))
+            (omega (arith, row-next g (row .figures), low (offered row))) (λ i a x y side h k l m c. none i a x y side h k l m c (offered row))
+            (asked .known);
+        kept = fresh;
+      }
+    where
+      high : Offered row (rowTop row) → row .end .tables ≤ rowTop row
+      high (inl (l, e)) = omega arith
+      high (inr (l, e)) = omega arith
+
+      low : Offered row (rowTop row) → rowTop row ≤ g .tables .count + 1
+      low (inl (l, e)) = omega (arith, tables-few)
+      low (inr (l, e)) = omega (arith, tables-few)
+
+      none : (i a x y side : ℕ) → i ≤ g .text .count → rowOf g (row .figures) + rowTop row ≤ x → x < rowOf g (suc (row .figures))
+          → x < row .to → Candidate (searchOf bytes g w₀ i (row .to) side) a x y → Offered row (rowTop row) → ⊥
+      none i a x y side h k l m c (inl (n, e)) =
+          omega (arith, in-row x (omega arith) l .1, start-under (asked .lent) i a x y side h c .1, end-tables)
+      none i a x y side h k l m c (inr (n, e)) =
+          let same : row .figures ≡ row .end .figures = omega (arith, asked .within) in
+          omega (arith, ap (rowOf g) same, end-stands)
+
+  module _ {w words : List ℕ} {tables : Heights} {top : ℕ} (run : RowRun bytes g w₀ w words₀ words row tables top) where
+    -- After the last one the row is swept.
+    pub row-last : top ≡ 0 → RowSwept bytes g w₀ w row
+    row-last e =
+        let first : rowOf g (row .figures) + top ≡ rowOf g (row .figures) = omega arith in
+        record { known = rw first at (run .known); kept = run .kept }
+
+    -- There is room for the table before.
+    pub row-room : Room bytes (g .tables) tables (row .end .tables)
+    row-room =
+        stacked-room bytes (g .tables) top (row .end .tables) tables (asked .lent .sound .tables .sound)
+        (omega (arith, asked .lent .sound .tables .few)) tables-few (run .floats)
+
+    module _ (some : 0 < top) where
+      low : top ≤ g .tables .count + 1
+      low = go (offered row)
+        where
+          go : Offered row (rowTop row) → top ≤ g .tables .count + 1
+          go (inl (l, e)) = omega (arith, tables-few, run .within)
+          go (inr (l, e)) = omega (arith, tables-few, run .within)
+
+      abbrev from : ℕ
+      from = rowOf g (row .figures) + (top - 1)
+
+      from-figures : countsAt g 0 from .figures ≡ row .figures
+      from-figures = row-figures g 0 (row .figures) (top - 1) (omega (arith, low))
+
+      from-tables : countsAt g 0 from .tables ≡ top - 1
+      from-tables = row-tables g 0 (row .figures) (top - 1) (omega (arith, low))
+
+      -- The column lies before the end, and under it.
+      from-before : (from < row .to) × (top - 1 ≤ row .end .tables)
+      from-before = go (offered row)
+        where
+          go : Offered row (rowTop row) → (from < row .to) × (top - 1 ≤ row .end .tables)
+          go (inl (l, e)) = (
+            omega (arith, row-grows g (suc (row .figures)) (row .end .figures) l, row-next g (row .figures), end-stands, low),
+            omega (arith, run .within),
+          )
+          go (inr (l, e)) =
+              let same : row .figures ≡ row .end .figures = omega (arith, asked .within) in
+              (omega (arith, ap (rowOf g) same, end-stands, run .within), omega (arith, run .within))
+
+      pub from-small : rowOf g (row .figures) + (top - 1) ≤ 10250
+      from-small = omega (arith, from-before .0, asked .lent .column, columns-few g (few-floats (asked .lent .sound)))
+
+      from-under : Under (modelOf bytes g) from (row .to)
+      from-under =
+          under-at bytes g from (row .to) (omega (arith, from-figures, end-figures, asked .within))
+          (omega (arith, from-tables, end-tables, from-before .1))
+
+      module _ (tables′ : Heights) (put : tables′ ≡ blockBefore bytes (g .tables) tables (top - 1) (row .end .tables)) where
+        floats′ : Stacked (floatsOf bytes (g .tables)) (top - 1) (row .end .tables) tables′
+        floats′ = back-stacked bytes (g .tables) top (row .end .tables) tables tables′ some put (run .floats)
+
+        -- With the row's figures its heights can be added,
+        pub row-lays : Layable (g .spec) (row .heights) tables′
+        row-lays =
+            let spec = asked .lent .sound .specRanged in
+            let figures = stacked-small bytes (g .figures) (row .figures) (row .end .figures) (row .heights) (asked .lent .sound .figures .sound)
+            (omega (arith, end-figures, end-within .figures)) (asked .floats) in
+            let second = stacked-small bytes (g .tables) (top - 1) (row .end .tables) tables′ (asked .lent .sound .tables .sound) tables-few floats′ in
+            let n = asked .lent .sound .figures .few in
+            let k = asked .lent .sound .tables .few in
+            record {
+              smin = omega (arith, spec .smins, spec .smaxs);
+              smax = spec .smaxs;
+              first = record { tight = omega (arith, figures .tight); loose = omega (arith, figures .loose) };
+              second = record { tight = omega (arith, second .tight); loose = omega (arith, second .loose) };
+            }
+
+        module _ (both : Bool) (mixed : both ≡ (ltb (row .figures) (row .end .figures) && ltb (top - 1) (row .end .tables))) (floats : Heights)
+            (laid : floats ≡ floatsAlone (g .spec) (row .heights) tables′ both) where
+          abbrev next : Pass
+          next = record { from = from; to = row .to; heights = floats; least = row .least }
+
+          alone-from : (floats .tight ≡ alone (modelOf bytes g) (λ st. st .least) (g .spec .smin) from (row .to))
+              × (floats .loose ≡ alone (modelOf bytes g) (λ st. st .most) (g .spec .smax) from (row .to))
+          alone-from =
+              rw laid
+              (alone-at bytes g from (row .to) (row .heights) tables′ both (rw (from-figures, ← end-figures) (asked .floats))
+              (rw (from-tables, ← end-tables) floats′) (rw (from-figures, ← end-figures, from-tables, ← end-tables) mixed))
+
+          -- the next sweep may start,
+          pub row-sweeps : floats .tight ≤ g .spec .htmax → Sweep bytes g w sums words next
+          row-sweeps short =
+              let after : suc from ≡ rowOf g (row .figures) + top = omega arith in
+              record {
+                lent = run .lent;
+                summed = asked .summed;
+                scratch = run .scratch;
+                passing =
+                    record {
+                      before = from-before .0;
+                      under = from-under;
+                      tight = alone-from .0;
+                      loose = alone-from .1;
+                      low = rw laid (alone-low (g .spec) (row .heights) tables′ both row-lays);
+                      short = short;
+                    };
+                least = asked .least;
+                known = rw after (run .known);
+              }
+
+          -- and brings in the starts of its column.
+          pub row-swept : (v words′ : List ℕ) → length v ≡ length w → length words′ ≡ length words → SweepDone bytes g w v next
+              → RowRun bytes g w₀ v words₀ words′ row tables′ (top - 1)
+          row-swept v words′ p q done =
+              record {
+                lent = lent-sized v p (run .lent);
+                scratch = omega (arith, run .scratch);
+                within = omega (arith, run .within);
+                sized = p ∙ run .sized;
+                wordsSized = q ∙ run .wordsSized;
+                floats = floats′;
+                known = done .known;
+                kept = scratched-then g (row .to) w₀ w v (run .kept) (done .kept);
+              }
+
+          -- Where the floats alone are too tall, no page starts in that column or before it in the row.
+          pub row-tall : g .spec .htmax < floats .tight → RowSwept bytes g w₀ w row
+          row-tall tall =
+              record {
+                known =
+                    known-past bytes g w (row .to) (rowOf g (row .figures)) (rowOf g (row .figures) + top) (omega arith) none (run .known);
+                kept = run .kept;
+              }
+            where
+              none : (i a x y side : ℕ) → i ≤ g .text .count → rowOf g (row .figures) ≤ x → x < rowOf g (row .figures) + top → x < row .to
+                  → Candidate (searchOf bytes g w i (row .to) side) a x y → ⊥
+              none i a x y side h k l m c =
+                  let (e, at) = in-row x k (omega (arith, row-next g (row .figures), low)) in
+                  start-short (run .lent) from (omega (arith, from-before .0)) from-under (omega (arith, alone-from .0)) i a x y side h
+                  (under-at bytes g x from (omega (arith, from-figures)) (omega (arith, from-tables))) c

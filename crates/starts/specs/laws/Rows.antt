@@ -1,0 +1,155 @@
+-- The rows one after another: back from that of the column where pages end, until its figures are too tall.
+use Prim.Native.Nat.{ℕ, suc, _+_, _-_, _≤_, _<_}
+use native.Mathlib.Nat.{le-refl, zero-mul}
+use native.Mathlib.Omega.{arith}
+use mathlib.Core.Path.{_≡_, refl, ap, _∙_}
+use mathlib.Core.Bool.{Bool, true, false, _&&_}
+use mathlib.Core.List.{List}
+use lib.ListN.{length}
+use lib.Dec.{ltb}
+use borrow.Author.Tests.{le-ltb}
+use Rattle.model.specs.Rules.{floor}
+use Rattle.galley.specs.declared.Galley.{Galley}
+use Rattle.galley.specs.Model.{floatsOf, modelOf}
+use Rattle.blocks.specs.declared.Counts.{Counts}
+use Rattle.blocks.specs.declared.heights.Heights.{Heights}
+use Rattle.blocks.specs.Heights.{noHeights, Room, Stacked, blockBefore}
+use Rattle.blocks.specs.laws.Heights.{stacked-nothing, stacked-room, back-stacked}
+use Rattle.starts.specs.declared.sweep.Row.{Row}
+use Rattle.starts.specs.Choice.{Candidate}
+use Rattle.starts.specs.Beside.{alone}
+use Rattle.starts.specs.Read.{searchOf, countsAt, rowOf}
+use Rattle.starts.specs.Sweep.{Summed, number, fresh, Cleared}
+use Rattle.starts.specs.Swept.{ColumnSweep, ColumnSweepRun, ColumnSwept, RowSweep, RowSwept}
+use Rattle.starts.specs.laws.Columns.{row-next, row-grows, row-of, row-figures, row-tables, row-before, tables-low, within-at, under-at}
+use Rattle.starts.specs.laws.Floats.{laid-out, alone-at}
+use Rattle.starts.specs.laws.Lending.{lent-sized}
+use Rattle.starts.specs.laws.Cells.{scratched-then, blank-known}
+use Rattle.starts.specs.laws.Past.{known-past, start-under, start-short}
+
+and-false : (x : Bool) → (x && false) ≡ false
+and-false true = refl
+and-false false = refl
+
+-- Before the first row no start is known, and every place is unreached. The loop starts with the cleared column.
+pub column-first : {bytes : List ℕ} {g : Galley} {w₀ sums words : List ℕ} {j : ℕ} → ColumnSweep bytes g w₀ sums words j → (w : List ℕ)
+    → Cleared g w₀ w j 0 (number 2 0) → ColumnSweepRun bytes g w w words words j noHeights (countsAt g 0 j .figures + 1)
+column-first {bytes} {g} {j = j} asked w cleared =
+    let end = countsAt g 0 j in
+    let next : end .figures + 1 ≡ suc (end .figures) = omega arith in
+    record {
+      lent = lent-sized w (cleared .sized) (asked .lent);
+      scratch = asked .scratch;
+      within = omega arith;
+      sized = refl;
+      wordsSized = refl;
+      floats = stacked-nothing (floatsOf bytes (g .figures)) (end .figures + 1) (end .figures) (omega arith);
+      known =
+          blank-known bytes g w j (rowOf g (end .figures + 1))
+          (rw next (omega (arith, row-next g (end .figures), row-of g 0 j, tables-low g 0 j))) (asked .lent .sound .fewLines)
+          (asked .lent .sound .specRanged .sidesTwo) (cleared .blank (λ k c l m n. absurd (omega arith)));
+      kept = fresh;
+    }
+
+-- What is known after the sweeps, from before the column was cleared.
+pub column-since : {bytes : List ℕ} {g : Galley} {w₀ w v : List ℕ} {j : ℕ} → Cleared g w₀ w j 0 (number 2 0)
+    → ColumnSwept bytes g w v j → ColumnSwept bytes g w₀ v j
+column-since {g = g} {w₀} {w} {v} {j} cleared done =
+    record { known = done .known; kept = scratched-then g j w₀ w v (cleared .kept) (done .kept) }
+
+-- The rows one after another.
+module _ {bytes : List ℕ} {g : Galley} {w₀ w words₀ words : List ℕ} {j : ℕ} {heights : Heights} {top : ℕ}
+    (run : ColumnSweepRun bytes g w₀ w words₀ words j heights top) where
+  abbrev end : Counts
+  end = countsAt g 0 j
+
+  figures-few : end .figures ≤ g .figures .count
+  figures-few = within-at g 0 j (omega arith) (run .lent .column) .figures
+
+  -- After the last one all starts are known.
+  pub column-last : top ≡ 0 → ColumnSwept bytes g w₀ w j
+  unfolding rowOf
+  column-last e =
+      let first : rowOf g top ≡ 0 = ap (rowOf g) e ∙ zero-mul (g .tables .count + 1) in
+      record { known = rw first at (run .known); kept = run .kept }
+
+  -- There is room for the figure before.
+  pub column-room : Room bytes (g .figures) heights (countsAt g 0 j .figures)
+  column-room =
+      stacked-room bytes (g .figures) top (end .figures) heights (run .lent .sound .figures .sound)
+      (omega (arith, run .lent .sound .figures .few)) figures-few (run .floats)
+
+  module _ (some : 0 < top) where
+    step : top ≡ suc (top - 1)
+    step = omega arith
+
+    module _ (heights′ : Heights) (put : heights′ ≡ blockBefore bytes (g .figures) heights (top - 1) (countsAt g 0 j .figures)) where
+      floats-back : Stacked (floatsOf bytes (g .figures)) (top - 1) (end .figures) heights′
+      floats-back = back-stacked bytes (g .figures) top (end .figures) heights heights′ some put (run .floats)
+
+      abbrev next-row : ℕ → Row
+      next-row least = record { figures = top - 1; heights = heights′; end = countsAt g 0 j; to = j; least = least }
+
+      -- The next row may be swept,
+      pub column-sweeps : {sums : List ℕ} → Summed bytes g sums → (least : ℕ) → least ≡ floor (modelOf bytes g) false
+          → RowSweep bytes g w sums words (next-row least)
+      column-sweeps summed least e =
+          record {
+            lent = run .lent;
+            summed = summed;
+            scratch = run .scratch;
+            end = refl;
+            within = omega (arith, run .within);
+            floats = floats-back;
+            least = e;
+            known = rw (← step) (run .known);
+          }
+
+      -- which brings in its starts.
+      pub column-next : (least : ℕ) (v words′ : List ℕ) → length v ≡ length w → length words′ ≡ length words
+          → RowSwept bytes g w v (next-row least) → ColumnSweepRun bytes g w₀ v words₀ words′ j heights′ (top - 1)
+      column-next least v words′ p q done =
+          record {
+            lent = lent-sized v p (run .lent);
+            scratch = omega (arith, run .scratch);
+            within = omega (arith, run .within);
+            sized = p ∙ run .sized;
+            wordsSized = q ∙ run .wordsSized;
+            floats = floats-back;
+            known = done .known;
+            kept = scratched-then g j w₀ w v (run .kept) (done .kept);
+          }
+
+      -- Where the figures alone are too tall, no page starts in that row or before it.
+      pub column-tall : g .spec .htmax < heights′ .tight → ColumnSwept bytes g w₀ w j
+      column-tall tall =
+          record { known = known-past bytes g w j 0 (rowOf g top) (omega arith) none (run .known); kept = run .kept }
+        where
+          from : ℕ
+          from = rowOf g (top - 1) + end .tables
+
+          from-figures : countsAt g 0 from .figures ≡ top - 1
+          from-figures = row-figures g 0 (top - 1) (end .tables) (tables-low g 0 j)
+
+          from-tables : countsAt g 0 from .tables ≡ end .tables
+          from-tables = row-tables g 0 (top - 1) (end .tables) (tables-low g 0 j)
+
+          from-before : from ≤ j
+          from-before = omega (arith, row-grows g (top - 1) (end .figures) (omega (arith, run .within)), row-of g 0 j)
+
+          tight : heights′ .tight ≡ alone (modelOf bytes g) (λ st. st .least) (g .spec .smin) from j
+          tight =
+              let mixed : false ≡ (ltb (countsAt g 0 from .figures) (end .figures) && ltb (countsAt g 0 from .tables) (end .tables)) =
+              rw (le-ltb (countsAt g 0 from .tables) (end .tables) (omega (arith, from-tables)), and-false) refl in
+              let same = alone-at bytes g from j heights′ noHeights false (rw from-figures floats-back)
+              (rw from-tables (stacked-nothing (floatsOf bytes (g .tables)) (end .tables) (end .tables) (le-refl _))) mixed in
+              omega (arith, same .0, laid-out (g .spec) heights′ noHeights false .0)
+
+          none : (i a x y side : ℕ) → i ≤ g .text .count → 0 ≤ x → x < rowOf g top → x < j
+              → Candidate (searchOf bytes g w i j side) a x y → ⊥
+          none i a x y side h k l m c =
+              let (figures, tables) = start-under (run .lent) i a x y side h c in
+              let fewer = row-before g 0 (top - 1) x (rw (← step) l) in
+              start-short (run .lent) from from-before
+              (under-at bytes g from j (omega (arith, from-figures, run .within)) (omega (arith, from-tables))) (omega (arith, tight)) i a x y side h
+              (under-at bytes g x from (omega (arith, from-figures)) (omega (arith, from-tables))) c
