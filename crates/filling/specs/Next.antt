@@ -6,10 +6,11 @@ use mathlib.Core.List.{List}
 use lib.ListN.{length}
 use Rattle.model.specs.Gather.{pick}
 use Rattle.galley.specs.declared.Galley.{Galley}
-use Rattle.galley.specs.Model.{textOf, floatsOf, modelOf}
+use Rattle.galley.specs.Model.{textOf, modelOf}
 use Rattle.galley.specs.Sound.{Sound}
+use Rattle.blocks.specs.declared.Counts.{Counts}
 use Rattle.blocks.specs.Heights.{noHeights}
-use Rattle.rules.specs.Waiting.{waits}
+use Rattle.rules.specs.Waiting.{waitingOf}
 use Rattle.places.specs.declared.Origin.{Origin}
 use Rattle.places.specs.Address.{wordsNeeded}
 use Rattle.places.specs.Best.{Best}
@@ -19,28 +20,26 @@ use Rattle.window.specs.declared.queue.Queue.{Queue}
 use Rattle.window.specs.Slide.{Open}
 use Rattle.window.specs.Queue.{linesOf, frontOf, queueOf, Held, FrontAsked, Advanced}
 use Rattle.starts.specs.Choice.{Starts, Above, Between}
-use Rattle.starts.specs.Read.{tableIn, sideOf, searchOf, allPlaced, loadOf, Placed}
+use Rattle.starts.specs.Read.{tableIn, sideOf, searchOf, columnsIn, countsAt, allPlaced, loadOf}
 use Rattle.starts.specs.Sweep.{Lent, Scratch, Summed, Knows, Known}
 use Rattle.filling.specs.declared.side.Task.{Task}
 use Rattle.filling.specs.declared.side.End.{End}
 use Rattle.filling.specs.declared.side.Windows.{Windows}
 use Rattle.filling.specs.Fill.{fillSide, fillPlace}
 use Rattle.filling.specs.Filled.{Side, Filled}
+use Rattle.filling.specs.Stop.{stopAt, turnsOn}
 
--- A page on side c ends at (i, j).
-pub record Stopping (bytes : List ℕ) (g : Galley) (i j c : ℕ) : Type 0 where
-  pub placed : Placed bytes g i j
-  pub either : c ≤ 1
+-- How many floats wait at a place, of all streams together.
+abbrev pub waitsAt : List ℕ → Galley → Counts → ℕ
+waitsAt bytes g at = waitingOf bytes g at .figures + waitingOf bytes g at .tables
 
--- Weights and figures that keep a price within a word.
-pub record Priceable (g : Galley) (c waiting : ℕ) : Type 0 where
+-- Weights and floats that keep a price within a word.
+pub record Priceable (g : Galley) (waiting : ℕ) : Type 0 where
   pub alphas : g .spec .alpha ≤ 1000
   pub betas : g .spec .beta ≤ 1000
-  pub either : c ≤ 1
-  pub few : waiting ≤ 200
-  pub folio : 1 ≤ g .folio
+  pub few : waiting ≤ 250
 
--- What a page costs that ends where `last` and `ends` say, with so many figures waiting.
+-- What a page costs that ends where `last` and `ends` say, with so many floats waiting.
 abbrev pub priceOf : Galley → Bool → Bool → ℕ → ℕ
 priceOf g last ends waiting = pick last 0 (pick ends (g .spec .alpha * waiting + g .spec .beta) 0)
 
@@ -50,36 +49,41 @@ pub record Next (bytes : List ℕ) (task : Task) (w : List ℕ) (i j : ℕ) : Ty
   pub cheap : task .origin .cost ≤ 1000000000
   pub filled : Filled (modelOf bytes (task .galley)) (task .origin) (tableIn (task .galley) w) i j
 
--- A page ends at a place of the galley, where so many figures wait.
+-- A page ends at a place of the galley, whose counts are known, where so many floats wait, and which says so much of the page.
 pub record Ending (bytes : List ℕ) (g : Galley) (end : End) : Type 0 where
-  pub line : end .line ≤ g .text .count
-  pub found : end .waiting ≡ waits (floatsOf bytes (g .figures)) (end .line) (end .column)
+  pub line : end .at .lines ≤ g .text .count
+  pub counts : end .at ≡ countsAt g (end .at .lines) (end .column)
+  pub found : end .waiting ≡ waitsAt bytes g (end .at)
+  pub stop : end .stop ≡ stopAt bytes g (end .at)
 
 -- The load of a page of lines alone: nothing beside them.
 abbrev pub plain : Galley → Load
-plain g = loadOf g false noHeights (g .spec .htmin)
+plain g = loadOf g 0 noHeights (g .spec .htmin)
 
 -- What is known of the starts of a page that ends at a place, on a side.
 abbrev pub StartsFor : List ℕ → Galley → List ℕ → End → (ℕ → ℕ → Type 0) → ℕ → ℕ → ℕ → Type 0
-StartsFor bytes g w end P = Starts (searchOf bytes g w (end .line) (end .column) (sideOf g (end .side))) P
+StartsFor bytes g w end P = Starts (searchOf bytes g w (end .at .lines) (end .column) (sideOf g (end .side))) P
 
 -- The lines above in the column can be weighed, and the first of the queue is the best of them but for the last page.
 pub record LinesAbove (bytes : List ℕ) (g : Galley) (w sums words : List ℕ) (queue : Queue) (end : End) : Type 0 where
   pub lent : Lent bytes g w (end .column)
-  pub line : end .line ≤ g .text .count
+  pub line : end .at .lines ≤ g .text .count
+  pub counts : end .at ≡ countsAt g (end .at .lines) (end .column)
+  pub full : end .stop .full ≡ allPlaced g (end .at)
   pub side : end .side ≤ 1
   pub summed : Summed bytes g sums
   pub front : FrontAsked words queue (end .column)
-  pub best : allPlaced g (end .line) (end .column) ≡ false
-      → Best (StartsFor bytes g w end (Above (end .column) (end .line))) (frontOf words queue (end .column))
+  pub best : allPlaced g (end .at) ≡ false
+      → Best (StartsFor bytes g w end (Above (end .column) (end .at .lines))) (frontOf words queue (end .column))
 
 -- The entry of a place on a side comes next.
 pub record EntryNext (bytes : List ℕ) (task : Task) (w sums words : List ℕ) (queue : Queue) (end : End) : Type 0 where
-  pub next : Next bytes task w (end .line) (end .column)
+  pub next : Next bytes task w (end .at .lines) (end .column)
   pub ending : Ending bytes (task .galley) end
+  pub turns : end .turns ≡ turnsOn (task .galley) (end .side)
   pub side : Side (modelOf bytes (task .galley) .spec .sides) (end .side)
   pub above : LinesAbove bytes (task .galley) w sums words queue end
-  pub known : Knows bytes (task .galley) w (end .line) (end .column) (end .side) (Between 0 (end .column))
+  pub known : Knows bytes (task .galley) w (end .at .lines) (end .column) (end .side) (Between 0 (end .column))
 
 -- The windows of line i, for pages of lines alone.
 pub record Slides (bytes : List ℕ) (g : Galley) (windows : Windows) (i : ℕ) : Type 0 where
@@ -90,21 +94,22 @@ pub record Slides (bytes : List ℕ) (g : Galley) (windows : Windows) (i : ℕ) 
 -- One side of a place comes next: its words hold the best start in an earlier column, and its queue the starts above.
 pub record SideNext (bytes : List ℕ) (task : Task) (w sums words : List ℕ) (queue : Queue) (windows : Windows) (end : End)
     : Type 0 where
-  pub next : Next bytes task w (end .line) (end .column)
+  pub next : Next bytes task w (end .at .lines) (end .column)
   pub ending : Ending bytes (task .galley) end
   pub summed : Summed bytes (task .galley) sums
   pub scratch : Scratch words
-  pub slides : Slides bytes (task .galley) windows (end .line)
+  pub slides : Slides bytes (task .galley) windows (end .at .lines)
   pub occurs : end .side < task .galley .spec .sides
+  pub turns : end .turns ≡ turnsOn (task .galley) (end .side)
   pub based : queue .base ≤ 4000
   pub held : Held (linesOf w (task .galley .text .count + 1) (end .column) (sideOf (task .galley) (end .side))) words queue
       (windows .from .low) (windows .from .high)
-  pub known : Knows bytes (task .galley) w (end .line) (end .column) (end .side) (Between 0 (end .column))
+  pub known : Knows bytes (task .galley) w (end .at .lines) (end .column) (end .side) (Between 0 (end .column))
 
 -- It is filled, and its queue has moved on.
 pub record SideFilled (bytes : List ℕ) (task : Task) (w v words words′ : List ℕ) (queue : Queue) (windows : Windows) (end : End)
     (r : Queue) : Type 0 where
-  pub filled : v ≡ fillSide (modelOf bytes (task .galley)) (task .origin) (end .line) (end .column) (end .side) w
+  pub filled : v ≡ fillSide (modelOf bytes (task .galley)) (task .origin) (end .at .lines) (end .column) (end .side) w
   pub advanced : Advanced w (task .galley .text .count + 1) (end .column) (sideOf (task .galley) (end .side)) words queue
       (windows .from .high) (windows .to) r words′
 
@@ -125,19 +130,19 @@ Waits bytes g w j n = (k c : ℕ) → k ≤ g .text .count → c < g .spec .side
 
 -- The sides of a place come next.
 pub record PlaceNext (bytes : List ℕ) (task : Task) (w sums words ends : List ℕ) (windows : Windows) (end : End) : Type 0 where
-  pub next : Next bytes task w (end .line) (end .column)
+  pub next : Next bytes task w (end .at .lines) (end .column)
   pub ending : Ending bytes (task .galley) end
   pub summed : Summed bytes (task .galley) sums
   pub scratch : Scratch words
-  pub slides : Slides bytes (task .galley) windows (end .line)
+  pub slides : Slides bytes (task .galley) windows (end .at .lines)
   pub queued : Queues (task .galley) w words ends (end .column) (windows .from) (windows .to) 0
-  pub waits : Waits bytes (task .galley) w (end .column) (2 * end .line)
+  pub waits : Waits bytes (task .galley) w (end .column) (2 * end .at .lines)
 
 -- All are filled.
 pub record PlaceFilled (bytes : List ℕ) (task : Task) (w v words ends : List ℕ) (windows : Windows) (end : End) : Type 0 where
-  pub filled : v ≡ fillPlace (modelOf bytes (task .galley)) (task .origin) (end .line) (end .column) w
+  pub filled : v ≡ fillPlace (modelOf bytes (task .galley)) (task .origin) (end .at .lines) (end .column) w
   pub queued : Queues (task .galley) v words ends (end .column) (windows .to) (windows .to) 0
-  pub waits : Waits bytes (task .galley) v (end .column) (2 * end .line + 2)
+  pub waits : Waits bytes (task .galley) v (end .column) (2 * end .at .lines + 2)
 
 -- Column j comes next.
 pub record ColumnNext (bytes : List ℕ) (task : Task) (w sums words : List ℕ) (j : ℕ) : Type 0 where
@@ -154,7 +159,7 @@ pub record LastNext (bytes : List ℕ) (task : Task) (w sums words : List ℕ) (
 pub record Fillable (bytes : List ℕ) (g : Galley) (from : Origin) (w : List ℕ) : Type 0 where
   pub sound : Sound bytes g
   pub cheap : from .cost ≤ 1000000000
-  pub room : wordsNeeded (g .text .count) (g .figures .count) ≤ length w
+  pub room : wordsNeeded (g .text .count) (columnsIn g) ≤ length w
 
 -- The table comes next: with the sums of the lines, and room for two queues.
 pub record TableNext (bytes : List ℕ) (task : Task) (w sums words : List ℕ) : Type 0 where

@@ -4,10 +4,11 @@ use mathlib.Core.Path.{_≡_}
 use mathlib.Core.List.{List}
 use lib.ListN.{length}
 use Rattle.galley.specs.Model.{textOf, modelOf}
-use Rattle.rules.specs.Waiting.{Walked}
+use Rattle.rules.specs.declared.waiting.Waiting.{Waiting}
+use Rattle.rules.specs.Waiting.{Walking}
 use Rattle.window.specs.declared.slide.Window.{Window}
 use Rattle.window.specs.Slide.{Ends}
-use Rattle.starts.specs.Read.{tableIn}
+use Rattle.starts.specs.Read.{tableIn, columnsIn, countsAt}
 use Rattle.filling.specs.declared.side.Task.{Task}
 use Rattle.filling.specs.declared.side.End.{End}
 use Rattle.filling.specs.declared.side.Windows.{Windows}
@@ -22,19 +23,19 @@ pub record SidesRun (bytes : List ℕ) (task : Task) (w₀ w words₀ words ends
   pub sized : length w ≡ length w₀
   pub wordsSized : length words ≡ length words₀
   pub endsSized : length ends ≡ length ends₀
-  pub filled : w ≡ fillSides (modelOf bytes (task .galley)) (task .origin) (end .line) (end .column) c w₀
-  pub entries : Filled (modelOf bytes (task .galley)) (task .origin) (tableIn (task .galley) w) (end .line) (end .column)
+  pub filled : w ≡ fillSides (modelOf bytes (task .galley)) (task .origin) (end .at .lines) (end .column) c w₀
+  pub entries : Filled (modelOf bytes (task .galley)) (task .origin) (tableIn (task .galley) w) (end .at .lines) (end .column)
   pub queued : Queues (task .galley) w words ends (end .column) (windows .from) (windows .to) c
-  pub waits : Waits bytes (task .galley) w (end .column) (2 * end .line + c)
+  pub waits : Waits bytes (task .galley) w (end .column) (2 * end .at .lines + c)
 
 -- Column j is filled above line i, and the queues are those of the window of the line above: the words are now w, and what is left of
 -- the column makes them what the whole makes of w₀.
-pub record LastRun (bytes : List ℕ) (task : Task) (w₀ w words₀ words : List ℕ) (j waiting : ℕ) (window : Window) (ends : List ℕ)
-    (i : ℕ) : Type 0 where
+pub record LastRun (bytes : List ℕ) (task : Task) (w₀ w words₀ words : List ℕ) (j : ℕ) (waiting : Waiting) (window : Window)
+    (ends : List ℕ) (i : ℕ) : Type 0 where
   pub within : i ≤ suc (task .galley .text .count)
   pub sized : length w ≡ length w₀
   pub wordsSized : length words ≡ length words₀
-  pub walked : Walked bytes (task .galley .figures) i j waiting
+  pub walked : Walking bytes (task .galley) (countsAt (task .galley) i j) waiting
   pub entries : Filled (modelOf bytes (task .galley)) (task .origin) (tableIn (task .galley) w) i j
   pub run : fillColumn (modelOf bytes (task .galley)) (task .origin) j (suc (task .galley .text .count) - i) i w
       ≡ fillColumn (modelOf bytes (task .galley)) (task .origin) j (suc (task .galley .text .count)) 0 w₀
@@ -44,9 +45,9 @@ pub record LastRun (bytes : List ℕ) (task : Task) (w₀ w words₀ words : Lis
 
 -- The columns before j are filled.
 pub record ColumnsRun (bytes : List ℕ) (task : Task) (w₀ w words₀ words : List ℕ) (j : ℕ) : Type 0 where
-  pub within : j ≤ suc (task .galley .figures .count)
+  pub within : j ≤ columnsIn (task .galley)
   pub sized : length w ≡ length w₀
   pub wordsSized : length words ≡ length words₀
   pub entries : Filled (modelOf bytes (task .galley)) (task .origin) (tableIn (task .galley) w) 0 j
-  pub run : fillColumns (modelOf bytes (task .galley)) (task .origin) (suc (task .galley .figures .count) - j) j w
+  pub run : fillColumns (modelOf bytes (task .galley)) (task .origin) (columnsIn (task .galley) - j) j w
       ≡ filled (modelOf bytes (task .galley)) (task .origin) w₀

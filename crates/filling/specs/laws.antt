@@ -4,6 +4,7 @@ pub mod Fill
 pub mod Over
 pub mod Price
 pub mod Queues
+pub mod Own
 pub mod NewEntry
 pub mod Sides
 pub mod Column

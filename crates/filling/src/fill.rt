@@ -7,34 +7,49 @@ ghost use Rattle.filling.specs.Next.{LastNext, ColumnNext, TableNext, Fi
 use crate::side::End;
 use crate::side::Task;
 use crate::side::Windows;
+use blocks::Counts;
 use blocks::heights::Heights;
 use galley::Galley;
 use places::Origin;
+use rules::waiting::Waiting;
 use window::slide::Window;
 
 // The places of column j, from no line to all lines, each of which holds its best start in an earlier column. A start in the column
-// itself has its entry there by the time that a queue takes it up.
+// itself has its entry there by the time that a queue takes it up. All have the figures and tables of the column's top.
 fn last_sweep(s: &[u8], task: Task, work: &mut [u32], sums: &[u32], words: &mut [u32], j: usize)
     requires { ⌜ LastNext (now s) task (now work) (now sums) (now words) j ⌝ }
     ensures { λ _. ⌜ now (work .exit) ≡ fillColumn (modelOf (now (s .entry)) (task .galley)) (task .origin) j (suc (task .galley .text .count)) 0 (now (work .entry)) ⌝ }
 {
     let g = task.galley;
     let least = rules::rules::floor_of(g, false);
-    let load = starts::read::load_of(g, false, Heights { tight: 0, loose: 0 }, least);
-    let mut waiting = 0;
+    let load = starts::read::load_of(g, 0, Heights { tight: 0, loose: 0 }, least);
+    let top = starts::read::counts_at(g, 0, j);
+    let floats = crate::price::floats_of(s, g, top);
+    let mut waiting = Waiting {
+        figures: 0,
+        tables: 0,
+    };
     let mut span = Window { low: 0, high: 0 };
     let mut ends = [0, 0, 4000, 4000];
     let mut i = 0;
     while i <= g.text.count {
-        waiting = rules::waiting::waiting_floats(s, g.figures, i, j, waiting);
+        let at = Counts {
+            lines: i,
+            figures: top.figures,
+            tables: top.tables,
+        };
+        waiting = rules::waiting::waiting_after(s, g, at, waiting);
         let from = span;
         span = window::slide::slide(sums, load, from, i);
         let windows = Windows { from, to: span };
+        let stop = crate::price::stop_at(s, g, i, floats);
         let end = End {
-            line: i,
+            at,
             column: j,
             side: 0,
-            waiting,
+            turns: false,
+            waiting: waiting.figures + waiting.tables,
+            stop,
         };
         crate::side::fill_place(s, task, work, sums, words, &mut ends, windows, end);
         i += 1;
@@ -55,8 +70,9 @@ fn fill_columns(s: &[u8], task: Task, work: &mut [u32], sums: &[u32], words: &mu
     requires { ⌜ TableNext (now s) task (now work) (now sums) (now words) ⌝ }
     ensures { λ _. ⌜ now (work .exit) ≡ filled (modelOf (now (s .entry)) (task .galley)) (task .origin) (now (work .entry)) ⌝ }
 {
+    let columns = starts::read::columns_of(task.galley);
     let mut j = 0;
-    while j <= task.galley.figures.count {
+    while j < columns {
         fill_column(s, task, work, sums, words, j);
         j += 1;
     }

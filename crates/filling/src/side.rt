@@ -6,6 +6,8 @@ ghost use Rattle.starts.specs.Search.{newEntry};
 ghost use Rattle.starts.specs.Choice.{Starts, Above};
 ghost use Rattle.starts.specs.Read.{tableIn, sideOf, searchOf};
 ghost use Rattle.filling.specs.Next.{LinesAbove, EntryNext, SideNext, SideFilled, PlaceNext, PlaceFilled};
+use crate::price::Stop;
+use blocks::Counts;
 use blocks::heights::Heights;
 use galley::Galley;
 use places::Entry;
@@ -25,12 +27,15 @@ pub struct Windows {
     pub to: Window,
 }
 
-// Where a page ends: the line and the column, its side, and how many figures wait there.
+// Where a page ends: the counts of its place, the line among them, and the column; its side, and whether its leaf ends with it; how
+// many floats wait there, and what the place says of it.
 pub struct End {
-    pub line: usize,
+    pub at: Counts,
     pub column: usize,
     pub side: usize,
+    pub turns: bool,
     pub waiting: usize,
+    pub stop: Stop,
 }
 
 // The best of the lines above in the column itself, as starts of a page that ends at a place. The last page may be short, and the
@@ -45,13 +50,13 @@ fn lines_above(
     end: End,
 ) -> Entry
     requires { ⌜ LinesAbove (now s) g (now work) (now sums) (now words) queue end ⌝ }
-    ensures { λ r. ⌜ Best (Starts (searchOf (now (s .entry)) g (now (work .entry)) (end .line) (end .column) (sideOf g (end .side))) (Above (end .column) (end .line))) r ⌝ }
+    ensures { λ r. ⌜ Best (Starts (searchOf (now (s .entry)) g (now (work .entry)) (end .at .lines) (end .column) (sideOf g (end .side))) (Above (end .column) (end .at .lines))) r ⌝ }
 {
-    if !starts::read::is_full(g, end.line, end.column) {
+    if !end.stop.full {
         return window::queue::front(words, queue, end.column);
     }
     let least = rules::rules::floor_of(g, true);
-    let load = starts::read::load_of(g, false, Heights { tight: 0, loose: 0 }, least);
+    let load = starts::read::load_of(g, 0, Heights { tight: 0, loose: 0 }, least);
     let side = starts::read::side_before(g, end.side);
     starts::last::last_lines(g, work, sums, load, end.column, side)
 }
@@ -67,25 +72,25 @@ fn new_entry(
     end: End,
 ) -> Entry
     requires { ⌜ EntryNext (now s) task (now work) (now sums) (now words) queue end ⌝ }
-    ensures { λ r. ⌜ r ≡ newEntry (modelOf (now (s .entry)) (task .galley)) (task .origin) (tableIn (task .galley) (now (work .entry))) (end .line) (end .column) (end .side) ⌝ }
+    ensures { λ r. ⌜ r ≡ newEntry (modelOf (now (s .entry)) (task .galley)) (task .origin) (tableIn (task .galley) (now (work .entry))) (end .at .lines) (end .column) (end .side) ⌝ }
 {
     let g = task.galley;
-    if starts::read::is_origin(g, task.origin, end.line, end.column, end.side) {
+    if starts::read::is_origin(g, task.origin, end.at.lines, end.column, end.side) {
         let origin = task.origin;
         let place = origin.place;
         return Entry::Least(origin.cost, place);
     }
-    if !crate::price::may_stop(s, g, end.line, end.column, end.side) {
+    if !crate::price::may_stop(end.stop, end.turns) {
         return Entry::Unreached;
     }
-    let place = places::place_of(end.line, end.column);
+    let place = places::place_of(end.at.lines, end.column);
     let held = places::entry_of(work, g.text.count + 1, place, end.side);
     let lines = lines_above(s, g, work, sums, words, queue, end);
     let start = starts::choice::choose(held, lines);
     let Entry::Least(x, from) = start else {
         return Entry::Unreached;
     };
-    let price = crate::price::price(g, end.line, end.column, end.side, end.waiting);
+    let price = crate::price::price(g, end.stop.full, end.turns, end.waiting);
     Entry::Least(x + price, from)
 }
 
@@ -116,7 +121,7 @@ fn fill_side(
         windows.to,
     );
     let entry = new_entry(s, task, work, sums, words, moved, end);
-    let place = places::place_of(end.line, end.column);
+    let place = places::place_of(end.at.lines, end.column);
     places::store(work, tall, place, end.side, entry);
     moved
 }
@@ -135,13 +140,18 @@ pub fn fill_place(
     requires { ⌜ PlaceNext (now s) task (now work) (now sums) (now words) (now ends) windows end ⌝ }
     ensures { λ _. ⌜ PlaceFilled (now (s .entry)) task (now (work .entry)) (now (work .exit)) (now (words .exit)) (now (ends .exit)) windows end ⌝ }
 {
+    let ending = crate::price::ending_side(task.galley);
     let mut c = 0;
     while c < task.galley.spec.sides as usize {
+        let at = end.at;
+        let stop = end.stop;
         let here = End {
-            line: end.line,
+            at,
             column: end.column,
             side: c,
+            turns: c == ending,
             waiting: end.waiting,
+            stop,
         };
         let queue = window::queue::queue_of(ends, c);
         let moved = fill_side(s, task, work, sums, words, queue, windows, here);

@@ -4,7 +4,7 @@ use mathlib.Core.Path.{_≡_}
 use mathlib.Core.List.{List, _++_}
 use mathlib.Core.Option.{some}
 use lib.ListN.{length, drop}
-use Rattle.model.specs.Galley.{Galley, Place}
+use Rattle.model.specs.Galley.{Galley, Place, streams}
 use Rattle.model.specs.Answers.{wordsOf}
 use Rattle.model.specs.Best as choice
 use Rattle.theorems.specs.pages.Graph.{State, stop}
@@ -32,5 +32,5 @@ pub record Found (g : Galley) (from : Origin) (t : Table) (most : ℕ) (last : S
   pub best : choice.best g ≡ some ps
   pub pages : length ps ≡ counted g from t most last
   pub few : counted g from t most last ≤ most
-  pub words : (ws : List ℕ) → 2 * counted g from t most last ≤ length ws
-      → writeBack (g .spec .sides) t (counted g from t most last) last ws ≡ wordsOf ps ++ drop (2 * counted g from t most last) ws
+  pub words : (ws : List ℕ) → streams g * counted g from t most last ≤ length ws
+      → writeBack g t (counted g from t most last) last ws ≡ wordsOf ps ++ drop (streams g * counted g from t most last) ws

@@ -15,15 +15,17 @@ use Rattle.galley.specs.declared.Reading.{Reading}
 use Rattle.galley.specs.declared.Reading.the-variants as reads
 use Rattle.galley.specs.Whole.{galleyOf}
 use Rattle.galley.specs.Model.{modelOf}
+use Rattle.blocks.specs.Counts.{pageWords}
 use Rattle.places.specs.Address.{wordsNeeded}
 use Rattle.places.specs.Entry.{cleared}
 
--- The words that a galley needs of the work area, and of the page list.
+-- The words that a galley needs of the work area: a column for each number of figures and of tables placed (document 02, S-4).
 abbrev pub workNeeded : Galley → ℕ
-workNeeded g = wordsNeeded (g .text .count) (g .figures .count)
+workNeeded g = wordsNeeded (g .text .count) ((g .figures .count + 1) * (g .tables .count + 1))
 
+-- The words that it needs of the page list: no more pages than blocks, of two words each, or three where there are tables.
 abbrev pub listNeeded : Galley → ℕ
-listNeeded g = 2 * (g .text .count + g .figures .count)
+listNeeded g = pageWords g * (g .text .count + g .figures .count + g .tables .count)
 
 -- A work area or a page list of the given lengths is too short.
 abbrev pub tooShort : Galley → ℕ → ℕ → Bool

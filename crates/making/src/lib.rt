@@ -33,7 +33,7 @@ fn best_pages(s: &[u8], g: Galley, origin: Origin, work: &[u32], pages: &mut [u3
     }
     let p = walk::count_pages(g, work, origin, last);
     walk::write_pages(g, work, last, p, pages);
-    let words = 2 * p;
+    let words = blocks::page_words(g) * p;
     marking::mark(s, &pages[..words])
 }
 
@@ -42,8 +42,8 @@ fn make_read(s: &[u8], g: Galley, origin: Origin, work: &mut [u32], pages: &mut 
     requires { ⌜ Readable (now s) g origin ⌝ }
     ensures { λ r. ⌜ Made (now (s .entry)) (now (work .entry)) (now (pages .entry)) r (now (work .exit)) (now (pages .exit)) ⌝ }
 {
-    let needed = places::words_needed(g.text.count, g.figures.count);
-    let room = 2 * (g.text.count + g.figures.count);
+    let needed = places::words_needed(g.text.count, starts::read::columns_of(g));
+    let room = blocks::page_words(g) * (g.text.count + g.figures.count + g.tables.count);
     if work.len() < needed {
         return Answer::Refused {
             number: 9,

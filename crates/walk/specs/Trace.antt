@@ -2,14 +2,15 @@
 use Prim.Native.Nat.{ℕ, zero, suc, _+_, _-_, _*_, _%_}
 use mathlib.Core.Bool.{Bool, true, false}
 use mathlib.Core.List.{List}
-use lib.ListN.{set}
+use lib.Seq.{sets}
 use Rattle.model.specs.Gather.{pick}
-use Rattle.model.specs.Galley.{Sides, single, double}
+use Rattle.model.specs.Galley.{Sides, single, double, Galley, streams}
 use Rattle.places.specs.declared.Place.{Place}
 use Rattle.places.specs.declared.Origin.{Origin}
 use Rattle.places.specs.declared.Entry.{Entry}
 use Rattle.places.specs.declared.Entry.the-variants.{Unreached, Least}
 use Rattle.places.specs.Entry.{less}
+use Rattle.places.specs.Columns.{placeAt}
 use Rattle.starts.specs.Search.{Table, before, begins}
 use Rattle.walk.specs.declared.Stop.{Stop}
 
@@ -53,8 +54,9 @@ unfoldable pub countBack : Sides → Table → Origin → ℕ → Stop → ℕ �
 countBack sides t from zero at p = p
 countBack sides t from (suc most) at p = pick (atOrigin sides from at) p (countBack sides t from most (back sides t at) (p + 1))
 
--- The page list with the last r pages before a stop written, from page r back to page 1.
-unfoldable pub writeBack : Sides → Table → ℕ → Stop → List ℕ → List ℕ
-writeBack sides t zero at ws = ws
-writeBack sides t (suc r) at ws =
-    writeBack sides t r (back sides t at) (set (set ws (2 * r) (at .place .line)) (2 * r + 1) (at .place .column))
+-- The page list with the last r pages before a stop written, from page r back to page 1: of each the words of its place, one for each
+-- stream.
+unfoldable pub writeBack : Galley → Table → ℕ → Stop → List ℕ → List ℕ
+writeBack g t zero at ws = ws
+writeBack g t (suc r) at ws =
+    writeBack g t r (back (g .spec .sides) t at) (sets ws (streams g * r) (placeAt g (at .place .line) (at .place .column)))

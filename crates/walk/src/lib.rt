@@ -1,10 +1,13 @@
 // From the last page back to the first, by the start that each entry holds: document 01, "Making".
 ghost use mathlib.Core.Path.{_≡_};
-ghost use Prim.Native.Nat.{_≤_};
-ghost use Rattle.galley.specs.Model.{sidesIn};
-ghost use Rattle.starts.specs.Read.{tableIn};
+ghost use mathlib.Core.List.{List};
+ghost use Prim.Native.Nat.{ℕ, _≤_};
+ghost use lib.Seq.{sets};
+ghost use Rattle.galley.specs.Model.{sidesIn, modelOf};
+ghost use Rattle.blocks.specs.Counts.{placeOf};
+ghost use Rattle.starts.specs.Read.{tableIn, countsAt};
 ghost use Rattle.walk.specs.Trace.{startOf, cheaper, lastSide, entryOf, back, atOrigin, writeBack};
-ghost use Rattle.walk.specs.Traceable.{isReached, WorkArea, fullPlace, lastStop, Visits, Walkable, Writable, pagesBack};
+ghost use Rattle.walk.specs.Traceable.{isReached, WorkArea, fullPlace, lastStop, Visits, Walkable, PageRoom, Writable, pagesBack};
 use galley::Galley;
 use places::Entry;
 use places::Origin;
@@ -62,7 +65,7 @@ pub fn last_stop(g: Galley, work: &[u32]) -> Stop
     requires { ⌜ WorkArea g (now work) × (1 ≤ g .folio) ⌝ }
     ensures { λ r. ⌜ r ≡ lastStop g (now (work .entry)) ⌝ }
 {
-    let full = places::place_of(g.text.count, g.figures.count);
+    let full = places::place_of(g.text.count, starts::read::columns_of(g) - 1);
     let side = last_side(g, work, full);
     Stop { place: full, side }
 }
@@ -109,7 +112,7 @@ pub fn count_pages(g: Galley, work: &[u32], origin: Origin, last: Stop) -> usize
     requires { ⌜ Walkable g (now work) last ⌝ }
     ensures { λ r. ⌜ r ≡ pagesBack g (now (work .entry)) origin last ⌝ }
 {
-    let most = g.text.count + g.figures.count;
+    let most = g.text.count + g.figures.count + g.tables.count;
     let mut at = last;
     let mut p = 0;
     while p < most {
@@ -122,17 +125,31 @@ pub fn count_pages(g: Galley, work: &[u32], origin: Origin, last: Stop) -> usize
     p
 }
 
+// The words of the page that stops at a place, from word k on: the lines, the figures and, where there are any, the tables placed so
+// far.
+fn write_page(g: Galley, place: Place, k: usize, pages: &mut [u32])
+    requires { ⌜ PageRoom g place k (now pages) ⌝ }
+    ensures { λ _. ⌜ now (pages .exit) ≡ sets (now (pages .entry)) k (placeOf g (countsAt g (place .line) (place .column))) ⌝ }
+{
+    let at = starts::read::counts_at(g, place.line as usize, place.column as usize);
+    pages[k] = at.lines as u32;
+    pages[k + 1] = at.figures as u32;
+    if 0 < g.tables.count {
+        pages[k + 2] = at.tables as u32;
+    }
+}
+
 // The last `p` pages on the way back, each written where its number says.
 pub fn write_pages(g: Galley, work: &[u32], last: Stop, p: usize, pages: &mut [u32])
     requires { ⌜ Writable g (now work) last p (now pages) ⌝ }
-    ensures { λ _. ⌜ now (pages .exit) ≡ writeBack (sidesIn g) (tableIn g (now (work .entry))) p last (now (pages .entry)) ⌝ }
+    ensures { λ _. ⌜ ((bytes : List ℕ) → now (pages .exit) ≡ writeBack (modelOf bytes g) (tableIn g (now (work .entry))) p last (now (pages .entry))) ⌝ }
 {
+    let wide = blocks::page_words(g);
     let mut at = last;
     let mut r = p;
     while 0 < r {
         r -= 1;
-        pages[2 * r] = at.place.line;
-        pages[2 * r + 1] = at.place.column;
+        write_page(g, at.place, wide * r, pages);
         at = page_before(g, work, at);
     }
 }

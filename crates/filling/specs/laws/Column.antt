@@ -9,32 +9,34 @@ use mathlib.Core.List.{List, [], _∷_}
 use lib.ListN.{length}
 use Rattle.model.specs.Rules.{floor}
 use Rattle.galley.specs.declared.Galley.{Galley}
-use Rattle.galley.specs.Model.{textOf, floatsOf, modelOf, sidesIn}
-use Rattle.blocks.specs.Heights.{noHeights}
-use Rattle.rules.specs.Waiting.{waits}
-use Rattle.rules.specs.laws.Walked.{walked-none, walked-here, walked-on}
+use Rattle.galley.specs.Model.{textOf, modelOf, sidesIn}
+use Rattle.rules.specs.declared.waiting.Waiting.{Waiting}
+use Rattle.rules.specs.Waiting.{waitingOf}
+use Rattle.rules.specs.laws.Walked.{walking-none, walking-here}
 use Rattle.places.specs.Order.{Earlier}
 use Rattle.places.specs.Columns.{columns, floatSizes}
 use Rattle.places.specs.laws.Table.{table-other}
 use Rattle.window.specs.declared.slide.Window.{Window}
 use Rattle.window.specs.Slide.{Slidable, Open, Slid}
 use Rattle.window.specs.laws.Slide.{ends-first, ends-next}
-use Rattle.starts.specs.Read.{tableIn}
+use Rattle.starts.specs.Read.{tableIn, columnsIn, countsAt}
 use Rattle.starts.specs.Sweep.{Lent, Scratched, fresh, more}
 use Rattle.starts.specs.Swept.{ColumnSwept}
-use Rattle.starts.specs.laws.One.{columns-one}
+use Rattle.starts.specs.laws.Columns.{columns-in, within-at}
 use Rattle.starts.specs.laws.Pass.{least-low}
 use Rattle.starts.specs.laws.Cells.{scratched-length}
-use Rattle.starts.specs.laws.Lending.{lent-sized, can-slide}
+use Rattle.starts.specs.laws.Lending.{lent-sized}
+use Rattle.filling.specs.declared.price.Stop.{Stop}
 use Rattle.filling.specs.declared.side.Task.{Task}
 use Rattle.filling.specs.Fill.{tall, fillColumn, fillColumns, filled}
+use Rattle.filling.specs.Stop.{stopAt}
 use Rattle.filling.specs.Next.{Next, plain, PlaceNext, PlaceFilled, ColumnNext, LastNext, TableNext}
 use Rattle.filling.specs.Run.{LastRun, ColumnsRun}
 use Rattle.filling.specs.laws.Entered.{side-low}
 use Rattle.filling.specs.laws.Fill.{length-place, length-column, room-kept, filled-start, filled-next, filled-place, filled-to}
 use Rattle.filling.specs.laws.Over.{column-over}
 use Rattle.filling.specs.laws.Price.{dearest-light}
-use Rattle.filling.specs.laws.NewEntry.{no-figures}
+use Rattle.filling.specs.laws.Own.{lines-slide, walking-down}
 use Rattle.filling.specs.laws.Queues.{queues-none}
 use Rattle.filling.specs.laws.Sides.{sides-count, lent-roomy, lent-wide}
 
@@ -101,13 +103,14 @@ module _ {bytes : List ℕ} {task : Task} {w₀ sums words₀ : List ℕ} {j : �
   lent-first = last .column .next .lent
 
   -- Before the first line the queues are empty.
-  pub last-first : LastRun bytes task w₀ w₀ words₀ words₀ j 0 (record { low = 0; high = 0 }) (0 ∷ 0 ∷ 4000 ∷ 4000 ∷ []) 0
+  pub last-first : LastRun bytes task w₀ w₀ words₀ words₀ j (record { figures = 0; tables = 0 }) (record { low = 0; high = 0 })
+      (0 ∷ 0 ∷ 4000 ∷ 4000 ∷ []) 0
   last-first =
       record {
         within = omega arith;
         sized = refl;
         wordsSized = refl;
-        walked = walked-none (lent-first .sound .figures) 0 j (lent-first .column);
+        walked = walking-none (lent-first .sound) (countsAt (task .galley) 0 j) (within-at (task .galley) 0 j (omega arith) (lent-first .column));
         entries = last .column .next .filled;
         run = let e : suc (task .galley .text .count) - 0 ≡ suc (task .galley .text .count) = omega arith in rw e;
         slid = ends-first (textOf bytes (task .galley .text)) (plain (task .galley)) 0;
@@ -116,7 +119,7 @@ module _ {bytes : List ℕ} {task : Task} {w₀ sums words₀ : List ℕ} {j : �
       }
 
   -- After the last line the column is filled.
-  pub last-done : {w words ends : List ℕ} {waiting : ℕ} {window : Window} {i : ℕ}
+  pub last-done : {w words ends : List ℕ} {waiting : Waiting} {window : Window} {i : ℕ}
       → LastRun bytes task w₀ w words₀ words j waiting window ends i → task .galley .text .count < i
       → w ≡ fillColumn (modelOf bytes (task .galley)) (task .origin) j (suc (task .galley .text .count)) 0 w₀
   unfolding fillColumn
@@ -124,7 +127,7 @@ module _ {bytes : List ℕ} {task : Task} {w₀ sums words₀ : List ℕ} {j : �
       let n : suc (task .galley .text .count) - i ≡ 0 = omega (arith, run .within) in
       rw n at (run .run)
 
-  module _ {w words ends : List ℕ} {waiting : ℕ} {window : Window} {i : ℕ}
+  module _ {w words ends : List ℕ} {waiting : Waiting} {window : Window} {i : ℕ}
       (run : LastRun bytes task w₀ w words₀ words j waiting window ends i) (at : i ≤ task .galley .text .count) where
     lent : Lent bytes (task .galley) w j
     lent = lent-sized w (run .sized) lent-first
@@ -132,21 +135,22 @@ module _ {bytes : List ℕ} {task : Task} {w₀ sums words₀ : List ℕ} {j : �
     -- The window can be moved on to line i,
     pub last-slides : Slidable sums (plain (task .galley)) window i
     last-slides =
-        can-slide lent (last .column .summed) false j noHeights (no-figures bytes (task .galley) j) (floor (modelOf bytes (task .galley)) false)
+        lines-slide lent (last .column .summed) (floor (modelOf bytes (task .galley)) false)
         (least-low bytes (task .galley) (lent .sound) false) window i at (run .slid .low) (run .slid .high)
 
-    module _ (waiting′ : ℕ) (found : waiting′ ≡ waits (floatsOf bytes (task .galley .figures)) i j) (new : Window)
-        (slid : Slid sums (plain (task .galley)) window i new) where
+    module _ (waiting′ : Waiting) (found : waiting′ ≡ waitingOf bytes (task .galley) (countsAt (task .galley) i j)) (new : Window)
+        (slid : Slid sums (plain (task .galley)) window i new) (stop : Stop)
+        (says : stop ≡ stopAt bytes (task .galley) (countsAt (task .galley) i j)) where
       opened : Open (textOf bytes (task .galley .text)) (plain (task .galley)) new i
       opened = slid .opens (textOf bytes (task .galley .text)) (task .galley .text .count) (last .column .summed .rows) at (run .slid)
 
       -- the place can be filled,
       pub last-place : PlaceNext bytes task w sums words ends (record { from = window; to = new })
-          (record { line = i; column = j; side = 0; waiting = waiting′ })
+          (record { at = countsAt (task .galley) i j; column = j; side = 0; turns = false; waiting = waiting′ .figures + waiting′ .tables; stop = stop })
       last-place =
           record {
             next = record { lent = lent; cheap = last .column .next .cheap; filled = run .entries };
-            ending = record { line = at; found = found };
+            ending = record { line = at; counts = refl; found = ap (λ (k : Waiting). k .figures + k .tables) found; stop = says };
             summed = last .column .summed;
             scratch = omega (arith, last .column .scratch, run .wordsSized);
             slides = record { low = slid .low; high = slid .high; opened = opened };
@@ -158,11 +162,12 @@ module _ {bytes : List ℕ} {task : Task} {w₀ sums words₀ : List ℕ} {j : �
       -- and is.
       pub last-next : (v words′ : List ℕ) → length words′ ≡ length words → (next : List ℕ)
           → PlaceFilled bytes task w v words′ next (record { from = window; to = new })
-          (record { line = i; column = j; side = 0; waiting = waiting′ })
+          (record { at = countsAt (task .galley) i j; column = j; side = 0; turns = false; waiting = waiting′ .figures + waiting′ .tables; stop = stop })
           → LastRun bytes task w₀ v words₀ words′ j waiting′ new next (i + 1)
       unfolding fillColumn tall
       last-next v words′ sized next done =
           let m = modelOf bytes (task .galley) in
+          let inside = within-at (task .galley) i j at (lent .column) in
           let n : 2 * i + 2 ≡ 2 * (i + 1) = omega arith in
           let s : i + 1 ≡ suc i = omega arith in
           let rest : suc (task .galley .text .count) - i ≡ suc (suc (task .galley .text .count) - suc i) = omega arith in
@@ -171,8 +176,8 @@ module _ {bytes : List ℕ} {task : Task} {w₀ sums words₀ : List ℕ} {j : �
             sized = ap length (done .filled) ∙ length-place m (task .origin) i j w ∙ run .sized;
             wordsSized = sized ∙ run .wordsSized;
             walked =
-                walked-on (walked-here (lent .sound .figures) i j waiting′ (lent .column) found) (i + 1) j waiting′ (omega arith)
-                (omega arith) (lent .column) (omega arith);
+                walking-down (task .galley) i j waiting′ inside
+                (walking-here (lent .sound) (countsAt (task .galley) i j) waiting′ inside found);
             entries =
                 rw (s, done .filled)
                 (filled-place m (dearest-light bytes (task .galley) (lent .sound)) (task .origin) i j at (lent-wide lent) w (lent-roomy lent)
@@ -190,7 +195,7 @@ module _ {bytes : List ℕ} {task : Task} {w₀ sums words₀ : List ℕ} (table
   unfolding filled
   columns-first =
       let g = task .galley in
-      let e : suc (g .figures .count) - 0 ≡ columns (floatSizes (modelOf bytes g)) = omega (arith, columns-one bytes g) in
+      let e : columnsIn g - 0 ≡ columns (floatSizes (modelOf bytes g)) = omega (arith, columns-in bytes g) in
       record {
         within = omega arith;
         sized = refl;
@@ -201,13 +206,13 @@ module _ {bytes : List ℕ} {task : Task} {w₀ sums words₀ : List ℕ} (table
 
   module _ {w words : List ℕ} {j : ℕ} (run : ColumnsRun bytes task w₀ w words₀ words j) where
     -- After the last column the table is filled.
-    pub columns-done : task .galley .figures .count < j → w ≡ filled (modelOf bytes (task .galley)) (task .origin) w₀
+    pub columns-done : columnsIn (task .galley) ≤ j → w ≡ filled (modelOf bytes (task .galley)) (task .origin) w₀
     unfolding fillColumns
     columns-done l =
-        let n : suc (task .galley .figures .count) - j ≡ 0 = omega (arith, run .within) in
+        let n : columnsIn (task .galley) - j ≡ 0 = omega (arith, run .within) in
         rw n at (run .run)
 
-    module _ (some : j ≤ task .galley .figures .count) where
+    module _ (some : j < columnsIn (task .galley)) where
       -- The next column can be filled,
       pub columns-column : ColumnNext bytes task w sums words j
       columns-column =
@@ -234,7 +239,7 @@ module _ {bytes : List ℕ} {task : Task} {w₀ sums words₀ : List ℕ} (table
           let lent = columns-column .next .lent in
           let light = dearest-light bytes g (lent .sound) in
           let s : j + 1 ≡ suc j = omega arith in
-          let rest : suc (g .figures .count) - j ≡ suc (suc (g .figures .count) - suc j) = omega arith in
+          let rest : columnsIn g - j ≡ suc (columnsIn g - suc j) = omega arith in
           let whole = filled-to m light (task .origin) j (lent-wide lent) (suc (g .text .count)) 0 w (omega arith) (lent-roomy lent) (run .entries) in
           let next = filled-next m light (task .origin) (tableIn g (fillColumn m (task .origin) j (suc (g .text .count)) 0 w)) j whole in
           record {

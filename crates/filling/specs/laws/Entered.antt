@@ -70,7 +70,7 @@ pub record Found (g : Galley) (from : Origin) (i q x : ℕ) (r : Place) : Type 0
   pub line : r .line ≤ i
   pub column : r .column ≤ q
   pub less : placedAt g (r .line) (r .column) < placedAt g i q
-  pub dear : x ≤ from .cost + placedAt g (r .line) (r .column) * 201000
+  pub dear : x ≤ from .cost + placedAt g (r .line) (r .column) * 251000
   pub past : Inside (placeAt g i q) (placeAt g (from .place .line) (from .place .column))
 
 -- So is the best start, if there is one.
@@ -100,7 +100,7 @@ best-entered s from sought fill side x r e =
           (place-inside (s .galley) (s .line) (s .column) h wide) f);
     }
 
-module _ (g : Galley) (light : dearest g ≤ 201000) (from : Origin) (t : Table) (i q c : ℕ) (high : i ≤ g .stream 0 .size)
+module _ (g : Galley) (light : dearest g ≤ 251000) (from : Origin) (t : Table) (i q c : ℕ) (high : i ≤ g .stream 0 .size)
     (wide : q < columns (floatSizes g)) (fill : Filled g from t i q) (occurs : Side (g .spec .sides) c) where
   search : Search
   search = record { galley = g; table = t; line = i; column = q; side = before (g .spec .sides) c }
@@ -115,8 +115,8 @@ module _ (g : Galley) (light : dearest g ≤ 201000) (from : Origin) (t : Table)
       let found =
       best-entered search from (record { high = high; wide = wide }) fill (side-before (g .spec .sides) c occurs) y r (b ∙ (cc)) in
       let cost = cost-le g c (full g (placeAt g i q)) (placeAt g i q) in
-      let most = mul-le-mul-right 201000 (found .less) in
-      let s = suc-mul (placedAt g (r .line) (r .column)) 201000 in
+      let most = mul-le-mul-right 251000 (found .less) in
+      let s = suc-mul (placedAt g (r .line) (r .column)) 251000 in
       record {
         line = found .line;
         column = found .column;

@@ -98,7 +98,7 @@ earlier-column a b m q h (inl l) = go (decLt b q)
     go (no k) = inr (omega arith, omega arith)
 earlier-column a b m q h (inr (e, l)) = absurd (omega arith)
 
-module _ (g : Galley) (light : dearest g ≤ 201000) (from : Origin) where
+module _ (g : Galley) (light : dearest g ≤ 251000) (from : Origin) where
   pub filled-start : (t : Table) → Filled g from t 0 0
   filled-start t = record { entered = λ a b c x s l. absurd (none a b l) }
     where

@@ -2,16 +2,13 @@
 use Prim.Native.Nat.{ℕ, zero, suc, _+_, _*_, _≤_, _<_}
 use native.Mathlib.Nat.{le-refl}
 use native.Mathlib.Omega.{arith}
-use mathlib.Core.Path.{_≡_, refl, sym, _∙_, ap}
-use mathlib.Core.Bool.{false}
+use mathlib.Core.Path.{_≡_, refl, _∙_, ap}
+use mathlib.Core.Bool.{Bool, false}
 use mathlib.Core.List.{List}
 use lib.ListN.{length}
-use borrow.Author.Tests.{le-ltb}
 use Rattle.model.specs.Leaf.{sidesOf}
-use Rattle.model.specs.Rules.{floor}
 use Rattle.galley.specs.declared.Galley.{Galley}
 use Rattle.galley.specs.Model.{modelOf, sidesIn}
-use Rattle.blocks.specs.Heights.{noHeights}
 use Rattle.places.specs.Columns.{columns, floatSizes}
 use Rattle.places.specs.laws.Address.{area-needed}
 use Rattle.window.specs.declared.queue.Queue.{Queue}
@@ -19,23 +16,25 @@ use Rattle.window.specs.Queue.{linesOf, frontOf, queueOf, pushed, FeedAsked, Ad
 use Rattle.window.specs.laws.Front.{front-best}
 use Rattle.window.specs.laws.Pushed.{pushed-length}
 use Rattle.starts.specs.Search.{newEntry}
-use Rattle.starts.specs.Read.{tableIn, sideOf, searchOf}
+use Rattle.starts.specs.Read.{tableIn, sideOf, searchOf, columnsIn}
 use Rattle.starts.specs.Sweep.{Lent, Changed}
-use Rattle.starts.specs.laws.One.{columns-one, under-one, sought-one, bears-one}
+use Rattle.starts.specs.laws.Columns.{columns-in, sought-in}
 use Rattle.starts.specs.laws.Sweep.{window-best}
 use Rattle.starts.specs.laws.Cells.{stored-changes, knows-other}
 use Rattle.starts.specs.laws.Lending.{side-either, lent-sized, lent-placed, can-feed, can-front}
+use Rattle.filling.specs.declared.price.Stop.{Stop}
 use Rattle.filling.specs.declared.side.Task.{Task}
 use Rattle.filling.specs.declared.side.End.{End}
 use Rattle.filling.specs.declared.side.Windows.{Windows}
 use Rattle.filling.specs.Fill.{tall, fillSide, fillSides, sideCount, fillPlace}
 use Rattle.filling.specs.Filled.{Roomy}
+use Rattle.filling.specs.Stop.{turnsOn}
 use Rattle.filling.specs.Next.{plain, EntryNext, SideNext, SideFilled, PlaceNext, PlaceFilled}
 use Rattle.filling.specs.Run.{SidesRun}
 use Rattle.filling.specs.laws.Entered.{below-side}
 use Rattle.filling.specs.laws.Fill.{length-side, filled-keeps}
 use Rattle.filling.specs.laws.Price.{dearest-light}
-use Rattle.filling.specs.laws.NewEntry.{no-figures}
+use Rattle.filling.specs.laws.Own.{under-own, end-bears}
 use Rattle.filling.specs.laws.Queues.{queues-round, queues-same, queues-next}
 
 -- The sides that occur are as many as the field says.
@@ -50,11 +49,11 @@ sides-count (suc (suc (suc n))) f some two = absurd (omega arith)
 pub lent-roomy : {bytes : List ℕ} {g : Galley} {w : List ℕ} {j : ℕ} → Lent bytes g w j → Roomy (modelOf bytes g) w
 unfolding tall
 lent-roomy {bytes} {g} lent =
-    record { words = rw (columns-one bytes g, area-needed (g .text .count) (g .figures .count)) (lent .room) }
+    record { words = rw (columns-in bytes g, area-needed (g .text .count) (columnsIn g)) (lent .room) }
 
 -- A column that is lent is one of the galley's.
 pub lent-wide : {bytes : List ℕ} {g : Galley} {w : List ℕ} {j : ℕ} → Lent bytes g w j → j < columns (floatSizes (modelOf bytes g))
-lent-wide {bytes} {g} lent = omega (arith, columns-one bytes g, lent .column)
+lent-wide {bytes} {g} lent = omega (arith, columns-in bytes g, lent .column)
 
 -- One side.
 module _ {bytes : List ℕ} {task : Task} {w sums words : List ℕ} {queue : Queue} {windows : Windows} {end : End}
@@ -70,7 +69,7 @@ module _ {bytes : List ℕ} {task : Task} {w sums words : List ℕ} {queue : Que
       (windows .from .high) (windows .to .high)
   side-feeds =
       can-feed (next .next .lent) (next .scratch) (end .column) (next .next .lent .column) queue (end .side) (windows .from .high)
-      (windows .to .high) (end .line) (next .ending .line) (next .slides .high) (next .slides .opened .ends .high) (next .based)
+      (windows .to .high) (end .at .lines) (next .ending .line) (next .slides .high) (next .slides .opened .ends .high) (next .based)
       (next .held .based) (next .held .order) (next .held .short)
 
   -- All starts of the page that ends there are known.
@@ -82,11 +81,14 @@ module _ {bytes : List ℕ} {task : Task} {w sums words : List ℕ} {queue : Que
       record {
         next = next .next;
         ending = next .ending;
+        turns = next .turns;
         side = below-side (sidesIn g) (end .side) (rw sides (next .occurs));
         above =
             record {
               lent = lent;
               line = next .ending .line;
+              counts = next .ending .counts;
+              full = ap (λ (stop : Stop). stop .full) (next .ending .stop);
               side = side-either-here;
               summed = next .summed;
               front =
@@ -94,12 +96,10 @@ module _ {bytes : List ℕ} {task : Task} {w sums words : List ℕ} {queue : Que
                   (omega (arith, next .slides .opened .ends .high, next .ending .line))
                   (omega (arith, advanced .base, next .based)) (advanced .order) (advanced .short);
               best = λ inner.
-                  window-best (searchOf bytes g w (end .line) (end .column) (sideOf g (end .side)))
-                  (sought-one bytes g w (end .line) (end .column) (sideOf g (end .side)) (lent-placed lent (end .line) (next .ending .line)))
-                  (end .column) (le-refl _) (under-one bytes g (end .column) (end .column) (le-refl _)) (plain g)
-                  (bears-one bytes g (end .column) (end .column) noHeights (no-figures bytes g (end .column)) w (end .line)
-                  (sideOf g (end .side)) false (le-ltb (end .column) (end .column) (le-refl _)) (floor (modelOf bytes g) false)
-                  (ap (floor (modelOf bytes g)) (sym inner)))
+                  window-best (searchOf bytes g w (end .at .lines) (end .column) (sideOf g (end .side)))
+                  (sought-in bytes g w (end .at .lines) (end .column) (sideOf g (end .side)) (lent-placed lent (end .at .lines) (next .ending .line)))
+                  (end .column) (le-refl _) (under-own (modelOf bytes g) (end .column)) (plain g)
+                  (end-bears bytes g end (next .ending .counts) w (sideOf g (end .side)) false inner)
                   (windows .to) (next .slides .opened) (frontOf words′ moved (end .column))
                   (front-best (linesOf w (g .text .count + 1) (end .column) (sideOf g (end .side))) words′ moved (windows .to .low)
                   (windows .to .high) (end .column) (advanced .held (windows .from .low) (next .slides .low) (next .held)) (advanced .fresh));
@@ -119,13 +119,13 @@ module _ {bytes : List ℕ} {task : Task} {w₀ sums words₀ ends₀ : List ℕ
   two : task .galley .spec .sides ≤ 2
   two = next .next .lent .sound .specRanged .sidesTwo
 
-  inside : windows .to .high ≤ end .line
+  inside : windows .to .high ≤ end .at .lines
   inside = next .slides .opened .ends .high
 
   pub sides-first : SidesRun bytes task w₀ w₀ words₀ words₀ ends₀ ends₀ windows end 0
   unfolding fillSides
   sides-first =
-      let z : 2 * end .line + 0 ≡ 2 * end .line = omega arith in
+      let z : 2 * end .at .lines + 0 ≡ 2 * end .at .lines = omega arith in
       record {
         within = omega arith;
         sized = refl;
@@ -151,7 +151,7 @@ module _ {bytes : List ℕ} {task : Task} {w₀ sums words₀ ends₀ : List ℕ
           waits = λ k d h m n. run .waits k d h m (omega (arith, run .within, two));
         }
 
-    module _ (occurs : c < task .galley .spec .sides) where
+    module _ (occurs : c < task .galley .spec .sides) (turns : Bool) (told : turns ≡ turnsOn (task .galley) c) where
       low : c ≤ 1
       low = omega (arith, two)
 
@@ -160,18 +160,19 @@ module _ {bytes : List ℕ} {task : Task} {w₀ sums words₀ ends₀ : List ℕ
 
       -- The next side can be filled.
       pub sides-side : SideNext bytes task w sums words (queueOf ends c) windows
-          (record { line = end .line; column = end .column; side = c; waiting = end .waiting })
+          (record { at = end .at; column = end .column; side = c; turns = turns; waiting = end .waiting; stop = end .stop })
       sides-side =
           record {
             next = record { lent = lent; cheap = next .next .cheap; filled = run .entries };
-            ending = record { line = next .ending .line; found = next .ending .found };
+            ending = record { line = next .ending .line; counts = next .ending .counts; found = next .ending .found; stop = next .ending .stop };
             summed = next .summed;
             scratch = omega (arith, next .scratch, run .wordsSized);
             slides = next .slides;
             occurs = occurs;
+            turns = told;
             based = omega (arith, low);
             held = run .queued .still c (le-refl c) occurs;
-            known = run .waits (end .line) c (next .ending .line) occurs (le-refl (2 * end .line + c));
+            known = run .waits (end .at .lines) c (next .ending .line) occurs (le-refl (2 * end .at .lines + c));
           }
 
       -- The ends of its queue are words.
@@ -190,22 +191,22 @@ module _ {bytes : List ℕ} {task : Task} {w₀ sums words₀ ends₀ : List ℕ
       -- With it filled, one side more is.
       pub sides-next : (v words′ : List ℕ) → length words′ ≡ length words → (r : Queue)
           → SideFilled bytes task w v words words′ (queueOf ends c) windows
-          (record { line = end .line; column = end .column; side = c; waiting = end .waiting }) r
+          (record { at = end .at; column = end .column; side = c; turns = turns; waiting = end .waiting; stop = end .stop }) r
           → SidesRun bytes task w₀ v words₀ words′ ends₀ (pushed ends c (r .head) (r .tail)) windows end (c + 1)
       unfolding fillSides fillSide tall
       sides-next v words′ sized r done =
           let n : c + 1 ≡ suc c = omega arith in
           let m = modelOf bytes (task .galley) in
-          let long = ap length (done .filled) ∙ length-side m (task .origin) (end .line) (end .column) c w in
+          let long = ap length (done .filled) ∙ length-side m (task .origin) (end .at .lines) (end .column) c w in
           record {
             within = omega arith;
             sized = long ∙ run .sized;
             wordsSized = sized ∙ run .wordsSized;
             endsSized = pushed-length ends c (r .head) (r .tail) ∙ run .endsSized;
-            filled = rw n (done .filled ∙ ap (fillSide m (task .origin) (end .line) (end .column) c) (run .filled));
+            filled = rw n (done .filled ∙ ap (fillSide m (task .origin) (end .at .lines) (end .column) c) (run .filled));
             entries =
                 rw (done .filled)
-                (filled-keeps m (dearest-light bytes (task .galley) (lent .sound)) (task .origin) (end .line) (end .column) (next .ending .line)
+                (filled-keeps m (dearest-light bytes (task .galley) (lent .sound)) (task .origin) (end .at .lines) (end .column) (next .ending .line)
                 (lent-wide lent) c w (lent-roomy lent) low (run .entries));
             queued =
                 queues-same
@@ -214,7 +215,7 @@ module _ {bytes : List ℕ} {task : Task} {w₀ sums words₀ ends₀ : List ℕ
                   inside,
                   next .ending .line,
                   next .slides .high,
-                )) (omega (arith, inside, next .ending .line)) words′ r (done .advanced)) v (end .line)
+                )) (omega (arith, inside, next .ending .line)) words′ r (done .advanced)) v (end .at .lines)
                 (omega (arith, inside, next .slides .high)) inside
                 (λ a d l.
                 changed .others a (end .column) (sideOf (task .galley) d) (omega (arith, next .ending .line)) (side-either (task .galley) d)
@@ -224,8 +225,8 @@ module _ {bytes : List ℕ} {task : Task} {w₀ sums words₀ ends₀ : List ℕ
                 omega (arith, q .0, q .1)) (run .waits k d l m (omega arith));
           }
         where
-          changed : Changed (task .galley) w v (end .line) (end .column) c
-              (newEntry (modelOf bytes (task .galley)) (task .origin) (tableIn (task .galley) w) (end .line) (end .column) c)
+          changed : Changed (task .galley) w v (end .at .lines) (end .column) c
+              (newEntry (modelOf bytes (task .galley)) (task .origin) (tableIn (task .galley) w) (end .at .lines) (end .column) c)
           changed =
-              stored-changes (task .galley) w (end .line) (end .column) c (next .ending .line) (lent .column) occurs two (lent .room)
-              (newEntry (modelOf bytes (task .galley)) (task .origin) (tableIn (task .galley) w) (end .line) (end .column) c) v (done .filled)
+              stored-changes (task .galley) w (end .at .lines) (end .column) c (next .ending .line) (lent .column) occurs two (lent .room)
+              (newEntry (modelOf bytes (task .galley)) (task .origin) (tableIn (task .galley) w) (end .at .lines) (end .column) c) v (done .filled)

@@ -37,43 +37,48 @@ write-pages-requires c κs =
 
 mul-words : tie.Need-mul-words
 mul-words c =
-    let small =
-    walk-small (c .before .before .before .before .before .before .before .before .before .before .before .pre) _
-    (c .before .before .before .before .before .before .before .last-stop .ensures) _
-    (c .before .before .before .before .before .before .reached .ensures) _
-    (c .before .before .before .before .count-pages .ensures) (not-false _ (c .before .before .before .before .before .if1 .left)) in
-    omega arith
-
-slice-reshare-prefix-mark : tie.Need-slice-reshare-prefix-mark
-slice-reshare-prefix-mark c =
-    let p = c .before .before .before .before .before .before .before .before .before .before .before .pre in
-    let side = c .before .before .before .before .before .before .before .last-stop .ensures in
-    let told = c .before .before .before .before .before .before .reached .ensures in
-    let pages = c .before .before .before .before .count-pages .ensures in
-    let e = not-false _ (c .before .before .before .before .before .if1 .left) in
-    let room = walk-room p _ side _ told _ pages e in
-    let long = walk-long p _ side _ told _ pages e _ (c .before .before .write-pages .ensures) in
-    omega arith
-
-slice-aggregate-mark : tie.Need-slice-aggregate-mark
-slice-aggregate-mark c =
     let p = c .before .before .before .before .before .before .before .before .before .before .before .before .pre in
     let side = c .before .before .before .before .before .before .before .before .last-stop .ensures in
     let told = c .before .before .before .before .before .before .before .reached .ensures in
     let pages = c .before .before .before .before .before .count-pages .ensures in
     let e = not-false _ (c .before .before .before .before .before .before .if1 .left) in
+    let wide = c .page-words .ensures .1 in
+    let small = walk-small p _ side _ told _ pages e in
+    rw wide (omega arith)
+
+slice-reshare-prefix-mark : tie.Need-slice-reshare-prefix-mark
+slice-reshare-prefix-mark c =
+    let p = c .before .before .before .before .before .before .before .before .before .before .before .before .pre in
+    let side = c .before .before .before .before .before .before .before .before .last-stop .ensures in
+    let told = c .before .before .before .before .before .before .before .reached .ensures in
+    let pages = c .before .before .before .before .before .count-pages .ensures in
+    let e = not-false _ (c .before .before .before .before .before .before .if1 .left) in
+    let wide = c .page-words .ensures .1 in
     let room = walk-room p _ side _ told _ pages e in
-    let long = walk-long p _ side _ told _ pages e _ (c .before .before .before .write-pages .ensures) in
-    sym (length-take-le _ _ (omega arith))
+    let long = walk-long p _ side _ told _ pages e _ (c .before .before .before .write-pages .ensures (c .before .before .before .before .before .before .before .before .before .before .before .before .args .s .now)) in
+    rw wide (omega arith)
+
+slice-aggregate-mark : tie.Need-slice-aggregate-mark
+slice-aggregate-mark c =
+    let p = c .before .before .before .before .before .before .before .before .before .before .before .before .before .pre in
+    let side = c .before .before .before .before .before .before .before .before .before .last-stop .ensures in
+    let told = c .before .before .before .before .before .before .before .before .reached .ensures in
+    let pages = c .before .before .before .before .before .before .count-pages .ensures in
+    let e = not-false _ (c .before .before .before .before .before .before .before .if1 .left) in
+    let wide = c .before .page-words .ensures .1 in
+    let room = walk-room p _ side _ told _ pages e in
+    let long = walk-long p _ side _ told _ pages e _ (c .before .before .before .before .write-pages .ensures (c .before .before .before .before .before .before .before .before .before .before .before .before .before .args .s .now)) in
+    rw wide (sym (length-take-le _ _ (omega arith)))
 
 returns-2 : tie.Need-returns-2
 returns-2 c =
-    walk-written (c .before .before .before .before .before .before .before .before .before .before .before .before .before .pre) _
-    (c .before .before .before .before .before .before .before .before .before .last-stop .ensures) _
-    (c .before .before .before .before .before .before .before .before .reached .ensures) _
-    (c .before .before .before .before .before .before .count-pages .ensures)
-    (not-false _ (c .before .before .before .before .before .before .before .if1 .left)) _
-    (c .before .before .before .before .write-pages .ensures) _ (c .mark .ensures)
+    let p = c .before .before .before .before .before .before .before .before .before .before .before .before .before .before .pre in
+    let side = c .before .before .before .before .before .before .before .before .before .before .last-stop .ensures in
+    let told = c .before .before .before .before .before .before .before .before .before .reached .ensures in
+    let pages = c .before .before .before .before .before .before .before .count-pages .ensures in
+    let e = not-false _ (c .before .before .before .before .before .before .before .before .if1 .left) in
+    let wide = c .before .before .page-words .ensures .1 in
+    walk-written p _ side _ told _ pages e _ (c .before .before .before .before .before .write-pages .ensures (c .before .before .before .before .before .before .before .before .before .before .before .before .before .before .args .s .now)) _ (rw wide at (c .mark .ensures))
 
 pub best-pages-spec : {M : Type 1} → statement M
 best-pages-spec =
@@ -84,6 +89,7 @@ best-pages-spec =
     returns
     count-pages-requires
     write-pages-requires
+    (λ c κs. search needs)
     mul-words
     slice-reshare-prefix-mark
     slice-aggregate-mark

@@ -1,78 +1,90 @@
 -- `make_read` meets its contract: each way out leaves what the definition says, and the work area that was filled is cleared of all
 -- that filling wrote.
-use Prim.Native.Nat.{_<_}
+use Prim.Native.Nat.{_+_, _*_, _<_}
 use borrow.Author.Needs.{needs}
 use denote.Ref.{now}
 use lib.ListN.{length}
 use native.Mathlib.Omega.{arith}
+use mathlib.Core.Path.{_≡_}
 use mathlib.Core.List.{[]}
-use Rattle.making.specs.laws.Made.{read-small, needed-small, list-small, made-nine, made-ten, made-fillable, made-solved, made-best}
+use Rattle.making.specs.Make.{workNeeded, listNeeded}
+use Rattle.making.specs.laws.Made.{read-few, read-small, needed-is, needed-small, list-small, room-small, made-nine, made-ten, made-fillable, made-solved, made-best}
 use Rattle.making.proofs.make_read.Statement.{statement}
 use Rattle.making.proofs.make_read.Tie as tie
 
+columns-of-requires : tie.Need-columns-of-requires
+columns-of-requires c κs = read-few (c .before .before .before .pre)
+
 words-needed-requires : tie.Need-words-needed-requires
-words-needed-requires c κs = read-small (c .before .before .before .pre)
+words-needed-requires c κs = rw (c .columns-of .ensures) (read-small (c .before .before .before .before .pre))
+
+-- What is computed is the words needed.
+needed : (c : tie.After-words-needed) → c .words-needed .result ≡ workNeeded (c .before .before .before .before .before .args .g)
+needed c = needed-is (c .before .before .before .before .before .pre) (c .before .columns-of .result) (c .words-needed .result) (c .before .columns-of .ensures) (c .words-needed .ensures)
 
 add-room : tie.Need-add-room
-add-room c = let h = list-small (c .before .before .before .before .before .pre) in omega arith
+add-room c = let h = list-small (c .before .before .before .before .before .before .before .pre) in omega arith
+
+add-room-2 : tie.Need-add-room-2
+add-room-2 c = let h = list-small (c .before .before .before .before .before .before .before .before .pre) in omega arith
+
+-- Both numbers of words fit 32 bits.
+room : (c : tie.After-page-words)
+    → c .page-words .result * (c .before .before .before .before .before .before .args .g .text .count + c .before .before .before .before .before .before .args .g .figures .count + c .before .before .before .before .before .before .args .g .tables .count)
+    ≡ listNeeded (c .before .before .before .before .before .before .args .g)
+room c = rw (c .page-words .ensures .1)
 
 mul-room : tie.Need-mul-room
-mul-room c = let h = list-small (c .before .before .before .before .before .pre) in omega arith
+mul-room c = omega (arith, room (c .before .before), room-small (c .before .before .before .before .before .before .before .before .pre))
 
-cast-t11 : tie.Need-cast-t11
-cast-t11 c =
-    let asked = c .before .before .before .before .before .before .pre in
-    let needed = needed-small asked in
-    let room = list-small asked in
-    omega (arith, c .before .before .words-needed .ensures)
+cast-t13 : tie.Need-cast-t13
+cast-t13 c =
+    let asked = c .before .before .before .before .before .before .before .before .before .pre in
+    omega (arith, needed (c .before .before .before .before), needed-small asked, room (c .before .before .before), room-small asked)
 
 returns : tie.Need-returns
 returns c =
-    let start = c .before .before .before .before .before .before in
-    let short : length (now (start .args .work)) < c .before .before .words-needed .result = omega arith in
-    made-nine (start .pre) _ _ _ (c .before .before .words-needed .ensures) short _ (omega arith)
+    let start = c .before .before .before .before .before .before .before .before .before in
+    let short : length (now (start .args .work)) < c .before .before .before .before .words-needed .result = omega arith in
+    made-nine (start .pre) _ _ _ (needed (c .before .before .before .before)) short _ (omega arith)
 
-cast-t12 : tie.Need-cast-t12
-cast-t12 c =
-    let asked = c .before .before .before .before .before .before .before .pre in
-    let needed = needed-small asked in
-    let room = list-small asked in
-    omega (arith, c .before .before .before .words-needed .ensures)
+cast-t14 : tie.Need-cast-t14
+cast-t14 c =
+    let asked = c .before .before .before .before .before .before .before .before .before .before .pre in
+    omega (arith, needed (c .before .before .before .before .before), needed-small asked, room (c .before .before .before .before), room-small asked)
 
 returns-2 : tie.Need-returns-2
 returns-2 c =
-    made-ten (c .before .before .before .before .before .before .before .pre) _ _ _ (c .before .before .before .words-needed .ensures)
-    (search needs) (c .if2 .taken)
+    let wide = c .before .before .before .before .page-words .ensures .1 in
+    rw wide (made-ten (c .before .before .before .before .before .before .before .before .before .before .pre) _ _ _ (needed (c .before .before .before .before .before)) (search needs) (rw wide at (c .if2 .taken)))
 
 fill-requires : tie.Need-fill-requires
-fill-requires c κs =
-    made-fillable (c .before .before .before .before .before .before .before .before .pre) _ [] _ (c .before .before .before .before .words-needed .ensures) (search needs)
+fill-requires c κs = made-fillable (c .before .before .before .before .before .before .before .before .before .before .before .pre) _ [] _ (needed (c .before .before .before .before .before .before)) (search needs)
 
 best-pages-requires : tie.Need-best-pages-requires
 best-pages-requires c κs =
-    made-solved (c .before .before .before .before .before .before .before .before .before .before .before .before .before .pre) _ _ _
-    (c .before .before .before .before .before .before .before .before .before .words-needed .ensures) (c .before .before .before .before .before .before .before .if1 .left)
-    (c .before .before .before .before .before .before .if2 .left) _ (c .before .before .before .before .fill .ensures)
+    made-solved (c .before .before .before .before .before .before .before .before .before .before .before .before .before .before .before .before .pre) _ _ _ (needed (c .before .before .before .before .before .before .before .before .before .before .before)) (c .before .before .before .before .before .before .before .if1 .left)
+    (rw (c .before .before .before .before .before .before .before .before .before .before .page-words .ensures .1) at (c .before .before .before .before .before .before .if2 .left)) _ (c .before .before .before .before .fill .ensures)
 
 returns-3 : tie.Need-returns-3
 returns-3 c =
-    made-best (c .before .before .before .before .before .before .before .before .before .before .before .before .before .before .before .before .before .before .before .before .pre) _ _ _
-    (c .before .before .before .before .before .before .before .before .before .before .before .before .before .before .before .before .words-needed .ensures)
-    (c .before .before .before .before .before .before .before .before .before .before .before .before .before .before .if1 .left)
-    (c .before .before .before .before .before .before .before .before .before .before .before .before .before .if2 .left) _ _ _ _
-    (c .before .before .before .before .before .before .before .before .before .before .before .fill .ensures) (c .before .before .clear .ensures)
+    made-best (c .before .before .before .before .before .before .before .before .before .before .before .before .before .before .before .before .before .before .before .before .before .before .before .pre) _ _ _ (needed (c .before .before .before .before .before .before .before .before .before .before .before .before .before .before .before .before .before .before)) (c .before .before .before .before .before .before .before .before .before .before .before .before .before .before .if1 .left)
+    (rw (c .before .before .before .before .before .before .before .before .before .before .before .before .before .before .before .before .before .page-words .ensures .1) at (c .before .before .before .before .before .before .before .before .before .before .before .before .before .if2 .left)) _ _ _ _ (c .before .before .before .before .before .before .before .before .before .before .before .fill .ensures) (c .before .before .clear .ensures)
     (c .before .before .before .before .before .before .best-pages .ensures)
 
 pub make-read-spec : {M : Type 1} → statement M
 make-read-spec =
     tie.close
     (tie.spec
+    columns-of-requires
     words-needed-requires
+    (λ c κs. search needs)
     add-room
+    add-room-2
     mul-room
-    cast-t11
+    cast-t13
     returns
-    cast-t12
+    cast-t14
     returns-2
     fill-requires
     best-pages-requires

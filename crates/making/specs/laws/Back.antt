@@ -1,17 +1,18 @@
 -- The walk back through the table counts and writes the pages of the best list.
 use Prim.Native.Nat.{ℕ, zero, suc, _+_, _*_, _≤_}
 use native.Mathlib.Omega.{arith}
-use native.Mathlib.Nat.{not-suc-le-zero, le-of-suc-le-suc}
-use native.Mathlib.Numerals.{add-one, add-two}
+use native.Mathlib.Nat.{mul-zero, mul-suc}
 use mathlib.Core.Path.{_≡_, refl, sym, _∙_, ap, subst}
 use mathlib.Core.Logic.{inl}
 use mathlib.Core.Bool.{Bool, true, false}
-use mathlib.Core.List.{List, [], _∷_, _++_}
+use mathlib.Core.List.{List, [], _∷_, _++_, append-assoc}
 use mathlib.Core.Option.{none, some}
-use lib.ListN.{length, set, drop, length-set}
-use Rattle.model.specs.Galley.{Galley, Place, Sane, blocks}
+use lib.ListN.{length, take, drop}
+use lib.Seq.{drop-at, length-take-le, sets, sets-eq, length-sets}
+use Rattle.model.specs.Galley.{Galley, Place, Sane, streams, sizes, blocks}
 use Rattle.model.specs.Answers.{wordsOf}
 use Rattle.model.specs.Best as model
+use Rattle.model.specs.laws.Gather.{length-row}
 use Rattle.model.specs.laws.Rules.{placed}
 use Rattle.model.specs.laws.Valid.{placed-sizes}
 use Rattle.theorems.specs.optimality.Cell.{Right, Trace}
@@ -22,7 +23,8 @@ use Rattle.theorems.specs.pages.Best.{table-none, table-best}
 use Rattle.places.specs.declared.Place.{Place as Start}
 use Rattle.places.specs.declared.Origin.{Origin}
 use Rattle.places.specs.declared.Entry.the-variants.{Unreached, Least}
-use Rattle.places.specs.Columns.{columns, floatSizes, placeAt}
+use Rattle.places.specs.Columns.{columns, floatSizes}
+use Rattle.places.specs.laws.Places.{place-inside}
 use Rattle.starts.specs.Search.{Table, before}
 use Rattle.filling.specs.Filled.{Side, Filled}
 use Rattle.walk.specs.declared.Stop.{Stop}
@@ -32,16 +34,11 @@ use Rattle.making.specs.Back.{stateOf, lastOf, counted, Found}
 use Rattle.making.specs.laws.Last.{last-side}
 use Rattle.making.specs.laws.Shown.{shown-at, shown-least, finished-least, last-wide, full-place, full-within, origin-here, not-origin}
 
--- Two words stored from offset k on stand before the rest.
-drop-pair :
-    (k i j : ℕ) (ws : List ℕ) → k + 2 ≤ length ws → drop k (set (set ws k i) (k + 1) j) ≡ i ∷ j ∷ drop (k + 2) ws
-drop-pair k i j ws h = rw (add-one, add-two) (go k ws (omega arith))
-  where
-    go : (k : ℕ) (ws : List ℕ) → suc (suc k) ≤ length ws → drop k (set (set ws k i) (suc k) j) ≡ i ∷ j ∷ drop (suc (suc k)) ws
-    go k [] h = absurd (not-suc-le-zero h)
-    go zero (x ∷ []) h = absurd (not-suc-le-zero (le-of-suc-le-suc h))
-    go zero (x ∷ (y ∷ ws)) h = refl
-    go (suc k) (x ∷ ws) h = go k ws (le-of-suc-le-suc h)
+-- Words stored from offset k on stand before the rest.
+drop-sets : (k : ℕ) (vs ws : List ℕ) → k + length vs ≤ length ws → drop k (sets ws k vs) ≡ vs ++ drop (k + length vs) ws
+drop-sets k vs ws h =
+    ap (drop k) (sets-eq vs ws k h ∙ append-assoc (take k ws) vs (drop (k + length vs) ws))
+    ∙ drop-at (take k ws) (vs ++ drop (k + length vs) ws) k (length-take-le k ws (omega arith))
 
 -- The walk through a right table, from an origin of the galley on.
 module _ (g : Galley) (from : Origin) (origin : Proper g (from .place)) (t : Table) (right : AllRight g from t)
@@ -104,6 +101,12 @@ module _ (g : Galley) (from : Origin) (origin : Proper g (from .place)) (t : Tab
       go false b =
           absurd (not-origin g from (origin .column) (s .place .line) (s .place .column) (s .side) (walks .proper .column) b (walks .trace))
 
+  -- A place has a count for each stream.
+  place-long : (p : Start) → Proper g p → length (at g p) ≡ streams g
+  unfolding sizes
+  place-long p h =
+      place-inside g (p .line) (p .column) (h .line) (h .column) .long ∙ length-row 0 (streams g) (λ s. g .stream s .size)
+
   -- It counts the pages that it meets.
   trace-count : (us : List State) (s : Stop) (most p : ℕ) → Walks us s → length us ≤ most
       → countBack (g .spec .sides) t from most s p ≡ p + length us
@@ -125,38 +128,38 @@ module _ (g : Galley) (from : Origin) (origin : Proper g (from .place)) (t : Tab
       let further = trace-pages us (one s) (at g (s .place) ∷ after) (b .walks) in
       rw (b .begun) (omega arith)
 
-  -- and, where a place is a line and a figure, writes each page where its number says, before the pages that are there.
-  module _ (flat : (i q : ℕ) → placeAt g i q ≡ i ∷ q ∷ []) where
-    trace-words : (us : List State) (s : Stop) (after : List Place) (ws rest : List ℕ) → Walks us s → 2 * length us ≤ length ws
-        → drop (2 * length us) ws ≡ wordsOf after ++ rest
-        → writeBack (g .spec .sides) t (length us) s ws ≡ wordsOf (pagesTo us (stateOf g s) after) ++ rest
-    unfolding pagesTo writeBack wordsOf
-    trace-words [] s after ws rest walks h e = e
-    trace-words (u ∷ us) s after ws rest walks h e =
-        let b = back-one u us s walks in
-        let i = s .place .line in
-        let j = s .place .column in
-        let k : 2 * length us + 2 ≡ 2 * suc (length us) = omega arith in
-        let ws′ = set (set ws (2 * length us) i) (2 * length us + 1) j in
-        let long : length ws′ ≡ length ws = simp length-set in
-        let pair = drop-pair (2 * length us) i j ws (omega arith) in
-        let words : drop (2 * length us) ws′ ≡ wordsOf (at g (s .place) ∷ after) ++ rest = rw (flat i j) (pair ∙ rw k (ap (λ l. i ∷ j ∷ l) e)) in
-        trace-words us (one s) (at g (s .place) ∷ after) ws′ rest (b .walks) (omega arith) words
-        ∙ ap (λ v. wordsOf (pagesTo us v (at g (s .place) ∷ after)) ++ rest) (sym (b .begun))
+  -- and writes each page where its number says, before the pages that are there.
+  trace-words : (us : List State) (s : Stop) (after : List Place) (ws rest : List ℕ) → Walks us s → streams g * length us ≤ length ws
+      → drop (streams g * length us) ws ≡ wordsOf after ++ rest
+      → writeBack g t (length us) s ws ≡ wordsOf (pagesTo us (stateOf g s) after) ++ rest
+  unfolding pagesTo writeBack wordsOf
+  trace-words [] s after ws rest walks h e = rw (mul-zero (streams g)) at e
+  trace-words (u ∷ us) s after ws rest walks h e =
+      let b = back-one u us s walks in
+      let v = at g (s .place) in
+      let k = streams g * length us in
+      let long = place-long (s .place) (walks .proper) in
+      let next : k + length v ≡ streams g * suc (length us) = omega (arith, mul-suc (streams g) (length us)) in
+      let ws′ = sets ws k v in
+      let sized = length-sets ws k v in
+      let words : drop k ws′ ≡ wordsOf (v ∷ after) ++ rest =
+      drop-sets k v ws (omega arith) ∙ ap (λ l. v ++ l) (ap (λ n. drop n ws) next ∙ e) ∙ sym (append-assoc v (wordsOf after) rest) in
+      trace-words us (one s) (v ∷ after) ws′ rest (b .walks) (omega arith) words
+      ∙ ap (λ w. wordsOf (pagesTo us w (v ∷ after)) ++ rest) (sym (b .begun))
 
-    -- So the best list that the walk meets is found.
-    walk-found : (us : List State) (last : Stop) (most : ℕ) → Walks us last → length us ≤ most
-        → model.best g ≡ some (pagesTo us (stateOf g last) []) → Found g from t most last (pagesTo us (stateOf g last) [])
-    unfolding wordsOf
-    walk-found us last most walks short is =
-        let pages = trace-pages us last [] walks in
-        let p : counted g from t most last ≡ length us = trace-count us last most 0 walks short ∙ omega arith in
-        record {
-          best = is;
-          pages = omega arith;
-          few = omega arith;
-          words = λ ws h. rw p (trace-words us last [] ws (drop (2 * length us) ws) walks (omega arith) refl);
-        }
+  -- So the best list that the walk meets is found.
+  walk-found : (us : List State) (last : Stop) (most : ℕ) → Walks us last → length us ≤ most
+      → model.best g ≡ some (pagesTo us (stateOf g last) []) → Found g from t most last (pagesTo us (stateOf g last) [])
+  unfolding wordsOf
+  walk-found us last most walks short is =
+      let pages = trace-pages us last [] walks in
+      let p : counted g from t most last ≡ length us = trace-count us last most 0 walks short ∙ omega arith in
+      record {
+        best = is;
+        pages = omega arith;
+        few = omega arith;
+        words = λ ws h. rw p (trace-words us last [] ws (drop (streams g * length us) ws) walks (rw p at h) refl);
+      }
 
 -- The graph from where nothing is placed, and what it tells of the best list.
 module _ (g : Galley) (sane : Sane g) (from : Origin) (begins : originOf g from ≡ beginning g) (origin : Proper g (from .place)) (t : Table)
@@ -171,10 +174,10 @@ module _ (g : Galley) (sane : Sane g) (from : Origin) (begins : originOf g from 
       table-none g sane (tableAt g t) right-beginning (ap (finished (stateOf g (lastOf g t))) e)
 
   -- Where it is reached, the walk back from the better side counts and writes the best list.
-  pub back-best : (flat : (i q : ℕ) → placeAt g i q ≡ i ∷ q ∷ []) (most : ℕ) → blocks g ≤ most → (x : ℕ) (s : Start)
-      → entryOf t (lastOf g t) ≡ Least x s → (ps : List Place) × Found g from t most (lastOf g t) ps
+  pub back-best : (most : ℕ) → blocks g ≤ most → (x : ℕ) (s : Start) → entryOf t (lastOf g t) ≡ Least x s
+      → (ps : List Place) × Found g from t most (lastOf g t) ps
   unfolding tableAt finished Trace pagesTo blocksAt
-  back-best flat most enough x s e =
+  back-best most enough x s e =
       let (us, r, is, cost) = table-best g sane (tableAt g t) right-beginning x (stateOf g (lastOf g t))
       (ap (finished (stateOf g (lastOf g t))) e) in
       go us (subst (λ (o : Begin). Trace (pageGraph g o) (tableAt g t) us end) (sym begins) r) is
@@ -190,7 +193,7 @@ module _ (g : Galley) (sane : Sane g) (from : Origin) (begins : originOf g from 
           let all = placed-sizes g in
           let place = ap (placed g) (full-place g) in (
             pagesTo us (stateOf g (lastOf g t)) [],
-            walk-found g from origin t right fill flat us (lastOf g t) most
+            walk-found g from origin t right fill us (lastOf g t) most
                 (record { proper = record { line = omega arith; column = last-wide g }; within = within; trace = trace }) (omega arith)
                 (rw begun at is),
           )

@@ -1,5 +1,6 @@
 -- What each way out of making leaves: its answer and every word of the lent memory.
 use Prim.Native.Nat.{ℕ, _+_, _≤_, _<_}
+use native.Mathlib.Nat.{mul-le-mul}
 use native.Mathlib.Omega.{arith}
 use mathlib.Core.Path.{_≡_, refl, _∙_, ap}
 use mathlib.Core.List.{List}
@@ -13,15 +14,17 @@ use Rattle.galley.specs.Whole.{galleyOf}
 use Rattle.galley.specs.Model.{modelOf}
 use Rattle.galley.specs.laws.Sound.{sound}
 use Rattle.places.specs.declared.Origin.{Origin}
-use Rattle.places.specs.Address.{area, wordsNeeded, Small}
+use Rattle.places.specs.Address.{area, wordsNeeded, Limited}
 use Rattle.places.specs.Entry.{cleared}
 use Rattle.places.specs.laws.Address.{area-needed, words-small}
-use Rattle.starts.specs.laws.One.{columns-one}
+use Rattle.starts.specs.Read.{columnsIn, FewFloats}
+use Rattle.starts.specs.laws.Columns.{few-floats, columns-few, columns-in}
 use Rattle.filling.specs.Fill.{tall, filled}
 use Rattle.filling.specs.Next.{Fillable}
 use Rattle.making.specs.Make.{workNeeded, listNeeded, makeRead, makeOf, workRead, workAfter, listRead, listAfter, Made}
 use Rattle.making.specs.Solved.{Readable, Solved, Written}
 use Rattle.making.specs.laws.Beyond.{cleared-filled}
+use Rattle.making.specs.laws.Solved.{words-few}
 
 -- A galley that is refused is refused alike, and nothing is written.
 pub made-refused : (bytes work list : List ℕ) (n at : ℕ) → galleyOf bytes ≡ reads.Refused n at → Made bytes work list (Refused n at) work list
@@ -29,21 +32,32 @@ unfolding makeOf makeRead workAfter workRead listAfter listRead
 made-refused bytes work list n at e = record { answers = rw e refl; clean = rw e refl; listed = rw e refl }
 
 module _ {bytes : List ℕ} {g : Galley} {from : Origin} (asked : Readable bytes g from) where
-  pub read-small : Small (g .text .count) (g .figures .count)
-  read-small = let so = sound bytes g (asked .reads) in record { lines = so .fewLines; figures = so .fewFigures }
+  pub read-few : FewFloats g
+  read-few = few-floats (sound bytes g (asked .reads))
 
-  -- The words needed fit 32 bits.
-  pub needed-small : workNeeded g ≤ 6433608
-  unfolding wordsNeeded
-  needed-small = let h = words-small (g .text .count) (g .figures .count) read-small in omega arith
+  pub read-small : Limited (g .text .count) (columnsIn g)
+  read-small = record { lines = sound bytes g (asked .reads) .fewLines; columns = columns-few g read-few }
 
-  pub list-small : g .text .count + g .figures .count ≤ 4200
-  list-small = let so = sound bytes g (asked .reads) in let h = so .fewLines in let k = so .fewFigures in omega arith
+  -- The words needed are those of all columns,
+  pub needed-is : (wide n : ℕ) → wide ≡ columnsIn g → n ≡ wordsNeeded (g .text .count) wide → n ≡ workNeeded g
+  unfolding columnsIn
+  needed-is wide n e is = is ∙ ap (wordsNeeded (g .text .count)) e
+
+  -- and fit 32 bits.
+  pub needed-small : workNeeded g ≤ 328114008
+  unfolding wordsNeeded columnsIn
+  needed-small = let h = words-small (g .text .count) (columnsIn g) read-small in omega arith
+
+  pub list-small : g .text .count + g .figures .count + g .tables .count ≤ 4250
+  list-small = let so = sound bytes g (asked .reads) in omega (arith, so .fewLines, so .figures .few, so .tables .few)
+
+  pub room-small : listNeeded g ≤ 12750
+  room-small = mul-le-mul (words-few g) list-small
 
   forgets : (w : List ℕ) → cleared (workNeeded g) (filled (modelOf bytes g) from w) ≡ cleared (workNeeded g) w
-  unfolding tall
+  unfolding tall columnsIn
   forgets w =
-      let e = ap (area (g .text .count + 1)) (columns-one bytes g) ∙ area-needed (g .text .count) (g .figures .count) in
+      let e = ap (area (g .text .count + 1)) (columns-in bytes g) ∙ area-needed (g .text .count) (columnsIn g) in
       rw e at (cleared-filled (modelOf bytes g) from w)
 
   module _ (work list : List ℕ) (n : ℕ) (is : n ≡ workNeeded g) where
@@ -72,6 +86,7 @@ module _ {bytes : List ℕ} {g : Galley} {from : Origin} (asked : Readable bytes
           }
 
       pub made-fillable : Fillable bytes g from work
+      unfolding columnsIn
       made-fillable =
           record { sound = sound bytes g (asked .reads); cheap = rw (asked .begins) (omega arith); room = omega arith }
 

@@ -51,7 +51,7 @@ earlier-trans a b p r i q (inl l) (inr (e, m)) = inl (omega arith)
 earlier-trans a b p r i q (inr (e, l)) (inl m) = inl (omega arith)
 earlier-trans a b p r i q (inr (e, l)) (inr (f, m)) = inr (omega arith, omega arith)
 
-module _ (g : Galley) (from : Origin) (origin : Proper g (from .place)) (light : dearest g ≤ 201000) where
+module _ (g : Galley) (from : Origin) (origin : Proper g (from .place)) (light : dearest g ≤ 251000) where
   -- A page starts at an earlier place than it ends.
   step-earlier : (u v : Place) (b c : ℕ) → Inside (sizes g) v → Step g (originOf g from) (stop u b) (stop v c)
       → Earlier (count u 0) (columnIn g u) (count v 0) (columnIn g v)

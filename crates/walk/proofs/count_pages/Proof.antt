@@ -15,20 +15,20 @@ abbrev μ-loop : tie.MeasureT-loop
 μ-loop g work origin most at₀ p₀ at p = most - p
 
 loop-holds : tie.Need-loop-holds Inv-loop μ-loop
-loop-holds c = counting-first (c .before .before .pre .visits)
+loop-holds c = counting-first (c .before .before .before .pre .visits)
 
 returns : tie.Need-returns Inv-loop μ-loop
 returns c = counting-done (c .before .before .before .loop .inv) (sym (c .before .at-origin .ensures) ∙ c .if1 .taken)
 
 page-before-requires : tie.Need-page-before-requires Inv-loop μ-loop
 page-before-requires c κs =
-    (c .before .before .before .before .before .before .pre .table .lent, c .before .before .before .loop .inv .visits)
+    (c .before .before .before .before .before .before .before .pre .table .lent, c .before .before .before .loop .inv .visits)
 
 loop-again : tie.Need-loop-again Inv-loop μ-loop
 loop-again c =
     let here = c .before .before in
     rw (c .page-before .ensures)
-    (counting-next (here .before .before .loop .inv) (here .before .before .before .before .before .pre .table) (here .before .loop-test .taken)
+    (counting-next (here .before .before .loop .inv) (here .before .before .before .before .before .before .pre .table) (here .before .loop-test .taken)
     (sym (here .at-origin .ensures) ∙ c .before .if1 .left))
 
 returns-2 : tie.Need-returns-2 Inv-loop μ-loop
@@ -40,6 +40,7 @@ count-pages-spec =
     (tie.spec
     Inv-loop
     μ-loop
+    (λ c. search needs)
     (λ c. search needs)
     loop-holds
     (λ c κs. search needs)

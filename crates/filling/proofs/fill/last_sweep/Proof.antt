@@ -2,7 +2,14 @@
 -- the starts of the window.
 use Prim.Native.Nat.{_+_, _-_}
 use native.Mathlib.Omega.{arith}
+use mathlib.Core.Path.{_≡_, _∙_}
+use Rattle.blocks.specs.Heights.{noHeights}
+use Rattle.rules.specs.laws.Walked.{waiting-few}
 use Rattle.window.specs.Slide.{Slid}
+use Rattle.starts.specs.Read.{countsAt}
+use Rattle.starts.specs.laws.Columns.{few-floats, within-at}
+use Rattle.starts.specs.laws.Lending.{floats-separable}
+use Rattle.filling.specs.Stop.{stopAt}
 use Rattle.filling.specs.Next.{plain}
 use Rattle.filling.specs.Run.{LastRun}
 use Rattle.filling.specs.laws.Column.{last-first, last-done, last-slides, last-place, last-next}
@@ -11,63 +18,95 @@ use Rattle.filling.proofs.fill.last_sweep.Statement.{statement}
 use Rattle.filling.proofs.fill.last_sweep.Tie as tie
 
 abbrev Inv-loop : tie.InvT-loop
-Inv-loop s task work₀ sums words₀ j g least load waiting₀ span₀ ends₀ i₀ work words waiting span ends i =
+Inv-loop s task work₀ sums words₀ j g least load top floats waiting₀ span₀ ends₀ i₀ work words waiting span ends i =
     LastRun s task work₀ work words₀ words j waiting span ends i
 
 abbrev μ-loop : tie.MeasureT-loop
-μ-loop s task work₀ sums words₀ j g least load waiting₀ span₀ ends₀ i₀ work words waiting span ends i = task .galley .text .count + 1 - i
+μ-loop s task work₀ sums words₀ j g least load top floats waiting₀ span₀ ends₀ i₀ work words waiting span ends i =
+    task .galley .text .count + 1 - i
+
+load-of-requires : tie.Need-load-of-requires Inv-loop μ-loop
+load-of-requires c κs =
+    floats-separable (c .before .before .before .before .before .before .pre .column .next .lent) 0 noHeights (omega arith) (record { tight = omega arith; loose = omega arith })
+
+counts-at-requires : tie.Need-counts-at-requires Inv-loop μ-loop
+counts-at-requires c κs = few-floats (c .before .before .before .before .before .before .before .pre .column .next .lent .sound)
+
+floats-of-requires : tie.Need-floats-of-requires Inv-loop μ-loop
+floats-of-requires c κs =
+    let start = c .before .before .before .before .before .before .before .before in
+    let lent = start .pre .column .next .lent in
+    record {
+      sound = lent .sound;
+      within = rw (c .counts-at .ensures) (within-at (start .args .task .galley) 0 (start .args .j) (omega arith) (lent .column));
+    }
 
 loop-holds : tie.Need-loop-holds Inv-loop μ-loop
-loop-holds c = last-first (c .before .before .before .before .before .before .before .pre)
+loop-holds c = last-first (c .before .before .before .before .before .before .before .before .before .pre)
+
+-- All places of the column have the figures and tables of its top.
+waiting-after-requires : tie.Need-waiting-after-requires Inv-loop μ-loop
+waiting-after-requires c κs = rw (c .before .before .before .before .counts-at .ensures) (c .before .before .loop .inv .walked)
 
 slide-requires : tie.Need-slide-requires Inv-loop μ-loop
 slide-requires c κs =
-    let load = c .before .before .before .before in
-    let start = load .before .before .before .before .before .before .before in
+    let load = c .before .before .before .before .before .before in
+    let start = c .before .before .before .before .before .before .before .before .before .before .before .before .before in
     rw (load .load-of .ensures, load .before .floor-of .ensures (start .args .s .now))
-    (last-slides (start .pre) (c .before .before .before .loop .inv)
-    (omega (arith, c .before .if1 .taken)))
+    (last-slides (start .pre) (c .before .before .before .loop .inv) (omega (arith, c .before .if1 .taken)))
 
 -- The window is moved on under the load of pages of lines alone.
 slid : (c : tie.After-slide Inv-loop μ-loop)
-    → Slid (c .before .before .before .before .before .before .before .before .before .before .before .before .args .sums .now)
-    (plain (c .before .before .before .before .before .before .before .before .before .before .before .before .args .task .galley))
+    → Slid (c .before .before .before .before .before .before .before .before .before .before .before .before .before .before .args .sums .now)
+    (plain (c .before .before .before .before .before .before .before .before .before .before .before .before .before .before .args .task .galley))
     (c .before .before .before .before .loop .span) (c .before .before .before .before .loop .i) (c .slide .result)
 slid c =
-    let load = c .before .before .before .before .before in
-    let start = load .before .before .before .before .before .before .before in
-    rw (load .load-of .ensures, load .before .floor-of .ensures (start .args .s .now)) at (c .slide .ensures)
+    let load = c .before .before .before .before .before .before .before in
+    rw (load .load-of .ensures, load .before .floor-of .ensures (c .before .before .before .before .before .before .before .before .before .before .before .before .before .before .args .s .now)) at (c .slide .ensures)
+
+stop-at-requires : tie.Need-stop-at-requires Inv-loop μ-loop
+stop-at-requires c κs = c .before .before .before .before .before .before .before .before .before .before .before .before .before .before .pre .column .next .lent .sound .text
+
+-- What the place says of a page that ends there: it has the floats of the column's top.
+says : (c : tie.After-stop-at Inv-loop μ-loop)
+    → c .stop-at .result
+    ≡ stopAt (c .before .before .before .before .before .before .before .before .before .before .before .before .before .before .before .args .s .now) (c .before .before .before .before .before .before .before .before .before .before .before .before .before .before .before .args .task .galley)
+    (countsAt (c .before .before .before .before .before .before .before .before .before .before .before .before .before .before .before .args .task .galley) (c .before .before .before .before .before .loop .i) (c .before .before .before .before .before .before .before .before .before .before .before .before .before .before .before .args .j))
+says c = c .stop-at .ensures ∙ rw (c .before .before .before .before .before .before .floats-of .ensures, c .before .before .before .before .before .before .before .counts-at .ensures)
+
+add-waiting : tie.Need-add-t23 Inv-loop μ-loop
+add-waiting c =
+    let top = c .before .before .before .before .before .before .before .before .counts-at .result in
+    let few =
+    waiting-few (c .before .before .before .before .before .before .before .before .before .before .before .before .before .before .before .before .pre .column .next .lent .sound)
+    (record { lines = c .before .before .before .before .before .before .loop .i; figures = top .figures; tables = top .tables }) in
+    rw (c .before .before .before .waiting-after .ensures) (omega (arith, few))
 
 fill-place-requires : tie.Need-fill-place-requires Inv-loop μ-loop
 fill-place-requires c κs =
-    let moved = c .before .before .before in
+    let stop = c .before .before .before .before in
+    let moved = stop .before in
     let found = moved .before in
-    let load = found .before .before .before .before in
-    last-place (load .before .before .before .before .before .before .before .pre) (found .before .before .before .loop .inv)
-    (omega (arith, found .before .if1 .taken)) (found .waiting-floats .result) (found .waiting-floats .ensures) (moved .slide .result) (slid moved)
+    let top = found .before .before .before .before .before .counts-at .ensures in
+    rw top
+    (last-place (stop .before .before .before .before .before .before .before .before .before .before .before .before .before .before .before .pre) (found .before .before .before .loop .inv) (omega (arith, found .before .if1 .taken))
+    (found .waiting-after .result) (rw top at (found .waiting-after .ensures)) (moved .slide .result) (slid moved) (stop .stop-at .result) (says stop))
 
 add-i : tie.Need-add-i Inv-loop μ-loop
-add-i c =
-    let inside = c .before .before .before .before .before .before .before .before .before .before .before in
-    omega (
-      arith,
-      inside .if1 .taken,
-      inside .before .before .before .before .before .before .before .before .before .before .pre .column .next .lent .sound .fewLines,
-    )
+add-i c = omega (arith, c .before .before .before .before .before .before .before .before .before .before .before .before .before .if1 .taken, c .before .before .before .before .before .before .before .before .before .before .before .before .before .before .before .before .before .before .before .before .before .before .before .before .before .pre .column .next .lent .sound .fewLines)
 
 loop-again : tie.Need-loop-again Inv-loop μ-loop
 loop-again c =
-    let moved = c .before .before .before .before .before .before .before .before .before in
+    let stop = c .before .before .before .before .before .before .before .before .before .before in
+    let moved = stop .before in
     let found = moved .before in
-    let load = found .before .before .before .before in
-    last-next (load .before .before .before .before .before .before .before .pre) (found .before .before .before .loop .inv)
-    (omega (arith, found .before .if1 .taken)) (found .waiting-floats .result) (found .waiting-floats .ensures) (moved .slide .result) (slid moved) _ _
-    (search (needs, c .before .slice-known4 .given, c .before .before .words .given)) _ (c .before .before .before .before .before .fill-place .ensures)
+    let top = found .before .before .before .before .before .counts-at .ensures in
+    last-next (stop .before .before .before .before .before .before .before .before .before .before .before .before .before .before .before .pre) (found .before .before .before .loop .inv) (omega (arith, found .before .if1 .taken))
+    (found .waiting-after .result) (rw top at (found .waiting-after .ensures)) (moved .slide .result) (slid moved) (stop .stop-at .result) (says stop) _ _
+    (search (needs, c .before .slice-known4 .given, c .before .before .words .given)) _ (rw top at (c .before .before .before .before .before .fill-place .ensures))
 
 returns : tie.Need-returns Inv-loop μ-loop
-returns c =
-    last-done (c .before .before .before .before .before .before .before .before .before .before .pre) (c .before .before .loop .inv)
-    (omega (arith, c .if1 .left))
+returns c = last-done (c .before .before .before .before .before .before .before .before .before .before .before .before .pre) (c .before .before .loop .inv) (omega (arith, c .if1 .left))
 
 pub last-sweep-spec : {M : Type 1} → statement M
 last-sweep-spec =
@@ -76,10 +115,14 @@ last-sweep-spec =
     Inv-loop
     μ-loop
     (λ c κs. search needs)
-    (λ c κs. search needs)
+    load-of-requires
+    counts-at-requires
+    floats-of-requires
     loop-holds
-    (λ c κs. search needs)
+    waiting-after-requires
     slide-requires
+    stop-at-requires
+    add-waiting
     (λ c. search needs)
     fill-place-requires
     add-i

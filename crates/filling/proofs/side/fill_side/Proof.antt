@@ -1,6 +1,7 @@
 -- `fill_side` meets its contract: the queue moves on by `advance`, and the entry is stored at its place.
 use mathlib.Core.Path.{_∙_}
 use native.Mathlib.Omega.{arith}
+use Rattle.starts.specs.laws.Columns.{few-floats, columns-few}
 use Rattle.starts.specs.laws.Lending.{can-stand}
 use Rattle.filling.specs.Fill.{tall, fillSide}
 use Rattle.filling.specs.laws.Sides.{side-either-here, side-feeds, side-entry}
@@ -24,8 +25,8 @@ place-of-requires : tie.Need-place-of-requires
 place-of-requires c κs =
     let next = c .before .before .before .before .before .before .before .before .before .before .before .before .before .before .pre in
     record {
-      lines = omega (arith, next .ending .line, next .next .lent .sound .fewLines);
-      figures = omega (arith, next .next .lent .column, next .next .lent .sound .fewFigures);
+      line = omega (arith, next .ending .line, next .next .lent .sound .fewLines);
+      column = omega (arith, next .next .lent .column, columns-few _ (few-floats (next .next .lent .sound)));
     }
 
 store-requires : tie.Need-store-requires
@@ -33,7 +34,7 @@ store-requires c κs =
     let start = c .before .before .before .before .before .before .before .before .before .before .before .before .before .before .before .before in
     let e = start .args .end in
     rw (c .before .place-of .ensures)
-    (can-stand (start .pre .next .lent) (e .line) (e .column) (e .side) (start .pre .ending .line) (start .pre .next .lent .column)
+    (can-stand (start .pre .next .lent) (e .at .lines) (e .column) (e .side) (start .pre .ending .line) (start .pre .next .lent .column)
     (side-either-here (start .pre)))
 
 returns : tie.Need-returns

@@ -3,14 +3,15 @@
 use mathlib.Core.Path.{_≡_, sym, _∙_}
 use native.Mathlib.Omega.{arith}
 use borrow.Author.Tests.{not-true, not-false}
-use Rattle.galley.specs.Model.{floatsOf, modelOf}
+use Rattle.galley.specs.Model.{modelOf}
 use Rattle.rules.specs.laws.Sane.{sound-sane}
-use Rattle.rules.specs.laws.Waiting.{waits-few}
+use Rattle.rules.specs.laws.Walked.{waiting-few}
 use Rattle.starts.specs.Better.{chosen}
 use Rattle.starts.specs.Search.{priced}
 use Rattle.starts.specs.Read.{tableIn}
 use Rattle.starts.specs.laws.Lending.{can-stand}
-use Rattle.filling.specs.laws.NewEntry.{entry-origin, entry-forbidden, entry-told, cost-low}
+use Rattle.filling.specs.laws.Own.{end-stops, end-cost}
+use Rattle.filling.specs.laws.NewEntry.{entry-origin, entry-forbidden, entry-proper, entry-told, cost-low}
 use borrow.Author.Needs.{needs}
 use Rattle.filling.proofs.side.new_entry.Statement.{statement}
 use Rattle.filling.proofs.side.new_entry.Tie as tie
@@ -19,18 +20,20 @@ returns : tie.Need-returns
 returns c =
     let a = c .before .before .before .before .before .before .before .before .before .args in
     let e = a .end in
-    sym (entry-origin (modelOf (a .s .now) (a .task .galley)) (a .task .origin) (tableIn (a .task .galley) (a .work .now)) (e .line)
+    sym (entry-origin (modelOf (a .s .now) (a .task .galley)) (a .task .origin) (tableIn (a .task .galley) (a .work .now)) (e .at .lines)
     (e .column) (e .side) (sym (c .before .before .before .is-origin .ensures) ∙ c .before .before .if1 .taken))
 
 returns-2 : tie.Need-returns-2
 returns-2 c =
     let asked = c .before in
     let origin = asked .before .before in
-    let a = origin .before .before .before .before .before .before .args in
+    let start = origin .before .before .before .before .before .before in
+    let a = start .args in
     let e = a .end in
-    sym (entry-forbidden (modelOf (a .s .now) (a .task .galley)) (a .task .origin) (tableIn (a .task .galley) (a .work .now)) (e .line)
+    sym (entry-forbidden (modelOf (a .s .now) (a .task .galley)) (a .task .origin) (tableIn (a .task .galley) (a .work .now)) (e .at .lines)
     (e .column) (e .side) (sym (origin .is-origin .ensures) ∙ asked .before .if1 .left)
-    (sym (asked .may-stop .ensures) ∙ not-true (asked .may-stop .result) (c .if2 .taken)))
+    (end-stops (a .s .now) (a .task .galley) e (start .pre .ending .counts) (e .side) ∙ sym (asked .may-stop .ensures (a .s .now) (a .task .galley) (a .end .at) (a .end .side) (entry-proper (start .pre)) (start .pre .ending .stop) (start .pre .turns))
+    ∙ not-true (asked .may-stop .result) (c .if2 .taken)))
 
 add-tall : tie.Need-add-entry-of
 add-tall c =
@@ -42,7 +45,7 @@ entry-of-requires c κs =
     let start = c .before .before .before .before .before .before .before .before .before .before .before in
     let e = start .args .end in
     rw (c .before .place-of .ensures)
-    (can-stand (start .pre .next .lent) (e .line) (e .column) (e .side) (start .pre .ending .line) (start .pre .next .lent .column)
+    (can-stand (start .pre .next .lent) (e .at .lines) (e .column) (e .side) (start .pre .ending .line) (start .pre .next .lent .column)
     (start .pre .above .side))
 
 -- What is chosen is the better of what the place holds and of the lines above.
@@ -51,7 +54,7 @@ told : (c : tie.After-choose)
     ≡ chosen
     (tableIn (c .before .before .before .before .before .before .before .before .before .before .before .before .before .before .args .task .galley)
     (c .before .before .before .before .before .before .before .before .before .before .before .before .before .before .args .work .now)
-    (c .before .before .before .before .before .before .before .before .before .before .before .before .before .before .args .end .line)
+    (c .before .before .before .before .before .before .before .before .before .before .before .before .before .before .args .end .at .lines)
     (c .before .before .before .before .before .before .before .before .before .before .before .before .before .before .args .end .column)
     (c .before .before .before .before .before .before .before .before .before .before .before .before .before .before .args .end .side))
     (c .before .lines-above .result)
@@ -63,24 +66,22 @@ returns-3 c =
     let chose = c .before .before in
     let asked = chose .before .before .before .before .before .before in
     let origin = asked .before .before in
+    let start = origin .before .before .before .before .before .before in
+    let a = start .args in
     let lines = chose .before .lines-above in
     sym
-    (entry-told (origin .before .before .before .before .before .before .pre) (lines .result) (lines .ensures) _
+    (entry-told (start .pre) (lines .result) (lines .ensures) _
     (sym (c .enum-told .given .1) ∙ told chose) (sym (origin .is-origin .ensures) ∙ asked .before .if1 .left)
-    (sym (asked .may-stop .ensures) ∙ not-false (asked .may-stop .result) (chose .before .before .before .before .before .if2 .left)))
+    (end-stops (a .s .now) (a .task .galley) (a .end) (start .pre .ending .counts) (a .end .side) ∙ sym (asked .may-stop .ensures (a .s .now) (a .task .galley) (a .end .at) (a .end .side) (entry-proper (start .pre)) (start .pre .ending .stop) (start .pre .turns)) ∙ not-false (asked .may-stop .result) (chose .before .before .before .before .before .if2 .left)))
 
 price-requires : tie.Need-price-requires
 price-requires c κs =
     let start = c .before .before .before .before .before .before .before .before .before .before .before .before .before .before .before .before .before in
-    let a = start .args in
     let sound = start .pre .next .lent .sound in
-    let most = waits-few (floatsOf (a .s .now) (a .task .galley .figures)) (a .end .line) (a .end .column) in
     record {
       alphas = sound .specRanged .alphas;
       betas = sound .specRanged .betas;
-      either = start .pre .above .side;
-      few = omega (arith, start .pre .ending .found, most, sound .fewFigures);
-      folio = sound .someFolio;
+      few = omega (arith, start .pre .ending .found, waiting-few sound (start .args .end .at));
     }
 
 add-t22 : tie.Need-add-t22
@@ -90,8 +91,8 @@ add-t22 c =
     let a = start .args in
     let lines = chose .before .lines-above in
     let low = cost-low (start .pre) (lines .result) (lines .ensures) _ (told chose) _ _ (c .before .before .start .given .1) in
-    let price = c .price .ensures (a .s .now) (sound-sane (a .s .now) (a .task .galley) (start .pre .next .lent .sound)) (start .pre .ending .found) in
-    omega (arith, low, price)
+    let price = c .price .ensures (a .s .now) (a .end .at) (a .end .side) (entry-proper (start .pre)) (sound-sane (a .s .now) (a .task .galley) (start .pre .next .lent .sound)) (start .pre .above .full) (start .pre .turns) (start .pre .ending .found) in
+    omega (arith, low, price, end-cost (a .s .now) (a .task .galley) (a .end) (start .pre .ending .counts) (a .end .side))
 
 returns-4 : tie.Need-returns-4
 unfolding priced
@@ -102,11 +103,12 @@ returns-4 c =
     let start = origin .before .before .before .before .before .before in
     let a = start .args in
     let lines = chose .before .lines-above in
-    rw (c .price .ensures (a .s .now) (sound-sane (a .s .now) (a .task .galley) (start .pre .next .lent .sound)) (start .pre .ending .found))
+    rw (c .price .ensures (a .s .now) (a .end .at) (a .end .side) (entry-proper (start .pre)) (sound-sane (a .s .now) (a .task .galley) (start .pre .next .lent .sound)) (start .pre .above .full) (start .pre .turns) (start .pre .ending .found)
+    ∙ end-cost (a .s .now) (a .task .galley) (a .end) (start .pre .ending .counts) (a .end .side))
     (sym
     (entry-told (start .pre) (lines .result) (lines .ensures) _ (sym (c .before .before .start .given .1) ∙ told chose)
     (sym (origin .is-origin .ensures) ∙ asked .before .if1 .left)
-    (sym (asked .may-stop .ensures) ∙ not-false (asked .may-stop .result) (chose .before .before .before .before .before .if2 .left))))
+    (end-stops (a .s .now) (a .task .galley) (a .end) (start .pre .ending .counts) (a .end .side) ∙ sym (asked .may-stop .ensures (a .s .now) (a .task .galley) (a .end .at) (a .end .side) (entry-proper (start .pre)) (start .pre .ending .stop) (start .pre .turns)) ∙ not-false (asked .may-stop .result) (chose .before .before .before .before .before .if2 .left))))
 
 pub new-entry-spec : {M : Type 1} → statement M
 new-entry-spec =
