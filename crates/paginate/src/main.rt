@@ -1,5 +1,6 @@
 // The program: a galley from standard input, its pages to standard output. Document 01, "The program".
-ghost use Prim.Native.Nat.{_≤_};
+ghost use Prim.Native.Nat.{_+_, _≤_, _<_};
+use galley::Reading;
 use libc::STDIN_FILENO;
 use libc::STDOUT_FILENO;
 use model::answer::Numbers;
@@ -18,23 +19,44 @@ fn print_refusal(number: u32, place: u32) {
     print_number(place, b'\n');
 }
 
-// How many pages the list has room for.
-fn shown(pages: u32) -> usize
-    ensures { λ r. ⌜ r ≤ 200 ⌝ }
+// How many words a page has in the list: one for each stream of the galley. A galley that is refused has no list.
+fn words_of(galley: &[u8]) -> usize
+    ensures { λ r. ⌜ (2 ≤ r) × (r ≤ 3) ⌝ }
 {
-    if pages <= 200 { pages as usize } else { 200 }
+    let reading = galley::whole::read_galley(galley);
+    match reading {
+        Reading::Galley(g) => blocks::page_words(g),
+        Reading::Refused {
+            number: _n,
+            place: _p,
+        } => 2,
+    }
 }
 
-// Each page with the lines and figures placed so far.
-fn print_pages(pages: usize, list: &[u32; 400])
-    requires { ⌜ pages ≤ 200 ⌝ }
+// Page q with the lines, figures and, where there are any, tables placed so far, which stand in the list from `at` on.
+fn print_page(q: usize, list: &[u32; 400], at: usize, words: usize)
+    requires { ⌜ (q < 400) × (at + words ≤ 400) × (2 ≤ words) ⌝ }
+{
+    print_number(q as u32, b' ');
+    print_number(list[at], b' ');
+    if words == 2 {
+        print_number(list[at + 1], b'\n');
+        return;
+    }
+    print_number(list[at + 1], b' ');
+    print_number(list[at + 2], b'\n');
+}
+
+// Every page: there is room for no more than the list has words.
+fn print_pages(pages: u32, list: &[u32; 400], words: usize)
+    requires { ⌜ (2 ≤ words) × (words ≤ 3) ⌝ }
 {
     let mut q: usize = 0;
-    while q < pages {
-        print_number((q + 1) as u32, b' ');
-        print_number(list[2 * q], b' ');
-        print_number(list[2 * q + 1], b'\n');
+    let mut at: usize = 0;
+    while (q < pages as usize) & (at + words <= 400) {
         q += 1;
+        print_page(q, list, at, words);
+        at += words;
     }
 }
 
@@ -59,7 +81,7 @@ fn main() {
     let n = model::answer::six_numbers(answer);
     if n.number == 0 {
         print_counts(n);
-        print_pages(shown(n.pages), &list);
+        print_pages(n.pages, &list, words_of(&input[..got]));
     } else {
         print_refusal(n.number, n.place);
     }

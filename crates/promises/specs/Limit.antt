@@ -1,4 +1,4 @@
--- No answer has more turns than document 01 allows for ("Spreads and turns"), so that T fits the 32 bits of an answer.
+-- No answer has more turns than documents 01 ("Spreads and turns") and 02 (S-4) allow for, so that T fits the 32 bits of an answer.
 use Prim.Native.Nat.{ℕ, _≤_}
 use native.Mathlib.Omega.{arith}
 use mathlib.Core.Path.{_≡_, refl, sym, subst}
@@ -20,9 +20,9 @@ use Rattle.making.specs.Make.{Made}
 use Rattle.making.specs.laws.Solved.{reads-limits}
 use Rattle.promises.specs.Answers.{of-marking, of-making}
 
--- The turns of an answer are at most those of document 01.
+-- The turns of an answer are at most those of document 02, S-4.
 abbrev Limited : Answer → Type 0
-Limited a = numbersOf a .turns ≤ 843999000
+Limited a = numbersOf a .turns ≤ 1066499000
 
 -- What is not accepted has no turns.
 refused-limited : (a : Answer) → accepted a ≡ false → Limited a
@@ -49,15 +49,15 @@ module _ (g : model.Galley) (sane : model.Sane g) (limits : Limits g) where
       go (Refused n at) words (no-list none) = omega arith
       go (Counted p x y t) words (best-list m long best) = subst (λ a. Limited a) m (marked-limited words)
 
--- Marking reports at most 843,999,000 turns.
-pub marking-limit : (bytes words : List ℕ) → numbersOf (markOf bytes words) .turns ≤ 843999000
+-- Marking reports at most 1,066,499,000 turns.
+pub marking-limit : (bytes words : List ℕ) → numbersOf (markOf bytes words) .turns ≤ 1066499000
 marking-limit bytes words =
     of-marking Limited bytes words (λ n at l h. omega arith)
     (λ g e. marked-limited (modelOf bytes g) (reads-sane bytes g e) (reads-limits bytes g e) words)
 
 -- So does making: `Made` is the contract of `make`.
 pub making-limit : {bytes work list : List ℕ} {answer : Answer} {work′ list′ : List ℕ} → Made bytes work list answer work′ list′
-    → numbersOf answer .turns ≤ 843999000
+    → numbersOf answer .turns ≤ 1066499000
 making-limit {bytes} {work} {list} m =
     subst (λ a. Limited a) (sym (m .answers))
     (of-making Limited bytes (length work) (length list) (λ n at h. omega arith)

@@ -15,6 +15,7 @@ use Rattle.model.specs.laws.Leaf.{leaf-mono}
 use Rattle.model.specs.Answers.{accepted, marked, wordsOf}
 use Rattle.model.specs.Pagination.{Map, Pagination, listOn, xOn, turnsOn}
 use Rattle.theorems.specs.published.Theorem.{words-published, words-unique, words-counts, turn-leaves}
+use Rattle.galley.specs.declared.Stream.{Stream}
 use Rattle.galley.specs.declared.Galley.{Galley}
 use Rattle.galley.specs.declared.Reading.{Reading}
 use Rattle.galley.specs.declared.Reading.the-variants as reads
@@ -22,6 +23,7 @@ use Rattle.galley.specs.Whole.{galleyOf}
 use Rattle.galley.specs.Sound.{citation}
 use Rattle.galley.specs.Model.{sidesIn, modelOf}
 use Rattle.marking.specs.Mark.{markRead, markOf}
+use Rattle.blocks.specs.laws.Counts.{sum-floats}
 use Rattle.rules.specs.laws.Sane.{reads-sane}
 
 -- The bytes say the galley g, P is a pagination of g on p pages in the sense of the paper, and the words are its page list.
@@ -69,27 +71,36 @@ module _ {bytes words : List ℕ} {g : Galley} {p : ℕ} {P : Map} (m : Paginate
       ∙ ap (marked (modelOf bytes g)) (sym (m .list))
       ∙ words-counts (modelOf bytes g) (reads-sane bytes g (m .says)) (m .pages)
 
-  -- With S for the numbers of the leaves: X is Σ (S(P(f)) − S(P(R(f)))), Y is S(p) − S(1), and the turns are X and Y by their
-  -- weights.
+  -- The leaves turned from the line that cites float f of stream s to the float itself, with S for the numbers of the leaves:
+  -- S(P(f)) − S(P(R(f))).
+  abbrev pub Apart : (ℕ → ℕ) → ℕ → Stream → ℕ → ℕ
+  Apart S s floats f = S (P s f) - S (P 0 (citation bytes floats f))
+
+  -- The sum of a number for each float, over the figures and over the tables.
+  abbrev pub Over : (ℕ → Stream → ℕ → ℕ) → ℕ
+  Over number = sum (g .figures .count) (number 1 (g .figures)) + sum (g .tables .count) (number 2 (g .tables))
+
+  -- X is Σ (S(P(f)) − S(P(R(f)))) over the figures and the tables, Y is S(p) − S(1), and the turns are X and Y by their weights.
   by-leaves : (S : ℕ → ℕ) → ((q : ℕ) → leaf (sidesIn g) q ≡ S q)
       → markOf bytes words
-      ≡ Counted p (sum (g .figures .count) (λ f. S (P 1 f) - S (P 0 (citation bytes g f)))) (S p - S 1)
-      (sum (g .figures .count) (λ f. g .spec .alpha * (S (P 1 f) - S (P 0 (citation bytes g f)))) + g .spec .beta * (S p - S 1))
+      ≡ Counted p (Over (Apart S)) (S p - S 1) (Over (λ s st f. g .spec .alpha * Apart S s st f) + g .spec .beta * (S p - S 1))
   unfolding xOn sum
   by-leaves S is =
-      let X = sum (g .figures .count) (λ f. S (P 1 f) - S (P 0 (citation bytes g f))) in
-      let T = sum (g .figures .count) (λ f. g .spec .alpha * (S (P 1 f) - S (P 0 (citation bytes g f)))) + g .spec .beta * (S p - S 1) in
-      let ex : xOn (modelOf bytes g) P ≡ X = simp is (omega arith) in
+      let M = modelOf bytes g in
+      let X = Over (Apart S) in
+      let T = Over (λ s st f. g .spec .alpha * Apart S s st f) + g .spec .beta * (S p - S 1) in
+      let apart = sum-floats g (λ s. sum (M .stream s .size) (λ f. S (P s f) - S (P 0 (M .stream s .cite f)))) (λ none. rw none refl) in
+      let dear = sum-floats g (λ s. sum (M .stream s .size) (λ f. g .spec .alpha * (S (P s f) - S (P 0 (M .stream s .cite f))))) (λ none. rw none refl) in
+      let ex : xOn M P ≡ X = simp is apart in
       let ey : leaf (sidesIn g) p - leaf (sidesIn g) 1 ≡ S p - S 1 = simp is in
-      let paper = turn-leaves (modelOf bytes g) p P S is in
-      let et : turnsOn (modelOf bytes g) p P ≡ T = omega arith in
+      let paper = turn-leaves M p P S is in
+      let et : turnsOn M p P ≡ T = omega arith in
       reports ∙ cc
 
   -- Single-sided: X is Σ (P(f) − P(R(f))), Y is p − 1, and the turns are the paper's Turn.S, whatever the folio.
   pub reports-single : g .spec .sides ≡ 1
       → markOf bytes words
-      ≡ Counted p (sum (g .figures .count) (λ f. P 1 f - P 0 (citation bytes g f))) (p - 1)
-      (sum (g .figures .count) (λ f. g .spec .alpha * (P 1 f - P 0 (citation bytes g f))) + g .spec .beta * (p - 1))
+      ≡ Counted p (Over (Apart (λ q. q))) (p - 1) (Over (λ s st f. g .spec .alpha * Apart (λ q. q) s st f) + g .spec .beta * (p - 1))
   unfolding leaf sidesOf
   reports-single e = by-leaves (λ q. q) (λ q. rw e)
 
@@ -98,8 +109,7 @@ module _ {bytes words : List ℕ} {g : Galley} {p : ℕ} {P : Map} (m : Paginate
   pub reports-double : g .spec .sides ≡ 2
       → (let S : ℕ → ℕ = λ q. folioOf (g .folio) q / 2 + 1 in
       markOf bytes words
-      ≡ Counted p (sum (g .figures .count) (λ f. S (P 1 f) - S (P 0 (citation bytes g f)))) (S p - S 1)
-      (sum (g .figures .count) (λ f. g .spec .alpha * (S (P 1 f) - S (P 0 (citation bytes g f)))) + g .spec .beta * (S p - S 1)))
+      ≡ Counted p (Over (Apart S)) (S p - S 1) (Over (λ s st f. g .spec .alpha * Apart S s st f) + g .spec .beta * (S p - S 1)))
   unfolding leaf sidesOf
   reports-double e = by-leaves (λ q. folioOf (g .folio) q / 2 + 1) (λ q. rw e)
 
@@ -107,20 +117,19 @@ module _ {bytes words : List ℕ} {g : Galley} {p : ℕ} {P : Map} (m : Paginate
   pub reports-first : g .spec .sides ≡ 2 → g .folio ≡ 1
       → (let S : ℕ → ℕ = λ q. q / 2 + 1 in
       markOf bytes words
-      ≡ Counted p (sum (g .figures .count) (λ f. S (P 1 f) - S (P 0 (citation bytes g f)))) (S p - 1)
-      (sum (g .figures .count) (λ f. g .spec .alpha * (S (P 1 f) - S (P 0 (citation bytes g f)))) + g .spec .beta * (S p - 1)))
+      ≡ Counted p (Over (Apart S)) (S p - 1) (Over (λ s st f. g .spec .alpha * Apart S s st f) + g .spec .beta * (S p - 1)))
   unfolding leaf sidesOf
   reports-first e f = by-leaves (λ q. q / 2 + 1) (λ q. rw (e, f, zero-add))
 
-  -- No subtraction in X is cut off at 0: no figure is on a leaf before that of the line that cites it. Nor is that in Y, since
+  -- No subtraction in X is cut off at 0: no float is on a leaf before that of the line that cites it. Nor is that in Y, since
   -- there is a page.
-  pub nothing-cut : ((f : ℕ) → 1 ≤ f → f ≤ g .figures .count
-      → leaf (sidesIn g) (P 0 (citation bytes g f)) ≤ leaf (sidesIn g) (P 1 f))
+  pub nothing-cut : ((s f : ℕ) → 1 ≤ s → Block (modelOf bytes g) s f
+      → leaf (sidesIn g) (P 0 (modelOf bytes g .stream s .cite f)) ≤ leaf (sidesIn g) (P s f))
       × (leaf (sidesIn g) 1 ≤ leaf (sidesIn g) p)
   nothing-cut =
       let lined = reads-sane bytes g (m .says) .lined in
       let first = m .pages .into 0 1 (record { stream = omega arith; first = omega arith; last = lined }) in (
-        λ f l h. m .pages .fourth 1 f (omega arith) (record { stream = omega arith; first = l; last = h }),
+        m .pages .fourth,
         leaf-mono (sidesIn g) 1 p (omega (arith, first .0, first .1)),
       )
 

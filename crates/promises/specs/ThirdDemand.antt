@@ -23,12 +23,13 @@ use Rattle.galley.specs.Model.{modelOf}
 use Rattle.marking.specs.Mark.{markRead, markOf}
 use Rattle.making.specs.Make.{workNeeded, listNeeded, makeRead, makeOf, listRead, listAfter, Made}
 
--- What is promised of the answer of making a galley's bytes and of the page list afterwards.
-pub record ThirdDemand (bytes : List ℕ) (answer : Answer) (list′ : List ℕ) : Type 0 where
+-- What is promised of the answer of making the bytes of the galley g and of the page list afterwards.
+pub record ThirdDemand (bytes : List ℕ) (g : Galley) (answer : Answer) (list′ : List ℕ) : Type 0 where
   -- making returns a list, or 11
   pub outcome : (answer ≡ Refused 11 0) ⊎ (accepted answer ≡ true)
-  -- the list that it returns, the first p pages of the page list, is accepted by marking the same bytes with the same p, X, Y, T
-  pub same : accepted answer ≡ true → markOf bytes (take (2 * numbersOf answer .pages) list′) ≡ answer
+  -- the list that it returns, the first p pages of the page list, is accepted by marking the same bytes with the same p, X, Y, T; a
+  -- page has a word for each stream
+  pub same : accepted answer ≡ true → markOf bytes (take (streams (modelOf bytes g) * numbersOf answer .pages) list′) ≡ answer
   -- every list that marking accepts has at least as many turns
   pub least : accepted answer ≡ true → (words : List ℕ) → accepted (markOf bytes words) ≡ true
       → numbersOf answer .turns ≤ numbersOf (markOf bytes words) .turns
@@ -51,8 +52,7 @@ module _ {bytes work list : List ℕ} {answer : Answer} {work′ list′ : List 
 
   -- The demand, from what making means for the galley that was read.
   from-making : (a : Answer) (ws : List ℕ) → Making (modelOf bytes g) a ws → made (modelOf bytes g) ≡ a → madeWords (modelOf bytes g) ≡ ws
-      → ThirdDemand bytes answer list′
-  unfolding streams
+      → ThirdDemand bytes g answer list′
   from-making (Refused n at) ws (no-list none) e f =
       record {
         outcome = inl (makes ∙ e);
@@ -74,9 +74,11 @@ module _ {bytes work list : List ℕ} {answer : Answer} {work′ list′ : List 
       refused : {A : Type 0} → true ≡ false → A
       refused z = let q : _≡_ {A = ℕ} 0 1 = cc in absurd (omega arith)
 
-      first : take (2 * p) list′ ≡ ws
-      first = ap (take (2 * p)) (lists ∙ ap (λ l. l ++ drop (length l) list) f) ∙ take-at ws (drop (length ws) list) (2 * p) (omega arith)
+      first : take (streams (modelOf bytes g) * p) list′ ≡ ws
+      first =
+          ap (take (streams (modelOf bytes g) * p)) (lists ∙ ap (λ l. l ++ drop (length l) list) f)
+          ∙ take-at ws (drop (length ws) list) (streams (modelOf bytes g) * p) (omega arith)
 
   -- The third demand holds of whatever the contract of `make` allows.
-  pub third-demand : ThirdDemand bytes answer list′
+  pub third-demand : ThirdDemand bytes g answer list′
   third-demand = from-making (made (modelOf bytes g)) (madeWords (modelOf bytes g)) (making (modelOf bytes g)) refl refl

@@ -7,6 +7,7 @@ use Rattle.galley.specs.declared.Galley.{Galley}
 use Rattle.galley.specs.declared.Reading.the-variants as reads
 use Rattle.galley.specs.Whole.{galleyOf}
 use Rattle.galley.specs.Model.{floatsOf, modelOf}
+use Rattle.blocks.specs.laws.Counts.{floats-some}
 use Rattle.rules.specs.Waiting.{waitingFloats, EachOnce}
 use Rattle.rules.specs.laws.Sane.{reads-sane}
 use Rattle.rules.specs.laws.Waiting.{each-once}
@@ -23,4 +24,4 @@ module _ (bytes : List ℕ) (g : Galley) (read : galleyOf bytes ≡ reads.Galley
   -- The figures are one such stream: for every i from 0 to m, and beyond, and every j from 0 to n.
   pub waiting-figures : (i j : ℕ) → j ≤ g .figures .count
       → EachOnce (floatsOf bytes (g .figures)) i j (waitingFloats (floatsOf bytes (g .figures)) i j)
-  waiting-figures i j within = waiting-stream 1 (omega arith) (omega arith) i j within
+  waiting-figures i j within = waiting-stream 1 (omega arith) (floats-some g) i j within

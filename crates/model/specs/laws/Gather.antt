@@ -147,31 +147,6 @@ total-lt n f g h (suc j) q l =
     let after = sum-lt n f g (λ k p q. h k q) (suc j) (omega arith) q l in
     omega arith
 
--- Two totals that differ in one term alone.
-sum-but : (n : ℕ) (f g : ℕ → ℕ) (j : ℕ) → 1 ≤ j → j ≤ n → ((k : ℕ) → ¬ (k ≡ j) → f k ≡ g k) → sum n f + g j ≡ sum n g + f j
-unfolding sum
-sum-but zero f g j p q same = absurd (omega arith)
-sum-but (suc n) f g j p q same = go (le-suc-iff .0 q) (λ r. sum-but n f g j p r same)
-  where
-    go : (j ≤ n) ⊎ (j ≡ suc n) → (j ≤ n → sum n f + g j ≡ sum n g + f j) → sum n f + f (suc n) + g j ≡ sum n g + g (suc n) + f j
-    go (inl r) below =
-        let rest = below r in
-        let at = same (suc n) (λ e. omega arith) in
-        omega arith
-    go (inr e) below =
-        let rest = sum-ext n f g (λ k p q. same k (λ is. omega arith)) in
-        let here = ap f e in
-        let there = ap g e in
-        omega arith
-
-pub total-but : (n : ℕ) (f g : ℕ → ℕ) (j : ℕ) → j ≤ n → ((k : ℕ) → ¬ (k ≡ j) → f k ≡ g k) → total n f + g j ≡ total n g + f j
-unfolding total
-total-but n f g zero q same = let after = sum-ext n f g (λ k p q. same k (λ e. omega arith)) in omega arith
-total-but n f g (suc j) q same =
-    let first = same 0 (λ e. omega arith) in
-    let after = sum-but n f g (suc j) (omega arith) q same in
-    omega arith
-
 -- One term is at most the total, so a total is 0 only where each term is.
 pub sum-has : (n : ℕ) (f : ℕ → ℕ) (j : ℕ) → 1 ≤ j → j ≤ n → f j ≤ sum n f
 unfolding sum

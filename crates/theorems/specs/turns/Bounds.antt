@@ -72,28 +72,29 @@ costs-most g (v ∷ vs) h =
     let scaled = mul-le-mul-right (dearest g) rest in
     omega arith
 
--- At most 4,000 lines, 200 floats in all and weights of 1,000: document 01's ranges, with its figures the only floats.
+-- At most 4,000 lines, 250 floats in all and weights of 1,000: the ranges of documents 01 and 02 (S-4), with 200 figures and 50
+-- tables.
 pub record Limits (g : Galley) : Type 0 where
   pub lines : g .stream 0 .size ≤ 4000
-  pub floats : allFloats g ≤ 200
+  pub floats : allFloats g ≤ 250
   pub alpha : g .spec .alpha ≤ 1000
   pub beta : g .spec .beta ≤ 1000
 
--- Within the limits a page costs at most 201,000, and there are at most 4,200 blocks.
-pub rate-limit : (g : Galley) → Limits g → (dearest g ≤ 201000) × (blocks g ≤ 4200)
+-- Within the limits a page costs at most 251,000, and there are at most 4,250 blocks.
+pub rate-limit : (g : Galley) → Limits g → (dearest g ≤ 251000) × (blocks g ≤ 4250)
 unfolding blocks total allFloats dearest
 rate-limit g l = let weights = mul-le-mul (l .alpha) (l .floats) in omega arith
 
--- Within the limits, α·n + β for each block but one is at most 843,999,000.
-pub dearest-limit : (g : Galley) → Limits g → pred (blocks g) * dearest g ≤ 843999000
+-- Within the limits, α·n + β for each block but one is at most 1,066,499,000.
+pub dearest-limit : (g : Galley) → Limits g → pred (blocks g) * dearest g ≤ 1066499000
 dearest-limit g l =
     let (rate, number) = rate-limit g l in
-    let fewer : pred (blocks g) ≤ 4199 = omega arith in
+    let fewer : pred (blocks g) ≤ 4249 = omega arith in
     mul-le-mul fewer rate
 
 -- Within the limits no accepted list has more turns than that.
 pub turns-limit : (g : Galley) → Sane g → Limits g → (ps : List Place)
-    → accepts (allowed g) (sizes g) 1 (zeros g) ps ≡ true → turns g ps ≤ 843999000
+    → accepts (allowed g) (sizes g) 1 (zeros g) ps ≡ true → turns g ps ≤ 1066499000
 turns-limit g sane l ps h =
     let same = turns-are-costs g sane ps h in
     let most = costs-most g ps h in
