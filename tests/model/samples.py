@@ -2,8 +2,8 @@
 
 The definitions are mathematics, so they are run by the checker: a table of random galleys, with what the reference answers
 for each, takes the place of the table of cases, and must agree with the definitions in the same way. Lists are chosen so that
-the sample has every kind of answer, counted by sidedness and by the parity of the first folio; a kind that is missing fails. As a check that the table can disagree,
-one answer is then falsified.
+the sample has every kind of answer, counted by sidedness and by the parity of the first folio, and those of tables by themselves; a
+kind that is missing fails. As a check that the table can disagree, one answer is then falsified.
 """
 import collections
 import pathlib
@@ -14,9 +14,11 @@ import tempfile
 import definitions
 
 sys.path.insert(0, str(definitions.ROOT / 'tests'))
+import kinds as kinds_of  # noqa: E402
 from reference import marking, sample, search  # noqa: E402
 
 GALLEYS, LEFT, LINES, FIGURES, LISTS, DRAWN, SEED = 120, 12, 5, 2, 5, 40, 20261115
+TABLED = 120, 3, 1, 2  # galleys with tables, and their most lines, figures and tables
 SINGLE, ODD, EVEN = 'single-sided', 'double-sided from an odd folio', 'double-sided from an even folio'
 
 
@@ -34,8 +36,9 @@ def galley_text(g):
     spec = (f'record {{ htmin = {s.htmin}; htmax = {s.htmax}; smin = {s.smin}; smax = {s.smax}; '
             f'sides = {f"double {g.folio}" if s.sides == 2 else "single"}; alpha = {s.alpha}; beta = {s.beta}; lastmin = {s.lastmin or 0} }}')
     lines = listed(block(*line[:3], line.legal, 0) for line in g.lines)
-    figures = listed(block(*figure[:3], figure.legal, figure.cite) for figure in g.figures)
-    return f'galleyOf ({spec}) {lines} {figures}'
+    figures, tables = (listed(block(*each[:3], each.legal, each.cite) for each in floats) for floats in (g.figures, g.tables))
+    held = f'galleyOf ({spec}) {lines} {figures}'
+    return f'tabling {tables} ({held})' if g.tables else held
 
 
 def numbers(words):
@@ -57,7 +60,7 @@ def marked(g, words):
     """The answer of marking, as it is written in the table, and its kind."""
     answer = marking.mark(g, words)
     if answer[0] == 'accepted':
-        return f'(marks {" ".join(map(str, answer[1:]))})', 'marked: accepted' + ('' if words[0] else ' with figures alone on page 1')
+        return f'(marks {" ".join(map(str, answer[1:]))})', 'marked: accepted' + ('' if words[0] else ' with floats alone on page 1')
     number, place = answer[1:]
     return f'(refuses {number} {place})', f'marked: {number}{where(g, words, number, place)}'
 
@@ -70,9 +73,10 @@ def where(g, words, number, place):
         return ' after page 1' if place == 1 else ' after a later page'
     if number == 17 and g.spec.sides == 2 and (g.folio - 1 + place) % 2 == 0:
         return ' on a page that opens a spread, the last of its list'
-    if number == 16 and 2 * place == len(words):
+    width = len(g.streams)
+    if number == 16 and width * place == len(words):
         return ' on the last page of its list'
-    if number == 14 and not parts_lines(g, words[2 * place - 2]):
+    if number == 14 and not parts_lines(g, words[width * (place - 1)]):
         return ' after a kept figure'
     return ' on page 1' if place == 1 else ' on a later page'
 
@@ -88,7 +92,7 @@ def binding(g):
 
 
 def kinds(bound):
-    """Every kind of answer that there is; from an even folio page 1 opens a spread, and figures may stand there alone."""
+    """Every kind of answer that there is; from an even folio page 1 opens a spread, and floats may stand there alone."""
     yield from ('made: none (11)', 'made: a tie decides', 'made: the turns decide', 'marked: accepted', 'marked: 12')
     for number in range(13, 18):
         yield from (f'marked: {number} on page 1', f'marked: {number} on a later page')[bound == EVEN and number == 17:]
@@ -96,15 +100,16 @@ def kinds(bound):
     if bound != SINGLE:
         yield 'marked: 17 on a page that opens a spread, the last of its list'
     if bound == EVEN:
-        yield 'marked: accepted with figures alone on page 1'
+        yield 'marked: accepted with floats alone on page 1'
     yield from ('marked: 18 after page 1', 'marked: 18 after a later page')
 
 
 def drawn(rng, g, valid):
     """A list that is valid or random, or comes of it by a slip, by being cut short, or by going on at random after some pages."""
     words = rng.choice(valid) if valid and rng.random() < 0.7 else sample.page_list(rng, g)
-    kept = 2 * rng.randint(1, len(words) // 2)
-    return rng.choice((words, sample.mutated(rng, words), words[:kept], words[:kept] + sample.page_list(rng, g)[kept:]))
+    width = len(g.streams)
+    kept = width * rng.randint(1, len(words) // width)
+    return rng.choice((words, sample.mutated(rng, g, words), words[:kept], words[:kept] + sample.page_list(rng, g)[kept:]))
 
 
 def lists(rng, g, seen):
@@ -119,21 +124,40 @@ def lists(rng, g, seen):
 def rows(seed, seen):
     """A row for making and for some lists of each galley; their kinds are counted."""
     rng = random.Random(seed)
-    for g in (*sample.galleys(seed, GALLEYS, LINES, FIGURES), *sample.left_galleys(seed, LEFT)):
+    for g in (*sample.galleys(seed, GALLEYS, LINES, FIGURES), *sample.left_galleys(seed, LEFT), *sample.galleys(seed, *TABLED)):
         asked = f'asks ({galley_text(g)})'
         answer, kind = made(g)
         seen[binding(g), kind] += 1
+        if g.tables:
+            valid = list(search.every(g))
+            seen.update((WITH, each) for each in kinds_of.of_choice(g, valid, search.first(g, valid)))
         yield f'{asked} making {answer}'
         for words in lists(rng, g, seen):
             answer, kind = marked(g, words)
             seen[binding(g), kind] += 1
+            if g.tables:
+                seen.update((WITH, each) for each in of_tables(g, words))
             yield f'{asked} (marking {numbers(words)}) {answer}'
+
+
+def of_tables(g, words):
+    """What a list shows of tables."""
+    answer = marking.mark(g, words)
+    yield f'marked: {answer[1] if answer[0] == "refused" else "accepted"}'
+    yield from kinds_of.of_list(g, words) if answer[0] == 'accepted' else kinds_of.of_refusal(g, words, *answer[1:])
+
+
+WITH = 'with tables'
+OF_TABLES = [*(f'marked: {number}' for number in (*range(12, 19), 'accepted')), 'a table before a figure', 'a figure before a table',
+             'a page of three kinds', 'a figure and a table without a line', '13 by a table', '17 by a table', '17 by a figure',
+             '18 for tables alone', 'the later figure decides', 'the later table decides']
 
 
 HEAD = '''use mathlib.Core.Bool.{true, false}
 use mathlib.Core.List.{List, [], _∷_}
 use Rattle.model.specs.Galley.{single, double}
 use Rattle.cases.specs.Case.{Case, making, marking, galleyOf, makes, marks, refuses, asks}
+use Rattle.cases.specs.Galleys.{tabling}
 
 unfoldable pub table : List Case
 table =
@@ -151,7 +175,7 @@ def agrees(table):
 
 def missing(seen):
     """Prints how many answers of each kind there are, and counts the kinds that are missing."""
-    due = [(bound, kind) for bound in (SINGLE, ODD, EVEN) for kind in kinds(bound)]
+    due = [(bound, kind) for bound in (SINGLE, ODD, EVEN) for kind in kinds(bound)] + [(WITH, kind) for kind in OF_TABLES]
     for bound, kind in due:
         print(f'{bound}, {kind}: {seen[bound, kind] or "MISSING"}')
     return sum(not seen[each] for each in due)
@@ -162,7 +186,7 @@ def main():
     table = list(rows(SEED, seen))
     lacking = missing(seen)
     right = agrees(table)
-    print(f'{len(table)} answers of {GALLEYS + LEFT} galleys: ' + ('agree' if right[1] else f'DISAGREE, {right}'))
+    print(f'{len(table)} answers of {GALLEYS + LEFT + TABLED[0]} galleys: ' + ('agree' if right[1] else f'DISAGREE, {right}'))
     at = next(i for i, row in enumerate(table) if '(marks ' in row)
     table[at] = table[at].replace('(marks ', '(marks 1', 1)
     wrong = agrees(table)

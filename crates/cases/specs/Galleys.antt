@@ -7,7 +7,7 @@ use lib.ListN.{replicate}
 use lib.Dec.{eqb}
 use Rattle.model.specs.Gather.{pick}
 use Rattle.model.specs.Galley.{Sides, single, double, Spec, Galley}
-use Rattle.cases.specs.Case.{Block, galleyOf}
+use Rattle.cases.specs.Case.{Block, streamOf, galleyOf}
 
 -- A specification of the first edition.
 unfoldable pub spec : ℕ → ℕ → ℕ → ℕ → Sides → ℕ → ℕ → Spec
@@ -87,6 +87,41 @@ galleyI folio = galleyOf (spec 0 30 0 0 (double folio) 1 1) (line 20 true ∷ []
 unfoldable pub galleyJ : Galley
 galleyJ =
     galleyOf (spec 20 30 0 0 single 1 1) (line 10 true ∷ line 10 true ∷ []) (figure 10 1 ∷ figure 20 1 ∷ figure 20 1 ∷ [])
+
+-- A galley with tables beside its figures, a stream of their own.
+unfoldable pub tabling : List Block → Galley → Galley
+tabling tables g =
+    record { spec = g .spec; floats = 2; stream = λ s. pick (eqb s 2) (streamOf tables) (g .stream s) }
+
+-- A galley whose figures are tables instead.
+unfoldable pub asTables : Galley → Galley
+asTables g =
+    record {
+      spec = g .spec;
+      floats = 2;
+      stream = λ s. pick (eqb s 1) (streamOf []) (pick (eqb s 2) (g .stream 1) (g .stream s));
+    }
+
+-- Galley K: three lines of 10, a figure and a table of 20 that line 1 cites, of which either may come first.
+unfoldable pub galleyK : Galley
+galleyK = tabling (figure 20 1 ∷ []) (galleyOf (spec 0 40 0 0 single 1 1) three (figure 20 1 ∷ []))
+
+-- Galley L: two lines, a figure and a table, all of 10, with separations of 4 to 5, and htMin and htMax left open.
+unfoldable pub galleyL : ℕ → ℕ → Galley
+galleyL low high =
+    tabling (figure 10 1 ∷ [])
+    (galleyOf (spec low high 4 5 single 1 1) (line 10 true ∷ line 10 true ∷ []) (figure 10 1 ∷ []))
+
+-- Galley M: the same without separations on pages of up to 40, with the lines that cite figure and table left open.
+unfoldable pub galleyM : ℕ → ℕ → Galley
+galleyM one two =
+    tabling (figure 10 two ∷ [])
+    (galleyOf (spec 0 40 0 0 single 1 1) (line 10 true ∷ line 10 true ∷ []) (figure 10 one ∷ []))
+
+-- Galley N: a line of 20 that cites a figure of 10 and a table of 25, double-sided from a folio on.
+unfoldable pub galleyN : ℕ → Galley
+galleyN folio =
+    tabling (figure 25 1 ∷ []) (galleyOf (spec 0 30 0 0 (double folio) 1 1) (line 20 true ∷ []) (figure 10 1 ∷ []))
 
 -- A galley in which figure k is kept with the one after it.
 unfoldable pub keeping : ℕ → Galley → Galley

@@ -4,5 +4,6 @@ pub mod Galleys
 pub mod Starred
 pub mod Further
 pub mod Requests
+pub mod Tables
 pub mod Table
 pub mod Agrees
