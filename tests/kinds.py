@@ -9,16 +9,21 @@ from reference.galley import HIGHEST_FOLIO
 FOLIOS = [f'sides {sides}, {folio} folio' for sides in (1, 2) for folio in ('no', 'an even', 'an odd')]
 KEPT = ['a kept pair', 'a chain of kept figures', 'a kept last figure']
 EDITIONS = ['first edition', 'lastMin 0', 'lastMin up to htMin', 'lastMin above htMin']
-OF_GALLEYS = FOLIOS + KEPT + EDITIONS
-OF_LISTS = ['folios past 9,999', 'figures before any line', 'kept figures on one page']
-OF_REFUSALS = ['14 by a line', '14 by a figure', '16 on an earlier page', '16 on the last page', '16 before 18']
+TABLES = ['no table', 'tables and figures', 'tables alone']
+OF_GALLEYS = FOLIOS + KEPT + EDITIONS + TABLES
+OF_LISTS = ['folios past 9,999', 'figures before any line', 'kept figures on one page', 'tables before any line',
+            'a table before a figure', 'a figure before a table', 'a page of three kinds', 'a figure and a table without a line']
+OF_REFUSALS = ['14 by a line', '14 by a figure', '16 on an earlier page', '16 on the last page', '16 before 18', '13 by a table',
+               '17 by a figure', '17 by a table', '18 for tables alone']
 OF_CHOICES = ['an even last folio decides against an even page count', 'kept figures change the list',
-              'kept figures leave no list', 'lastMin changes the list', 'lastMin leaves no list']
+              'kept figures leave no list', 'lastMin changes the list', 'lastMin leaves no list', 'the later figure decides',
+              'the later table decides']
 
 
 def of_galley(g):
     yield f'sides {g.spec.sides}, {"no" if g.stated is None else ("an even", "an odd")[g.stated % 2]} folio'
     yield EDITIONS[0 if g.spec.edition == 1 else 1 if g.spec.lastmin == 0 else 2 + (g.spec.lastmin > g.spec.htmin)]
+    yield TABLES[0 if not g.tables else 1 if g.figures else 2]
     kept = [figure.kept for figure in g.figures]
     if any(kept[:-1]):
         yield 'a kept pair'
@@ -32,10 +37,26 @@ def of_list(g, words):
     """Of a valid list."""
     if last_folio(g, words) > HIGHEST_FOLIO:
         yield 'folios past 9,999'
-    if words[0] == 0:
-        yield 'figures before any line'
+    ends = marking.places(g, words)
+    for name, count in zip(('figures', 'tables'), ends[0][1:]):
+        if ends[0][0] == 0 and count:
+            yield f'{name} before any line'
     if any(figure.kept for figure in g.figures[:-1]):
         yield 'kept figures on one page'
+    if g.tables:
+        yield from of_tables(g, ends)
+
+
+def of_tables(g, ends):
+    """How a list places figures and tables: which kind comes first, and what stands on one page."""
+    if any(j < len(g.figures) and d for _, j, d in ends):
+        yield 'a table before a figure'
+    if any(j and d < len(g.tables) for _, j, d in ends):
+        yield 'a figure before a table'
+    for start, end in zip([g.nothing, *ends], ends):
+        line, figure, table = (u < v for u, v in zip(start, end))
+        if figure and table:
+            yield 'a page of three kinds' if line else 'a figure and a table without a line'
 
 
 def of_refusal(g, words, number, place):
@@ -50,6 +71,21 @@ def of_refusal(g, words, number, place):
         for name, stream, count in zip(('line', 'figure'), g.streams, end):
             if 0 < count < len(stream) and not stream[count - 1].legal:
                 yield f'14 by a {name}'
+    if number == 17:
+        end = marking.places(g, words)[place - 1]
+        for name, floats, count in zip(('figure', 'table'), g.floats, end[1:]):
+            if count and floats[count - 1].cite > end[0]:
+                yield f'17 by a {name}'
+    if g.tables and number in (13, 18):
+        start, end = [g.nothing, *marking.places(g, words)][place - 1:][:2]
+        if number == 13 and not start[2] <= end[2] <= len(g.tables) and all(map(between, start, end, g.sizes[:2])):
+            yield '13 by a table'
+        if number == 18 and end[:2] == g.sizes[:2]:
+            yield '18 for tables alone'
+
+
+def between(least, count, most):
+    return least <= count <= most
 
 
 def of_choice(g, lists, best):
@@ -58,12 +94,26 @@ def of_choice(g, lists, best):
         turns = [marking.mark(g, words)[4] for words in lists]
         if len({last_folio(g, words) % 2 for words, t in zip(lists, turns) if t == min(turns)}) == 2:
             yield 'an even last folio decides against an even page count'
+    if best and g.tables:
+        yield from of_ties(g, lists, best)
     if any(figure.kept for figure in g.figures[:-1]):
-        loose = replace(g, streams=(g.lines, tuple(figure._replace(kept=0) for figure in g.figures)))
+        loose = replace(g, streams=(g.lines, tuple(figure._replace(kept=0) for figure in g.figures), *g.streams[2:]))
         if search.best_by_table(loose) != best:
             yield 'kept figures change the list' if best else 'kept figures leave no list'
     if g.spec.edition == 2 and search.best_by_table(replace(g, spec=g.spec._replace(lastmin=None))) != best:
         yield 'lastMin changes the list' if best else 'lastMin leaves no list'
+
+
+def of_ties(g, lists, best):
+    """Which count of a start decides against a list of equal turns and parity, the first that differs from the last page back."""
+    rank = search.rank(g, best)
+    for words in lists:
+        other = search.rank(g, words)
+        if words != best and other[:2] == rank[:2]:
+            one, two = next((one, two) for one, two in zip(rank[2], other[2]) if one != two)
+            stream = next(s for s, counts in enumerate(zip(one, two)) if len(set(counts)) == 2)
+            if stream:
+                yield f'the later {("figure", "table")[stream - 1]} decides'
 
 
 def last_folio(g, words):

@@ -6,16 +6,34 @@ pub struct Shape {
     pub name: &'static str,
     pub lines: u32,
     pub figures: u32,
+    pub tables: u32,
     pub sides: u32,
     pub line_height: u32,
-    /// Least and greatest height of a figure.
+    /// Least and greatest height of a figure or table.
     pub figure_height: (u32, u32),
     /// Pages 90 % full, paragraphs that hold together, spaces that stretch; or none of these.
     pub typeset: bool,
-    /// Whether line 1 cites every figure; else lines drawn at random do.
+    /// Whether line 1 cites every figure and table; else lines drawn at random do.
     pub cited_first: bool,
     /// Whether the plain search in plain Rust ends within a minute or so.
     pub plain: bool,
+}
+
+impl Shape {
+    /// Words of work area and of page list.
+    pub fn words(&self) -> (usize, usize) {
+        let [lines, figures, tables] = [self.lines as usize, self.figures as usize, self.tables as usize];
+        (8 * (lines + 1) * (figures + 1) * (tables + 1), self.page_words() * (lines + figures + tables))
+    }
+
+    /// Words a page takes in a list.
+    pub fn page_words(&self) -> usize {
+        if self.tables == 0 {
+            2
+        } else {
+            3
+        }
+    }
 }
 
 const PAGE: u32 = 55_000;
@@ -24,6 +42,7 @@ const HANDBOOK: Shape = Shape {
     name: "handbook",
     lines: 4_000,
     figures: 200,
+    tables: 0,
     sides: 2,
     line_height: 1_200,
     figure_height: (8_000, 24_000),
@@ -44,6 +63,12 @@ pub const HANDBOOKS: [Shape; 4] = [
     Shape { name: "many figures on a page", figure_height: (2_000, 5_000), ..HANDBOOK },
 ];
 
+/// Tables beside the figures, in a stream of their own. With 50 of them the work area has 1.3 GB.
+pub const TABLED: [Shape; 2] = [
+    Shape { name: "handbook with tables", tables: 10, ..HANDBOOK },
+    Shape { name: "handbook with tables", tables: 50, plain: false, ..HANDBOOK },
+];
+
 /// Windows of starting lines as wide as they get with heights that are not 0, and no figure that has to wait to be cited.
 const WORST: [Shape; 3] = [
     Shape { name: "lines of a hundredth of a page", line_height: PAGE / 100, ..HANDBOOK },
@@ -61,11 +86,15 @@ const WORST: [Shape; 3] = [
 pub fn chains() -> Vec<Vec<Shape>> {
     let lines = [500, 1_000, 2_000, 4_000];
     let figures = [25, 50, 100, 200];
-    let mut chains: Vec<Vec<Shape>> = HANDBOOKS.iter().chain(&WORST).map(|&shape| vec![shape]).collect();
+    let alone = HANDBOOKS.iter().chain(&WORST).chain(&TABLED);
+    let mut chains: Vec<Vec<Shape>> = alone.map(|&shape| vec![shape]).collect();
     chains.push(lines.map(|lines| Shape { lines, figures: 50, ..HANDBOOK }).to_vec());
     chains.push(figures.map(|figures| Shape { figures, ..HANDBOOK }).to_vec());
     chains.push(lines.map(|lines| Shape { lines, figures: 50, plain: true, ..FLAT }).to_vec());
     chains.push(figures.map(|figures| Shape { figures, ..FLAT }).to_vec());
+    chains.push(
+        lines.map(|lines| Shape { name: "height 0 with tables", lines, figures: 50, tables: 10, ..FLAT }).to_vec(),
+    );
     chains
 }
 
@@ -107,16 +136,19 @@ pub fn galley(shape: Shape) -> Galley {
         record(&mut bytes, b"TL", &[shape.line_height, 0, most, end]);
     }
     let last = if shape.cited_first { 1 } else { shape.lines };
-    let mut citations: Vec<u32> = (0..shape.figures).map(|_| numbers.between(1, last)).collect();
-    citations.sort_unstable();
     let (least, most) = if shape.typeset { (1_000, 1_400) } else { (0, 0) };
     let mut heights = Vec::new();
-    for citation in citations {
-        let height = numbers.between(shape.figure_height.0, shape.figure_height.1);
-        record(&mut bytes, b"FG", &[height, least, most, citation]);
-        heights.push(height);
+    for (mark, count) in [(b"FG", shape.figures), (b"TB", shape.tables)] {
+        let mut citations: Vec<u32> = (0..count).map(|_| numbers.between(1, last)).collect();
+        citations.sort_unstable();
+        for citation in citations {
+            let height = numbers.between(shape.figure_height.0, shape.figure_height.1);
+            record(&mut bytes, mark, &[height, least, most, citation]);
+            heights.push(height);
+        }
     }
     record(&mut bytes, b"ED", &[]);
+    heights.truncate(shape.figures as usize);
     Galley { bytes, most_figures: most_on_page(&heights, least) }
 }
 

@@ -7,14 +7,15 @@ mod clock;
 mod galleys;
 mod measure;
 
-use galleys::{chains, Shape, HANDBOOKS};
+use galleys::{chains, Shape, HANDBOOKS, TABLED};
 use measure::{making, marking, Making, Marking};
 use std::time::Duration;
 
-const MAKING: [&str; 12] = [
+const MAKING: [&str; 13] = [
     "making",
     "lines",
     "figures",
+    "tables",
     "G",
     "T",
     "engine",
@@ -51,9 +52,10 @@ fn main() {
     }
     println!();
     head(&MARKING);
-    for shape in HANDBOOKS.into_iter().filter(|shape| shape.name.contains(wanted)) {
+    for shape in HANDBOOKS.into_iter().chain(TABLED).filter(|shape| shape.name.contains(wanted)) {
         let Marking { engine, native } = marking(shape, runs);
-        row(&[shape.name.into(), shown(engine), shown(native), format!("{:.2}", ratio(engine, native))]);
+        let name = if shape.tables == 0 { shape.name.into() } else { format!("{}, {}", shape.name, shape.tables) };
+        row(&[name, shown(engine), shown(native), format!("{:.2}", ratio(engine, native))]);
     }
 }
 
@@ -67,6 +69,7 @@ fn cells(shape: Shape, made: &Making, half: Option<&(Shape, Making)>) -> [String
         shape.name.into(),
         shape.lines.to_string(),
         shape.figures.to_string(),
+        shape.tables.to_string(),
         made.most_figures.to_string(),
         made.turns.clone(),
         shown(made.engine),

@@ -37,7 +37,8 @@ pub fn making(shape: Shape, runs: u32) -> Making {
         }];
     let makes = &makes[..if shape.plain { 3 } else { 2 }];
     let galley = galley(shape);
-    let (mut work, list) = memory(shape);
+    let (work_words, list_words) = shape.words();
+    let (mut work, list) = (vec![0; work_words], vec![0; list_words]);
     let mut times = [Duration::MAX; 3];
     let mut answers = vec![];
     for run in 0..runs {
@@ -60,9 +61,10 @@ pub fn making(shape: Shape, runs: u32) -> Making {
 /// Marking of the list that making gives.
 pub fn marking(shape: Shape, runs: u32) -> Marking {
     let bytes = galley(shape).bytes;
-    let (mut work, mut list) = memory(shape);
+    let (work_words, list_words) = shape.words();
+    let (mut work, mut list) = (vec![0; work_words], vec![0; list_words]);
     let pages = native::make(&bytes, &mut work, &mut list).p as usize;
-    let list = &list[..2 * pages];
+    let list = &list[..shape.page_words() * pages];
     let [mut engine, mut native] = [Duration::MAX; 2];
     for _ in 0..runs {
         let marked = timed(&mut engine, || many(|| engine::mark(black_box(&bytes), list)));
@@ -70,11 +72,6 @@ pub fn marking(shape: Shape, runs: u32) -> Marking {
         assert!(marked == answer_of(due), "{}: the engine answers {marked:?}, plain Rust {due:?}", shape.name);
     }
     Marking { engine: engine / MARKINGS, native: native / MARKINGS }
-}
-
-fn memory(shape: Shape) -> (Vec<u32>, Vec<u32>) {
-    let (lines, figures) = (shape.lines as usize, shape.figures as usize);
-    (vec![0; 8 * (lines + 1) * (figures + 1)], vec![0; 2 * (lines + figures)])
 }
 
 fn answer_of(native: native::Answer) -> Answer {

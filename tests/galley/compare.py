@@ -13,6 +13,8 @@ import engine  # noqa: E402
 import tally as counts  # noqa: E402
 from reference import galley as reference  # noqa: E402
 from reference.galley import record  # noqa: E402
+from records import SPEC, SECOND, FOLIO, LINE, FIGURE, KEPT, TABLE, END, A, A_FROM_38, A_SECOND, A_TABLE, FIRST_VALUES  # noqa: E402
+from tables import of_tables  # noqa: E402
 
 SEED, RANDOM_GALLEYS, RANDOM_STRINGS = 20261115, 2_000, 2_000
 WORDS = (0, 1, 2, 3, 999, 1_000, 1_001, 9_999, 10_000, 99_999, 100_000, 100_001, 2**31, 2**32 - 1)
@@ -30,13 +32,13 @@ def words(function, data, count, *number):
 
 
 def proved(data):
-    number, place, *rest = words(READER.galley_probe_read, data, 14)
+    number, place, *rest = words(READER.galley_probe_read, data, 15)
     if number:
         return ('refused', number, place)
-    *spec, folio, lines, figures = rest
+    *spec, folio, lines, figures, tables = rest
     return ('galley', tuple(spec), folio, *(
         [words(READER.galley_probe_block, data, 5, stream, k) for k in range(1, count + 1)]
-        for stream, count in enumerate((lines, figures))))
+        for stream, count in enumerate((lines, figures, tables))))
 
 
 def due(data):
@@ -44,7 +46,8 @@ def due(data):
     if answer[0] == 'refused':
         return answer
     held = answer[1]
-    return ('galley', (*held.spec[:7], held.spec.edition, held.spec.lastmin or 0), held.folio, *([(*block[:4], block.legal) for block in blocks] for blocks in held.streams))
+    return ('galley', (*held.spec[:7], held.spec.edition, held.spec.lastmin or 0), held.folio,
+            *([(*block[:4], block.legal) for block in blocks] for blocks in (held.lines, held.figures, held.tables)))
 
 
 class Tally(counts.Tally):
@@ -54,30 +57,20 @@ class Tally(counts.Tally):
         super().same(what, (got, got[:len(answer)]), (wanted, answer))
 
 
-SPEC = record(b'GS', 30, 30, 0, 0, 1, 1, 1)
-SECOND = record(b'G2', 30, 30, 0, 0, 1, 1, 1, 20)
-FOLIO = record(b'FO', 38)
-LINE = record(b'TL', 10, 0, 0, 1)
-FIGURE = record(b'FG', 20, 0, 0, 1)
-KEPT = record(b'FK', 20, 0, 0, 1)
-END = b'ED'
-A = SPEC + 3 * LINE + FIGURE + END
-A_FROM_38 = SPEC + FOLIO + 3 * LINE + FIGURE + END
-A_SECOND = SECOND + 3 * LINE + FIGURE + END
-FIRST_VALUES = (30, 30, 0, 0, 1, 1, 1, 1, 0)
-
-
 def case_a(tally):
-    for what, data, values, folio in (('case A', A, FIRST_VALUES, 1), ('case A from folio 38', A_FROM_38, FIRST_VALUES, 38),
-                                      ('case A in the second edition', A_SECOND, (30, 30, 0, 0, 1, 1, 1, 2, 20), 1)):
-        tally.same(what, data, ('galley', values, folio, 3 * [(10, 0, 0, 1, 1)], [(20, 0, 0, 1, 1)]))
+    for what, data, values, folio, tables in (
+            ('case A', A, FIRST_VALUES, 1, []), ('case A from folio 38', A_FROM_38, FIRST_VALUES, 38, []),
+            ('case A in the second edition', A_SECOND, (30, 30, 0, 0, 1, 1, 1, 2, 20), 1, []),
+            ('case A with a table', A_TABLE, FIRST_VALUES, 1, [(15, 0, 0, 1, 1)])):
+        tally.same(what, data, ('galley', values, folio, 3 * [(10, 0, 0, 1, 1)], [(20, 0, 0, 1, 1)], tables))
         for at in range(len(data)):
             for byte in range(256):
                 tally.same(f'{what} with byte {at} set to {byte}', data[:at] + bytes([byte]) + data[at + 1:])
 
 
 def cuts(tally):
-    for parts in (A, A_FROM_38, A_SECOND, SECOND + FOLIO + LINE + END, SPEC + 2 * LINE + FIGURE + KEPT + FIGURE + END, SPEC + LINE + END):
+    for parts in (A, A_FROM_38, A_SECOND, SECOND + FOLIO + LINE + END, SPEC + 2 * LINE + FIGURE + KEPT + FIGURE + END, SPEC + LINE + END,
+                  A_TABLE, SPEC + LINE + 2 * TABLE + END):
         for at in range(len(parts)):
             tally.same(f'cut at {at}', parts[:at], ('refused', 1))
             tally.same(f'two bytes lost at {at}', parts[:at] + parts[at + 2:])
@@ -86,14 +79,15 @@ def cuts(tally):
 
 
 def marks(tally):
-    for parts in ([SPEC, LINE, LINE, FIGURE, FIGURE, END], [SPEC, FOLIO, LINE, KEPT, FIGURE, END], [SECOND, FOLIO, LINE, END]):
+    for parts in ([SPEC, LINE, LINE, FIGURE, FIGURE, END], [SPEC, FOLIO, LINE, KEPT, FIGURE, END], [SECOND, FOLIO, LINE, END],
+                  [SPEC, LINE, FIGURE, TABLE, TABLE, END], [SPEC, LINE, TABLE, END]):
         for at in range(len(parts)):
             before = b''.join(parts[:at])
             for mark in MARKS:
                 tally.same(f'mark {mark} in record {at}', before + mark + parts[at][2:] + b''.join(parts[at + 1:]))
                 for size in (0, 4, 16, 28):
                     tally.same(f'mark {mark} for record {at}', before + mark + bytes(size) + b''.join(parts[at + 1:]))
-            for put in (SPEC, SECOND, FOLIO, LINE, FIGURE, KEPT, END):
+            for put in (SPEC, SECOND, FOLIO, LINE, FIGURE, KEPT, TABLE, END):
                 tally.same(f'one record more at {at}', before + put + b''.join(parts[at:]))
             for mark in range(0, 65_536, 251):
                 tally.same(f'mark {mark} in record {at}', before + mark.to_bytes(2, 'big') + parts[at][2:])
@@ -105,7 +99,8 @@ def ranges(tally):
                                         (b'FO', SPEC, LINE + END, (38,)),
                                         (b'TL', SPEC, END, (10, 5, 6, 1)),
                                         (b'FG', SPEC + 3 * LINE, END, (10, 5, 6, 2)),
-                                        (b'FK', SPEC + 3 * LINE, END, (10, 5, 6, 2))):
+                                        (b'FK', SPEC + 3 * LINE, END, (10, 5, 6, 2)),
+                                        (b'TB', SPEC + 3 * LINE, END, (10, 5, 6, 2))):
         for at in range(len(fields)):
             for word in WORDS:
                 changed = fields[:at] + (word,) + fields[at + 1:]
@@ -120,8 +115,9 @@ def citations(tally):
     for m in (1, 2, 5):
         for first in range(m + 3):
             for second in range(m + 3):
-                figures = record(b'FG', 1, 0, 0, first) + record(b'FG', 1, 0, 0, second)
-                tally.same(f'{m} lines, cited {first}, {second}', SPEC + m * LINE + figures + END)
+                for one, two in ((b'FG', b'FG'), (b'TB', b'TB'), (b'FG', b'TB')):
+                    floats = record(one, 1, 0, 0, first) + record(two, 1, 0, 0, second)
+                    tally.same(f'{m} lines, {one} cited {first}, {two} {second}', SPEC + m * LINE + floats + END)
     two = SPEC + 2 * LINE
     tally.same('6 at 0', two + record(b'FG', 1, 0, 0, 0) + END, ('refused', 6, 66))
     tally.same('6 before 7', two + record(b'FG', 1, 0, 0, 2) + record(b'FG', 1, 0, 0, 0) + END, ('refused', 6, 84))
@@ -200,7 +196,7 @@ def limits(tally):
 def chance(tally):
     draw = random.Random(SEED)
     for _ in range(RANDOM_GALLEYS):
-        lines, figures = draw.randrange(6), draw.randrange(4)
+        lines, figures, others = draw.randrange(6), draw.randrange(4), draw.choice((0, 0, 1, 2, 3))
         data = bytearray(
             draw.choice((b'GS', b'G2')) + record(b'', draw.randrange(40), draw.randrange(60), draw.randrange(3), draw.randrange(4),
                                                  draw.randrange(1, 3), draw.randrange(1_002), draw.randrange(1_002))
@@ -210,17 +206,19 @@ def chance(tally):
                        for _ in range(lines))
             + b''.join(record(draw.choice((b'FG', b'FK')), draw.randrange(100_001), 0, draw.randrange(9), cite)
                        for cite in sorted(draw.randrange(1, 7) for _ in range(figures)))
+            + b''.join(record(b'TB', draw.randrange(100_001), 0, draw.randrange(9), cite)
+                       for cite in sorted(draw.randrange(1, 7) for _ in range(others)))
             + END)
         for _ in range(draw.randrange(3)):
-            data[draw.randrange(len(data))] = draw.choice(b'\0\1GSTLFGEDFOK2\xff')
+            data[draw.randrange(len(data))] = draw.choice(b'\0\1GSTLFGEDFOK2B\xff')
         tally.same('a random galley', bytes(data))
     for _ in range(RANDOM_STRINGS):
-        tally.same('a random string', bytes(draw.choice(b'\0\1GSTLFGEDFOK2') for _ in range(draw.randrange(80))))
+        tally.same('a random string', bytes(draw.choice(b'\0\1GSTLFGEDFOK2B') for _ in range(draw.randrange(80))))
 
 
 def main():
     tally = Tally()
-    for group in (case_a, cuts, marks, ranges, citations, folios, kept, editions, limits, chance):
+    for group in (case_a, cuts, marks, ranges, citations, folios, kept, of_tables, editions, limits, chance):
         group(tally)
         tally.group(group.__name__)
     return tally.end()

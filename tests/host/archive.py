@@ -39,15 +39,15 @@ def run(tally, archive, folder):
         work, pages = litter(rng, 64), litter(rng, 8)
         tally.same(f'making {name}', called.make(data, work, pages), (due, work, pages))
     tally.group('archive: refused files')
-    for galley in sample.galleys(101, 250, 4, 3):
+    for galley in [*sample.galleys(101, 250, 4, 3), *sample.galleys(111, 150, 3, 2, 2)]:
         made_right(tally, called.make, rng, galley, galley, search.best(galley))
-    for galley in sample.galleys(102, 60, 40, 8):
+    for galley in [*sample.galleys(102, 60, 40, 8), *sample.galleys(112, 40, 20, 5, 4)]:
         made_right(tally, called.make, rng, galley, galley, search.best_by_table(galley))
     tally.group('archive: random galleys made')
-    for galley in sample.galleys(103, 300, 7, 4):
+    for galley in [*sample.galleys(103, 300, 7, 4), *sample.galleys(113, 200, 5, 3, 3)]:
         best = search.best_by_table(galley)
         lists = [sample.page_list(rng, galley) for _ in range(8)]
-        lists += [sample.mutated(rng, best) for _ in range(16)] + [best] if best else []
+        lists += [sample.mutated(rng, galley, best) for _ in range(16)] + [best] if best else []
         for words in lists:
             tally.same(f'{words} for {galley}', called.mark(write(galley), words), marking.mark(galley, words))
     tally.group('archive: random lists marked')

@@ -1,6 +1,7 @@
 /* Case A through the C interface: makes it, prints what the program prints, marks two lists, and tries too little memory.
  * Then two sections, one of a size that there is none of, and two reports, one with a paper below its engine. At last case A with
- * every record that it can have: double-sided from folio 38, the last page held to lastMin, the figure kept. */
+ * every record that it can have: double-sided from folio 38, the last page held to lastMin, the figure kept; and a galley with
+ * a table, whose lists have three words a page. */
 #include <barleychime.h>
 #include <stdio.h>
 #include <string.h>
@@ -9,8 +10,10 @@
 #define FIGURES 1
 #define WORK BARLEYCHIME_WORK_WORDS(LINES, FIGURES)
 #define LIST BARLEYCHIME_LIST_WORDS(LINES, FIGURES)
+#define TABLES_WORK BARLEYCHIME_TABLES_WORK_WORDS(LINES, FIGURES, 1)
+#define TABLES_LIST BARLEYCHIME_TABLES_LIST_WORDS(LINES, FIGURES, 1)
 
-static uint8_t galley[34 + 6 + (LINES + FIGURES) * 18 + 2];
+static uint8_t galley[34 + 6 + (LINES + FIGURES + 1) * 18 + 2];
 static size_t galley_len = 0;
 
 static void put(const char *mark, const uint32_t *fields, size_t count)
@@ -50,6 +53,17 @@ static void write_every_record(uint32_t last_min)
     put_blocks("FK");
 }
 
+static void write_table(void)
+{
+    const uint32_t spec[7] = {0, 40, 0, 0, 1, 1, 1}, table[4] = {20, 0, 0, 1};
+    galley_len = 0;
+    put("GS", spec, 7);
+    put_blocks("FG");
+    galley_len -= 2;
+    put("TB", table, 4);
+    put("ED", NULL, 0);
+}
+
 static void print_answer(const uint32_t answer[6])
 {
     if (answer[BARLEYCHIME_NUMBER] != 0) {
@@ -82,6 +96,29 @@ static void print_report(struct barleychime_paper papers[2])
         printf(" %lu", (unsigned long)report[k]);
     }
     printf("\n");
+}
+
+static void print_table(void)
+{
+    static uint32_t work[TABLES_WORK], pages[TABLES_LIST];
+    const uint32_t two_words[4] = {2, 1, 3, 1};
+    uint32_t answer[6];
+
+    printf("%u ", (unsigned)barleychime_page_words(galley, galley_len));
+    write_table();
+    printf("%u\n", (unsigned)barleychime_page_words(galley, galley_len));
+    barleychime_make(galley, galley_len, work, TABLES_WORK, pages, TABLES_LIST, answer);
+    print_answer(answer);
+    for (uint32_t page = 0; page < answer[BARLEYCHIME_PAGES]; page++) {
+        const uint32_t *end = pages + 3 * page;
+        printf("%u %u %u %u\n", (unsigned)page + 1, (unsigned)end[0], (unsigned)end[1], (unsigned)end[2]);
+    }
+    barleychime_mark(galley, galley_len, two_words, 4, answer);
+    print_answer(answer);
+    barleychime_make(galley, galley_len, work, TABLES_WORK - 1, pages, TABLES_LIST, answer);
+    print_answer(answer);
+    barleychime_make(galley, galley_len, work, TABLES_WORK, pages, TABLES_LIST - 1, answer);
+    print_answer(answer);
 }
 
 int main(void)
@@ -127,5 +164,6 @@ int main(void)
         barleychime_make(galley, galley_len, work, WORK, pages, LIST, answer);
         print_answer(answer);
     }
+    print_table();
     return 0;
 }

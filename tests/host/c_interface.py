@@ -8,7 +8,8 @@ DUE = ('2 0 1 1\n1 1 1\n2 3 1\n'  # made
        'R 9 64\nR 10 8\n'  # too little memory lent
        '8 1 2 7 6 3 4 5\nR 33 6\n'  # sections
        '0: 0 0 2 4 1 2 4294967296 1 4294967295 4294967294 2\n32: 32 2 0 0 0 0 0 0 0 0 0\n'  # reported
-       '2 0 0 0\nR 11 0\nR 3 0\n')  # every record, with lastMin as high as the last page is, higher, and out of range
+       '2 0 0 0\nR 11 0\nR 3 0\n'  # every record, with lastMin as high as the last page is, higher, and out of range
+       '2 3\n2 1 1 2\n1 2 1 0\n2 3 1 1\nR 12 0\nR 9 128\nR 10 15\n')  # a table: words a page, made, marked, too little memory
 STRICT = ['-Wall', '-Wextra', '-Werror', '-pedantic']
 
 

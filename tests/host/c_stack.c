@@ -2,7 +2,7 @@
  *
  *     c_stack                     prints the header's figures, for making and for marking
  *     c_stack BYTES GALLEY        makes the galley: prints the bytes left at the call, those taken, and the six words
- *     c_stack BYTES GALLEY LIST   marks the list, two numbers a page, in the same way
+ *     c_stack BYTES GALLEY LIST   marks the list, two or three numbers a page, in the same way
  *
  * Below the stack lies memory that nobody may touch, so a call that takes more ends the program by a signal. Above the
  * call a thread's stack has the thread's own data and the frames of those that called; what the stack has too much is given
@@ -24,8 +24,8 @@
 #define PAINT 0xa5
 
 static uint8_t galley[BARLEYCHIME_LONGEST_GALLEY + 1];
-static uint32_t work[BARLEYCHIME_MOST_WORK_WORDS], pages[BARLEYCHIME_MOST_LIST_WORDS], answer[6];
-static size_t galley_len, pages_len = BARLEYCHIME_MOST_LIST_WORDS;
+static uint32_t pages[BARLEYCHIME_MOST_LIST_WORDS], answer[6], *work;
+static size_t galley_len, work_len, pages_len = BARLEYCHIME_MOST_LIST_WORDS;
 static int marks = 0;
 
 static unsigned char *lowest, *at_call; /* the stack's first byte, and where the caller's frame ends at the call */
@@ -57,7 +57,7 @@ static __attribute__((noinline)) void call(maker *volatile make, marker *volatil
     if (marks) {
         mark(galley, galley_len, pages, pages_len, answer);
     } else {
-        make(galley, galley_len, work, BARLEYCHIME_MOST_WORK_WORDS, pages, pages_len, answer);
+        make(galley, galley_len, work, work_len, pages, pages_len, answer);
     }
 }
 
@@ -104,6 +104,17 @@ static int read_galley(const char *name)
     return fclose(file) == 0;
 }
 
+/* As much work area as the galley needs; a word where it is refused. */
+static int take_work(void)
+{
+    uint32_t none = 0;
+    if (barleychime_make(galley, galley_len, &none, 0, pages, pages_len, answer) == 9) {
+        work_len = answer[BARLEYCHIME_PLACE];
+    }
+    work = malloc((work_len + 1) * sizeof *work);
+    return work != NULL;
+}
+
 static int read_list(const char *name)
 {
     FILE *file = fopen(name, "r");
@@ -125,7 +136,7 @@ int main(int count, char **words)
         printf("%zu %zu\n", BARLEYCHIME_STACK_BYTES, BARLEYCHIME_MARK_STACK_BYTES);
         return 0;
     }
-    if (count < 3 || !read_galley(words[2]) || (count > 3 && !read_list(words[3]))) {
+    if (count < 3 || !read_galley(words[2]) || !take_work() || (count > 3 && !read_list(words[3]))) {
         return 2;
     }
     wanted = strtoul(words[1], NULL, 10);

@@ -4,36 +4,14 @@ import collections
 import re
 import subprocess
 
+from junk import JUNK, JUNK_TABLED
 from reference import cases, marking, refusals, sample, search
-from reference.galley import Figure, Galley, Line, Spec, write
+from reference.galley import Figure, Galley, Line, Spec, Table, write
 
 COMMANDS = {'make': 1, 'mark': 2, 'explain': 2, 'pack': 1, 'unpack': 1, 'report': 2}
 MENDERS = [(range(1, 9), "the galley's writer"), (range(9, 11), 'the host program'), (range(11, 12), 'the designer'),
            (range(12, 19), 'whoever handed in the list'), (range(19, 20), 'the person at the program'),
            (range(31, 33), 'whoever handed in the marks'), (range(33, 34), 'whoever asked for the section')]
-
-# Name, bytes of a list for case A, and a part of the remark that must name line and field.
-JUNK = [
-    ('a word', b'1 1\nthree 1\n', 'line 2: field 1'),
-    ('a sign', b'1 -1\n', 'line 1: field 2'),
-    ('a plus', b'+1 1\n', 'line 1: field 1'),
-    ('a fraction', b'1 1\n\n3.0 1\n', 'line 3: field 1'),
-    ('a number of 33 bits', b'4294967296 1\n', 'line 1: field 1'),
-    ('a very long number', b'9' * 5_000 + b' 1\n', 'line 1: field 1'),
-    ('one number', b'1 1\n3\n', 'line 2'),
-    ('three numbers', b'1 1\n2 3 1\n', 'line 2'),
-    ('three numbers at once', b'1 1 1\n', 'line 1'),
-    ('five numbers', b'1 1 1 1 1\n', 'line 1'),
-    ('four numbers later on', b'1 1\n2 0 1 1\n', 'line 2'),
-    ('a page number out of turn', b'2 0 1 1\n1 1 1\n3 3 1\n', 'line 3: field 1'),
-    ('a page too few', b'2 0 1 1\n1 1 1\n', '2 pages'),
-    ('a page too many', b'1 0 1 1\n1 1 1\n2 3 1\n', '1 pages'),
-    ('two numbers after a measure', b'2 0 1 1\n1 1\n', 'line 2'),
-    ('a refusal', b'R 11 0\n', 'line 1'),
-    ('no text', b'1 1\n\xff\xfe 1\n', 'line 2'),
-    ('a zero byte', b'1 \x001\n', 'line 1: field 2'),
-    ('an escape', b'1 \x1b[2J\n', 'line 1: field 2'),
-]
 
 
 def file(folder, name, data):
@@ -104,17 +82,26 @@ def bad_files(tally, command, folder):
 
 def lists(tally, command, folder):
     galley, best = file(folder, 'a.galley', write(cases.A)), file(folder, 'best.list', b'1 1\n3 1\n')
-    for name, data, told in JUNK:
+    tabled = file(folder, 'k.galley', write(cases.K))
+    for name, data, told, galley in [*((*each, galley) for each in JUNK), *((*each, tabled) for each in JUNK_TABLED)]:
         junk = file(folder, 'junk.list', data)
         for arguments in [('mark', galley, junk), ('explain', galley, junk)]:
             status, output, remarks = command.text(*arguments)
             plain = all(character.isprintable() or character == '\n' for character in remarks) and len(remarks) < 500
             tally.same(f'{arguments[0]} with {name}', (status, output, f'{junk}: ' in remarks and told in remarks, plain),
                        (2, '', True, True))
+    galley = file(folder, 'a.galley', write(cases.A))
     for name, data in [('comments', b'# mine\n\n 1\t1 # page 1\n3 1'), ('carriage returns', b'1 1\r\n3 1\r\n'),
                        ('a mark of byte order', b'\xef\xbb\xbf1 1\n3 1\n'),
                        ('as made', b'2 0 1 1\n1 1 1\n2 3 1\n'), ('as made, with a wrong measure', b'2 9 9 9\n1 1 1\n2 3 1')]:
         tally.same(f'mark with {name}', command.text('mark', galley, file(folder, 'list', data)), (0, '2 0 1 1\n', ''))
+    for name, data in [('a table', b'2 1 0\n3 1 1\n'), ('a table, as made', b'2 1 1 2\n1 2 1 0\n2 3 1 1\n')]:
+        tally.same(f'mark with {name}', command.text('mark', tabled, file(folder, 'list', data)), (0, '2 1 1 2\n', ''))
+    # A galley that is refused says so, whatever its lists have a page.
+    cut = file(folder, 'cut.galley', write(cases.K)[:-1])
+    for data in (b'2 1\n3 1\n', b'2 1 0\n3 1 1\n', b'2 1 1 2\n1 2 1 0\n2 3 1 1\n'):
+        status, output, _ = command.text('mark', cut, file(folder, 'list', data))
+        tally.same(f'mark with {data} for a galley cut short', (status, output), (1, f'R 1 {len(write(cases.K)) - 2}\n'))
     several(tally, command, folder, galley, best)
     tally.group('command: lists')
 
@@ -133,7 +120,7 @@ def several(tally, command, folder, galley, best):
 def making(tally, command, folder):
     for name, galley, best, measure in cases.MADE:
         data = write(galley)
-        lines = [measure, *((q, *end) for q, end in enumerate(zip(best[::2], best[1::2]), 1))] if best else [('R', 11, 0)]
+        lines = [measure, *((q, *end) for q, end in enumerate(marking.places(galley, best), 1))] if best else [('R', 11, 0)]
         due = ''.join(' '.join(map(str, line)) + '\n' for line in lines)
         status, output, _ = command.text('make', '-', given=data)
         tally.same(f'make {name}', (status, output), (0 if best else 1, due))
@@ -148,27 +135,32 @@ def making(tally, command, folder):
 
 
 def full_size(tally, command, folder):
-    """The longest galley, and what may come after its last figure: no more than one byte past its length is read."""
+    """A galley of full size, one with tables, and what may come after the last figure or table: no more than one byte past the
+    length of the longest galley is read."""
     spec = Spec(50_000, 55_000, 1_600, 2_200, 2, 1, 1, 20_000)
     lines = tuple(Line(1_200, 0, 20 + 600 * (k % 5 == 0), int(k % 5 > 1)) for k in range(1, 4_001))
     figures = tuple(Figure(9_000 + 1_000 * (k % 13), 1_000, 1_400, 20 * k) for k in range(1, 201))
+    tables = tuple(Table(12_000 + 500 * (k % 7), 1_000, 1_400, 80 * k) for k in range(1, 51))
     largest = Galley(spec, (lines, figures), 9_999)
-    data = write(largest)
-    path = file(folder, 'largest.galley', data)
-    status, output, remarks = command.text('make', path)
-    measure, *pages = [tuple(map(int, line.split())) for line in output.splitlines()]
-    words = tuple(word for page in pages for word in page[1:])
-    tally.same('made', (status, remarks, marking.mark(largest, words)), (0, '', ('accepted', *measure)))
-    tally.same('marked', command.text('mark', path, '-', given=output.encode()), (0, output.split('\n')[0] + '\n', ''))
-    status, text, _ = command.text('explain', path, '-', given=output.encode())
-    tally.same('explained', (status, text.endswith('no list has fewer turns\n')), (0, True))
-    open_end = data[:-2]
-    for name, after, due in [('no end', b'', 'R 1 75640'), ('half a mark', b'E', 'R 1 75640'),
-                             ('a byte', b'ED?', 'R 8 75642'), ('many bytes', b'ED' + bytes(100_000), 'R 8 75642'),
-                             ('an unknown mark', b'??', 'R 2 75640'), ('a line', open_end[40:58], 'R 2 75640'),
-                             ('figure 201', open_end[-18:], 'R 4 75640'), ('half of it', b'FG\0', 'R 4 75640')]:
-        status, output, _ = command.text('make', '-', given=open_end + after)
-        tally.same(f'the longest galley with {name}', (status, output), (1, due + '\n'))
+    for what, galley in (('without tables', largest), ('with tables', Galley(spec, (lines, figures[::8], tables[::5]), 38))):
+        path = file(folder, 'large.galley', write(galley))
+        status, output, remarks = command.text('make', path)
+        measure, *pages = [tuple(map(int, line.split())) for line in output.splitlines()]
+        words = tuple(word for page in pages for word in page[1:])
+        tally.same(f'made {what}', (status, remarks, marking.mark(galley, words)), (0, '', ('accepted', *measure)))
+        tally.same(f'marked {what}', command.text('mark', path, '-', given=output.encode()), (0, output.split('\n')[0] + '\n', ''))
+        status, text, _ = command.text('explain', path, '-', given=output.encode())
+        tally.same(f'explained {what}', (status, text.endswith('no list has fewer turns\n')), (0, True))
+    figured, longest = write(largest)[:-2], write(Galley(spec, (lines, figures, tables), 9_999))[:-2]
+    line, figure, table = longest[40:58], figured[-18:], longest[-18:]
+    for opened, at, others in [(figured, 75_640, [('figure 201', figure, 'R 4 75640'), ('half of it', b'FG\0', 'R 4 75640')]),
+                               (longest, 76_540, [('table 51', table, 'R 4 76540'), ('half of it', b'TB\0', 'R 4 76540'),
+                                                  ('a figure', figure, 'R 2 76540')])]:
+        for name, after, due in [('no end', b'', f'R 1 {at}'), ('half a mark', b'E', f'R 1 {at}'),
+                                 ('a byte', b'ED?', f'R 8 {at + 2}'), ('many bytes', b'ED' + bytes(100_000), f'R 8 {at + 2}'),
+                                 ('an unknown mark', b'??', f'R 2 {at}'), ('a line', line, f'R 2 {at}'), *others]:
+            status, output, _ = command.text('make', '-', given=opened + after)
+            tally.same(f'{at} bytes and then {name}', (status, output), (1, due + '\n'))
     tally.group('command: full size')
 
 
@@ -225,7 +217,8 @@ def advice(galley):
 
 
 def help_with_11(tally, command, folder):
-    some = [galley for galley in sample.galleys(104, 700, 6, 3) if not search.best_by_table(galley)]
+    some = [galley for galley in [*sample.galleys(104, 700, 6, 3), *sample.galleys(107, 60, 4, 2, 2)]
+            if not search.best_by_table(galley)]
     met = collections.Counter()
     for galley in [cases.A_TALL, cases.respec(cases.B, htmin=21), cases.respec(cases.A, lastmin=21), *some]:
         path, (due, kind) = file(folder, 'none.galley', write(galley)), advice(galley)

@@ -37,6 +37,8 @@ def in_c(tally, what, source, _command, root, library, folder, galley):
     tally.same(f'{what}: built', (built.returncode, built.stderr), (0, ''))
     ran = subprocess.run([program], input=galley.read_bytes(), capture_output=True)
     tally.same(f'{what}: case A', (ran.returncode, ran.stdout), (0, b'1 1\n3 1\n'))
+    ran = subprocess.run([program], input=write(cases.K), capture_output=True)
+    tally.same(f'{what}: a table', (ran.returncode, ran.stdout), (0, b'2 1 0\n3 1 1\n'))
     ran = subprocess.run([program], input=b'', capture_output=True)
     tally.same(f'{what}: no bytes', (ran.returncode, ran.stdout), (1, b'R 1 0\n'))
 

@@ -9,8 +9,14 @@ from reference.galley import write
 
 PAGE = re.compile(r'^page (\d+)(?:, folio (\d+))?, (?:spread (\d+), (left|right)|a spread by itself): ', re.M)
 HEIGHT = re.compile(r'    height (\d+) to (\d+); (.*)')
-FIGURE = re.compile(r'    figure (\d+), cited by line (\d+) on page (\d+)(?:, folio (\d+))?: '
-                    r'(?:(\d+) turns?, costs (\d+)·\d+ = (\d+)|the same [^;\n]*)(?:; kept with figure (\d+))?\n')
+FLOAT = re.compile(r'    (figure|table) (\d+), cited by line (\d+) on page (\d+)(?:, folio (\d+))?: '
+                   r'(?:(\d+) turns?, costs (\d+)·\d+ = (\d+)|the same [^;\n]*)(?:; kept with figure (\d+))?\n')
+KINDS = ('line', 'figure', 'table')
+
+
+def opened(galley):
+    """What a galley has, as it is told."""
+    return 'galley: ' + ', '.join(f'{size} {kind}{"s" * (size != 1)}' for kind, size in zip(KINDS, galley.sizes))
 
 
 def listed(galley, words):
@@ -53,58 +59,70 @@ def accepted(galley, words, text):
     """Whether every number in the text is the reference's."""
     ends, spec = marking.places(galley, words), galley.spec
     starts = [galley.nothing, *ends[:-1]]
-    pages, heights, figures = PAGE.findall(text), HEIGHT.findall(text), FIGURE.findall(text)
-    turns = sum(int(figure[4] or 0) for figure in figures)
+    pages, heights, floats = PAGE.findall(text), HEIGHT.findall(text), FLOAT.findall(text)
+    turns = sum(int(each[5] or 0) for each in floats)
     _, p, x, y, t = marking.mark(galley, words)
     return (pages == [heading(galley, q) for q in range(1, len(ends) + 1)]
+            and text.startswith(opened(galley) + ';')
             and ('the first folio is' in text) == (galley.folio != 1)
-            and [figure[3] for figure in figures] == [folio(galley, int(figure[2])) for figure in figures]
-            and [figure[7] for figure in figures] == [kept_with(galley, int(figure[0])) for figure in figures]
+            and [each[4] for each in floats] == [folio(galley, int(each[3])) for each in floats]
+            and [each[8] for each in floats] == [each[0] == 'figure' and kept_with(galley, int(each[1])) or '' for each in floats]
             and heights == [(str(marking.tightest(galley, *page)), str(marking.loosest(galley, *page)), asked(galley, q == p))
                             for q, page in enumerate(zip(starts, ends), 1)]
             and (f', of the last page {spec.lastmin} to {spec.htmax}, separation' in text) == (spec.edition == 2)
-            and [int(figure[0]) for figure in figures] == list(range(1, len(galley.figures) + 1))
-            and turns == x and sum(int(figure[6] or 0) for figure in figures) == spec.alpha * x
+            and all([int(each[1]) for each in floats if each[0] == kind] == list(range(1, size + 1))
+                    for kind, size in zip(KINDS[1:], galley.sizes[1:]))
+            and [int(each[2]) for each in floats] == [galley.streams[KINDS.index(each[0])][int(each[1]) - 1].cite for each in floats]
+            and turns == x and sum(int(each[7] or 0) for each in floats) == spec.alpha * x
             and f'X {x}, Y {y}, T = alpha·X + beta·Y = {spec.alpha}·{x} + {spec.beta}·{y} = {t}\n' in text)
 
 
 def refused(galley, words, number, page, text):
     """Whether the last line gives numbers that do break the rule."""
-    said = text.splitlines()[-1]
+    said, width = text.splitlines()[-1], len(galley.streams)
     ends = [galley.nothing, *marking.places(galley, words)]
-    (a, b), (i, j) = (ends[page - 1], ends[page]) if page else ((0, 0), (0, 0))
-    m, n = galley.sizes
+    start, end = (ends[page - 1], ends[page]) if page else (galley.nothing, galley.nothing)
     numbers = [int(number) for number in re.findall(r'\d+', said)]
     if number == 12:
-        return numbers[0] == len(words) and numbers[2] == 2 * (m + n)
+        asked_of = 'an even number' if width == 2 else 'a multiple of three'
+        return numbers == [len(words), width, width * sum(galley.sizes)] and asked_of in said
     if number == 13:
-        return ('fall' in said and numbers in ([a, i], [b, j]) and numbers[0] > numbers[1]
-                or 'claims' in said and numbers in ([i, m], [j, n]) and numbers[0] > numbers[1]
-                or 'ends where it starts' in said and (a, b) == (i, j) and numbers == [i, j])
+        kinds_told = [(f'{kind}s' in said, u, v, size) for kind, u, v, size in zip(KINDS, start, end, galley.sizes)]
+        return ('fall' in said and any(told and numbers == [u, v] and u > v for told, u, v, _ in kinds_told)
+                or 'claims' in said and any(told and numbers == [v, size] and v > size for told, _, v, size in kinds_told)
+                or 'ends where it starts' in said and start == end and numbers == list(end))
     if number == 14:
-        told = forbidden(galley, i, j)
+        told = forbidden(galley, *end[:2])
         return told != [] and text.splitlines()[-len(told):] == told
     if number == 15:
-        height = marking.tightest(galley, (a, b), (i, j))
+        height = marking.tightest(galley, start, end)
         return numbers == [height, galley.spec.htmax, height - galley.spec.htmax] and numbers[2] > 0
     if number == 16:
-        height, last = marking.loosest(galley, (a, b), (i, j)), page == len(ends) - 1
+        height, last = marking.loosest(galley, start, end), page == len(ends) - 1
         least, name = galley.spec.floor(last), 'lastMin' if last else 'htMin'
         return numbers == [height, least, least - height] and numbers[2] > 0 and name in said
     if number == 17:
-        return numbers == [j, galley.figures[j - 1].cite, i] and numbers[1] > i
-    return number == 18 and numbers == [i, j, m, n] and (i, j) != (m, n)
+        told = too_soon(galley, end)
+        return told != [] and text.splitlines()[-len(told):] == told
+    return number == 18 and numbers == [*end, *galley.sizes] and end != galley.sizes
+
+
+def too_soon(galley, end):
+    """What is told of the last figure and the last table: the line that cites them, where it is a later one."""
+    last = [(kind, count, floats[count - 1].cite) for kind, floats, count in zip(KINDS[1:], galley.floats, end[1:]) if count]
+    return [f'    {kind} {count} is cited by line {cite}, and the spread ends after line {end[0]}'
+            for kind, count, cite in last if cite > end[0]]
 
 
 def run(tally, command, folder):
     rng, path, met = random.Random(7), folder / 'explained.galley', set()
-    for galley in sample.galleys(106, 120, 8, 5):
+    for galley in [*sample.galleys(106, 120, 8, 5), *sample.galleys(116, 120, 5, 3, 3)]:
         path.write_bytes(write(galley))
         best = search.best_by_table(galley)
-        lists = [sample.page_list(rng, galley), (), (1, 1) * (sum(galley.sizes) + 1)]
-        lists += [best, *(sample.mutated(rng, best) for _ in range(5))] if best else []
+        lists = [sample.page_list(rng, galley), (), (1,) * len(galley.streams) * (sum(galley.sizes) + 1)]
+        lists += [best, *(sample.mutated(rng, galley, best) for _ in range(5))] if best else []
         for words in lists:
-            if len(words) % 2:
+            if len(words) % len(galley.streams):
                 continue
             status, text, remarks = command.text('explain', path, '-', given=listed(galley, words))
             marked = marking.mark(galley, words)

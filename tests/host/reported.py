@@ -12,7 +12,7 @@ from command_line import file
 from reference import cases, marking, refusals, report, sample, search
 from reference.galley import write
 
-LABELS = ['papers', 'sum of p (pages)', 'sum of X (turns to figures)', 'sum of Y (turns from first page to last)',
+LABELS = ['papers', 'sum of p (pages)', 'sum of X (turns to figures and tables)', 'sum of Y (turns from first page to last)',
           'sum of T (weighted turns)', 'least T', 'greatest T', 'excess over the engine']
 
 # Name, a text of marks, and a part of the remark that must name line and field.
@@ -52,19 +52,19 @@ def refused_lists(numbers):
     return f'refused lists: {len(numbers)}, which are no papers ({rules})\n'
 
 
-def text_of(words):
-    return ''.join(f'{i} {j}\n' for i, j in zip(words[::2], words[1::2])).encode()
+def text_of(galley, words):
+    return ''.join(' '.join(map(str, end)) + '\n' for end in marking.places(galley, words)).encode()
 
 
 def lists_of_galleys(tally, command, folder):
     """Random galleys, each with lists of every kind: what the reference marks and makes decides the report."""
     rng, kinds = random.Random(12), collections.Counter()
-    for galley in sample.galleys(120, 90, 7, 4):
+    for galley in [*sample.galleys(120, 90, 7, 4), *sample.galleys(121, 40, 5, 3, 2)]:
         best = search.best_by_table(galley)
         lists = [sample.page_list(rng, galley) for _ in range(4)]
-        lists += [best, *(sample.mutated(rng, best) for _ in range(8))] if best else []
-        lists = [words for words in lists if len(words) % 2 == 0]
-        names = [file(folder, f'{number}.list', text_of(words)) for number, words in enumerate(lists)]
+        lists += [best, *(sample.mutated(rng, galley, best) for _ in range(8))] if best else []
+        lists = [words for words in lists if len(words) % len(galley.streams) == 0]
+        names = [file(folder, f'{number}.list', text_of(galley, words)) for number, words in enumerate(lists)]
         status, output, remarks = command.text('report', file(folder, 'r.galley', write(galley)), *names)
         if not best:
             told = (status, output, '11' in remarks)
@@ -143,7 +143,7 @@ def many_galleys(tally, command, root, folder):
         file(term, f'{name}.galley', write(galley))
         engines = marking.mark(galley, search.best(galley))[4]
         for number, words in enumerate(lists):
-            file(term / name, f'{number}.list', text_of(words))
+            file(term / name, f'{number}.list', text_of(galley, words))
             answer = marking.mark(galley, words)
             marks += [(*answer[1:], engines)] if answer[0] == 'accepted' else []
     path = f'{command.program.parent}{os.pathsep}{os.environ["PATH"]}'

@@ -1,7 +1,7 @@
 """Galleys as text and back without loss, and texts with errors, each named by line and field."""
 
 from reference import cases, refusals, sample
-from reference.galley import Figure, Galley, Line, Spec, write
+from reference.galley import Figure, Galley, Line, Spec, Table, write
 
 SPEC, LINE = 'GS 30 30 0 0 1 1 1\n', 'TL 10 0 0 1\n'
 GOOD = SPEC + LINE
@@ -9,7 +9,7 @@ GOOD = SPEC + LINE
 # Text, exit status, and what the remark must say.
 ERRORS = [
     ('GX 1\n', 2, 'line 1: mark: `GX`'),
-    ('gs 30 30 0 0 1 1 1\n', 2, 'line 1: mark: `gs` is none of GS, G2, FO, TL, FG, FK, ED'),
+    ('gs 30 30 0 0 1 1 1\n', 2, 'line 1: mark: `gs` is none of GS, G2, FO, TL, FG, FK, TB, ED'),
     ('GS 30 30 0 0 1 1\n', 2, 'line 1: field 7 (beta): missing'),
     ('# one\nGS 30 x 0 0 1 1 1\n', 2, 'line 2: field 2 (htMax): `x`'),
     ('GS 30 30 0 0 1 1 1 1\n', 2, 'line 1: `1` stands after'),
@@ -46,6 +46,15 @@ ERRORS = [
     (GOOD + 'FK 1 0 0 1\nTL 1 0 0 1\nED\n', 1, 'line 4: '),
     (GOOD + 'TL 1 0 0 1\nFG 1 0 0 2\nFG 1 0 0 1\nED\n', 1, 'line 5: field 4 (citation): 1'),
     (GOOD + 'FG 1 0 0 1\nTL 1 0 0 1\nED\n', 1, 'line 4: '),
+    (GOOD + 'TB 1 0 0 2\nED\n', 1, 'line 3: field 4 (citation): 2: at byte 48: a figure or table names'),
+    (GOOD + 'TB 1 5 4 1\nED\n', 1, 'line 3: field 2 (least space): 5, but it must be 0 to 4'),
+    (GOOD + 'TB 1 0 0\nED\n', 2, 'line 3: field 4 (citation): missing; TB has 4 fields'),
+    (GOOD + 'TB 1 0 0 1 0\nED\n', 2, 'line 3: `0` stands after the last field of TB'),
+    (GOOD + 'TB 1 0 0 1\nTL 1 0 0 1\nED\n', 1, 'line 4: at byte 66: a mark is unknown, or known but out of place'),
+    (GOOD + 'TB 1 0 0 1\nFG 1 0 0 1\nED\n', 1, 'line 4: at byte 66: a mark is unknown, or known but out of place'),
+    (GOOD + 'TL 1 0 0 1\nFG 1 0 0 2\nTB 1 0 0 2\nTB 1 0 0 1\nED\n', 1, 'line 6: field 4 (citation): 1'),
+    (GOOD + 51 * 'TB 1 0 0 1\n' + 'ED\n', 1, 'line 53: '),
+    (SPEC + 'TB 1 0 0 1\nED\n', 1, 'line 2: at byte 30: figures, tables or the end come before the first line'),
     ('GS 30 30 0 0 1 1 1\nED\n', 1, 'line 2: '),
     (GOOD + 4_000 * 'TL 1 0 0 1\n' + 'ED\n', 1, 'line 4002: '),
     (GOOD + 'ED\nED\n', 1, 'line 4: '),
@@ -62,8 +71,9 @@ def text_of(galley):
 
 def there_and_back(tally, command, root, folder):
     edge = Spec(100_000, 100_000, 100_000, 100_000, 2, 1_000, 1_000, 100_000)
-    largest = Galley(edge, (4_000 * (Line(100_000, 100_000, 100_000, 0),), 200 * (Figure(100_000, 0, 100_000, 4_000),)), 9_999)
-    for galley in [cases.A, cases.C, largest, *sample.galleys(105, 60, 12, 6)]:
+    largest = Galley(edge, (4_000 * (Line(100_000, 100_000, 100_000, 0),), 200 * (Figure(100_000, 0, 100_000, 4_000),),
+                            50 * (Table(100_000, 0, 100_000, 4_000),)), 9_999)
+    for galley in [cases.A, cases.C, cases.K, largest, *sample.galleys(105, 60, 12, 6), *sample.galleys(115, 40, 9, 4, 4)]:
         data, text = write(galley), text_of(galley)
         tally.same(f'unpack {galley}', command.text('unpack', '-', given=data), (0, text, ''))
         tally.same(f'pack {galley}', command.run('pack', '-', given=text.encode()), (0, data, ''))

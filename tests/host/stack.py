@@ -36,19 +36,25 @@ def called(program, stack, files):
 def calls(command, root, folder):
     """What is called, with the answer that is due: (whether it marks, name, files, six words)."""
     made, none = root / 'samples/real/mpman-p003.galley', root / 'samples/real/mpman-p081.galley'
-    cut, lists = folder / 'cut.galley', folder / 'made.list'
+    tabled, cut = root / 'samples/real/memman-p211-tables.galley', folder / 'cut.galley'
     cut.write_bytes(made.read_bytes()[:-1])
     refused = (1, made.stat().st_size - 2, 0, 0, 0, 0)
-    pages = [line.split()[1:] for line in command.text('make', made)[1].splitlines()[1:]]
-    lists.write_text(''.join(f'{i} {j}\n' for i, j in pages))
-    words = tuple(int(number) for page in pages for number in page)
-    _, galley = read(made.read_bytes())
-    best = six(marking.mark(galley, words))
+    (lists, best), (tabled_lists, tabled_best) = (best_list(command, path, folder) for path in (made, tabled))
     latex = made.with_suffix('.latex')
-    loose = six(marking.mark(galley, tuple(map(int, latex.read_text().split()))))
+    loose = six(marking.mark(read(made.read_bytes())[1], tuple(map(int, latex.read_text().split()))))
     return [(False, 'a chapter made', [made], best), (False, 'no pagination', [none], (11, 0, 0, 0, 0, 0)),
+            (False, 'a chapter with tables made', [tabled], tabled_best), (True, 'its list', [tabled, tabled_lists], tabled_best),
             (False, 'a galley cut short', [cut], refused), (True, 'the best list', [made, lists], best),
             (True, "LaTeX's list", [made, latex], loose), (True, 'a list for a galley cut short', [cut, lists], refused)]
+
+
+def best_list(command, path, folder):
+    """A file with the list that is made of a galley, and the six words that are due for it."""
+    pages = [line.split()[1:] for line in command.text('make', path)[1].splitlines()[1:]]
+    lists = folder / f'{path.stem}.list'
+    lists.write_text(''.join(' '.join(page) + '\n' for page in pages))
+    words = tuple(int(number) for page in pages for number in page)
+    return lists, six(marking.mark(read(path.read_bytes())[1], words))
 
 
 def figures(tally, stated, takes, seen):

@@ -14,6 +14,7 @@ from reference import cases, galley, marking, sample, search  # noqa: E402
 from tally import Tally  # noqa: E402
 
 GALLEYS, LEFT, LARGER, FINE, LONG, SEED = 2_400, 300, 60, 1_400, 100, 20261116
+TABLED, TABLED_LEFT, TABLED_FINE = 1_200, 400, 300
 MOST_LISTS = 2_000
 
 
@@ -36,25 +37,26 @@ def lendings(rng, g):
         yield dirty(rng, work_needed), dirty(rng, rng.randint(0, list_needed - 1))
 
 
-def fine(count):
-    """Galleys of many lines of small height, each with the first of all its lists; without the few that have too many."""
-    for number, g in enumerate(sample.fine_galleys(SEED + 3, count, 8, 14, 4)):
+def fine(count, tabled):
+    """Galleys of many lines of small height, some of them with tables, each with the first of all its lists; without the few
+    that have too many."""
+    for number, g in enumerate([*sample.fine_galleys(SEED + 3, count, 8, 14, 4), *sample.fine_galleys(SEED + 6, tabled, 5, 10, 2, 3)]):
         lists = list(itertools.islice(search.every(g), MOST_LISTS + 1))
         if len(lists) <= MOST_LISTS:
             yield f'fine galley {number}', g, search.first(g, lists)
 
 
-def long(count):
+def long(count, tabled):
     """Such galleys with far more lines and too many lists to look at: their best list is from the reference's own table."""
-    for number, g in enumerate(sample.fine_galleys(SEED + 4, count, 60, 300, 12, highest=120)):
+    for number, g in enumerate([*sample.fine_galleys(SEED + 4, count, 60, 300, 12, highest=120),
+                                *sample.fine_galleys(SEED + 7, tabled, 40, 120, 5, 4, highest=80)]):
         yield f'long galley {number}', g, search.best_by_table(g)
 
 
-def largest(make, sides):
-    """Whether the largest galley of height 0 is made: everything fits one page, so that every place is a start."""
-    g = cases.respec(cases.LONGEST, sides=sides)
+def largest(make, g):
+    """Whether a galley of height 0 is made: everything fits one page, so that every place is a start."""
     work, pages = ((1,) * length for length in engine.lengths(g))
-    return make(galley.write(g), work, pages) == due(g, (4_000, 200), work, pages)
+    return make(galley.write(g), work, pages) == due(g, g.sizes, work, pages)
 
 
 def main():
@@ -71,25 +73,27 @@ def main():
     for name, g, words, counts in cases.MADE:
         if len(g.lines) < 50:
             try_all(name, g, words)
-    for number, g in enumerate([*sample.galleys(SEED, GALLEYS, 5, 3), *sample.left_galleys(SEED + 5, LEFT)]):
+    for number, g in enumerate([*sample.galleys(SEED, GALLEYS, 5, 3), *sample.left_galleys(SEED + 5, LEFT),
+                                *sample.galleys(SEED + 8, TABLED, 3, 2, 2), *sample.left_galleys(SEED + 9, TABLED_LEFT, 2)]):
         lists = list(search.every(g))
         best = search.first(g, lists)
         tally.kind(*kinds.of_choice(g, lists, best))
         try_all(f'galley {number}', g, best)
         if g.spec.edition == 1 and number % 4 == 0:
             try_all(f'galley {number} with lastMin 0', cases.respec(g, lastmin=0), best)
-    for number, g in enumerate(sample.galleys(SEED + 1, LARGER, 40, 8)):
+    for number, g in enumerate([*sample.galleys(SEED + 1, LARGER, 40, 8), *sample.galleys(SEED + 10, LARGER, 20, 5, 5)]):
         try_all(f'larger galley {number}', g, search.best_by_table(g))
-    for name, g, best in long(LONG):
+    for name, g, best in long(LONG, LONG // 4):
         try_all(name, g, best)
-    for name, g, best in fine(FINE):
+    for name, g, best in fine(FINE, TABLED_FINE):
         try_all(name, g, best)
         rows = list(windows.windows(g))
         tally.same(f'windows of {name}', all(map(windows.only_rise, rows)), True)
         refilled += sum(map(windows.refill, rows))
     for sides in (1, 2):
-        tally.same(f'the largest galley of height 0, sides {sides}', largest(make, sides), True)
-    for number, g in enumerate(sample.galleys(SEED + 2, 400, 5, 3)):
+        for what, g in (('the largest galley', cases.LONGEST), ('a large galley with tables', cases.LARGE_TABLES)):
+            tally.same(f'{what} of height 0, sides {sides}', largest(make, cases.respec(g, sides=sides)), True)
+    for number, g in enumerate([*sample.galleys(SEED + 2, 400, 5, 3), *sample.galleys(SEED + 11, 200, 4, 2, 3)]):
         broken = sample.broken(rng, galley.write(g))
         read = galley.read(broken)
         if read[0] == 'refused':

@@ -27,8 +27,9 @@ def known():
     """Galleys with their best list."""
     yield from ((name, g, words) for name, g, words, _ in cases.MADE)
     yield from ((f'galley {k}', g, search.best(g)) for k, g in enumerate(sample.galleys(SEED, 1_000, 5, 3)))
-    yield from check.fine(500)
-    yield from check.long(20)
+    yield from ((f'galley {k} with tables', g, search.best(g)) for k, g in enumerate(sample.galleys(SEED + 5, 600, 3, 2, 2)))
+    yield from check.fine(500, 150)
+    yield from check.long(20, 8)
 
 
 def unknown():
@@ -37,6 +38,9 @@ def unknown():
     yield from sample.fine_galleys(SEED + 2, 3_000, 8, 40, 6)
     yield from sample.fine_galleys(SEED + 3, 20, 300, 1_000, 20, highest=400)
     yield from sample.fine_galleys(SEED + 4, 2, 4_000, 4_000, 6, highest=100)
+    yield from sample.galleys(SEED + 6, 600, 30, 6, 6)
+    yield from sample.fine_galleys(SEED + 7, 1_500, 8, 30, 5, 5)
+    yield from sample.fine_galleys(SEED + 8, 6, 200, 500, 8, 10, highest=200)
 
 
 def main():
@@ -55,7 +59,8 @@ def main():
     for number, g in enumerate(unknown()):
         compare(f'galley {number} of unknown best list', g)
     # The plain search would take minutes.
-    tally.same('the largest galley of height 0', check.largest(by_queues, 1), True)
+    tally.same('the largest galley of height 0', check.largest(by_queues, cases.LONGEST), True)
+    tally.same('a large galley of height 0 with tables', check.largest(by_queues, cases.LARGE_TABLES), True)
     return tally.end()
 
 

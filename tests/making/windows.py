@@ -1,23 +1,24 @@
 """The windows of starting lines that the search by queues stands on, worked out page by page from the reference."""
 import collections
+import itertools
 
 from reference import search
 
 
 def windows(g):
-    """For each starting and ending figure, place by place, the lines that a page with lines can start after; without the
-    full place, whose page may be low."""
-    m, n = g.sizes
+    """For each starting and ending column, place by place, the lines that a page with lines can start after; without the
+    full place, whose page may be low. A column is how many floats of each stream are placed."""
+    m, *whole = g.sizes
+    columns = list(itertools.product(*(range(size + 1) for size in whole)))
     starts = collections.defaultdict(list)
-    for a in range(m):
-        for b in range(n + 1):
-            for i, j in search.page_ends(g, (a, b)):
-                if a < i and (i, j) != (m, n):
-                    starts[b, j, i].append(a)
+    for a, before in itertools.product(range(m), columns):
+        for i, *after in search.page_ends(g, (a, *before)):
+            if a < i and (i, *after) != g.sizes:
+                starts[before, tuple(after), i].append(a)
     ends = [i for i in range(1, m + 1) if i == m or g.lines[i - 1].legal]
-    for j in range(n + 1):
-        for b in range(j + 1):
-            yield [starts[b, j, i] for i in ends if (i, j) != (m, n)]
+    for before, after in itertools.product(columns, columns):
+        if all(b <= j for b, j in zip(before, after)):
+            yield [starts[before, after, i] for i in ends if (i, *after) != g.sizes]
 
 
 def only_rise(row):

@@ -1,68 +1,11 @@
 """Document 01's galleys to try and some more, those of document 02's requests among them: the answers that making and marking
 owe."""
 
-from dataclasses import replace
-
-from .galley import Figure, Galley, Line, Spec
-
-
-def plain(spec, heights, figures):
-    """A galley without spaces, page ends allowed everywhere; figures as (height, citation)."""
-    return Galley(spec, (tuple(Line(height, 0, 0, 1) for height in heights),
-                         tuple(Figure(height, 0, 0, cite) for height, cite in figures)))
-
-
-def respec(galley, **fields):
-    return replace(galley, spec=galley.spec._replace(**fields))
-
-
-def opening(galley, folio):
-    """The galley with `FO` and this first folio; without the record where there is None."""
-    return replace(galley, stated=folio)
-
-
-def keep(galley, *numbers):
-    """The galley with just these figures kept with the next one."""
-    figures = tuple(figure._replace(kept=int(k in numbers)) for k, figure in enumerate(galley.figures, 1))
-    return replace(galley, streams=(galley.lines, figures))
-
-
-def high(galley, height):
-    """The galley with pages of one height."""
-    return respec(galley, htmin=height, htmax=height)
-
-
-def forbid(galley, number):
-    lines = list(galley.lines)
-    lines[number - 1] = lines[number - 1]._replace(legal=0)
-    return replace(galley, streams=(tuple(lines), *galley.floats))
-
-
-A = plain(Spec(30, 30, 0, 0, 1, 1, 1), (10, 10, 10), [(20, 1)])
-A_TALL = plain(A.spec, (10, 10, 10), [(31, 1)])
-B = plain(A.spec._replace(htmin=20), (20, 20), [])
-C = plain(A.spec._replace(htmin=10, htmax=20, sides=2), (10, 10, 20, 20), [(20, 4)])
-# Two pages and three both turn one leaf; the even page count decides, then the later start of the last page.
-EVEN = plain(A.spec._replace(htmin=0, htmax=20, sides=2), (10, 10, 10), [])
-PAIR = plain(A.spec._replace(htmin=0, alpha=0, beta=0), (10,), [(10, 1), (10, 1)])
-SPACED = Galley(A.spec._replace(htmin=28), (3 * (Line(10, 5, 8, 1),), ()))
-# The figure fills page 1, and its line is too low for any page but the last: page 2 must lie on the same spread.
-FIGURE_FIRST = plain(Spec(20, 20, 0, 0, 2, 1, 1), (10,), [(20, 1)])
-# A drawing of 10 and its legend of 20, both cited by line 1: apart they fit beside the lines, together they fill a page.
-LEGEND = plain(A.spec._replace(htmin=0), (10, 10, 10), [(10, 1), (20, 1)])
-CHAIN = plain(A.spec._replace(htmin=0), (10,), [(10, 1), (10, 1), (10, 1)])
-# Two pages: the later start of the last one leaves it a single line.
-TWO_PAGES = plain(A.spec._replace(htmin=20), (10, 10, 10, 10), [])
-# Galleys F, G and H of the table that is proved (crates/cases): every space and the separation stretch; every other line forbids
-# a page end; a page may end after lines 255 and 300 alone.
-F = Galley(Spec(0, 100_000, 4, 40, 1, 2, 3),
-           ((Line(10, 0, 100, 1), Line(10, 5, 9, 1), Line(10, 1, 10, 1), Line(10, 5, 9, 1), Line(10, 5, 9, 1)),
-            (Figure(10, 5, 9, 1), Figure(10, 2, 20, 1), Figure(10, 5, 9, 2), Figure(10, 5, 9, 3))))
-G = Galley(Spec(20, 30, 0, 0, 1, 1, 1), (tuple(Line(10, 0, 0, legal) for legal in (0, 1, 0, 1, 0)),
-                                         (Figure(10, 0, 0, 5), Figure(30, 0, 0, 5))))
-H = Galley(Spec(0, 300, 0, 0, 1, 1, 1), (tuple(Line(1, 0, 0, int(k in (255, 300, 301))) for k in range(1, 302)), ()))
-LONGEST = plain(Spec(0, 1, 0, 0, 1, 1_000, 1_000), 4_000 * (0,), 200 * [(0, 1)])
-ONE_A_PAGE = tuple(word for page in range(1, 4_201) for word in (min(page, 4_000), max(page - 4_000, 0)))
+from .galley import Spec
+from .galleys import (
+    A, A_TALL, B, C, CHAIN, C_BOTH, C_TABLE, EVEN, F, FIGURE_FIRST, G, H, K, L, LARGE_TABLES, LEGEND, LONGEST,
+    LONGEST_TABLES, M, N, ONE_A_PAGE, PAIR, PASSED, SPACED, TABLES_ONE_A_PAGE, TABLE_PAIR, TWO_PAGES, forbid, high, keep,
+    opening, plain, respec)  # noqa: F401
 
 # Name, galley, and the list with its p, X, Y, T; None stands for 11.
 MADE = [
@@ -116,6 +59,18 @@ MADE = [
     ('kept figures fill the last page', keep(respec(LEGEND, lastmin=30), 1), (3, 0, 3, 2), (2, 2, 1, 3)),
     ('a figure alone without separation', plain(A.spec._replace(smin=1, smax=1), (10, 10, 10), [(30, 1)]),
      (3, 0, 3, 1), (2, 1, 1, 2)),
+    ('figure or table first, the later figure before the later table', K, (2, 1, 0, 3, 1, 1), (2, 1, 1, 2)),
+    ('a kept figure waits, the table does not', keep(PASSED, 1), (2, 0, 1, 2, 2, 1, 2, 3, 1), (3, 4, 2, 6)),
+    ('later starting table', TABLE_PAIR, (1, 0, 1, 1, 0, 2), (2, 1, 1, 1)),
+    ('two separations', high(L, 38), (1, 1, 1, 2, 1, 1), (2, 0, 1, 1)),
+    ('two separations that do not fit', high(L, 37), None, None),
+    ('two separations that do not fill', high(L, 41), None, None),
+    ('C1 with a table', C_TABLE, (1, 0, 0, 2, 0, 0, 3, 0, 0, 4, 0, 0, 4, 0, 1), (5, 0, 2, 2)),
+    ('C with a table too', C_BOTH, (1, 0, 0, 2, 0, 0, 3, 0, 0, 4, 0, 0, 4, 1, 0, 4, 1, 1), (6, 1, 3, 4)),
+    ('C with a table too, from folio 2', opening(C_BOTH, 2), (2, 0, 0, 3, 0, 0, 4, 0, 0, 4, 1, 0, 4, 1, 1), (5, 1, 2, 3)),
+    ('a table after its page', N, (1, 1, 0, 1, 1, 1), (2, 1, 1, 2)),
+    ('a figure and a table cited apart', M, (2, 1, 1), (1, 0, 0, 0)),
+    ('a last page of three kinds too low', respec(L, htmax=60, lastmin=51), None, None),
 ]
 
 # Name, galley, list, and what the marking says of it.
@@ -205,6 +160,38 @@ MARKED = [
     ('the last page stretches to lastMin', respec(SPACED, htmax=50, lastmin=46), (3, 0), ('accepted', 1, 0, 0, 0)),
     ('the last page stretches no further', respec(SPACED, htmax=50, lastmin=47), (3, 0), ('refused', 16, 1)),
     ('more figures than there are, on page 2', A, (3, 0, 3, 2), ('refused', 13, 2)),
+    ('the table first', K, (2, 0, 1, 3, 1, 1), ('accepted', 2, 1, 1, 2)),
+    ('the table on a page by itself', K, (2, 1, 0, 3, 1, 0, 3, 1, 1), ('accepted', 3, 2, 2, 4)),
+    ('as many pages as there are blocks, tables among them', K, (1, 0, 0, 2, 0, 0, 3, 0, 0, 3, 1, 0, 3, 1, 1), ('accepted', 5, 7, 4, 11)),
+    ('a page more than there are blocks', K, (1, 0, 0, 2, 0, 0, 3, 0, 0, 3, 1, 0, 3, 1, 1, 3, 1, 1), ('refused', 12, 0)),
+    ('two words a page where there is a table', K, (2, 1, 3, 1), ('refused', 12, 0)),
+    ('three words a page where there is none', A, (1, 1, 0), ('refused', 12, 0)),
+    ('six words, read as three pages', A, (1, 1, 0, 3, 1, 0), ('refused', 13, 2)),
+    ('tables fall', K, (2, 0, 1, 3, 1, 0), ('refused', 13, 2)),
+    ('more tables than there are', K, (2, 1, 0, 3, 1, 2), ('refused', 13, 2)),
+    ('more tables than there are, far more', K, (2, 1, 2**32 - 1, 3, 1, 1), ('refused', 13, 1)),
+    ('an empty page where there is a table', K, (2, 1, 0, 2, 1, 0, 3, 1, 1), ('refused', 13, 2)),
+    ('14 by a kept figure where there is a table', keep(PASSED, 1), (2, 1, 0, 2, 2, 1, 2, 3, 1), ('refused', 14, 1)),
+    ('14 by a line where there is a table', forbid(K, 2), (2, 0, 1, 3, 1, 1), ('refused', 14, 1)),
+    ('three kinds just low enough', high(L, 38), (1, 1, 1, 2, 1, 1), ('accepted', 2, 0, 1, 1)),
+    ('three kinds too high', high(L, 37), (1, 1, 1, 2, 1, 1), ('refused', 15, 1)),
+    ('three kinds just high enough', high(L, 40), (1, 1, 1, 2, 1, 1), ('accepted', 2, 0, 1, 1)),
+    ('three kinds too low', high(L, 41), (1, 1, 1, 2, 1, 1), ('refused', 16, 1)),
+    ('figure and table alone just low enough', respec(L, htmax=24), (2, 0, 0, 2, 1, 1), ('accepted', 2, 2, 1, 3)),
+    ('figure and table alone too high', respec(L, htmax=23), (2, 0, 0, 2, 1, 1), ('refused', 15, 2)),
+    ('figure and table alone just high enough', respec(L, lastmin=25), (2, 0, 0, 2, 1, 1), ('accepted', 2, 2, 1, 3)),
+    ('figure and table alone too low', respec(L, lastmin=26), (2, 0, 0, 2, 1, 1), ('refused', 16, 2)),
+    ('a table too soon', M, (1, 1, 1, 2, 1, 1), ('refused', 17, 1)),
+    ('a table too soon on the last page of the list', M, (1, 0, 0, 1, 1, 1), ('refused', 17, 2)),
+    ('a table that waits', M, (1, 1, 0, 2, 1, 1), ('accepted', 2, 0, 1, 1)),
+    ('C2 with a table', C_TABLE, (2, 0, 0, 3, 0, 0, 4, 0, 0, 4, 0, 1), ('accepted', 4, 1, 2, 3)),
+    ('C3 with a table', C_TABLE, (1, 0, 0, 2, 0, 0, 3, 0, 0, 3, 0, 1, 4, 0, 1), ('accepted', 5, 0, 2, 2)),
+    ('C3 with a table and sides 1', respec(C_TABLE, sides=1), (1, 0, 0, 2, 0, 0, 3, 0, 0, 3, 0, 1, 4, 0, 1), ('refused', 17, 4)),
+    ('C with a table too, the table first', C_BOTH, (2, 0, 0, 3, 0, 0, 4, 0, 0, 4, 0, 1, 4, 1, 1), ('accepted', 5, 2, 2, 4)),
+    ('a table opens the galley', opening(N, 2), (0, 0, 1, 1, 1, 1), ('accepted', 2, 0, 0, 0)),
+    ('a table opens a right-hand page', opening(N, 3), (0, 0, 1, 1, 1, 1), ('refused', 17, 1)),
+    ('the table is missing', K, (2, 1, 0, 3, 1, 0), ('refused', 18, 2)),
+    ('the figure is missing, the table is not', K, (2, 0, 1, 3, 0, 1), ('refused', 18, 2)),
 ]
 
 # As MARKED, but too long for the paper's sums to be worked out literally.
@@ -214,4 +201,7 @@ MARKED_LONG = [
      ('accepted', 4_200, 410_000, 2_100, 412_100_000)),
     ('most pages, up to folio 14,197', opening(respec(LONGEST, sides=2), 9_998), ONE_A_PAGE,
      ('accepted', 4_200, 409_900, 2_099, 411_999_000)),
+    ('most pages, with tables', LONGEST_TABLES, TABLES_ONE_A_PAGE, ('accepted', 4_250, 1_031_125, 4_249, 1_035_374_000)),
+    ('most pages, with tables, double-sided', respec(LONGEST_TABLES, sides=2), TABLES_ONE_A_PAGE,
+     ('accepted', 4_250, 515_625, 2_125, 517_750_000)),
 ]

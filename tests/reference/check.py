@@ -2,6 +2,7 @@
 
 import random
 import sys
+from dataclasses import replace
 from itertools import product
 from pathlib import Path
 
@@ -9,7 +10,7 @@ sys.path.insert(0, str(Path(__file__).resolve().parents[1]))
 
 import kinds  # noqa: E402
 from reference import cases, marking, refusals, sample, search  # noqa: E402
-from reference.galley import Figure, Galley, Line, Spec, read, write  # noqa: E402
+from reference.galley import Figure, Galley, Line, Spec, Table, read, write  # noqa: E402
 from tally import Tally  # noqa: E402
 
 
@@ -51,13 +52,14 @@ def turned_away(tally):
 
 def round_trips(tally):
     edge = Spec(100_000, 100_000, 100_000, 100_000, 2, 1_000, 1_000, 100_000)
-    largest = Galley(edge, (4_000 * (Line(100_000, 100_000, 100_000, 0),), 200 * (Figure(100_000, 0, 100_000, 4_000),)), 9_999)
-    for galley in [largest, *sample.galleys(1, 300, 8, 5)]:
+    largest = Galley(edge, (4_000 * (Line(100_000, 100_000, 100_000, 0),), 200 * (Figure(100_000, 0, 100_000, 4_000),),
+                            50 * (Table(100_000, 0, 100_000, 4_000),)), 9_999)
+    for galley in [largest, *sample.galleys(1, 300, 8, 5), *sample.galleys(16, 300, 8, 5, 4)]:
         tally.same(f'round trip of {galley}', read(write(galley)), ('galley', galley))
         begins = (30 if galley.spec.edition == 1 else 34) + (0 if galley.stated is None else 6)
         tally.same('line 1 begins', (galley.first, write(galley)[galley.first:][:2]), (begins, b'TL'))
     tally.group('galleys written and read')
-    for galley in sample.galleys(2, 20, 4, 3):
+    for galley in [*sample.galleys(2, 20, 4, 3), *sample.galleys(17, 20, 4, 3, 3)]:
         damaged(tally, galley)
     tally.group('damaged files')
 
@@ -81,7 +83,8 @@ def damaged(tally, galley):
 def all_lists(tally):
     """Tiny galleys: of all lists of words, just those of paginations are accepted, with their turns, and enumerated."""
     several = 0
-    for galley in [*sample.galleys(3, 300, 2, 1), *sample.galleys(4, 12, 2, 2), *sample.galleys(5, 12, 3, 1)]:
+    for galley in [*sample.galleys(3, 300, 2, 1), *sample.galleys(4, 12, 2, 2), *sample.galleys(5, 12, 3, 1),
+                   *sample.galleys(18, 300, 1, 1, 1)]:
         due = paginations(galley)
         several += len(due) > 1
         found = {}
@@ -92,7 +95,7 @@ def all_lists(tally):
         tally.same(f'accepted lists of {galley}', found, due)
         tally.same(f'every list of {galley}', sorted(search.every(galley)), sorted(due))
     tally.group('all lists of words against all maps', f' ({several} galleys have several paginations)')
-    for galley in [*sample.galleys(12, 100, 2, 1), *sample.galleys(14, 40, 1, 2)]:
+    for galley in [*sample.galleys(12, 100, 2, 1), *sample.galleys(14, 40, 1, 2), *sample.galleys(19, 60, 1, 1, 1)]:
         wrong = [words for words in lists_of_words(galley) if marking.mark(galley, words) != by_paper(galley, words)]
         tally.same(f'lists marked differently for {galley}', wrong, [])
     tally.group('all lists of words, refusals included, against the paper')
@@ -124,10 +127,10 @@ def random_lists(tally):
     """Lists drawn at random or spoilt by a slip: the rules and the paper agree on refusal or turns."""
     rng = random.Random(6)
     accepted = 0
-    for galley in sample.galleys(7, 400, 7, 4):
+    for galley in [*sample.galleys(7, 400, 7, 4), *sample.galleys(20, 400, 6, 3, 3)]:
         lists = [sample.page_list(rng, galley) for _ in range(10)]
         best = search.best_by_table(galley)
-        lists += [sample.mutated(rng, best) for _ in range(20)] + [best] if best else []
+        lists += [sample.mutated(rng, galley, best) for _ in range(20)] + [best] if best else []
         for words in lists:
             answer = tally.met(marking.mark(galley, words))
             accepted += answer[0] == 'accepted'
@@ -139,7 +142,9 @@ def searches(tally):
     """The table finds what the search of all lists finds, ties included."""
     tied = solved = 0
     met = set()
-    for galley in [*sample.galleys(8, 600, 5, 3), *sample.galleys(9, 100, 9, 0), *sample.fine_galleys(13, 200, 8, 11, 2)]:
+    for galley in [*sample.galleys(8, 600, 5, 3), *sample.galleys(9, 100, 9, 0), *sample.fine_galleys(13, 200, 8, 11, 2),
+                   *sample.galleys(21, 400, 3, 2, 2), *sample.galleys(22, 100, 4, 0, 3), *sample.left_galleys(23, 60, 2),
+                   *sample.fine_galleys(24, 60, 5, 7, 1, 2)]:
         lists = list(search.every(galley))
         ranks = sorted(search.rank(galley, words) for words in lists)
         solved += bool(ranks)
@@ -154,7 +159,7 @@ def searches(tally):
 
 def editions(tally):
     """A second edition with lastMin 0 accepts the lists of the first, with the same answers, and is another galley nonetheless."""
-    for galley in sample.galleys(15, 150, 4, 2):
+    for galley in [*sample.galleys(15, 150, 4, 2), *sample.galleys(25, 60, 3, 2, 1)]:
         first, second = (cases.respec(galley, lastmin=lastmin) for lastmin in (None, 0))
         lists = list(search.every(first))
         tally.same(f'lists of {galley}', (list(search.every(second)), search.best(second)), (lists, search.first(first, lists)))
@@ -164,14 +169,27 @@ def editions(tally):
     tally.group('lastMin 0 against the first edition')
 
 
+def swapped(tally):
+    """Figures of which none is kept and tables are alike: swapped they have the same lists with their words swapped, and their
+    marks."""
+    for galley in sample.galleys(27, 150, 3, 2, 2):
+        lines, figures, tables = galley.streams
+        loose = replace(galley, streams=(lines, tuple(figure._replace(kept=0) for figure in figures), tables))
+        other = replace(galley, streams=(lines, tuple(Figure(*table) for table in tables), tuple(Table(*figure[:4]) for figure in figures)))
+        due = {tuple(word for i, j, d in marking.places(loose, words) for word in (i, d, j)): marking.mark(loose, words)
+               for words in search.every(loose)}
+        tally.same(f'figures and tables of {galley} swapped', {words: marking.mark(other, words) for words in search.every(other)}, due)
+    tally.group('figures and tables swapped')
+
+
 def larger(tally):
     """Larger galleys: what the table returns is valid, and no valid list one slip away from it ranks before it."""
     rng = random.Random(10)
-    for galley in sample.galleys(11, 60, 60, 12):
+    for galley in [*sample.galleys(11, 60, 60, 12), *sample.galleys(26, 40, 30, 6, 5)]:
         best = search.best_by_table(galley)
         if best:
             tally.same(f'{best} for {galley}', marking.mark(galley, best), by_paper(galley, best))
-            others = [words for words in (sample.mutated(rng, best) for _ in range(40))
+            others = [words for words in (sample.mutated(rng, galley, best) for _ in range(40))
                       if marking.mark(galley, words)[0] == 'accepted']
             better = [words for words in others if search.rank(galley, words) < search.rank(galley, best)]
             tally.same(f'best of {galley}', better, [])
@@ -180,7 +198,7 @@ def larger(tally):
 
 def main():
     tally = Tally()
-    for group in (made, marked, turned_away, round_trips, all_lists, random_lists, searches, editions, larger):
+    for group in (made, marked, turned_away, round_trips, all_lists, random_lists, searches, editions, swapped, larger):
         group(tally)
     for number in [*range(1, 9), *range(12, 19)]:
         tally.same(f'refusal {number} is reached', number in tally.refusals, True)

@@ -63,6 +63,21 @@ class Figure(NamedTuple):
         return 1 - self.kept
 
 
+class Table(NamedTuple):
+    height: int
+    least: int
+    most: int
+    cite: int
+
+    @property
+    def mark(self):
+        return b'TB'
+
+    @property
+    def legal(self):
+        return 1
+
+
 class Kind(NamedTuple):
     """What a mark opens: so many fields, and the record that they make."""
     fields: int
@@ -70,7 +85,7 @@ class Kind(NamedTuple):
 
 
 KINDS = {b'GS': Kind(7, Spec), b'G2': Kind(8, Spec), b'FO': Kind(1, Folio), b'TL': Kind(4, Line), b'FG': Kind(4, Figure),
-         b'FK': Kind(4, lambda *fields: Figure(*fields, kept=1))}
+         b'FK': Kind(4, lambda *fields: Figure(*fields, kept=1)), b'TB': Kind(4, Table)}
 SPECS = (b'GS', b'G2')  # either edition
 
 
@@ -80,13 +95,19 @@ class Stream(NamedTuple):
 
 
 # In the order in which they follow one another in a file; the first is the text, the others are cited by its lines.
-STREAMS = (Stream((b'TL',), 4_000), Stream((b'FG', b'FK'), 200))
+STREAMS = (Stream((b'TL',), 4_000), Stream((b'FG', b'FK'), 200), Stream((b'TB',), 50))
+LEAST_STREAMS = 2  # lines and figures count even where there is no figure; tables only where there are some
+
+
+def streams_of(*streams):
+    """The streams of a galley, without tables where there are none: so many words a page has."""
+    return tuple(map(tuple, streams[:LEAST_STREAMS] + tuple(filter(None, streams[LEAST_STREAMS:]))))
 
 
 @dataclass(frozen=True)
 class Galley:
     spec: Spec
-    streams: tuple  # of blocks, one entry for each of STREAMS
+    streams: tuple  # of blocks: lines, figures and, where there are any, tables
     stated: Optional[int] = None  # the first folio as `FO` states it, None without the record
 
     @property
@@ -110,6 +131,10 @@ class Galley:
     @property
     def figures(self):
         return self.streams[1]
+
+    @property
+    def tables(self):
+        return self.streams[2] if len(self.streams) > 2 else ()
 
     @property
     def sizes(self):
@@ -145,7 +170,7 @@ def read(data):
     if at + 2 < len(data):
         return ('refused', 8, at + 2)
     spec, *folio = alone
-    return ('galley', Galley(spec, tuple(map(tuple, streams)), folio[0].first if folio else None))
+    return ('galley', Galley(spec, streams_of(*streams), folio[0].first if folio else None))
 
 
 def stream_of(mark):

@@ -81,6 +81,7 @@ def files():
     yield from folios(spec, line, figure)
     yield from kept(opened, line, figure)
     yield from editions(spec, line, figure)
+    yield from tables(opened, line, figure)
     yield from out_of_range(opened)
 
 
@@ -134,6 +135,36 @@ def kept(opened, line, figure):
     yield 'a byte after the end, after a kept figure', opened + keeps + b'ED?', 8, 68
 
 
+def tables(opened, line, figure):
+    """`TB` is turned away where `FG` is, for a stream of its own: 50 at most, after the figures, in an order of its own."""
+    spec, table = opened[:30], record(b'TB', 20, 0, 0, 1)
+    full = opened + 50 * table
+    yield 'table first', table, 2, 0
+    yield 'table before any line', spec + table, 5, 30
+    yield 'table before any line, cut short', spec + b'TB', 5, 30
+    yield 'table straight after a folio', spec + record(b'FO', 38) + table, 5, 36
+    yield 'line after a table', opened + table + line, 2, 66
+    yield 'line after a table, cut short', opened + table + b'TL', 2, 66
+    yield 'figure after a table', opened + table + figure, 2, 66
+    yield 'figure after a table, others before it', opened + figure + table + figure, 2, 84
+    yield 'kept figure after a table', opened + table + record(b'FK', 20, 0, 0, 1), 2, 66
+    yield 'figure 201 after a table', opened + 200 * figure + table + figure, 2, 48 + 201 * 18
+    yield 'folio after a table', opened + table + record(b'FO', 38), 2, 66
+    yield 'specification after a table', opened + table + spec, 2, 66
+    yield 'table 51', full + table, 4, 48 + 50 * 18
+    yield 'table 51 cut short', full + b'TB', 4, 48 + 50 * 18
+    yield 'table 51 after 200 figures', opened + 200 * figure + 51 * table, 4, 48 + 250 * 18
+    yield 'half a table', opened + table[:17], 1, 48
+    yield 'no end after a table', opened + figure + table, 1, 84
+    yield 'table, citation 0', opened + record(b'TB', 1, 0, 0, 0) + b'ED', 6, 48
+    yield 'table, citation above m', opened + figure + record(b'TB', 1, 0, 0, 2) + b'ED', 6, 66
+    yield 'tables, citations fall', opened + line + record(b'TB', 1, 0, 0, 2) + table, 7, 84
+    # The figure before it is cited by a later line, which is nothing to the first table, and the second table is cited earlier.
+    later = opened + line + line + record(b'FG', 1, 0, 0, 3) + record(b'TB', 1, 0, 0, 2)
+    yield 'tables, citations fall after a figure', later + record(b'TB', 1, 0, 0, 1), 7, 48 + 4 * 18
+    yield 'a byte after the end, after a table', opened + table + b'ED?', 8, 68
+
+
 def editions(first, line, figure):
     """`G2` is turned away where `GS` is, and where its eighth field is out of range; what comes after one."""
     spec, folio = record(b'G2', 30, 30, 0, 0, 1, 1, 1, 20), record(b'FO', 38)
@@ -172,5 +203,6 @@ def out_of_range(opened):
         yield f'line {sizes}', opened + record(b'TL', *sizes, 1) + b'ED', 3, 48
         yield f'figure {sizes}', opened + record(b'FG', *sizes, 1) + b'ED', 3, 48
         yield f'kept figure {sizes}', opened + record(b'FK', *sizes, 1) + b'ED', 3, 48
+        yield f'table {sizes}', opened + record(b'TB', *sizes, 1) + b'ED', 3, 48
     for legal in (2, 256, 2**32 - 1):
         yield f'page end {legal}', opened + record(b'TL', 1, 0, 0, legal) + b'ED', 3, 48

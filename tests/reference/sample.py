@@ -2,17 +2,17 @@
 
 import random
 
-from .galley import Figure, Galley, Line, Spec
+from .galley import Figure, Galley, Line, Spec, Table, streams_of
 
 
-def galleys(seed, count, max_lines, max_figures):
-    """The same galleys for the same seed, single-sided and double-sided in turn."""
+def galleys(seed, count, max_lines, max_figures, max_tables=0):
+    """The same galleys for the same seed, single-sided and double-sided in turn; where there may be tables, each has some."""
     rng = random.Random(seed)
     for number in range(count):
-        yield one_galley(rng, max_lines, max_figures, sides=1 + number % 2)
+        yield one_galley(rng, max_lines, max_figures, max_tables, sides=1 + number % 2)
 
 
-def one_galley(rng, max_lines, max_figures, sides):
+def one_galley(rng, max_lines, max_figures, max_tables, sides):
     htmax = rng.randint(8, 40)
     # A low least height keeps most pages possible; a high one now and then exercises 16 and 11.
     htmin = rng.choice((0, htmax // 4, htmax // 2, rng.randint(0, htmax)))
@@ -21,18 +21,26 @@ def one_galley(rng, max_lines, max_figures, sides):
     lines = tuple(Line(*sized(rng, htmax), int(rng.random() < 0.85)) for _ in range(rng.randint(1, max_lines)))
     cites = citations(rng, len(lines), rng.randint(0, max_figures))
     figures = tuple(Figure(*sized(rng, htmax), cite, kept(rng)) for cite in cites)
-    return Galley(spec, (lines, figures), folio(rng))
+    others = tables(rng, len(lines), max_tables, lambda: sized(rng, htmax))
+    return Galley(spec, streams_of(lines, figures, others), folio(rng))
 
 
-def fine_galleys(seed, count, least_lines, most_lines, max_figures, highest=24):
+def tables(rng, lines, most, size):
+    """One table or more, each of a drawn size; none where none is the most."""
+    return tuple(Table(*size(), cite) for cite in citations(rng, lines, rng.randint(1, most))) if most else ()
+
+
+def fine_galleys(seed, count, least_lines, most_lines, max_figures, max_tables=0, highest=24):
     """Many lines of small height, few of which make a page that is full enough: the lines that a page to a place can start
     after come and go as the place moves on."""
     rng = random.Random(seed)
     for number in range(count):
-        yield one_fine_galley(rng, rng.randint(least_lines, most_lines), max_figures, rng.randint(6, highest), 1 + number % 2)
+        lines, most = rng.randint(least_lines, most_lines), (max_figures, max_tables)
+        yield one_fine_galley(rng, lines, most, rng.randint(6, highest), 1 + number % 2)
 
 
-def one_fine_galley(rng, lines, max_figures, htmax, sides):
+def one_fine_galley(rng, lines, most, htmax, sides):
+    max_figures, max_tables = most
     htmin = rng.choice((htmax // 2, 2 * htmax // 3, htmax - 1, rng.randint(1, htmax)))
     smin = rng.choice((0, 0, 1, 2))
     # Weights of 0 make ties, which the latest starts decide.
@@ -41,7 +49,9 @@ def one_fine_galley(rng, lines, max_figures, htmax, sides):
     barred = forbidden_ends(rng, lines)
     cites = citations(rng, lines, rng.randint(0, max_figures))
     text = tuple(Line(*fine(rng, htmax, 1.5 / lines), int(k not in barred)) for k in range(1, lines + 1))
-    return Galley(spec, (text, tuple(Figure(*fine(rng, htmax, 0.2), cite, kept(rng)) for cite in cites)), folio(rng))
+    figures = tuple(Figure(*fine(rng, htmax, 0.2), cite, kept(rng)) for cite in cites)
+    others = tables(rng, lines, max_tables, lambda: fine(rng, htmax, 0.2))
+    return Galley(spec, streams_of(text, figures, others), folio(rng))
 
 
 def folio(rng):
@@ -58,18 +68,19 @@ def kept(rng):
     return int(rng.random() < 0.25)
 
 
-def left_galleys(seed, count):
-    """Double-sided galleys that open on a left-hand page. A figure fills a page and the first lines do not, so that the best
-    list often has figures before any line."""
+def left_galleys(seed, count, max_tables=0):
+    """Double-sided galleys that open on a left-hand page. A float fills a page and the first lines do not, so that the best
+    list often has floats before any line; with tables there may be no figure."""
     rng = random.Random(seed)
     for _ in range(count):
         htmax = rng.randint(8, 40)
         htmin = rng.randint(htmax // 2, htmax)
         spec = Spec(htmin, htmax, 0, rng.choice((0, 2)), 2, weight(rng), weight(rng), lastmin(rng, 0, htmin))
         lines = tuple(Line(rng.randint(0, htmax // 2), 0, 2, rng.randint(0, 1)) for _ in range(rng.randint(1, 5)))
-        cites = citations(rng, min(2, len(lines)), rng.randint(1, 3))
+        cites = citations(rng, min(2, len(lines)), rng.randint(0, 1) if max_tables else rng.randint(1, 3))
         figures = tuple(Figure(rng.randint(spec.htmin, htmax), 0, 0, cite, kept(rng)) for cite in cites)
-        yield Galley(spec, (lines, figures), rng.choice((2, 38, 9_998)))
+        others = tables(rng, min(2, len(lines)), max_tables, lambda: (rng.randint(htmin, htmax), 0, 0))
+        yield Galley(spec, streams_of(lines, figures, others), rng.choice((2, 38, 9_998)))
 
 
 def fine(rng, htmax, chance):
@@ -97,10 +108,10 @@ def sized(rng, htmax):
     return height, least, least + rng.choice((0, 0, 2, 20))
 
 
-def citations(rng, lines, figures):
-    """Drawn from few lines, so that several figures often share one."""
-    few = [rng.randint(1, lines) for _ in range(max(1, figures // 2 + 1))]
-    return sorted(rng.choice(few) for _ in range(figures))
+def citations(rng, lines, floats):
+    """Drawn from few lines, so that several floats often share one."""
+    few = [rng.randint(1, lines) for _ in range(max(1, floats // 2 + 1))]
+    return sorted(rng.choice(few) for _ in range(floats))
 
 
 def page_list(rng, galley):
@@ -110,11 +121,11 @@ def page_list(rng, galley):
     return tuple(word for end in zip(*counts) for word in end)
 
 
-def mutated(rng, words):
+def mutated(rng, galley, words):
     """The list with one slip of the kinds a person or a program makes."""
-    words = list(words)
+    words, width = list(words), len(galley.streams)
     at = rng.randrange(len(words))
-    page = at // 2 * 2
+    page = at // width * width
     slip = rng.randrange(7)
     if slip == 0:
         words[at] += 1
@@ -123,11 +134,12 @@ def mutated(rng, words):
     elif slip == 2:
         words[at] = rng.choice((0, 2**31, 2**32 - 1))
     elif slip == 3:
-        del words[page:page + 2]
+        del words[page:page + width]
     elif slip == 4:
-        words[page:page] = words[page:page + 2]
+        words[page:page] = words[page:page + width]
     elif slip == 5:
-        words[page], words[page + 1] = words[page + 1], words[page]
+        other = page + (at + 1 - page) % width
+        words[at], words[other] = words[other], words[at]
     else:
         del words[at]
     return tuple(words)

@@ -17,12 +17,18 @@ mod plain;
 mod queue;
 mod read;
 mod report;
+mod spec;
 mod sums;
 mod sweep;
 
 pub use make::{make, make_plain};
 pub use mark::mark;
 pub use report::{report, Mark};
+
+/// Words a page takes in the lists of a galley: 3 where it has tables, else 2, also where it is refused.
+pub fn page_words(bytes: &[u8]) -> usize {
+    read::read(bytes).map_or(2, |galley| galley.page_words())
+}
 
 /// Success has number and place 0; a refusal has everything else 0.
 #[derive(Clone, Copy, Debug, Default, PartialEq, Eq)]

@@ -1,7 +1,7 @@
 //! The making: for every place and side of the page ending there the least cost, from the best of all starts.
 
 use crate::mark::measure;
-use crate::places::{least, side_before, Least, ENDS, OPENS, PLACE};
+use crate::places::{columns, floats_at, least, side_before, whole, Least, ENDS, OPENS, PLACE};
 use crate::read::{read, Galley};
 use crate::{plain, sweep, Answer};
 
@@ -20,8 +20,9 @@ fn make_by(fill: impl Fn(&Galley, &mut [u32]), bytes: &[u8], work: &mut [u32], l
         Err(refusal) => return refusal,
         Ok(galley) => galley,
     };
-    let needed = PLACE * (galley.m + 1) * (galley.n + 1);
-    let longest = 2 * (galley.m + galley.n);
+    let needed = PLACE * (galley.m + 1) * columns(&galley);
+    let words = galley.page_words();
+    let longest = words * galley.blocks();
     if work.len() < needed {
         return Answer::refused(9, needed);
     }
@@ -34,8 +35,8 @@ fn make_by(fill: impl Fn(&Galley, &mut [u32]), bytes: &[u8], work: &mut [u32], l
         None => Answer::refused(11, 0),
         Some(side) => {
             let pages = trace(&galley, work, side, &mut []);
-            trace(&galley, work, side, &mut list[..2 * pages]);
-            measure(&galley, &list[..2 * pages])
+            trace(&galley, work, side, &mut list[..words * pages]);
+            measure(&galley, &list[..words * pages])
         }
     };
     work.fill(0);
@@ -44,8 +45,8 @@ fn make_by(fill: impl Fn(&Galley, &mut [u32]), bytes: &[u8], work: &mut [u32], l
 
 /// The side of the last page of the best list: of equal costs, that of an even last folio.
 fn best_end(galley: &Galley, work: &[u32]) -> Option<usize> {
-    let whole = (galley.m, galley.n);
-    match (least(galley, work, whole, OPENS), least(galley, work, whole, ENDS)) {
+    let end = whole(galley);
+    match (least(galley, work, end, OPENS), least(galley, work, end, ENDS)) {
         (None, None) => None,
         (Some(even), Some(odd)) if odd.cost < even.cost => Some(ENDS),
         (Some(_), _) => Some(OPENS),
@@ -55,16 +56,17 @@ fn best_end(galley: &Galley, work: &[u32]) -> Option<usize> {
 
 /// Follows the starts from the last page to the first and counts them; a list of that many pages gets their ends.
 fn trace(galley: &Galley, work: &[u32], side: usize, list: &mut [u32]) -> usize {
-    let mut end = (galley.m, galley.n);
+    let words = galley.page_words();
+    let mut end = whole(galley);
     let mut side = side;
     let mut pages = 0;
     while end != (0, 0) {
         let Some(Least { start, .. }) = least(galley, work, end, side) else { break };
         pages += 1;
-        if 2 * pages <= list.len() {
-            let at = list.len() - 2 * pages;
-            list[at] = end.0 as u32;
-            list[at + 1] = end.1 as u32;
+        if words * pages <= list.len() {
+            let at = list.len() - words * pages;
+            let (j, d) = floats_at(galley, end.1);
+            list[at..at + words].copy_from_slice(&[end.0 as u32, j as u32, d as u32][..words]);
         }
         end = start;
         side = side_before(galley.spec.sides, side);

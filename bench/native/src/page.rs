@@ -1,6 +1,7 @@
 //! One page: its two heights, the spread that it lies on.
 
-use crate::read::{Block, Galley, Spec};
+use crate::read::{Block, Galley};
+use crate::spec::Spec;
 
 /// Tightest and loosest height of some blocks of one stream.
 #[derive(Clone, Copy, Default)]
@@ -16,15 +17,18 @@ impl Height {
         Height { tight: self.tight + block.height + least, loose: self.loose + block.height + most }
     }
 
-    /// The height of a page of these lines and figures, separated if there are both.
-    pub fn page(lines: Height, figures: Height, both: bool, spec: &Spec) -> Height {
+    /// The height with another kind of blocks beside this one, separated if there are both.
+    pub fn beside(self, other: Height, both: bool, spec: &Spec) -> Height {
         let (s_min, s_max) = if both { (spec.s_min, spec.s_max) } else { (0, 0) };
-        Height { tight: lines.tight + figures.tight + s_min, loose: lines.loose + figures.loose + s_max }
+        Height { tight: self.tight + other.tight + s_min, loose: self.loose + other.loose + s_max }
     }
 }
 
-/// The height of the page from (a, b) to (i, j).
-pub fn height_of(galley: &Galley, (a, b): (usize, usize), (i, j): (usize, usize)) -> Height {
+/// Lines, figures and tables placed so far.
+pub type Placed = [usize; 3];
+
+/// The height of the page from one place to another.
+pub fn height_of(galley: &Galley, [a, b, c]: Placed, [i, j, d]: Placed) -> Height {
     let mut lines = Height::default();
     for k in (a + 1..=i).rev() {
         lines = lines.with(galley.line(k), k == i);
@@ -33,7 +37,12 @@ pub fn height_of(galley: &Galley, (a, b): (usize, usize), (i, j): (usize, usize)
     for k in (b + 1..=j).rev() {
         figures = figures.with(galley.figure(k), k == j);
     }
-    Height::page(lines, figures, a < i && b < j, &galley.spec)
+    let mut tables = Height::default();
+    for k in (c + 1..=d).rev() {
+        tables = tables.with(galley.table(k), k == d);
+    }
+    let text = lines.beside(figures, a < i && b < j, &galley.spec);
+    text.beside(tables, (a < i || b < j) && c < d, &galley.spec)
 }
 
 /// Pages are counted from 1, folios from the galley's first.

@@ -3,7 +3,7 @@
 use crate::page::ends_leaf;
 use crate::read::Galley;
 
-/// Words of a place: two sides of a tag, the cost, the starting line and the starting figure.
+/// Words of a place: two sides of a tag, the cost, the starting line and the starting column.
 pub const PLACE: usize = 8;
 const SIDE: usize = 4;
 const REACHED: u32 = 1;
@@ -12,8 +12,28 @@ const REACHED: u32 = 1;
 pub const OPENS: usize = 0;
 pub const ENDS: usize = 1;
 
-/// Lines and figures placed so far.
+/// Lines placed so far, and the column: the figures and the tables placed so far as one number.
 pub type Place = (usize, usize);
+
+/// How many columns there are.
+pub fn columns(galley: &Galley) -> usize {
+    (galley.n + 1) * (galley.k + 1)
+}
+
+/// The column with so many figures and tables placed: later figures come later, and for the same figures later tables.
+pub fn column_of(galley: &Galley, (j, d): (usize, usize)) -> usize {
+    j * (galley.k + 1) + d
+}
+
+/// The figures and the tables that are placed in a column.
+pub fn floats_at(galley: &Galley, column: usize) -> (usize, usize) {
+    (column / (galley.k + 1), column % (galley.k + 1))
+}
+
+/// The full place.
+pub fn whole(galley: &Galley) -> Place {
+    (galley.m, columns(galley) - 1)
+}
 
 /// The least cost of a page that ends at a place, with all pages before it, and where that page starts.
 #[derive(Clone, Copy)]
@@ -22,8 +42,8 @@ pub struct Least {
     pub start: Place,
 }
 
-fn entry(galley: &Galley, (i, j): Place, side: usize) -> usize {
-    (j * (galley.m + 1) + i) * PLACE + side * SIDE
+fn entry(galley: &Galley, (i, column): Place, side: usize) -> usize {
+    (column * (galley.m + 1) + i) * PLACE + side * SIDE
 }
 
 pub fn least(galley: &Galley, work: &[u32], place: Place, side: usize) -> Option<Least> {
@@ -36,14 +56,14 @@ pub fn store(galley: &Galley, work: &mut [u32], place: Place, side: usize, least
     let at = entry(galley, place, side);
     let words = match least {
         None => [0; SIDE],
-        Some(Least { cost, start: (a, b) }) => [REACHED, cost, a as u32, b as u32],
+        Some(Least { cost, start: (a, from) }) => [REACHED, cost, a as u32, from as u32],
     };
     work[at..at + SIDE].copy_from_slice(&words);
 }
 
-/// Every place of column j unreached.
-pub fn clear_column(galley: &Galley, work: &mut [u32], j: usize) {
-    work[entry(galley, (0, j), OPENS)..entry(galley, (0, j + 1), OPENS)].fill(0);
+/// Every place of a column unreached.
+pub fn clear_column(galley: &Galley, work: &mut [u32], column: usize) {
+    work[entry(galley, (0, column), OPENS)..entry(galley, (0, column + 1), OPENS)].fill(0);
 }
 
 /// The side of the page before one of this side.
@@ -82,19 +102,43 @@ pub fn may_part(galley: &Galley, j: usize) -> bool {
     j == 0 || j == galley.n || !galley.figure(j).kept
 }
 
-/// The number of figures that are cited by line i or earlier, counted on from those of an earlier line.
-pub fn cited_through(galley: &Galley, i: usize, mut cited: usize) -> usize {
-    while cited < galley.n && galley.figure(cited + 1).last as usize <= i {
-        cited += 1;
-    }
-    cited
+/// The line from which on everything is cited of so many figures and tables; 0 where there are none.
+pub fn citation(galley: &Galley, (j, d): (usize, usize)) -> usize {
+    let figure = if j > 0 { galley.figure(j).last } else { 0 };
+    let table = if d > 0 { galley.table(d).last } else { 0 };
+    figure.max(table) as usize
 }
 
-/// What a page that ends its spread at (i, j) costs, with so many figures cited by line i or earlier: the figures that
-/// wait, and the turn. The last page costs nothing.
-pub fn price(galley: &Galley, (i, j): Place, cited: usize) -> u32 {
-    if (i, j) == (galley.m, galley.n) {
+/// Figures and tables that are cited so far.
+#[derive(Clone, Copy, Default)]
+pub struct Cited {
+    figures: usize,
+    tables: usize,
+}
+
+impl Cited {
+    /// Those cited by line i or earlier, counted on from those of an earlier line.
+    pub fn through(mut self, galley: &Galley, i: usize) -> Self {
+        while self.figures < galley.n && galley.figure(self.figures + 1).last as usize <= i {
+            self.figures += 1;
+        }
+        while self.tables < galley.k && galley.table(self.tables + 1).last as usize <= i {
+            self.tables += 1;
+        }
+        self
+    }
+
+    /// Whether all of so many figures and tables are cited.
+    pub fn covers(self, (j, d): (usize, usize)) -> bool {
+        j <= self.figures && d <= self.tables
+    }
+}
+
+/// What a page that ends its spread at a place costs, with these floats cited so far: those of them that wait, and the
+/// turn. The last page costs nothing.
+pub fn price(galley: &Galley, place: Place, (j, d): (usize, usize), cited: Cited) -> u32 {
+    if place == whole(galley) {
         return 0;
     }
-    galley.spec.alpha * (cited - j) as u32 + galley.spec.beta
+    galley.spec.alpha * (cited.figures + cited.tables - j - d) as u32 + galley.spec.beta
 }

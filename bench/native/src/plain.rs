@@ -2,45 +2,46 @@
 
 use crate::page::Height;
 use crate::places::{
-    cited_through, first_side, least, may_end, may_part, origin_side, price, side_before, store, Least, Place, ENDS,
-    OPENS, ORIGIN,
+    column_of, columns, first_side, floats_at, least, may_end, may_part, origin_side, price, side_before, store, whole,
+    Cited, Least, Place, ENDS, OPENS, ORIGIN,
 };
 use crate::read::Galley;
 
 pub fn fill(galley: &Galley, work: &mut [u32]) {
-    for j in 0..=galley.n {
-        let mut cited = 0;
+    for column in 0..columns(galley) {
+        let mut cited = Cited::default();
         for i in 0..=galley.m {
-            cited = cited_through(galley, i, cited);
-            fill_place(galley, work, (i, j), cited);
+            cited = cited.through(galley, i);
+            fill_place(galley, work, (i, column), cited);
         }
     }
 }
 
-fn fill_place(galley: &Galley, work: &mut [u32], place: Place, cited: usize) {
-    let (i, j) = place;
+fn fill_place(galley: &Galley, work: &mut [u32], place: Place, cited: Cited) {
+    let (i, column) = place;
+    let floats = floats_at(galley, column);
     let mut best = [None; 2];
     if place == (0, 0) {
         best[origin_side(galley)] = Some(ORIGIN);
-    } else if may_end(galley, i) && may_part(galley, j) && (galley.spec.sides == 2 || j <= cited) {
+    } else if may_end(galley, i) && may_part(galley, floats.0) && (galley.spec.sides == 2 || cited.covers(floats)) {
         best = best_starts(galley, work, place);
-        // A figure cited further on may not stand on a spread that ends before its citation.
-        if j > cited {
+        // A float cited further on may not stand on a spread that ends before its citation.
+        if !cited.covers(floats) {
             best[ENDS] = None;
         }
         if let Some(least) = &mut best[ENDS] {
-            least.cost += price(galley, place, cited);
+            least.cost += price(galley, place, floats, cited);
         }
     }
     store(galley, work, place, OPENS, best[OPENS]);
     store(galley, work, place, ENDS, best[ENDS]);
 }
 
-/// For each side the best start of a page to (i, j) by its heights: from the latest start to the earliest, so that only a
+/// For each side the best start of a page to a place by its heights: from the latest start to the earliest, so that only a
 /// smaller cost changes the choice.
-pub fn best_starts(galley: &Galley, work: &[u32], (i, j): Place) -> [Option<Least>; 2] {
-    let spec = &galley.spec;
-    let ht_min = if (i, j) == (galley.m, galley.n) { spec.last_min } else { spec.ht_min };
+pub fn best_starts(galley: &Galley, work: &[u32], place: Place) -> [Option<Least>; 2] {
+    let (spec, i) = (&galley.spec, place.0);
+    let (j, d) = floats_at(galley, place.1);
     let mut best: [Option<Least>; 2] = [None; 2];
     let mut lines = Height::default();
     for a in (0..=i).rev() {
@@ -55,20 +56,37 @@ pub fn best_starts(galley: &Galley, work: &[u32], (i, j): Place) -> [Option<Leas
             if b < j {
                 figures = figures.with(galley.figure(b + 1), b + 1 == j);
             }
-            let page = Height::page(lines, figures, a < i && b < j, spec);
+            let page = lines.beside(figures, a < i && b < j, spec);
             if page.tight > spec.ht_max {
                 break;
             }
-            if (a, b) == (i, j) || page.loose < ht_min {
-                continue;
-            }
-            for side in first_side(spec.sides)..=ENDS {
-                let Some(before) = least(galley, work, (a, b), side_before(spec.sides, side)) else { continue };
-                if best[side].is_none_or(|least| before.cost < least.cost) {
-                    best[side] = Some(Least { cost: before.cost, start: (a, b) });
+            let mut tables = Height::default();
+            for c in (0..=d).rev() {
+                if c < d {
+                    tables = tables.with(galley.table(c + 1), c + 1 == d);
                 }
+                let page = page.beside(tables, (a < i || b < j) && c < d, spec);
+                if page.tight > spec.ht_max {
+                    break;
+                }
+                weigh(galley, work, place, (a, column_of(galley, (b, c))), page, &mut best);
             }
         }
     }
     best
+}
+
+/// A start of a page to a place against the best so far, for each side: it is chosen where it is less dear.
+fn weigh(galley: &Galley, work: &[u32], place: Place, start: Place, page: Height, best: &mut [Option<Least>; 2]) {
+    let spec = &galley.spec;
+    let ht_min = if place == whole(galley) { spec.last_min } else { spec.ht_min };
+    if start == place || page.loose < ht_min {
+        return;
+    }
+    for side in first_side(spec.sides)..=ENDS {
+        let Some(before) = least(galley, work, start, side_before(spec.sides, side)) else { continue };
+        if best[side].is_none_or(|least| before.cost < least.cost) {
+            best[side] = Some(Least { cost: before.cost, start });
+        }
+    }
 }

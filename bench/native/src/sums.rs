@@ -1,7 +1,7 @@
 //! Sums of a stream's heights, so that the heights of any run of blocks are a difference of two.
 
 use crate::page::Height;
-use crate::read::{Block, Galley, MOST_FIGURES, MOST_LINES};
+use crate::read::{Block, Galley, MOST_FIGURES, MOST_LINES, MOST_TABLES};
 
 pub struct Sums<const COUNTS: usize> {
     /// Blocks 1 to k, each with the space after it: what a page that starts after block k leaves behind.
@@ -12,6 +12,7 @@ pub struct Sums<const COUNTS: usize> {
 
 pub type LineSums = Sums<{ MOST_LINES + 1 }>;
 pub type FigureSums = Sums<{ MOST_FIGURES + 1 }>;
+pub type TableSums = Sums<{ MOST_TABLES + 1 }>;
 
 impl<const COUNTS: usize> Sums<COUNTS> {
     fn of(size: usize, block: impl Fn(usize) -> Block) -> Self {
@@ -36,6 +37,10 @@ impl<const COUNTS: usize> Sums<COUNTS> {
     }
 }
 
-pub fn sums_of(galley: &Galley) -> (LineSums, FigureSums) {
-    (Sums::of(galley.m, |k| galley.line(k)), Sums::of(galley.n, |k| galley.figure(k)))
+pub fn sums_of(galley: &Galley) -> (LineSums, FigureSums, TableSums) {
+    (
+        Sums::of(galley.m, |k| galley.line(k)),
+        Sums::of(galley.n, |k| galley.figure(k)),
+        Sums::of(galley.k, |k| galley.table(k)),
+    )
 }

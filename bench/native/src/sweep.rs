@@ -1,74 +1,106 @@
 //! The search by queues: every place in time that does not depend on the number of lines on a page.
 //!
-//! Column by column, and in a column by the figure b that the page starts after: the lines a that a page to (i, j) can
+//! Column by column, and in a column by the column that the page starts in: the lines a that a page to (i, column) can
 //! start after are then a window. Too early a line makes the page too high, too late a line makes it too low, and as i
 //! grows the page only grows, so neither end of the window ever falls and a queue holds what is worth weighing.
 
 use crate::page::Height;
 use crate::places::{
-    cited_through, clear_column, first_side, least, may_end, may_part, origin_side, price, side_before, store, Least,
-    ENDS, OPENS, ORIGIN,
+    citation, clear_column, column_of, columns, first_side, floats_at, least, may_end, may_part, origin_side, price,
+    side_before, store, whole, Cited, Least, ENDS, OPENS, ORIGIN,
 };
 use crate::plain::best_starts;
 use crate::queue::Queue;
 use crate::read::Galley;
-use crate::sums::{sums_of, LineSums};
+use crate::spec::Spec;
+use crate::sums::{sums_of, LineSums, TableSums};
 
 /// The queue of each side of the page that ends at a place.
 type Queues = [Queue; 2];
 
 pub fn fill(galley: &Galley, work: &mut [u32]) {
-    let (m, n) = (galley.m, galley.n);
-    let (lines, figures) = sums_of(galley);
+    let (lines, figures, tables) = sums_of(galley);
     let mut queues = [Queue::new(), Queue::new()];
     // The earliest figure after which the others up to figure j fit a page.
     let mut earliest = 0;
-    for j in 0..=n {
-        clear_column(galley, work, j);
+    for to in 0..columns(galley) {
+        let (j, d) = floats_at(galley, to);
+        clear_column(galley, work, to);
         while figures.between(earliest, j).tight > galley.spec.ht_max {
             earliest += 1;
         }
         if !may_part(galley, j) {
             continue;
         }
-        if j == 0 {
+        if to == 0 {
             store(galley, work, (0, 0), origin_side(galley), Some(ORIGIN));
         }
-        // Where b is j the column feeds itself, so that comes last.
+        // Where the page starts in the column itself, the column feeds itself, so that comes last.
         for b in earliest..=j {
-            sweep(galley, work, &lines, &mut queues, &Pages { b, j, figures: figures.between(b, j) });
+            let some = Floats { height: figures.between(b, j), kinds: u32::from(b < j) };
+            for c in earliest_table(&galley.spec, some, &tables, d)..=d {
+                let floats = some.with_tables(&galley.spec, tables.between(c, d), c < d);
+                let pages = Pages { from: column_of(galley, (b, c)), to, floats };
+                sweep(galley, work, &lines, &mut queues, &pages);
+            }
         }
     }
     // The last page is held to a height of its own, so its starts are another window.
-    let best = best_starts(galley, work, (m, n));
-    store(galley, work, (m, n), OPENS, best[OPENS]);
-    store(galley, work, (m, n), ENDS, best[ENDS]);
+    let best = best_starts(galley, work, whole(galley));
+    store(galley, work, whole(galley), OPENS, best[OPENS]);
+    store(galley, work, whole(galley), ENDS, best[ENDS]);
 }
 
-/// The pages of figures b + 1 to j and any lines.
+/// The floats of a page: how high they are by themselves, and of how many kinds.
+#[derive(Clone, Copy)]
+struct Floats {
+    height: Height,
+    kinds: u32,
+}
+
+impl Floats {
+    fn with_tables(self, spec: &Spec, tables: Height, some: bool) -> Floats {
+        let height = self.height.beside(tables, some && self.kinds > 0, spec);
+        Floats { height, kinds: self.kinds + u32::from(some) }
+    }
+
+    /// What they add to the lines of a page.
+    fn beside_lines(self, spec: &Spec) -> Height {
+        self.height.beside(Height::default(), self.kinds > 0, spec)
+    }
+}
+
+/// The earliest table after which the others up to table d fit a page beside the given figures.
+fn earliest_table(spec: &Spec, figures: Floats, tables: &TableSums, d: usize) -> usize {
+    let fits = |c: usize| figures.with_tables(spec, tables.between(c, d), c < d).height.tight <= spec.ht_max;
+    (0..d).find(|&c| fits(c)).unwrap_or(d)
+}
+
+/// The pages of the floats between two columns and any lines.
 struct Pages {
-    b: usize,
-    j: usize,
-    figures: Height,
+    from: usize,
+    to: usize,
+    floats: Floats,
 }
 
-/// The pages weighed for every place of column j but the full one.
+/// The pages weighed for every place of the column that they end in, but the full one.
 fn sweep(galley: &Galley, work: &mut [u32], lines: &LineSums, queues: &mut Queues, pages: &Pages) {
-    let (spec, &Pages { b, j, figures }) = (&galley.spec, pages);
-    let beside = Height::page(Height::default(), figures, b < j, spec);
-    // No spread ends before the line that cites the last figure, and single-sided no page does.
-    let citation = if j > 0 { galley.figure(j).last as usize } else { 1 };
-    let first = if spec.sides == 1 || j == 0 { citation } else { 0 };
+    let (spec, &Pages { from, to, floats }) = (&galley.spec, pages);
+    let placed = floats_at(galley, to);
+    let beside = floats.beside_lines(spec);
+    // No spread ends before the line that cites the last figure or table, and single-sided no page does.
+    let citation = citation(galley, placed).max(1);
+    let first = if spec.sides == 1 || to == 0 { citation } else { 0 };
     let mut window = Window::default();
-    let mut cited = 0;
+    let mut cited = Cited::default();
     queues.iter_mut().for_each(Queue::clear);
     for i in first..=galley.m {
-        if !may_end(galley, i) || (i, j) == (galley.m, galley.n) {
+        if !may_end(galley, i) || (i, to) == whole(galley) {
             continue;
         }
         window.shut(lines, i, beside.tight, spec.ht_max);
         while window.opens(lines, i, beside.loose, spec.ht_min) {
-            enter(galley, work, queues, (window.next, b));
+            enter(galley, work, queues, (window.next, from));
             window.next += 1;
         }
         for side in first_side(spec.sides)..=ENDS {
@@ -77,17 +109,18 @@ fn sweep(galley: &Galley, work: &mut [u32], lines: &LineSums, queues: &mut Queue
             }
             queues[side].leave(window.low);
             let mut best = weigh(galley, work, queues[side].best(), pages, i, side);
-            if b == j && side == ENDS {
-                cited = cited_through(galley, i, cited);
-                best = best.map(|least| Least { cost: least.cost + price(galley, (i, j), cited), ..least });
+            if from == to && side == ENDS {
+                cited = cited.through(galley, i);
+                let more = price(galley, (i, to), placed, cited);
+                best = best.map(|least| Least { cost: least.cost + more, ..least });
             }
-            store(galley, work, (i, j), side, best);
+            store(galley, work, (i, to), side, best);
         }
     }
 }
 
-/// The best so far of place (i, j) against the best start in the window and against the page of figures alone, which has no
-/// line and no separation and so is no part of the window.
+/// The best so far of place (i, to) against the best start in the window and against the page of floats alone, which has no
+/// line and no separation from one and so is no part of the window.
 fn weigh(
     galley: &Galley,
     work: &[u32],
@@ -96,14 +129,14 @@ fn weigh(
     i: usize,
     side: usize,
 ) -> Option<Least> {
-    let &Pages { b, j, figures } = pages;
-    let mut best = least(galley, work, (i, j), side);
+    let &Pages { from, to, floats } = pages;
+    let mut best = least(galley, work, (i, to), side);
     if let Some((a, cost)) = front {
-        best = better(best, Least { cost, start: (a, b) });
+        best = better(best, Least { cost, start: (a, from) });
     }
-    if b < j && figures.loose >= galley.spec.ht_min {
-        if let Some(Least { cost, .. }) = least(galley, work, (i, b), side_before(galley.spec.sides, side)) {
-            best = better(best, Least { cost, start: (i, b) });
+    if from < to && floats.height.loose >= galley.spec.ht_min {
+        if let Some(Least { cost, .. }) = least(galley, work, (i, from), side_before(galley.spec.sides, side)) {
+            best = better(best, Least { cost, start: (i, from) });
         }
     }
     best
@@ -140,7 +173,7 @@ fn enter(galley: &Galley, work: &[u32], queues: &mut Queues, start: (usize, usiz
     }
 }
 
-/// The less dear; of equally dear ones that with the later starting line, then the new one, whose figure is later.
+/// The less dear; of equally dear ones that with the later starting line, then the new one, whose column is later.
 fn better(best: Option<Least>, new: Least) -> Option<Least> {
     match best {
         Some(least) if least.cost < new.cost || (least.cost == new.cost && least.start.0 > new.start.0) => best,

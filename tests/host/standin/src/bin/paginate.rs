@@ -19,8 +19,9 @@ fn main() -> io::Result<()> {
         return Ok(());
     }
     println!("{} {} {} {}", answer.p, answer.x, answer.y, answer.t);
-    for (page, end) in (1..=answer.p).zip(list.chunks_exact(2)) {
-        println!("{page} {} {}", end[0], end[1]);
+    for (page, end) in (1..=answer.p).zip(list.chunks_exact(native::page_words(&input))) {
+        let counts: Vec<String> = end.iter().map(u32::to_string).collect();
+        println!("{page} {}", counts.join(" "));
     }
     Ok(())
 }

@@ -1,0 +1,36 @@
+"""Lists that cannot be read, and what is said of each."""
+
+# Name, bytes of a list for case A, and a part of the remark that must name line and field.
+JUNK = [
+    ('a word', b'1 1\nthree 1\n', 'line 2: field 1'),
+    ('a sign', b'1 -1\n', 'line 1: field 2'),
+    ('a plus', b'+1 1\n', 'line 1: field 1'),
+    ('a fraction', b'1 1\n\n3.0 1\n', 'line 3: field 1'),
+    ('a number of 33 bits', b'4294967296 1\n', 'line 1: field 1'),
+    ('a very long number', b'9' * 5_000 + b' 1\n', 'line 1: field 1'),
+    ('one number', b'1 1\n3\n', 'line 2'),
+    ('three numbers', b'1 1\n2 3 1\n', 'line 2'),
+    ('three numbers at once', b'1 1 1\n', 'line 1'),
+    ('five numbers', b'1 1 1 1 1\n', 'line 1'),
+    ('four numbers later on', b'1 1\n2 0 1 1\n', 'line 2'),
+    ('a page number out of turn', b'2 0 1 1\n1 1 1\n3 3 1\n', 'line 3: field 1'),
+    ('a page too few', b'2 0 1 1\n1 1 1\n', '2 pages'),
+    ('a page too many', b'1 0 1 1\n1 1 1\n2 3 1\n', '1 pages'),
+    ('two numbers after a measure', b'2 0 1 1\n1 1\n', 'line 2'),
+    ('a refusal', b'R 11 0\n', 'line 1'),
+    ('no text', b'1 1\n\xff\xfe 1\n', 'line 2'),
+    ('a zero byte', b'1 \x001\n', 'line 1: field 2'),
+    ('an escape', b'1 \x1b[2J\n', 'line 1: field 2'),
+]
+
+# The same for galley K, which has a table.
+JUNK_TABLED = [
+    ('two numbers', b'2 1\n', 'line 1: a page has three numbers (i j d)'),
+    ('one page of two numbers', b'2 1 0\n3 1\n', 'line 2: a page has three numbers (i j d)'),
+    ('four numbers later on', b'2 1 0\n2 3 1 1\n', 'line 2: a page has three numbers (i j d)'),
+    ('a table that is none', b'2 1 x\n', 'line 1: field 3'),
+    ('a page without its table', b'2 1 1 2\n1 2 1\n', 'line 2: a page has four numbers here (q i j d)'),
+    ('five numbers after a measure', b'2 1 1 2\n1 2 1 0 0\n', 'line 2: a page has four numbers here (q i j d)'),
+    ('a page number out of turn', b'2 1 1 2\n2 2 1 0\n', 'line 2: field 1: page 1 is due, not 2'),
+    ('a page too few', b'2 1 1 2\n1 2 1 0\n', '2 pages, but 1 follow'),
+]
