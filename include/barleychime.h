@@ -1,4 +1,4 @@
-/* Barleychime: page make-up and marking for galleys with figures.
+/* Barleychime: page make-up and marking for galleys with figures and tables.
  *
  * Making gives the pagination with the fewest page turns that a galley's page specification allows; marking judges a
  * pagination that is handed in. Both work on lent memory alone: they allocate nothing, keep nothing between calls, print
@@ -11,8 +11,9 @@
  *     writes an area that is only read.
  *   - The thread has BARLEYCHIME_STACK_BYTES of stack left.
  *
- * A galley has m lines (1 to 4,000) and n figures (0 to 200). A page list has two words a page: the lines placed so far and
- * the figures placed so far. A word is 32 bits in the machine's own byte order; the galley's bytes are the same everywhere.
+ * A galley has m lines (1 to 4,000), n figures (0 to 200) and k tables (0 to 50). A page list has two words a page: the lines
+ * placed so far and the figures placed so far. For a galley that has tables it has three: the tables placed so far too. A word
+ * is 32 bits in the machine's own byte order; the galley's bytes are the same everywhere.
  *
  * A galley's records, in this order; each has a mark of two ASCII bytes and then its fields, of 4 bytes each, unsigned, the most
  * significant first. Lengths are in hundredths of a point, 0 to 100,000, and a least one is not above its greatest one.
@@ -22,7 +23,10 @@
  *   TL  18 bytes  a line: height, least and greatest space after it, 1 if a page may end in that space, else 0
  *   FG  18 bytes  a figure: height, least and greatest space after it, the number of the line that cites it, from 1
  *   FK  18 bytes  a figure among the others, with the same fields; no page may end between it and the next one
+ *   TB  18 bytes  a table, with the fields of FG; tables follow all figures and are cited in an order of their own
  *   ED   2 bytes  the end
+ * Lines, figures and tables are each in order, but a table may stand before a figure, and a figure before a table. A page that
+ * has two of these kinds has a separation, sMin to sMax, and a page that has all three has two.
  * A page has at least htMin of height, at its loosest, and at most htMax, at its tightest. Of the last page GS asks no least
  * height, and G2 asks lastMin.
  * Double-sided (sides 2), an even folio and the next one face each other on a spread, so the first folio decides on spreads and
@@ -34,10 +38,10 @@
  *    1  the galley stops short, inside a record or without its ED
  *    2  a mark is unknown, or known but out of place
  *    3  the value of a field is not allowed
- *    4  there is a line too many (4,000 is the most) or a figure too many (200)
- *    5  figures or the end come before the first line
- *    6  a figure names a citing line that the galley does not have
- *    7  a figure is cited earlier than the figure in front of it
+ *    4  there is a line too many (4,000 is the most), a figure too many (200) or a table too many (50)
+ *    5  figures, tables or the end come before the first line
+ *    6  a figure or table names a citing line that the galley does not have
+ *    7  a figure is cited earlier than the figure in front of it, or a table than the table in front of it
  *    8  something follows ED
  * The host program can mend these, which only making answers. Place: words needed.
  *    9  the work area that is lent is not long enough
@@ -46,12 +50,12 @@
  *   11  no pagination of this galley meets its page specification
  * Whoever handed in the list can mend these, which only marking answers. Place: page, counted from 1; for 12, 0; for 18, the
  * number of pages.
- *   12  the list is empty, ends in half a page, or is longer than any of this galley can be
+ *   12  the list is empty, ends within a page, or is longer than any of this galley can be
  *   13  the page goes backwards, goes past what the galley has, or is empty
  *   14  the page ends after a line that must not end a page, or between figures that are kept together
  *   15  the page is higher than htMax even at its tightest
  *   16  the page is lower than htMin, or the last page lower than lastMin, even at its loosest
- *   17  a figure stands on a spread that ends before the line that cites it
+ *   17  a figure or table stands on a spread that ends before the line that cites it
  *   18  the list ends before everything is placed
  * Whoever handed in the marks can mend these, which only the report answers. Place: for 31, 0; for 32, the paper, counted
  * from 1.
@@ -70,14 +74,18 @@
 #include <stddef.h>
 #include <stdint.h>
 
-/* Words of work area and of page list that making needs for m lines and n figures; no galley needs more than the most. */
+/* Words of work area and of page list that making needs for m lines and n figures without tables, and with k tables, 1 to 50.
+ * No galley needs more than the most: 1.3 GB of work area, and without tables 25.7 MB.
+ */
 #define BARLEYCHIME_WORK_WORDS(m, n) ((size_t)8 * ((size_t)(m) + 1) * ((size_t)(n) + 1))
 #define BARLEYCHIME_LIST_WORDS(m, n) ((size_t)2 * ((size_t)(m) + (size_t)(n)))
-#define BARLEYCHIME_MOST_WORK_WORDS BARLEYCHIME_WORK_WORDS(4000, 200)
-#define BARLEYCHIME_MOST_LIST_WORDS BARLEYCHIME_LIST_WORDS(4000, 200)
+#define BARLEYCHIME_TABLES_WORK_WORDS(m, n, k) (BARLEYCHIME_WORK_WORDS(m, n) * ((size_t)(k) + 1))
+#define BARLEYCHIME_TABLES_LIST_WORDS(m, n, k) ((size_t)3 * ((size_t)(m) + (size_t)(n) + (size_t)(k)))
+#define BARLEYCHIME_MOST_WORK_WORDS BARLEYCHIME_TABLES_WORK_WORDS(4000, 200, 50)
+#define BARLEYCHIME_MOST_LIST_WORDS BARLEYCHIME_TABLES_LIST_WORDS(4000, 200, 50)
 
 /* Bytes of the longest galley. Whatever is longer is refused, and its first bytes, one more than these, decide how. */
-#define BARLEYCHIME_LONGEST_GALLEY ((size_t)34 + 6 + 4200 * 18 + 2)
+#define BARLEYCHIME_LONGEST_GALLEY ((size_t)34 + 6 + 4250 * 18 + 2)
 
 /* Bytes of stack that a call takes below the frame of its caller, at most: either call, and marking alone. They are what the
  * archive's machine code takes, rounded up; the tests compare them. Making needs 4,096 bytes more where the dynamic linker
@@ -91,7 +99,7 @@ enum {
     BARLEYCHIME_NUMBER = 0, /* 0, or the number of the refusal */
     BARLEYCHIME_PLACE = 1,  /* 0, or the refusal's place */
     BARLEYCHIME_PAGES = 2,  /* p: pages */
-    BARLEYCHIME_X = 3,      /* pages, or spreads, between citations and their figures, summed over the figures */
+    BARLEYCHIME_X = 3,      /* pages, or spreads, between citations and their figures and tables, summed over these */
     BARLEYCHIME_Y = 4,      /* turns from the first page to the last: pages, or spreads, between them */
     BARLEYCHIME_TURNS = 5   /* T = alpha * X + beta * Y */
 };
@@ -128,15 +136,15 @@ extern "C" {
  *
  * The caller owns all memory and lends it for the length of the call.
  *   galley      galley_len bytes, only read
- *   work        at least BARLEYCHIME_WORK_WORDS(m, n) words, of any contents
- *   pages       at least BARLEYCHIME_LIST_WORDS(m, n) words, of any contents
+ *   work        at least BARLEYCHIME_WORK_WORDS(m, n) words, of any contents; with tables BARLEYCHIME_TABLES_WORK_WORDS(m, n, k)
+ *   pages       at least BARLEYCHIME_LIST_WORDS(m, n) words, of any contents; with tables BARLEYCHIME_TABLES_LIST_WORDS(m, n, k)
  *   answer      6 words, always written: number, place, p, X, Y, T
  * Longer areas are fine. To learn the lengths without reading the galley, call with both lengths 0: 9 answers with the
  * words of work area, and with enough of that 10 with the words of page list.
  *
  * Returns 0 for success. Afterwards:
- *   success         2*p words of pages hold the list, the rest of it is as before; the work area's first
- *                   BARLEYCHIME_WORK_WORDS(m, n) words are 0, the rest is as before
+ *   success         2*p words of pages, or 3*p where there are tables, hold the list, the rest of it is as before; the words
+ *                   of the work area that are needed are 0, the rest is as before
  *   11              pages is as before; the work area is as after success
  *   other refusals  pages and work area are as before
  */
@@ -149,6 +157,16 @@ uint32_t barleychime_make(const uint8_t *galley, size_t galley_len, uint32_t *wo
 uint32_t barleychime_mark(const uint8_t *galley, size_t galley_len, const uint32_t *pages, size_t pages_len,
                           uint32_t answer[6]);
 
+/* The words that a page takes in a list for a galley: 3 where it has tables, else 2; 2 also where the galley is refused. Two
+ * words are one page, and no page too many, or else marking answers 12.
+ */
+static inline size_t barleychime_page_words(const uint8_t *galley, size_t galley_len)
+{
+    const uint32_t page[2] = {0, 0};
+    uint32_t answer[6];
+    return barleychime_mark(galley, galley_len, page, 2, answer) == 12 ? 3 : 2;
+}
+
 /* Reports on marks_len papers, in exact sums, under the same terms as the others and with under 1,000 bytes of stack.
  *   marks       marks_len papers, only read; not null even where there are none
  *   report      11 words of 64 bits, always written: number, place, papers, sums of p, X, Y, T, least T, greatest T,
@@ -157,6 +175,7 @@ uint32_t barleychime_mark(const uint8_t *galley, size_t galley_len, const uint32
  * are; then the first paper with fewer turns than the engine is 32. A refusal has zeros after its number and its place.
  */
 uint32_t barleychime_report(const struct barleychime_paper *marks, size_t marks_len, uint64_t report[11]);
+
 /* Gives the folding order of a stitched section of size pages, a multiple of 4 from 4 to 64: its pages as they stand on the
  * nested sheets, the outermost first, four a sheet: front left, front right, back left, back right. The areas must not
  * overlap. Like the other calls it works on lent memory alone; it takes under 1,000 bytes of stack.

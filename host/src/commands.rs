@@ -18,7 +18,8 @@ pub fn make(name: &str, output: &mut Output) -> Result<Outcome, String> {
     let mut desk = Desk::new();
     let refusal = match desk.make(&bytes) {
         Ok((measure, pages)) => {
-            output.print(list::print(measure, pages))?;
+            let words = pages.len() / measure.pages as usize;
+            output.print(list::print(measure, pages, words))?;
             return Ok(Outcome::Success);
         }
         Err(refusal) => refusal,
@@ -58,10 +59,11 @@ fn hint_at_pack(name: &str, bytes: &[u8], refusal: Refusal) {
 /// Marks each list; one that cannot be read does not keep the others from being marked.
 pub fn mark(galley: &str, lists: &[&str], output: &mut Output) -> Result<Outcome, String> {
     let bytes = input::galley(galley)?;
+    let width = engine::page_words(&bytes).ok();
     let (mut refused, mut failed) = (false, false);
     for &name in lists {
         let label = if lists.len() > 1 { format!(" {name}") } else { String::new() };
-        let words = match read_list(name) {
+        let words = match read_list(name, width) {
             Ok(words) => words,
             Err(message) => {
                 say(&message);
@@ -85,13 +87,14 @@ pub fn mark(galley: &str, lists: &[&str], output: &mut Output) -> Result<Outcome
     })
 }
 
-fn read_list(name: &str) -> Result<Vec<u32>, String> {
-    list::parse(&input::text(name)?).map_err(|what| format!("{}: {what}", title(name)))
+/// A list of so many words a page, if that is known: a galley that is refused has none.
+fn read_list(name: &str, width: Option<usize>) -> Result<Vec<u32>, String> {
+    list::parse(&input::text(name)?, width).map_err(|what| format!("{}: {what}", title(name)))
 }
 
 pub fn explain(galley_name: &str, list: &str, output: &mut Output) -> Result<Outcome, String> {
     let bytes = input::galley(galley_name)?;
-    let words = read_list(list)?;
+    let words = read_list(list, engine::page_words(&bytes).ok())?;
     match (engine::mark(&bytes, &words), Galley::decode(&bytes)) {
         (Ok(measure), Some(galley)) => {
             output.print(explain::accepted(&galley, &words, measure))?;
@@ -139,9 +142,10 @@ pub fn report(galley: &str, lists: &[&str], output: &mut Output) -> Result<Outco
         Ok((measure, _)) => measure.turns,
         Err(refusal) => return refuse_galley(galley, &bytes, refusal, &mut desk, output),
     };
+    let width = engine::page_words(&bytes).ok();
     let (mut marks, mut refused, mut failed) = (Vec::new(), Vec::new(), false);
     for &name in lists {
-        match read_list(name).map(|words| engine::mark(&bytes, &words)) {
+        match read_list(name, width).map(|words| engine::mark(&bytes, &words)) {
             Ok(Ok(engine::Measure { pages, x, y, turns })) => marks.push(Mark { pages, x, y, turns, engine }),
             Ok(Err(refusal)) => {
                 say_why(name, refusal);

@@ -40,7 +40,8 @@ pub struct Refusal {
     pub place: u32,
 }
 
-/// Makes a galley's pages in lent memory: 8·(m + 1)·(n + 1) words of work, 2·(m + n) words of list, of any contents.
+/// Makes a galley's pages in lent memory, of any contents: for m lines, n figures and k tables 8·(m + 1)·(n + 1)·(k + 1)
+/// words of work, and 2·(m + n) words of list, or 3·(m + n + k) where there are tables.
 #[allow(unsafe_code)]
 pub fn make_in(galley: &[u8], work: &mut [u32], pages: &mut [u32]) -> Result<Measure, Refusal> {
     let mut answer = [0; 6];
@@ -59,7 +60,7 @@ pub fn make_in(galley: &[u8], work: &mut [u32], pages: &mut [u32]) -> Result<Mea
     result(answer)
 }
 
-/// Marks a page list.
+/// Marks a page list: [`page_words`] words a page.
 #[allow(unsafe_code)]
 pub fn mark(galley: &[u8], pages: &[u32]) -> Result<Measure, Refusal> {
     let mut answer = [0; 6];
@@ -89,11 +90,14 @@ impl Desk {
         Self::default()
     }
 
-    /// Makes a galley's pages: the measure, and two words a page.
+    /// Makes a galley's pages: the measure, and the list, of [`page_words`] words a page.
     pub fn make(&mut self, galley: &[u8]) -> Result<(Measure, &[u32]), Refusal> {
         loop {
             match make_in(galley, &mut self.work, &mut self.pages) {
-                Ok(measure) => return Ok((measure, &self.pages[..2 * measure.pages as usize])),
+                Ok(measure) => {
+                    let words = page_words(galley)? * measure.pages as usize;
+                    return Ok((measure, &self.pages[..words]));
+                }
                 Err(Refusal { number: 9, place }) if place as usize > self.work.len() => {
                     self.work.resize(place as usize, 0)
                 }
@@ -108,10 +112,17 @@ impl Desk {
 
 /// Whether the galley reads without refusal; otherwise one of 1 to 8.
 pub fn read(galley: &[u8]) -> Result<(), Refusal> {
-    // A galley is read before its list, and a list without words breaks rule 12 and no other.
-    match mark(galley, &[]) {
+    page_words(galley).map(|_| ())
+}
+
+/// The words that a page takes in a list for this galley: the lines and the figures placed so far and, where there are
+/// tables, the tables. A galley that is refused has no lists; the refusal is one of 1 to 8.
+pub fn page_words(galley: &[u8]) -> Result<usize, Refusal> {
+    // A galley is read before its list. Two words are a page, and no page too many, or else they break rule 12.
+    match mark(galley, &[0, 0]) {
         Err(refusal) if refusal.number <= 8 => Err(refusal),
-        _ => Ok(()),
+        Err(Refusal { number: 12, .. }) => Ok(3),
+        _ => Ok(2),
     }
 }
 

@@ -1,7 +1,8 @@
 //! A page list in words: page by page, and for a refused one the rule that it breaks with the numbers that break it.
 
 use crate::engine::{Desk, Measure, Refusal};
-use crate::galley::Galley;
+use crate::galley::{Float, Galley};
+use crate::list::spaced;
 use crate::page::{folio, spread, Page, Place};
 use crate::record::Record;
 use crate::refusal::{mender, sentence};
@@ -9,7 +10,7 @@ use crate::text::field_at_fault;
 
 /// An accepted list.
 pub fn accepted(galley: &Galley, list: &[u32], measure: Measure) -> String {
-    let pages = Page::all(list);
+    let pages = Page::all(list, galley.page_words());
     let mut text = opening(galley);
     for page in &pages {
         text += &page_in_words(galley, &pages, page);
@@ -34,7 +35,7 @@ pub fn against_best(bytes: &[u8], measure: Measure) -> String {
 
 /// A list that breaks one of 12 to 18, up to the page that does.
 pub fn refused(galley: &Galley, list: &[u32], refusal: Refusal) -> String {
-    let pages = Page::all(list);
+    let pages = Page::all(list, galley.page_words());
     let mut text = opening(galley);
     for page in pages.iter().take(refusal.place as usize) {
         text += &page_in_words(galley, &pages, page);
@@ -56,9 +57,8 @@ pub fn refused_galley(bytes: &[u8], refusal: Refusal) -> String {
 fn opening(galley: &Galley) -> String {
     let spec = &galley.spec;
     format!(
-        "galley: {}, {}{}; height {} to {}{}, separation {} to {}; {}; alpha {}, beta {}\n",
-        counted(galley.lines.len(), "line"),
-        counted(galley.figures.len(), "figure"),
+        "galley: {}{}; height {} to {}{}, separation {} to {}; {}; alpha {}, beta {}\n",
+        counts_in_words(galley, galley.sizes()).join(", "),
         if galley.folio == 1 { String::new() } else { format!("; the first folio is {}", galley.folio) },
         spec.ht_min,
         spec.ht_max,
@@ -74,7 +74,8 @@ fn opening(galley: &Galley) -> String {
 fn page_in_words(galley: &Galley, pages: &[Page], page: &Page) -> String {
     let mut text = format!("{}, {}: ", numbered(galley, page.number), spread_in_words(galley, page.number));
     if !page.is_sound(galley) {
-        return text + &format!("from {:?} to {:?}\n", page.start, page.end);
+        return text
+            + &format!("from {} to {}\n", place_in_words(galley, page.start), place_in_words(galley, page.end));
     }
     text += &holdings(page);
     let (tight, loose) = page.heights(galley);
@@ -85,10 +86,23 @@ fn page_in_words(galley: &Galley, pages: &[Page], page: &Page) -> String {
         (true, None) => format!("at most {} is asked of the last page\n", spec.ht_max),
         (true, Some(last_min)) => format!("{last_min} to {} is asked of the last page\n", spec.ht_max),
     };
-    for figure in page.start.1 + 1..=page.end.1 {
-        text += &figure_in_words(galley, pages, page, figure);
+    for (stream, ..) in galley.floats() {
+        for number in page.start[stream] + 1..=page.end[stream] {
+            text += &float_in_words(galley, pages, page, stream, number);
+        }
     }
     text
+}
+
+/// Counts of lines, figures and, where there are any, tables.
+fn counts_in_words(galley: &Galley, counts: Place) -> Vec<String> {
+    let words = counts.into_iter().zip(["line", "figure", "table"]).map(|(count, what)| counted(count, what));
+    words.take(galley.page_words()).collect()
+}
+
+/// A place as a list has it.
+fn place_in_words(galley: &Galley, place: Place) -> String {
+    format!("({})", spaced(&place[..galley.page_words()]).replace(' ', ", "))
 }
 
 /// A page with its number, and with its folio where that is another.
@@ -108,9 +122,8 @@ fn spread_in_words(galley: &Galley, page: usize) -> String {
 }
 
 fn holdings(page: &Page) -> String {
-    let ((a, b), (i, j)) = (page.start, page.end);
-    let kinds = [range("line", a, i), range("figure", b, j)];
-    kinds.into_iter().flatten().collect::<Vec<_>>().join(", ")
+    let kinds = page.start.into_iter().zip(page.end).zip(["line", "figure", "table"]);
+    kinds.filter_map(|((before, last), kind)| range(kind, before, last)).collect::<Vec<_>>().join(", ")
 }
 
 fn range(kind: &str, before: usize, last: usize) -> Option<String> {
@@ -122,24 +135,25 @@ fn range(kind: &str, before: usize, last: usize) -> Option<String> {
 }
 
 /// What forbids a page end after line i and figure j: either or both.
-fn forbidden_end(galley: &Galley, (i, j): Place) -> String {
+fn forbidden_end(galley: &Galley, [i, j, _]: Place) -> String {
     let line = (0 < i && i < galley.lines.len() && !galley.lines[i - 1].page_end)
         .then(|| format!("    line {i} forbids a page end in the space after it"));
-    let figure = kept_with(galley, j).map(|next| format!("    figure {j} is kept with figure {next}"));
+    let figure = kept_with(&galley.figures, j).map(|next| format!("    figure {j} is kept with figure {next}"));
     line.into_iter().chain(figure).collect::<Vec<_>>().join("\n")
 }
 
-/// The figure that figure j is kept with, if it is, and there is one.
-fn kept_with(galley: &Galley, j: usize) -> Option<usize> {
-    (0 < j && j < galley.figures.len() && galley.figures[j - 1].kept).then_some(j + 1)
+/// The figure or table that number j is kept with, if it is, and there is one.
+fn kept_with(floats: &[Float], j: usize) -> Option<usize> {
+    (0 < j && j < floats.len() && floats[j - 1].kept).then_some(j + 1)
 }
 
-/// The turns that a figure costs: from the spread of its citation to its own.
-fn figure_in_words(galley: &Galley, pages: &[Page], page: &Page, figure: usize) -> String {
-    let citation = galley.figures[figure - 1].citation;
-    let cited_on = pages.iter().find(|page| page.end.0 >= citation).map(|page| page.number);
-    let opening = format!("    figure {figure}, cited by line {citation}");
-    let kept = kept_with(galley, figure).map_or(String::new(), |next| format!("; kept with figure {next}"));
+/// The turns that a figure or table costs: from the spread of its citation to its own.
+fn float_in_words(galley: &Galley, pages: &[Page], page: &Page, stream: usize, number: usize) -> String {
+    let (_, kind, floats) = galley.floats()[stream - 1];
+    let citation = floats[number - 1].citation;
+    let cited_on = pages.iter().find(|page| page.end[0] >= citation).map(|page| page.number);
+    let opening = format!("    {kind} {number}, cited by line {citation}");
+    let kept = kept_with(floats, number).map_or(String::new(), |next| format!("; kept with {kind} {next}"));
     let Some(cited_on) = cited_on else {
         return format!("{opening}, which no page places{kept}\n");
     };
@@ -158,15 +172,9 @@ fn figure_in_words(galley: &Galley, pages: &[Page], page: &Page, figure: usize) 
 
 /// The numbers by which the page breaks the rule.
 fn broken_in_numbers(galley: &Galley, page: &Page, last: bool, rule: u32) -> String {
-    let ((a, b), (i, j)) = (page.start, page.end);
-    let (m, n) = (galley.lines.len(), galley.figures.len());
     let spec = &galley.spec;
     match rule {
-        13 if i < a => format!("    lines placed so far fall from {a} to {i}"),
-        13 if j < b => format!("    figures placed so far fall from {b} to {j}"),
-        13 if i > m => format!("    it claims {i} lines, but the galley has {m}"),
-        13 if j > n => format!("    it claims {j} figures, but the galley has {n}"),
-        13 => format!("    it ends where it starts, after {} and {}", counted(i, "line"), counted(j, "figure")),
+        13 => broken_order(galley, page),
         14 => forbidden_end(galley, page.end),
         15 => {
             let (tight, _) = page.heights(galley);
@@ -177,18 +185,47 @@ fn broken_in_numbers(galley: &Galley, page: &Page, last: bool, rule: u32) -> Str
             let (name, least) = if last { ("lastMin", spec.last_min.unwrap_or(0)) } else { ("htMin", spec.ht_min) };
             format!("    {loose} is below {name} {least} by {}", u64::from(least).saturating_sub(loose))
         }
-        17 => {
-            let citation = galley.figures[j - 1].citation;
-            format!("    figure {j} is cited by line {citation}, and the spread ends after line {i}")
+        17 => too_soon(galley, page.end),
+        18 => {
+            let (end, whole) = (page.end, galley.sizes());
+            let [end, whole] = [end, whole].map(|place| spaced(&place[..galley.page_words()]));
+            format!("    the list ends at {end}, and everything is placed at {whole}")
         }
-        18 => format!("    the list ends at {i} {j}, and everything is placed at {m} {n}"),
         _ => format!("    {} can mend it", mender(rule)),
     }
 }
 
+/// How the page goes backwards, past what there is, or nowhere.
+fn broken_order(galley: &Galley, page: &Page) -> String {
+    let kinds = || page.start.into_iter().zip(page.end).zip(galley.sizes()).zip(["lines", "figures", "tables"]);
+    if let Some((((before, after), _), kind)) = kinds().find(|(((before, after), _), _)| after < before) {
+        return format!("    {kind} placed so far fall from {before} to {after}");
+    }
+    if let Some((((_, after), size), kind)) = kinds().find(|(((_, after), size), _)| after > size) {
+        return format!("    it claims {after} {kind}, but the galley has {size}");
+    }
+    match counts_in_words(galley, page.end).as_slice() {
+        [others @ .., last] => format!("    it ends where it starts, after {} and {last}", others.join(", ")),
+        [] => String::new(),
+    }
+}
+
+/// The last figure and the last table placed, either or both, if they are cited by a later line than the last placed.
+fn too_soon(galley: &Galley, end: Place) -> String {
+    let told = galley.floats().into_iter().filter_map(|(stream, kind, floats)| {
+        let (number, line) = (end[stream], end[0]);
+        let citation = floats[..number].last()?.citation;
+        (citation > line)
+            .then(|| format!("    {kind} {number} is cited by line {citation}, and the spread ends after line {line}"))
+    });
+    told.collect::<Vec<_>>().join("\n")
+}
+
 fn broken_length(galley: &Galley, list: &[u32]) -> String {
-    let most = 2 * (galley.lines.len() + galley.figures.len());
-    format!("    it has {}; 2 to {most} and an even number are asked", counted(list.len(), "word"))
+    let words = galley.page_words();
+    let most = words * galley.sizes().iter().sum::<usize>();
+    let asked = if words == 2 { "an even number" } else { "a multiple of three" };
+    format!("    it has {}; {words} to {most} and {asked} are asked", counted(list.len(), "word"))
 }
 
 fn counted(number: usize, what: &str) -> String {

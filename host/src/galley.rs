@@ -14,7 +14,7 @@ pub struct Spec {
     pub last_min: Option<u32>,
 }
 
-/// A line or a figure, without its fourth field.
+/// A line, a figure or a table, without its fourth field.
 pub struct Block {
     pub height: u32,
     pub least: u32,
@@ -26,10 +26,11 @@ pub struct Line {
     pub page_end: bool,
 }
 
-pub struct Figure {
+/// A figure or a table.
+pub struct Float {
     pub block: Block,
     pub citation: usize,
-    /// Whether no page may end between it and the next one.
+    /// Whether no page may end between it and the next one; no table is kept.
     pub kept: bool,
 }
 
@@ -38,14 +39,15 @@ pub struct Galley {
     /// The folio of page 1.
     pub folio: usize,
     pub lines: Vec<Line>,
-    pub figures: Vec<Figure>,
+    pub figures: Vec<Float>,
+    pub tables: Vec<Float>,
 }
 
 impl Galley {
     /// The galley in these bytes, if they are records in their order. The engine is to be asked first: it judges them.
     pub fn decode(bytes: &[u8]) -> Option<Galley> {
         let (first, mut rest) = Record::take(bytes)?;
-        let (mut folio, mut lines, mut figures) = (1, Vec::new(), Vec::new());
+        let (mut folio, mut lines, mut figures, mut tables) = (1, Vec::new(), Vec::new(), Vec::new());
         loop {
             let (record, after) = Record::take(rest)?;
             rest = after;
@@ -54,15 +56,35 @@ impl Galley {
                 ("TL", &[height, least, most, end]) => {
                     lines.push(Line { block: Block { height, least, most }, page_end: end == 1 })
                 }
-                (mark @ ("FG" | "FK"), &[height, least, most, citation]) => {
+                (mark @ ("FG" | "FK" | "TB"), &[height, least, most, citation]) => {
                     let block = Block { height, least, most };
-                    figures.push(Figure { block, citation: citation as usize, kept: mark == "FK" })
+                    let floats = if mark == "TB" { &mut tables } else { &mut figures };
+                    floats.push(Float { block, citation: citation as usize, kept: mark == "FK" })
                 }
                 ("ED", _) => break,
                 _ => return None,
             }
         }
-        Some(Galley { spec: spec_of(&first.fields)?, folio, lines, figures })
+        Some(Galley { spec: spec_of(&first.fields)?, folio, lines, figures, tables })
+    }
+
+    /// How many lines, figures and tables there are.
+    pub fn sizes(&self) -> [usize; 3] {
+        [self.lines.len(), self.figures.len(), self.tables.len()]
+    }
+
+    /// The words that a page takes in a list: the tables have one only where there are any.
+    pub fn page_words(&self) -> usize {
+        if self.tables.is_empty() {
+            2
+        } else {
+            3
+        }
+    }
+
+    /// The float streams, each with its number among all streams and the name of its blocks.
+    pub fn floats(&self) -> [(usize, &'static str, &[Float]); 2] {
+        [(1, "figure", &self.figures), (2, "table", &self.tables)]
     }
 }
 

@@ -25,10 +25,10 @@ A file called - is standard input. Exit status: 0 success, 1 refused, 2 an error
 pub const MAKE: &str = "\
 barleychime make GALLEY
 
-Prints `p X Y T` (pages, turns to figures, turns from first page to last, weighted turns), then `q i j` for each page q:
-lines and figures placed so far. A refusal is printed as `R number place`, and in words on standard error. Where no
-pagination exists (11) the greatest htMin at which one does is printed there too, and under G2 the greatest lastMin; the
-galley is not changed.
+Prints `p X Y T` (pages, turns to figures and tables, turns from first page to last, weighted turns), then `q i j` for each
+page q: lines and figures placed so far. Where the galley has tables it is `q i j d`, d being the tables placed so far. A
+refusal is printed as `R number place`, and in words on standard error. Where no pagination exists (11) the greatest htMin at
+which one does is printed there too, and under G2 the greatest lastMin; the galley is not changed.
 ";
 
 pub const MARK: &str = "\
@@ -36,15 +36,15 @@ barleychime mark GALLEY LIST...
 
 Prints `p X Y T` for a valid list, else `R number place`; of several lists a line for each, followed by its name. The
 reason of a refusal is given in words on standard error. A LIST is what `barleychime make` prints, or a line `i j` for
-each page: lines and figures placed so far. `#` opens a comment.
+each page, lines and figures placed so far, and `i j d` with the tables where the galley has any. `#` opens a comment.
 ";
 
 pub const EXPLAIN: &str = "\
 barleychime explain GALLEY LIST
 
-Says page by page what it holds, its heights and those that are asked, its spread, and the turns that each figure costs.
-For a refused list it says which page breaks which rule, with the numbers. Heights are in hundredths of a point. Pages are
-counted from 1; where the galley opens on another folio, each page is named with its folio too.
+Says page by page what it holds, its heights and those that are asked, its spread, and the turns that each figure and
+each table costs. For a refused list it says which page breaks which rule, with the numbers. Heights are in hundredths of
+a point. Pages are counted from 1; where the galley opens on another folio, each page is named with its folio too.
 ";
 
 pub const PACK: &str = "\
@@ -52,16 +52,17 @@ barleychime pack TEXT > GALLEY
 
 Writes a galley file from a text with one record a line; `#` opens a comment. Lengths are in hundredths of a point.
 
-  GS htMin htMax sMin sMax sides alpha beta    page heights, separation of text and figures, 1 or 2 sides, weights
+  GS htMin htMax sMin sMax sides alpha beta    page heights, separation between kinds, 1 or 2 sides, weights
   G2 htMin ... beta lastMin                    the same, and a least height of the last page, 0 to htMax
   FO folio                                     the folio of the first page, 1 to 9,999; without this record it is 1
   TL height least most end                     a line, the space after it, 1 if a page may end there (else 0)
   FG height least most line                    a figure, the space after it, the line that cites it (from 1)
   FK height least most line                    the same, and no page may end between it and the next figure
+  TB height least most line                    a table, with the fields of a figure
   ED                                           the end
 
-First GS or G2, then FO if there is one, then all lines, then all figures. Nothing is written if the galley would be
-refused.
+First GS or G2, then FO if there is one, then all lines, then all figures, then all tables. Nothing is written if the galley
+would be refused.
 ";
 
 pub const UNPACK: &str = "\

@@ -1,25 +1,31 @@
-//! Page lists as text: what `make` prints, or a line `i j` for each page.
+//! Page lists as text: what `make` prints, or a line `i j` for each page, `i j d` where there are tables.
 
 use crate::engine::Measure;
 
-/// What `make` prints for a list: `p X Y T`, then `q i j` for each page.
-pub fn print(measure: Measure, list: &[u32]) -> String {
+/// What `make` prints for a list: `p X Y T`, then `q i j` for each page, or `q i j d` with three words a page.
+pub fn print(measure: Measure, list: &[u32], words: usize) -> String {
     let mut text = measure_line(measure) + "\n";
-    for (page, pair) in list.chunks_exact(2).enumerate() {
-        text += &format!("{} {} {}\n", page + 1, pair[0], pair[1]);
+    for (page, counts) in list.chunks_exact(words).enumerate() {
+        text += &format!("{} {}\n", page + 1, spaced(counts));
     }
     text
+}
+
+/// Numbers with a space between them.
+pub fn spaced<Number: ToString>(numbers: &[Number]) -> String {
+    numbers.iter().map(ToString::to_string).collect::<Vec<_>>().join(" ")
 }
 
 pub fn measure_line(measure: Measure) -> String {
     format!("{} {} {} {}", measure.pages, measure.x, measure.y, measure.turns)
 }
 
-/// The words of a list. An error names the line, and the field where there is one.
-pub fn parse(text: &str) -> Result<Vec<u32>, String> {
-    let mut words = Vec::new();
+/// The words of a list, so many a page; where nobody knows how many, as for a galley that is refused, as many as its first
+/// page has. An error names the line, and the field where there is one.
+pub fn parse(text: &str, mut words: Option<usize>) -> Result<Vec<u32>, String> {
+    let mut list = Vec::new();
+    let mut pages = 0;
     let mut claimed = None;
-    let mut first = true;
     for (number, line) in text.lines().enumerate() {
         let fields: Vec<&str> = line.split('#').next().unwrap_or("").split_whitespace().collect();
         if fields.is_empty() {
@@ -30,24 +36,37 @@ pub fn parse(text: &str) -> Result<Vec<u32>, String> {
             return Err(wrong("a refusal stands where a page list is wanted".into()));
         }
         let numbers = numbers(&fields).map_err(wrong)?;
-        match (numbers.as_slice(), claimed) {
-            (&[pages, _, _, _], _) if first => claimed = Some(pages as usize),
-            (&[page, i, j], Some(_)) if page as usize == words.len() / 2 + 1 => words.extend([i, j]),
-            (&[page, _, _], Some(_)) => {
-                return Err(wrong(format!("field 1: page {} is due, not {page}", words.len() / 2 + 1)))
-            }
-            (&[i, j], None) => words.extend([i, j]),
-            (_, Some(_)) => return Err(wrong(format!("a page has three numbers here (q i j), not {}", fields.len()))),
-            (_, None) => return Err(wrong(format!("a page has two numbers (i j), not {}", fields.len()))),
+        // What `make` prints opens with its measure, and each page has its number.
+        if pages == 0 && claimed.is_none() && numbers.len() == 4 {
+            claimed = Some(numbers[0] as usize);
+            continue;
         }
-        first = false;
+        let (page, counts) = numbers.split_at(usize::from(claimed.is_some()));
+        let due = *words.get_or_insert(counts.len().clamp(2, 3));
+        if counts.len() != due {
+            return Err(wrong(miscounted(due, claimed.is_some(), numbers.len())));
+        }
+        pages += 1;
+        if page.iter().any(|&page| page as usize != pages) {
+            return Err(wrong(format!("field 1: page {pages} is due, not {}", page[0])));
+        }
+        list.extend_from_slice(counts);
     }
     match claimed {
-        Some(pages) if pages != words.len() / 2 => {
-            Err(format!("the first line says {pages} pages, but {} follow", words.len() / 2))
-        }
-        _ => Ok(words),
+        Some(claimed) if claimed != pages => Err(format!("the first line says {claimed} pages, but {pages} follow")),
+        _ => Ok(list),
     }
+}
+
+/// What is wrong with a line that has too few or too many numbers for a page.
+fn miscounted(words: usize, numbered: bool, found: usize) -> String {
+    let due = match (words, numbered) {
+        (2, false) => "two numbers (i j)",
+        (2, true) => "three numbers here (q i j)",
+        (_, false) => "three numbers (i j d), since the galley has tables",
+        (_, true) => "four numbers here (q i j d), since the galley has tables",
+    };
+    format!("a page has {due}, not {found}")
 }
 
 /// Fields as numbers; an error names the field.

@@ -2,8 +2,8 @@
 
 use crate::galley::{Block, Galley};
 
-/// Lines and figures placed so far.
-pub type Place = (usize, usize);
+/// Lines, figures and tables placed so far.
+pub type Place = [usize; 3];
 
 /// Page `number` from the place before it to the place where it ends.
 pub struct Page {
@@ -13,12 +13,13 @@ pub struct Page {
 }
 
 impl Page {
-    /// The pages of a list, two words a page; a word that is left over is no page.
-    pub fn all(list: &[u32]) -> Vec<Page> {
-        let mut start = (0, 0);
+    /// The pages of a list, so many words a page; words that are left over are no page.
+    pub fn all(list: &[u32], words: usize) -> Vec<Page> {
+        let mut start = [0; 3];
         let mut pages = Vec::new();
-        for (before, pair) in list.chunks_exact(2).enumerate() {
-            let end = (pair[0] as usize, pair[1] as usize);
+        for (before, counts) in list.chunks_exact(words).enumerate() {
+            let mut end = [0; 3];
+            end.iter_mut().zip(counts).for_each(|(placed, &count)| *placed = count as usize);
             pages.push(Page { number: before + 1, start, end });
             start = end;
         }
@@ -27,18 +28,21 @@ impl Page {
 
     /// Whether it goes forward and within the galley (rule 13), so that it has a height at all.
     pub fn is_sound(&self, galley: &Galley) -> bool {
-        let ((a, b), (i, j)) = (self.start, self.end);
-        a <= i && b <= j && i <= galley.lines.len() && j <= galley.figures.len() && self.start != self.end
+        let mut kinds = self.start.into_iter().zip(self.end).zip(galley.sizes());
+        self.start != self.end && kinds.all(|((before, after), size)| before <= after && after <= size)
     }
 
-    /// Tightest and loosest height of a sound page.
+    /// Tightest and loosest height of a sound page: of each kind, and a separation for each kind beyond the first.
     pub fn heights(&self, galley: &Galley) -> (u64, u64) {
-        let ((a, b), (i, j)) = (self.start, self.end);
+        let ([a, b, c], [i, j, d]) = (self.start, self.end);
         let lines = heights(galley.lines[a..i].iter().map(|line| &line.block));
         let figures = heights(galley.figures[b..j].iter().map(|figure| &figure.block));
-        let both = u64::from(a < i && b < j);
+        let tables = heights(galley.tables[c..d].iter().map(|table| &table.block));
+        let kinds = [a < i, b < j, c < d].into_iter().filter(|&there| there).count() as u64;
+        let separations = kinds.saturating_sub(1);
         let (s_min, s_max) = (u64::from(galley.spec.s_min), u64::from(galley.spec.s_max));
-        (lines.0 + figures.0 + both * s_min, lines.1 + figures.1 + both * s_max)
+        let tight = lines.0 + figures.0 + tables.0 + separations * s_min;
+        (tight, lines.1 + figures.1 + tables.1 + separations * s_max)
     }
 }
 

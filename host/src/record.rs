@@ -14,10 +14,11 @@ pub const FOLIO: Kind = Kind { mark: "FO", fields: &["folio"] };
 pub const LINE: Kind = Kind { mark: "TL", fields: &["height", "least space", "greatest space", "page end"] };
 pub const FIGURE: Kind = Kind { mark: "FG", fields: &["height", "least space", "greatest space", "citation"] };
 pub const KEPT_FIGURE: Kind = Kind { mark: "FK", fields: FIGURE.fields };
+pub const TABLE: Kind = Kind { mark: "TB", fields: FIGURE.fields };
 pub const END: Kind = Kind { mark: "ED", fields: &[] };
 
 /// All of them, in the order in which they come.
-pub const KINDS: [&Kind; 7] = [&SPEC, &SECOND_SPEC, &FOLIO, &LINE, &FIGURE, &KEPT_FIGURE, &END];
+pub const KINDS: [&Kind; 8] = [&SPEC, &SECOND_SPEC, &FOLIO, &LINE, &FIGURE, &KEPT_FIGURE, &TABLE, &END];
 
 pub fn kind_of(mark: &[u8]) -> Option<&'static Kind> {
     KINDS.into_iter().find(|kind| kind.mark.as_bytes() == mark)
@@ -55,7 +56,7 @@ impl Record {
             }
             ("FO", _) => vec![(1, 9_999)],
             ("TL", &[_, _, most, _]) => vec![(0, LONGEST), (0, most), (0, LONGEST), (0, 1)],
-            ("FG" | "FK", &[_, _, most, _]) => vec![(0, LONGEST), (0, most), (0, LONGEST)],
+            ("FG" | "FK" | "TB", &[_, _, most, _]) => vec![(0, LONGEST), (0, most), (0, LONGEST)],
             _ => vec![],
         };
         let outside = |(&field, &(least, most)): (&u32, &(u32, u32))| field < least || field > most;

@@ -41,7 +41,7 @@ pub fn in_words(report: &Report) -> String {
     let lines = [
         format!("papers: {papers}"),
         format!("sum of p (pages): {pages}"),
-        format!("sum of X (turns to figures): {x}"),
+        format!("sum of X (turns to figures and tables): {x}"),
         format!("sum of Y (turns from first page to last): {y}"),
         format!("sum of T (weighted turns): {turns}"),
         format!("least T: {least}"),

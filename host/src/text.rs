@@ -1,5 +1,5 @@
-//! Galleys as text, one record a line: `GS 30 30 0 0 1 1 1`, `FO 38`, `TL 10 0 0 1`, `FK 20 0 0 1`, `FG 5 0 0 1`, `ED`;
-//! `#` opens a comment.
+//! Galleys as text, one record a line: `GS 30 30 0 0 1 1 1`, `FO 38`, `TL 10 0 0 1`, `FK 20 0 0 1`, `FG 5 0 0 1`,
+//! `TB 15 0 0 1`, `ED`; `#` opens a comment.
 
 use crate::engine::{self, Refusal};
 use crate::list::{shown, whole_number};
