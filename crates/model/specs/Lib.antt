@@ -9,4 +9,5 @@ pub mod Answers
 pub mod Pagination
 pub mod Order
 pub mod Best
+pub mod Weighed
 pub mod laws

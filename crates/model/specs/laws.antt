@@ -9,3 +9,6 @@ pub mod Lists
 pub mod Valid
 pub mod Order
 pub mod Best
+pub mod Boxes
+pub mod Together
+pub mod Weighed
