@@ -15,7 +15,7 @@ import definitions
 
 sys.path.insert(0, str(definitions.ROOT / 'tests'))
 import kinds as kinds_of  # noqa: E402
-from reference import marking, sample, search  # noqa: E402
+from reference import beforehand, marking, sample, search  # noqa: E402
 
 GALLEYS, LEFT, LINES, FIGURES, LISTS, DRAWN, SEED = 120, 12, 5, 2, 5, 40, 20261115
 TABLED = 120, 3, 1, 2  # galleys with tables, and their most lines, figures and tables
@@ -122,7 +122,7 @@ def lists(rng, g, seen):
 
 
 def rows(seed, seen):
-    """A row for making and for some lists of each galley; their kinds are counted."""
+    """A row for making, for what is weighed and for some lists of each galley; the kinds of answers are counted."""
     rng = random.Random(seed)
     for g in (*sample.galleys(seed, GALLEYS, LINES, FIGURES), *sample.left_galleys(seed, LEFT), *sample.galleys(seed, *TABLED)):
         asked = f'asks ({galley_text(g)})'
@@ -132,6 +132,7 @@ def rows(seed, seen):
             valid = list(search.every(g))
             seen.update((WITH, each) for each in kinds_of.of_choice(g, valid, search.first(g, valid)))
         yield f'{asked} making {answer}'
+        yield f'{asked} weighing (counts {beforehand.weighed(g)} {beforehand.ceiling(g)})'
         for words in lists(rng, g, seen):
             answer, kind = marked(g, words)
             seen[binding(g), kind] += 1
@@ -156,7 +157,7 @@ OF_TABLES = [*(f'marked: {number}' for number in (*range(12, 19), 'accepted')), 
 HEAD = '''use mathlib.Core.Bool.{true, false}
 use mathlib.Core.List.{List, [], _∷_}
 use Rattle.model.specs.Galley.{single, double}
-use Rattle.cases.specs.Case.{Case, making, marking, galleyOf, makes, marks, refuses, asks}
+use Rattle.cases.specs.Case.{Case, making, marking, weighing, galleyOf, makes, marks, refuses, counts, asks}
 use Rattle.cases.specs.Galleys.{tabling}
 
 unfoldable pub table : List Case

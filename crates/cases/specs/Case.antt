@@ -1,12 +1,13 @@
 -- How a case is written: a galley from its lists, what is asked of it, and what is to be answered.
 use Prim.Native.Nat.{ℕ, zero, suc, pred}
 use mathlib.Core.Bool.{Bool, true}
-use mathlib.Core.List.{List, []}
+use mathlib.Core.List.{List, [], _∷_}
 use lib.ListN.{length, getD}
 use Rattle.model.specs.declared.answer.Numbers.{Numbers}
 use Rattle.model.specs.Galley.{Spec, Stream, Galley}
 use Rattle.model.specs.Answers.{numbersOf, marked}
 use Rattle.model.specs.Best.{made, madeWords}
+use Rattle.model.specs.Weighed.{weighed, ceiling}
 
 -- A line or figure: its height, the least and greatest space after it, whether a page may end there, and what cites it.
 pub record Block : Type 0 where
@@ -39,15 +40,18 @@ unfoldable pub galleyOf : Spec → List Block → List Block → Galley
 galleyOf sp lines figures =
     record { spec = sp; floats = 1; stream = λ s. elim s [ zero ↦ streamOf lines | suc t ↦ streamOf figures ] }
 
--- What is asked: a making, or the marking of a list of words.
+-- What is asked: a making, the marking of a list of words, or what is weighed and told of it beforehand.
 pub data Question : Type 0 where
   making : Question
   marking : List ℕ → Question
+  weighing : Question
 
--- What is answered: document 01's six numbers, and the words of the list that is made.
+-- What is answered: document 01's six numbers, the words of the list that is made, and where that is asked the pages weighed and their
+-- ceiling.
 pub record Reply : Type 0 where
   pub numbers : Numbers
   pub list : List ℕ
+  pub counted : List ℕ
 
 pub record Case : Type 0 where
   pub galley : Galley
@@ -56,7 +60,7 @@ pub record Case : Type 0 where
 
 -- A making that succeeds, with p, X, Y, T and the words of its list.
 unfoldable pub makes : ℕ → ℕ → ℕ → ℕ → List ℕ → Reply
-makes p x y t ws = record { numbers = record { number = 0; place = 0; pages = p; x = x; y = y; turns = t }; list = ws }
+makes p x y t ws = record { numbers = record { number = 0; place = 0; pages = p; x = x; y = y; turns = t }; list = ws; counted = [] }
 
 -- A marking that accepts, with p, X, Y, T.
 unfoldable pub marks : ℕ → ℕ → ℕ → ℕ → Reply
@@ -64,7 +68,11 @@ marks p x y t = makes p x y t []
 
 -- A refusal with its number and place.
 unfoldable pub refuses : ℕ → ℕ → Reply
-refuses n at = record { numbers = record { number = n; place = at; pages = 0; x = 0; y = 0; turns = 0 }; list = [] }
+refuses n at = record { numbers = record { number = n; place = at; pages = 0; x = 0; y = 0; turns = 0 }; list = []; counted = [] }
+
+-- Nothing but the pages weighed and their ceiling.
+unfoldable pub counts : ℕ → ℕ → Reply
+counts n top = record { numbers = refuses 0 0 .numbers; list = []; counted = n ∷ top ∷ [] }
 
 -- A galley, what is asked of it, and what is to be answered.
 unfoldable pub asks : Galley → Question → Reply → Case
@@ -72,5 +80,6 @@ asks g question reply = record { galley = g; question = question; reply = reply 
 
 -- What the page model answers.
 unfoldable pub answered : Galley → Question → Reply
-answered g making = record { numbers = numbersOf (made g); list = madeWords g }
-answered g (marking ws) = record { numbers = numbersOf (marked g ws); list = [] }
+answered g making = record { numbers = numbersOf (made g); list = madeWords g; counted = [] }
+answered g (marking ws) = record { numbers = numbersOf (marked g ws); list = []; counted = [] }
+answered g weighing = counts (weighed g) (ceiling g)

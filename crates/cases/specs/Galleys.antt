@@ -123,6 +123,10 @@ unfoldable pub galleyN : ℕ → Galley
 galleyN folio =
     tabling (figure 25 1 ∷ []) (galleyOf (spec 0 30 0 0 (double folio) 1 1) (line 20 true ∷ []) (figure 10 1 ∷ []))
 
+-- Galley O: lines of 20, 10 and 10 on pages of up to 20, no figure.
+unfoldable pub galleyO : Galley
+galleyO = galleyOf (spec 0 20 0 0 single 1 1) (line 20 true ∷ line 10 true ∷ line 10 true ∷ []) []
+
 -- A galley in which figure k is kept with the one after it.
 unfoldable pub keeping : ℕ → Galley → Galley
 keeping k g =

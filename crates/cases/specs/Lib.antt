@@ -5,5 +5,6 @@ pub mod Starred
 pub mod Further
 pub mod Requests
 pub mod Tables
+pub mod Weighings
 pub mod Table
 pub mod Agrees

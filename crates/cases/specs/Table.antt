@@ -5,6 +5,7 @@ use Rattle.cases.specs.Starred.{starred}
 use Rattle.cases.specs.Further.{makings, heights, refusals}
 use Rattle.cases.specs.Requests.{folios, keepings, closings}
 use Rattle.cases.specs.Tables.{tablesMade, tablesHigh, tablesRefused}
+use Rattle.cases.specs.Weighings.{weighings}
 
 unfoldable pub table : List Case
-table = starred ++ makings ++ heights ++ refusals ++ folios ++ keepings ++ closings ++ tablesMade ++ tablesHigh ++ tablesRefused
+table = starred ++ makings ++ heights ++ refusals ++ folios ++ keepings ++ closings ++ tablesMade ++ tablesHigh ++ tablesRefused ++ weighings
