@@ -18,7 +18,7 @@ use Rattle.window.specs.declared.slide.Load.{Load}
 use Rattle.window.specs.declared.slide.Window.{Window}
 use Rattle.window.specs.declared.queue.Queue.{Queue}
 use Rattle.window.specs.Slide.{Open}
-use Rattle.window.specs.Queue.{linesOf, frontOf, queueOf, Held, FrontAsked, Advanced}
+use Rattle.window.specs.Queue.{linesOf, frontOf, queueOf, Held, QueueStands, Advanced}
 use Rattle.starts.specs.Choice.{Starts, Above, Between}
 use Rattle.starts.specs.Read.{tableIn, sideOf, searchOf, columnsIn, countsAt, allPlaced, loadOf}
 use Rattle.starts.specs.Sweep.{Lent, Scratch, Summed, Knows, Known}
@@ -72,7 +72,7 @@ pub record LinesAbove (bytes : List ℕ) (g : Galley) (w sums words : List ℕ) 
   pub full : end .stop .full ≡ allPlaced g (end .at)
   pub side : end .side ≤ 1
   pub summed : Summed bytes g sums
-  pub front : FrontAsked words queue (end .column)
+  pub front : QueueStands words queue (end .column)
   pub best : allPlaced g (end .at) ≡ false
       → Best (StartsFor bytes g w end (Above (end .column) (end .at .lines))) (frontOf words queue (end .column))
 

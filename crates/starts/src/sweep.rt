@@ -170,7 +170,7 @@ fn clear_column(g: Galley, work: &mut [u32], j: usize)
 }
 
 // The heights of a page of figures and tables alone, apart where it has both.
-fn floats_alone(g: Galley, figures: Heights, tables: Heights, both: bool) -> Heights
+pub fn floats_alone(g: Galley, figures: Heights, tables: Heights, both: bool) -> Heights
     requires { ⌜ Layable (g .spec) figures tables ⌝ }
     ensures { λ r. ⌜ r ≡ floatsAlone (g .spec) figures tables both ⌝ }
 {

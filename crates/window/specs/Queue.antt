@@ -84,7 +84,7 @@ abbrev pub Passed : List ℕ → ℕ → ℕ → ℕ → ℕ → Type 0
 Passed words head tail low r = First (lineAt words) low head tail r
 
 -- The lines before `to` of column b stand in the work area, and the queue has room for all of them.
-pub record FeedAsked (work : List ℕ) (tall b side : ℕ) (words : List ℕ) (queue : Queue) (from to : ℕ) : Type 0 where
+pub record Feedable (work : List ℕ) (tall b side : ℕ) (words : List ℕ) (queue : Queue) (from to : ℕ) : Type 0 where
   pub stands : (a : ℕ) → a < to → Stands work tall (record { line = a; column = b }) side
   pub based : queue .base ≤ queue .head
   pub order : queue .head ≤ queue .tail
@@ -110,8 +110,8 @@ pub record Fed (work : List ℕ) (tall b side : ℕ) (old : List ℕ) (queue : Q
       → Held (linesOf work tall b side) new (tailed queue r) low to
 
 -- The same for the lines before the window's end.
-abbrev pub AdvanceAsked : List ℕ → ℕ → ℕ → ℕ → List ℕ → Queue → ℕ → Window → Type 0
-AdvanceAsked work tall b side words queue from window = FeedAsked work tall b side words queue from (window .high)
+abbrev pub Advanceable : List ℕ → ℕ → ℕ → ℕ → List ℕ → Queue → ℕ → Window → Type 0
+Advanceable work tall b side words queue from window = Feedable work tall b side words queue from (window .high)
 
 -- What was held of the window before is held of this one, whose first entry is within it.
 pub record Advanced (work : List ℕ) (tall b side : ℕ) (old : List ℕ) (queue : Queue) (from : ℕ) (window : Window) (r : Queue)
@@ -126,7 +126,7 @@ pub record Advanced (work : List ℕ) (tall b side : ℕ) (old : List ℕ) (queu
   pub fresh : r .head < r .tail → window .low ≤ lineAt new (r .head)
 
 -- The first entry lies in the words, and b is a column.
-pub record FrontAsked (words : List ℕ) (queue : Queue) (b : ℕ) : Type 0 where
+pub record QueueStands (words : List ℕ) (queue : Queue) (b : ℕ) : Type 0 where
   pub order : queue .head ≤ queue .tail
   pub room : 2 * queue .tail ≤ length words
   pub column : b ≤ 10250

@@ -19,7 +19,7 @@ abbrev pub Kept : Stream → Load → List ℕ → (ℕ → Type 0) → Type 0
 Kept st load words P = (i : ℕ) → P i → Open st load (windowAt words i) i
 
 -- The ends of a window can be moved on to line i, and there is room to keep it.
-pub record WindowAsked (sums : List ℕ) (load : Load) (words : List ℕ) (before : Window) (i : ℕ) : Type 0 where
+pub record Windowable (sums : List ℕ) (load : Load) (words : List ℕ) (before : Window) (i : ℕ) : Type 0 where
   pub slides : Slidable sums load before i
   pub few : i ≤ 4000
   pub room : 16002 ≤ length words

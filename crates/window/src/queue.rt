@@ -3,7 +3,7 @@
 ghost use mathlib.Core.Path.{_≡_};
 ghost use Prim.Native.Nat.{_+_, _*_, _≤_};
 ghost use lib.ListN.{length};
-ghost use Rattle.window.specs.Queue.{pushed, frontOf, queueOf, Entries, Dropped, Passed, FeedAsked, Fed, AdvanceAsked, Advanced, FrontAsked};
+ghost use Rattle.window.specs.Queue.{pushed, frontOf, queueOf, Entries, Dropped, Passed, Feedable, Fed, Advanceable, Advanced, QueueStands};
 use crate::slide::Window;
 use places::Entry;
 use places::Place;
@@ -78,7 +78,7 @@ fn feed(
     from: usize,
     to: usize,
 ) -> usize
-    requires { ⌜ FeedAsked (now work) tall column side (now words) queue from to ⌝ }
+    requires { ⌜ Feedable (now work) tall column side (now words) queue from to ⌝ }
     ensures { λ r. ⌜ Fed (now (work .entry)) tall column side (now (words .entry)) queue from to r (now (words .exit)) ⌝ }
 {
     let mut tail = queue.tail;
@@ -108,7 +108,7 @@ pub fn advance(
     from: usize,
     window: Window,
 ) -> Queue
-    requires { ⌜ AdvanceAsked (now work) tall column side (now words) queue from window ⌝ }
+    requires { ⌜ Advanceable (now work) tall column side (now words) queue from window ⌝ }
     ensures { λ r. ⌜ Advanced (now (work .entry)) tall column side (now (words .entry)) queue from window r (now (words .exit)) ⌝ }
 {
     let tail = feed(work, tall, column, side, words, queue, from, window.high);
@@ -122,7 +122,7 @@ pub fn advance(
 
 // The best start that a queue of a column's lines holds.
 pub fn front(words: &[u32], queue: Queue, column: usize) -> Entry
-    requires { ⌜ FrontAsked (now words) queue column ⌝ }
+    requires { ⌜ QueueStands (now words) queue column ⌝ }
     ensures { λ r. ⌜ r ≡ frontOf (now (words .entry)) queue column ⌝ }
 {
     let at = 2 * queue.head;

@@ -20,7 +20,14 @@ pub struct Window {
 
 // The first line from `from` on whose page to line i stays below `limit` with `beside` added to its lines; i where there is
 // none. `space` says which sums are taken, TIGHT or LOOSE.
-fn first_below(sums: &[u32], space: usize, beside: u32, limit: u32, from: usize, i: usize) -> usize
+pub fn first_below(
+    sums: &[u32],
+    space: usize,
+    beside: u32,
+    limit: u32,
+    from: usize,
+    i: usize,
+) -> usize
     requires { ⌜ Reachable (now sums) space beside limit from i ⌝ }
     ensures { λ r. ⌜ FirstBelow (now (sums .entry)) space beside limit from i r ⌝ }
 {

@@ -1,5 +1,5 @@
 // The windows of the lines of a column, kept from one side to the next: they depend on heights alone.
-ghost use Rattle.window.specs.Windows.{WindowAsked, WindowFound};
+ghost use Rattle.window.specs.Windows.{Windowable, WindowFound};
 use crate::slide::Load;
 use crate::slide::Window;
 
@@ -13,7 +13,7 @@ pub fn window_of(
     i: usize,
     c: usize,
 ) -> Window
-    requires { ⌜ WindowAsked (now sums) load (now words) before i ⌝ }
+    requires { ⌜ Windowable (now sums) load (now words) before i ⌝ }
     ensures { λ r. ⌜ WindowFound (now (sums .entry)) load (now (words .entry)) before i c r (now (words .exit)) ⌝ }
 {
     if 0 < c {

@@ -12,7 +12,7 @@ use Rattle.galley.specs.Model.{modelOf, sidesIn}
 use Rattle.places.specs.Columns.{columns, floatSizes}
 use Rattle.places.specs.laws.Address.{area-needed}
 use Rattle.window.specs.declared.queue.Queue.{Queue}
-use Rattle.window.specs.Queue.{linesOf, frontOf, queueOf, pushed, FeedAsked, Advanced}
+use Rattle.window.specs.Queue.{linesOf, frontOf, queueOf, pushed, Feedable, Advanced}
 use Rattle.window.specs.laws.Front.{front-best}
 use Rattle.window.specs.laws.Pushed.{pushed-length}
 use Rattle.starts.specs.Search.{newEntry}
@@ -65,7 +65,7 @@ module _ {bytes : List ℕ} {task : Task} {w sums words : List ℕ} {queue : Que
   side-either-here = omega (arith, next .occurs, next .next .lent .sound .specRanged .sidesTwo)
 
   -- The queue of the column can be moved on.
-  pub side-feeds : FeedAsked w (task .galley .text .count + 1) (end .column) (sideOf (task .galley) (end .side)) words queue
+  pub side-feeds : Feedable w (task .galley .text .count + 1) (end .column) (sideOf (task .galley) (end .side)) words queue
       (windows .from .high) (windows .to .high)
   side-feeds =
       can-feed (next .next .lent) (next .scratch) (end .column) (next .next .lent .column) queue (end .side) (windows .from .high)

@@ -92,6 +92,13 @@ module _ (g : Galley) where
             tables-low i c,
           ))
 
+  -- A column of a row has its figures, and stands at its tables.
+  pub row-in : (b c : ℕ) → rowOf g b ≤ c → c < rowOf g (suc b)
+      → (countsAt g 0 c .figures ≡ b) × (rowOf g b + countsAt g 0 c .tables ≡ c)
+  row-in b c low high =
+      let e : countsAt g 0 c .figures ≡ b = omega (arith, row-since 0 b c low, row-before 0 b c high) in
+      (e, ap (λ b. rowOf g b + countsAt g 0 c .tables) (sym e) ∙ row-of 0 c)
+
   -- A column of the galley has no more of any stream than there is.
   pub within-at : (i c : ℕ) → i ≤ g .text .count → c < columnsIn g → Within g (countsAt g i c)
   unfolding columnsIn

@@ -1,5 +1,6 @@
 -- The floats between two columns are figures and tables: their heights, and what they are alone and beside lines.
-use Prim.Native.Nat.{ℕ, pred, _+_, _*_}
+use Prim.Native.Nat.{ℕ, pred, _+_, _*_, _<_}
+use native.Mathlib.Nat.{le-refl}
 use native.Mathlib.Omega.{arith}
 use mathlib.Core.Path.{_≡_, refl, sym, _∙_, ap}
 use mathlib.Core.Bool.{Bool, true, false, _&&_}
@@ -14,17 +15,18 @@ use Rattle.theorems.specs.pages.Graph.{full}
 use Rattle.galley.specs.declared.Spec.{Spec}
 use Rattle.galley.specs.declared.Galley.{Galley}
 use Rattle.galley.specs.Model.{floatsOf, modelOf}
+use Rattle.galley.specs.Sound.{Sound}
 use Rattle.blocks.specs.declared.heights.Heights.{Heights}
 use Rattle.blocks.specs.Heights.{noHeights, Stacked}
 use Rattle.blocks.specs.laws.Stacked.{stacked-none}
-use Rattle.blocks.specs.laws.Heights.{Low}
+use Rattle.blocks.specs.laws.Heights.{Low, stacked-nothing, stacked-small}
 use Rattle.blocks.specs.laws.Counts.{sum-floats, count-figures, count-tables}
 use Rattle.places.specs.Columns.{placeAt}
 use Rattle.starts.specs.Beside.{floatsHigh, floatKinds, alone, Bears}
-use Rattle.starts.specs.Read.{searchOf, countsAt, allPlaced, loadOf}
+use Rattle.starts.specs.Read.{searchOf, columnsIn, countsAt, rowOf, allPlaced, loadOf}
 use Rattle.starts.specs.Sweep.{Layable, floatsAlone}
 use Rattle.starts.specs.laws.Heights.{beside-none}
-use Rattle.starts.specs.laws.Columns.{place-at, proper-at, full-of}
+use Rattle.starts.specs.laws.Columns.{row-figures, row-tables, tables-low, within-at, place-at, proper-at, full-of}
 
 -- Of two kinds both are apart by one separation.
 kinds-apart : (x y : Bool) (separation : ℕ) → pred (one x + one y) * separation ≡ one (x && y) * separation
@@ -33,7 +35,11 @@ kinds-apart true false separation = refl
 kinds-apart false true separation = refl
 kinds-apart false false separation = refl
 
-pub laid-out : (spec : Spec) (figures tables : Heights) (both : Bool)
+and-false : (x : Bool) → (x && false) ≡ false
+and-false true = refl
+and-false false = refl
+
+laid-out : (spec : Spec) (figures tables : Heights) (both : Bool)
     → (floatsAlone spec figures tables both .tight ≡ figures .tight + tables .tight + one both * spec .smin)
     × (floatsAlone spec figures tables both .loose ≡ figures .loose + tables .loose + one both * spec .smax)
 unfolding floatsAlone
@@ -93,6 +99,38 @@ module _ (bytes : List ℕ) (g : Galley) where
           omega (arith, tight, least, high-at (λ st. st .least), f .tight, t .tight),
           omega (arith, loose, most, high-at (λ st. st .most), f .loose, t .loose),
         )
+
+  -- So have figures alone, from the column of their row with as many tables as the end.
+  pub figures-alone : (b q : ℕ) (figures : Heights) → Stacked (floatsOf bytes (g .figures)) b (countsAt g 0 q .figures) figures
+      → figures .tight ≡ alone (modelOf bytes g) (λ st. st .least) (g .spec .smin) (rowOf g b + countsAt g 0 q .tables) q
+  figures-alone b q figures f =
+      let t = countsAt g 0 q .tables in
+      let from = rowOf g b + t in
+      let x : countsAt g 0 from .figures ≡ b = row-figures g 0 b t (tables-low g 0 q) in
+      let y : countsAt g 0 from .tables ≡ t = row-tables g 0 b t (tables-low g 0 q) in
+      let mixed : false ≡ (ltb (countsAt g 0 from .figures) (countsAt g 0 q .figures) && ltb (countsAt g 0 from .tables) t) =
+      rw (le-ltb (countsAt g 0 from .tables) t (omega arith), and-false) refl in
+      let same = alone-at from q figures noHeights false (rw x f)
+      (rw y (stacked-nothing (floatsOf bytes (g .tables)) t t (le-refl _))) mixed in
+      omega (arith, same .0, laid-out (g .spec) figures noHeights false .0)
+
+  -- The heights of both up to a column can be added.
+  pub floats-lay : Sound bytes g → (b t q : ℕ) (figures tables : Heights) → q < columnsIn g
+      → Stacked (floatsOf bytes (g .figures)) b (countsAt g 0 q .figures) figures
+      → Stacked (floatsOf bytes (g .tables)) t (countsAt g 0 q .tables) tables → Layable (g .spec) figures tables
+  floats-lay sound b t q figures tables column f h =
+      let spec = sound .specRanged in
+      let within = within-at g 0 q (omega arith) column in
+      let first = stacked-small bytes (g .figures) b (countsAt g 0 q .figures) figures (sound .figures .sound) (within .figures) f in
+      let second = stacked-small bytes (g .tables) t (countsAt g 0 q .tables) tables (sound .tables .sound) (within .tables) h in
+      let n = sound .figures .few in
+      let k = sound .tables .few in
+      record {
+        smin = omega (arith, spec .smins, spec .smaxs);
+        smax = spec .smaxs;
+        first = record { tight = omega (arith, first .tight); loose = omega (arith, first .loose) };
+        second = record { tight = omega (arith, second .tight); loose = omega (arith, second .loose) };
+      }
 
   -- Pages within a column have nothing beside their lines.
   pub bears-own : (w : List ℕ) (i q side least : ℕ) → least ≡ floor (modelOf bytes g) (allPlaced g (countsAt g i q))

@@ -16,7 +16,7 @@ use Rattle.places.specs.laws.Address.{address-in, area-needed}
 use Rattle.window.specs.declared.slide.Window.{Window}
 use Rattle.window.specs.declared.queue.Queue.{Queue}
 use Rattle.window.specs.Slide.{Reachable, Slidable}
-use Rattle.window.specs.Queue.{FeedAsked, FrontAsked}
+use Rattle.window.specs.Queue.{Feedable, QueueStands}
 use Rattle.window.specs.laws.Sums.{sums-small}
 use Rattle.starts.specs.Search.{before}
 use Rattle.starts.specs.Read.{sideOf, columnsIn, FewFloats, loadOf, Placed}
@@ -111,7 +111,7 @@ module _ {bytes : List ℕ} {g : Galley} {w : List ℕ} {j : ℕ} (lent : Lent b
   -- A queue of the lines of column b can be moved on to a window that ends by line i.
   pub can-feed : {words : List ℕ} → Scratch words → (b : ℕ) → b < columnsIn g → (queue : Queue) (c from to i : ℕ)
       → i ≤ g .text .count → from ≤ to → to ≤ i → queue .base ≤ 4000 → queue .base ≤ queue .head → queue .head ≤ queue .tail
-      → queue .tail ≤ queue .base + from → FeedAsked w (g .text .count + 1) b (sideOf g c) words queue from to
+      → queue .tail ≤ queue .base + from → Feedable w (g .text .count + 1) b (sideOf g c) words queue from to
   can-feed scratch b k queue c from to i h rises inside low based order short =
       record {
         stands = λ a l. can-stand a b (sideOf g c) (omega arith) k (side-either g c);
@@ -125,7 +125,7 @@ module _ {bytes : List ℕ} {g : Galley} {w : List ℕ} {j : ℕ} (lent : Lent b
   -- The first entry of the queue of such a window can be read.
   pub can-front : {words : List ℕ} → Scratch words → (b : ℕ) → b < columnsIn g → (queue : Queue) (high : ℕ)
       → high ≤ g .text .count → queue .base ≤ 4000 → queue .head ≤ queue .tail → queue .tail ≤ queue .base + high
-      → FrontAsked words queue b
+      → QueueStands words queue b
   can-front scratch b k queue high l low order short =
       record {
         order = order;

@@ -2,7 +2,7 @@
 use Prim.Native.Nat.{ℕ, suc, _+_, _-_, _≤_, _<_}
 use native.Mathlib.Nat.{le-refl}
 use native.Mathlib.Omega.{arith}
-use mathlib.Core.Path.{_≡_, refl, sym, ap, _∙_}
+use mathlib.Core.Path.{_≡_, refl, ap, _∙_}
 use mathlib.Core.Logic.{_⊎_, inl, inr}
 use mathlib.Core.Bool.{Bool, true, false, _&&_}
 use mathlib.Core.List.{List}
@@ -16,7 +16,7 @@ use Rattle.blocks.specs.declared.Counts.{Counts}
 use Rattle.blocks.specs.declared.heights.Heights.{Heights}
 use Rattle.blocks.specs.Counts.{Within}
 use Rattle.blocks.specs.Heights.{noHeights, Room, Stacked, blockBefore}
-use Rattle.blocks.specs.laws.Heights.{stacked-nothing, stacked-small, stacked-room, back-stacked}
+use Rattle.blocks.specs.laws.Heights.{stacked-nothing, stacked-room, back-stacked}
 use Rattle.starts.specs.declared.sweep.Pass.{Pass}
 use Rattle.starts.specs.declared.sweep.Row.{Row}
 use Rattle.starts.specs.Choice.{Candidate}
@@ -24,8 +24,8 @@ use Rattle.starts.specs.Beside.{Under, alone}
 use Rattle.starts.specs.Read.{searchOf, countsAt, rowOf}
 use Rattle.starts.specs.Sweep.{fresh, Layable, floatsAlone, rowTop}
 use Rattle.starts.specs.Swept.{RowSweep, RowRun, RowSwept, Sweep, SweepDone}
-use Rattle.starts.specs.laws.Columns.{few-floats, columns-few, row-next, row-grows, row-of, row-figures, row-tables, row-before, row-since, within-at, under-at}
-use Rattle.starts.specs.laws.Floats.{alone-at, alone-low}
+use Rattle.starts.specs.laws.Columns.{few-floats, columns-few, row-next, row-grows, row-of, row-figures, row-tables, row-in, within-at, under-at}
+use Rattle.starts.specs.laws.Floats.{alone-at, floats-lay, alone-low}
 use Rattle.starts.specs.laws.Lending.{lent-sized}
 use Rattle.starts.specs.laws.Cells.{scratched-then}
 use Rattle.starts.specs.laws.Past.{known-past, start-under, start-short}
@@ -75,14 +75,6 @@ module _ {bytes : List ℕ} {g : Galley} {w₀ sums words₀ : List ℕ} {row : 
         columns-few g (few-floats (asked .lent .sound)),
       )
 
-  -- A column of the row stands at its tables.
-  in-row : (x : ℕ) → rowOf g (row .figures) ≤ x → x < rowOf g (suc (row .figures))
-      → (countsAt g 0 x .figures ≡ row .figures) × (rowOf g (row .figures) + countsAt g 0 x .tables ≡ x)
-  in-row x low high =
-      let e : countsAt g 0 x .figures ≡ row .figures =
-      omega (arith, row-since g 0 (row .figures) x low, row-before g 0 (row .figures) x high) in
-      (e, ap (λ b. rowOf g b + countsAt g 0 x .tables) (sym e) ∙ row-of g 0 x)
-
   -- Before the first sweep no more is known than in the row after it: the columns past the top are not under the end.
   pub row-first : RowRun bytes g w₀ w₀ words₀ words₀ row noHeights (rowTop row)
   row-first =
@@ -111,7 +103,7 @@ module _ {bytes : List ℕ} {g : Galley} {w₀ sums words₀ : List ℕ} {row : 
       none : (i a x y side : ℕ) → i ≤ g .text .count → rowOf g (row .figures) + rowTop row ≤ x → x < rowOf g (suc (row .figures))
           → x < row .to → Candidate (searchOf bytes g w₀ i (row .to) side) a x y → Offered row (rowTop row) → ⊥
       none i a x y side h k l m c (inl (n, e)) =
-          omega (arith, in-row x (omega arith) l .1, start-under (asked .lent) i a x y side h c .1, end-tables)
+          omega (arith, row-in g (row .figures) x (omega arith) l .1, start-under (asked .lent) i a x y side h c .1, end-tables)
       none i a x y side h k l m c (inr (n, e)) =
           let same : row .figures ≡ row .end .figures = omega (arith, asked .within) in
           omega (arith, ap (rowOf g) same, end-stands)
@@ -174,18 +166,8 @@ module _ {bytes : List ℕ} {g : Galley} {w₀ sums words₀ : List ℕ} {row : 
         -- With the row's figures its heights can be added,
         pub row-lays : Layable (g .spec) (row .heights) tables′
         row-lays =
-            let spec = asked .lent .sound .specRanged in
-            let figures = stacked-small bytes (g .figures) (row .figures) (row .end .figures) (row .heights) (asked .lent .sound .figures .sound)
-            (omega (arith, end-figures, end-within .figures)) (asked .floats) in
-            let second = stacked-small bytes (g .tables) (top - 1) (row .end .tables) tables′ (asked .lent .sound .tables .sound) tables-few floats′ in
-            let n = asked .lent .sound .figures .few in
-            let k = asked .lent .sound .tables .few in
-            record {
-              smin = omega (arith, spec .smins, spec .smaxs);
-              smax = spec .smaxs;
-              first = record { tight = omega (arith, figures .tight); loose = omega (arith, figures .loose) };
-              second = record { tight = omega (arith, second .tight); loose = omega (arith, second .loose) };
-            }
+            floats-lay bytes g (asked .lent .sound) (row .figures) (top - 1) (row .to) (row .heights) tables′ (asked .lent .column)
+            (rw (← end-figures) (asked .floats)) (rw (← end-tables) floats′)
 
         module _ (both : Bool) (mixed : both ≡ (ltb (row .figures) (row .end .figures) && ltb (top - 1) (row .end .tables))) (floats : Heights)
             (laid : floats ≡ floatsAlone (g .spec) (row .heights) tables′ both) where
@@ -247,6 +229,6 @@ module _ {bytes : List ℕ} {g : Galley} {w₀ sums words₀ : List ℕ} {row : 
               none : (i a x y side : ℕ) → i ≤ g .text .count → rowOf g (row .figures) ≤ x → x < rowOf g (row .figures) + top → x < row .to
                   → Candidate (searchOf bytes g w i (row .to) side) a x y → ⊥
               none i a x y side h k l m c =
-                  let (e, at) = in-row x k (omega (arith, row-next g (row .figures), low)) in
+                  let (e, at) = row-in g (row .figures) x k (omega (arith, row-next g (row .figures), low)) in
                   start-short (run .lent) from (omega (arith, from-before .0)) from-under (omega (arith, alone-from .0)) i a x y side h
                   (under-at bytes g x from (omega (arith, from-figures)) (omega (arith, from-tables))) c

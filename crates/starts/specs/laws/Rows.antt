@@ -1,13 +1,11 @@
 -- The rows one after another: back from that of the column where pages end, until its figures are too tall.
 use Prim.Native.Nat.{ℕ, suc, _+_, _-_, _≤_, _<_}
-use native.Mathlib.Nat.{le-refl, zero-mul}
+use native.Mathlib.Nat.{zero-mul}
 use native.Mathlib.Omega.{arith}
 use mathlib.Core.Path.{_≡_, refl, ap, _∙_}
-use mathlib.Core.Bool.{Bool, true, false, _&&_}
+use mathlib.Core.Bool.{false}
 use mathlib.Core.List.{List}
 use lib.ListN.{length}
-use lib.Dec.{ltb}
-use borrow.Author.Tests.{le-ltb}
 use Rattle.model.specs.Rules.{floor}
 use Rattle.galley.specs.declared.Galley.{Galley}
 use Rattle.galley.specs.Model.{floatsOf, modelOf}
@@ -17,19 +15,14 @@ use Rattle.blocks.specs.Heights.{noHeights, Room, Stacked, blockBefore}
 use Rattle.blocks.specs.laws.Heights.{stacked-nothing, stacked-room, back-stacked}
 use Rattle.starts.specs.declared.sweep.Row.{Row}
 use Rattle.starts.specs.Choice.{Candidate}
-use Rattle.starts.specs.Beside.{alone}
 use Rattle.starts.specs.Read.{searchOf, countsAt, rowOf}
 use Rattle.starts.specs.Sweep.{Summed, number, fresh, Cleared}
 use Rattle.starts.specs.Swept.{ColumnSweep, ColumnSweepRun, ColumnSwept, RowSweep, RowSwept}
 use Rattle.starts.specs.laws.Columns.{row-next, row-grows, row-of, row-figures, row-tables, row-before, tables-low, within-at, under-at}
-use Rattle.starts.specs.laws.Floats.{laid-out, alone-at}
+use Rattle.starts.specs.laws.Floats.{figures-alone}
 use Rattle.starts.specs.laws.Lending.{lent-sized}
 use Rattle.starts.specs.laws.Cells.{scratched-then, blank-known}
 use Rattle.starts.specs.laws.Past.{known-past, start-under, start-short}
-
-and-false : (x : Bool) → (x && false) ≡ false
-and-false true = refl
-and-false false = refl
 
 -- Before the first row no start is known, and every place is unreached. The loop starts with the cleared column.
 pub column-first : {bytes : List ℕ} {g : Galley} {w₀ sums words : List ℕ} {j : ℕ} → ColumnSweep bytes g w₀ sums words j → (w : List ℕ)
@@ -137,19 +130,11 @@ module _ {bytes : List ℕ} {g : Galley} {w₀ w words₀ words : List ℕ} {j :
           from-before : from ≤ j
           from-before = omega (arith, row-grows g (top - 1) (end .figures) (omega (arith, run .within)), row-of g 0 j)
 
-          tight : heights′ .tight ≡ alone (modelOf bytes g) (λ st. st .least) (g .spec .smin) from j
-          tight =
-              let mixed : false ≡ (ltb (countsAt g 0 from .figures) (end .figures) && ltb (countsAt g 0 from .tables) (end .tables)) =
-              rw (le-ltb (countsAt g 0 from .tables) (end .tables) (omega (arith, from-tables)), and-false) refl in
-              let same = alone-at bytes g from j heights′ noHeights false (rw from-figures floats-back)
-              (rw from-tables (stacked-nothing (floatsOf bytes (g .tables)) (end .tables) (end .tables) (le-refl _))) mixed in
-              omega (arith, same .0, laid-out (g .spec) heights′ noHeights false .0)
-
           none : (i a x y side : ℕ) → i ≤ g .text .count → 0 ≤ x → x < rowOf g top → x < j
               → Candidate (searchOf bytes g w i j side) a x y → ⊥
           none i a x y side h k l m c =
               let (figures, tables) = start-under (run .lent) i a x y side h c in
               let fewer = row-before g 0 (top - 1) x (rw (← step) l) in
               start-short (run .lent) from from-before
-              (under-at bytes g from j (omega (arith, from-figures, run .within)) (omega (arith, from-tables))) (omega (arith, tight)) i a x y side h
+              (under-at bytes g from j (omega (arith, from-figures, run .within)) (omega (arith, from-tables))) (omega (arith, figures-alone bytes g (top - 1) j heights′ floats-back)) i a x y side h
               (under-at bytes g x from (omega (arith, from-figures)) (omega (arith, from-tables))) c

@@ -17,8 +17,8 @@ use Rattle.places.specs.declared.Entry.{Entry}
 use Rattle.window.specs.declared.slide.Window.{Window}
 use Rattle.window.specs.declared.queue.Queue.{Queue}
 use Rattle.window.specs.Slide.{Open}
-use Rattle.window.specs.Queue.{linesOf, frontOf, Held, FeedAsked, FrontAsked, Advanced}
-use Rattle.window.specs.Windows.{windowAt, WindowAsked, WindowFound}
+use Rattle.window.specs.Queue.{linesOf, frontOf, Held, Feedable, QueueStands, Advanced}
+use Rattle.window.specs.Windows.{windowAt, Windowable, WindowFound}
 use Rattle.window.specs.laws.Slide.{ends-first, ends-next}
 use Rattle.window.specs.laws.Held.{held-none, held-same, held-beside}
 use Rattle.window.specs.laws.Front.{front-best}
@@ -83,7 +83,7 @@ module _ {bytes : List ℕ} {g : Galley} {w₀ sums words₀ : List ℕ} {c : �
       pub side-ended : Ended g w i c pass
       side-ended = pass-ended lent-now (asked .passing) i c line (asked .occurs)
 
-      pub side-slides : WindowAsked sums (passLoad g pass) words window i
+      pub side-slides : Windowable sums (passLoad g pass) words window i
       side-slides =
           record {
             slides =
@@ -129,7 +129,7 @@ module _ {bytes : List ℕ} {g : Galley} {w₀ sums words₀ : List ℕ} {c : �
                 subst (λ (window : Window). Open text (passLoad g pass) window k)
                 (sym (window-beside (found .beside) k (apart n (decLt k i)))) (run .windows k (l, before n p))
 
-        pub side-feeds : FeedAsked w (g .text .count + 1) (pass .from) (sideOf g c) words′ queue (window .high) (new .high)
+        pub side-feeds : Feedable w (g .text .count + 1) (pass .from) (sideOf g c) words′ queue (window .high) (new .high)
         side-feeds =
             can-feed lent-now (omega (arith, asked .scratch, run .wordsSized, sized)) (pass .from) from-low queue c (window .high)
             (new .high) i line (rise .1) (opened .ends .high) (omega (arith, run .based)) (run .held .based) (run .held .order)
@@ -138,7 +138,7 @@ module _ {bytes : List ℕ} {g : Galley} {w₀ sums words₀ : List ℕ} {c : �
         -- The queue has moved on.
         module _ (words″ : List ℕ) (sized″ : length words″ ≡ length words′) (moved : Queue)
             (advanced : Advanced w (g .text .count + 1) (pass .from) (sideOf g c) words′ queue (window .high) new moved words″) where
-          pub side-front : FrontAsked words″ moved (pass .from)
+          pub side-front : QueueStands words″ moved (pass .from)
           side-front =
               can-front lent-now (omega (arith, asked .scratch, run .wordsSized, sized, sized″)) (pass .from) from-low moved (new .high)
               inside (omega (arith, advanced .base, run .based)) (advanced .order) (advanced .short)

@@ -44,7 +44,7 @@ reached-small {i = i} r = omega (arith, r .small i (le-refl i) .1, r .added)
 module _ (sums : List ℕ) (st : Stream) (gap : ℕ → ℕ) (space beside limit old i new : ℕ)
     (pairs : (k : ℕ) → k ≤ i → Pair st gap sums (2 * k + space) k) (first : FirstBelow sums space beside limit old i new) where
   -- Whatever starts before it reaches the limit by line i and from there on, since a page that grows at its end only gets higher.
-  end-passes : ((a e : ℕ) → a < old → i ≤ e → Reaches st gap beside limit a e) → (a e : ℕ) → a < new → i ≤ e
+  pub end-passes : ((a e : ℕ) → a < old → i ≤ e → Reaches st gap beside limit a e) → (a e : ℕ) → a < new → i ≤ e
       → Reaches st gap beside limit a e
   end-passes before a e l n = go (decLe (suc a) old)
     where
@@ -60,7 +60,7 @@ module _ (sums : List ℕ) (st : Stream) (gap : ℕ → ℕ) (space beside limit
           omega arith
 
   -- Whatever starts from there on does not: a page that starts later is lower.
-  end-opens : (a : ℕ) → new ≤ a → a < i → Reaches st gap beside limit a i → ⊥
+  pub end-opens : (a : ℕ) → new ≤ a → a < i → Reaches st gap beside limit a i → ⊥
   end-opens a l m reaches =
       let low = first .kept (omega arith) in
       let start = pairs new (omega arith) .spaced in

@@ -1,0 +1,40 @@
+-- `pairs_between` meets its contract: each way is that of the definition.
+use Prim.Native.Nat.{_+_}
+use native.Mathlib.Omega.{arith}
+use mathlib.Core.Path.{ap}
+use Rattle.weighing.specs.Count.{pairsBetween}
+use borrow.Author.Needs.{needs}
+use Rattle.weighing.proofs.columns.pairs_between.Statement.{statement}
+use Rattle.weighing.proofs.columns.pairs_between.Tie as tie
+
+add-beside : tie.Need-add-beside
+add-beside c = search needs
+
+line-pairs-requires : tie.Need-line-pairs-requires
+line-pairs-requires c κs = let pre = c .before .before .before .pre in pre .pairable _ (omega (arith, pre .low, pre .separation))
+
+add-result : tie.Need-add-result
+add-result c = omega (arith, c .before .before .before .before .pre .pairable 0 (omega arith) .few)
+
+add-result-2 : tie.Need-add-result-2
+add-result-2 c = omega (arith, c .before .before .before .before .pre .pairable 0 (omega arith) .few, c .line-pairs .ensures .0)
+
+returns : tie.Need-returns
+unfolding pairsBetween
+returns c =
+    let pre = c .before .before .before .before .pre in (
+      omega (arith, pre .pairable 0 (omega arith) .few, c .line-pairs .ensures .0),
+      λ st rows. rw (c .before .before .if1 .taken) (ap (λ n. n + (c .before .before .before .before .args .g .text .count + 1)) (c .line-pairs .ensures .1 st rows)),
+    )
+
+line-pairs-requires-2 : tie.Need-line-pairs-requires-2
+line-pairs-requires-2 c κs = c .before .before .pre .pairable 0 (omega arith)
+
+returns-2 : tie.Need-returns-2
+unfolding pairsBetween
+returns-2 c =
+    (omega (arith, c .line-pairs2 .ensures .0), λ st rows. rw (c .before .if1 .left) (c .line-pairs2 .ensures .1 st rows))
+
+pub pairs-between-spec : {M : Type 1} → statement M
+pairs-between-spec =
+    tie.close (tie.spec add-beside line-pairs-requires add-result add-result-2 returns line-pairs-requires-2 returns-2)
