@@ -1,2 +1,3 @@
-pub mod Six
+pub mod Eight
 pub mod Section
+pub mod Forecast

@@ -1,28 +1,32 @@
 // The C interface: making, marking and reports for programs in other languages. include/barleychime.h documents it.
 ghost use mathlib.Core.Path.{_≡_};
 ghost use Rattle.marking.specs.Mark.{markOf};
-ghost use Rattle.barleychime.specs.Six.{numberOf, sixOf, Exported};
+ghost use Rattle.barleychime.specs.Eight.{numberOf, eightOf, Exported};
 use model::answer::Answer;
 
+pub mod beforehand; // beforehand.rt: what a galley asks for, told beforehand
 pub mod section; // section.rt: the folding order of a section
 pub mod term; // term.rt: the report on marks
 
-// An answer told to the caller: its six numbers in six words, and its number, which is 0 for a success.
-fn tell(answer: Answer, six: &mut [u32; 6]) -> u32
-    ensures { λ r. ⌜ (r ≡ numberOf answer) × (now (six .exit) ≡ sixOf answer) ⌝ }
+// An answer told to the caller: its six numbers and the count of what is weighed in eight words, and its number, which is 0 for a
+// success.
+fn tell(answer: Answer, weighed: u64, words: &mut [u32; 8]) -> u32
+    ensures { λ r. ⌜ (r ≡ numberOf answer) × (now (words .exit) ≡ eightOf answer weighed) ⌝ }
 {
     let n = model::answer::six_numbers(answer);
-    *six = [n.number, n.place, n.pages, n.x, n.y, n.turns];
+    let low = (weighed % 4294967296) as u32;
+    let high = (weighed / 4294967296) as u32;
+    *words = [n.number, n.place, n.pages, n.x, n.y, n.turns, low, high];
     n.number
 }
 
-// The best pages of a galley: making's answer, and what making leaves in the lent memory.
+// The best pages of a galley: making's answer with the count of what is weighed, and what making leaves in the lent memory.
 #[no_mangle]
 pub extern "C" fn barleychime_make(
     galley: &[u8],
     work: &mut [u32],
     pages: &mut [u32],
-    answer: &mut [u32; 6],
+    answer: &mut [u32; 8],
 ) -> u32
     ensures { λ r. ⌜
         Exported
@@ -36,17 +40,18 @@ pub extern "C" fn barleychime_make(
         ⌝ }
 {
     let made = making::make(galley, work, pages);
-    tell(made, answer)
+    let found = made.answer;
+    tell(found, made.weighed, answer)
 }
 
-// The marking of a page list: marking's answer. No lent memory but `answer` is written.
+// The marking of a page list: marking's answer; it weighs nothing. No lent memory but `answer` is written.
 #[no_mangle]
-pub extern "C" fn barleychime_mark(galley: &[u8], pages: &[u32], answer: &mut [u32; 6]) -> u32
+pub extern "C" fn barleychime_mark(galley: &[u8], pages: &[u32], answer: &mut [u32; 8]) -> u32
     ensures { λ r. ⌜
         (r ≡ numberOf (markOf (now (galley .entry)) (now (pages .entry))))
-        × (now (answer .exit) ≡ sixOf (markOf (now (galley .entry)) (now (pages .entry))))
+        × (now (answer .exit) ≡ eightOf (markOf (now (galley .entry)) (now (pages .entry))) 0)
         ⌝ }
 {
     let mark = marking::mark(galley, pages);
-    tell(mark, answer)
+    tell(mark, 0, answer)
 }

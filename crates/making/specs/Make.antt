@@ -10,6 +10,7 @@ use Rattle.model.specs.declared.answer.Answer.{Answer}
 use Rattle.model.specs.declared.answer.Answer.the-variants.{Refused}
 use Rattle.model.specs.Gather.{pick}
 use Rattle.model.specs.Best.{made, madeWords}
+use Rattle.model.specs.Weighed.{weighed}
 use Rattle.galley.specs.declared.Galley.{Galley}
 use Rattle.galley.specs.declared.Reading.{Reading}
 use Rattle.galley.specs.declared.Reading.the-variants as reads
@@ -61,8 +62,17 @@ listRead bytes work list (reads.Refused number place) = list
 unfoldable pub listAfter : List ℕ → ℕ → List ℕ → List ℕ
 listAfter bytes work list = listRead bytes work list (galleyOf bytes)
 
--- What making does: its answer, and every word of the work area and of the page list afterwards.
-pub record Made (bytes work list : List ℕ) (answer : Answer) (work′ list′ : List ℕ) : Type 0 where
+-- The count of what is weighed: where a list was sought, that of the galley; else 0 (document 02, S-5).
+unfoldable pub weighedRead : List ℕ → ℕ → ℕ → Reading → ℕ
+weighedRead bytes work list (reads.Galley g) = pick (tooShort g work list) 0 (weighed (modelOf bytes g))
+weighedRead bytes work list (reads.Refused number place) = 0
+
+unfoldable pub weighedOf : List ℕ → ℕ → ℕ → ℕ
+weighedOf bytes work list = weighedRead bytes work list (galleyOf bytes)
+
+-- What making does: its answer with the count of what is weighed, and every word of the work area and of the page list afterwards.
+pub record Made (bytes work list : List ℕ) (answer : Answer) (count : ℕ) (work′ list′ : List ℕ) : Type 0 where
   pub answers : answer ≡ makeOf bytes (length work) (length list)
+  pub counts : count ≡ weighedOf bytes (length work) (length list)
   pub clean : work′ ≡ workAfter bytes work (length list)
   pub listed : list′ ≡ listAfter bytes (length work) list

@@ -1,5 +1,6 @@
 // Making: the pagination with the fewest turns, for any bytes and any lent memory. Document 01, "Making".
 ghost use mathlib.Core.Path.{_≡_};
+ghost use Rattle.model.specs.declared.answer.Answer.the-variants.{Refused};
 ghost use Rattle.making.specs.Make.{Made};
 ghost use Rattle.making.specs.Solved.{nothingYet, Readable, Solved, Written};
 use galley::Galley;
@@ -7,6 +8,22 @@ use galley::Reading;
 use model::answer::Answer;
 use places::Origin;
 use places::Place;
+
+// What making returns: its answer, and how many pages are weighed, in the plain sense (document 02, S-5).
+pub struct Making {
+    pub answer: Answer,
+    pub weighed: u64,
+}
+
+// A refusal that comes before a list is sought: nothing is weighed.
+fn turned_away(number: u32, place: u32) -> Making
+    ensures { λ r. ⌜ r ≡ record { answer = Refused number place; weighed = 0 } ⌝ }
+{
+    Making {
+        answer: Answer::Refused { number, place },
+        weighed: 0,
+    }
+}
 
 // Where making begins: nothing is placed, there is no page yet, and nothing is paid.
 fn beginning() -> Origin
@@ -38,38 +55,33 @@ fn best_pages(s: &[u8], g: Galley, origin: Origin, work: &[u32], pages: &mut [u3
 }
 
 // A galley that was read, made where the lent memory is long enough: 9, then 10.
-fn make_read(s: &[u8], g: Galley, origin: Origin, work: &mut [u32], pages: &mut [u32]) -> Answer
+fn make_read(s: &[u8], g: Galley, origin: Origin, work: &mut [u32], pages: &mut [u32]) -> Making
     requires { ⌜ Readable (now s) g origin ⌝ }
-    ensures { λ r. ⌜ Made (now (s .entry)) (now (work .entry)) (now (pages .entry)) r (now (work .exit)) (now (pages .exit)) ⌝ }
+    ensures { λ r. ⌜ Made (now (s .entry)) (now (work .entry)) (now (pages .entry)) (r .answer) (r .weighed) (now (work .exit)) (now (pages .exit)) ⌝ }
 {
     let needed = places::words_needed(g.text.count, starts::read::columns_of(g));
     let room = blocks::page_words(g) * (g.text.count + g.figures.count + g.tables.count);
     if work.len() < needed {
-        return Answer::Refused {
-            number: 9,
-            place: needed as u32,
-        };
+        return turned_away(9, needed as u32);
     }
     if pages.len() < room {
-        return Answer::Refused {
-            number: 10,
-            place: room as u32,
-        };
+        return turned_away(10, room as u32);
     }
     filling::fill::fill(s, g, origin, work);
     let answer = best_pages(s, g, origin, work, pages);
     places::clear(work, needed);
-    answer
+    let weighed = weighing::weighed(s, g);
+    Making { answer, weighed }
 }
 
-// The best pages of the galley that any bytes hold, or one refusal. Nothing that the work area holds beforehand matters.
-pub fn make(galley: &[u8], work: &mut [u32], pages: &mut [u32]) -> Answer
-    ensures { λ r. ⌜ Made (now (galley .entry)) (now (work .entry)) (now (pages .entry)) r (now (work .exit)) (now (pages .exit)) ⌝ }
+// The best pages of the galley that any bytes hold, or one refusal, and the count of what is weighed. Nothing that the work area holds beforehand matters.
+pub fn make(galley: &[u8], work: &mut [u32], pages: &mut [u32]) -> Making
+    ensures { λ r. ⌜ Made (now (galley .entry)) (now (work .entry)) (now (pages .entry)) (r .answer) (r .weighed) (now (work .exit)) (now (pages .exit)) ⌝ }
 {
     let origin = beginning();
     let reading = galley::whole::read_galley(galley);
     match reading {
         Reading::Galley(g) => make_read(galley, g, origin, work, pages),
-        Reading::Refused { number, place } => Answer::Refused { number, place },
+        Reading::Refused { number, place } => turned_away(number, place),
     }
 }

@@ -77,7 +77,8 @@ fn main() {
     }
     let mut work = [0u32; 10248];
     let mut list = [0u32; 400];
-    let answer = making::make(&input[..got], &mut work, &mut list);
+    let made = making::make(&input[..got], &mut work, &mut list);
+    let answer = made.answer;
     let n = model::answer::six_numbers(answer);
     if n.number == 0 {
         print_counts(n);

@@ -89,7 +89,7 @@ marking-answers bytes words =
     of-marking (Ends ByMarking) bytes words (λ n at l h. refused (inl (l, h))) (λ g e. marked-ends (modelOf bytes g) words)
 
 -- Where making answers 11, or anything but counts, it writes no word.
-made-refused : (g : model.Galley) (n at : ℕ) → made g ≡ Refused n at → (n ≡ 11) × (madeWords g ≡ [])
+pub made-refused : (g : model.Galley) (n at : ℕ) → made g ≡ Refused n at → (n ≡ 11) × (madeWords g ≡ [])
 unfolding made madeWords countsOf
 made-refused g n at e = go (best g) e
   where
@@ -136,7 +136,7 @@ refused-work bytes work list n at e other = go (galleyOf bytes) e
     go (reads.Refused m there) e = refl
 
 -- What the contract of `make` promises of its answer and of the lent memory, whatever that held.
-module _ {bytes work list : List ℕ} {answer : Answer} {work′ list′ : List ℕ} (m : Made bytes work list answer work′ list′) where
+module _ {bytes work list : List ℕ} {answer : Answer} {count : ℕ} {work′ list′ : List ℕ} (m : Made bytes work list answer count work′ list′) where
   -- Any galley and any lent memory gets a finished pagination or one numbered refusal.
   pub making-answers : Answered ByMaking (numbersOf answer)
   making-answers =

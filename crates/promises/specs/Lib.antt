@@ -6,3 +6,4 @@ pub mod ThirdDemand
 pub mod Editions
 pub mod Limit
 pub mod Waiting
+pub mod Forecast

@@ -56,7 +56,8 @@ marking-limit bytes words =
     (λ g e. marked-limited (modelOf bytes g) (reads-sane bytes g e) (reads-limits bytes g e) words)
 
 -- So does making: `Made` is the contract of `make`.
-pub making-limit : {bytes work list : List ℕ} {answer : Answer} {work′ list′ : List ℕ} → Made bytes work list answer work′ list′
+pub making-limit : {bytes work list : List ℕ} {answer : Answer} {count : ℕ} {work′ list′ : List ℕ}
+    → Made bytes work list answer count work′ list′
     → numbersOf answer .turns ≤ 1066499000
 making-limit {bytes} {work} {list} m =
     subst (λ a. Limited a) (sym (m .answers))

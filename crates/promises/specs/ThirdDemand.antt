@@ -36,7 +36,7 @@ pub record ThirdDemand (bytes : List ℕ) (g : Galley) (answer : Answer) (list�
   -- 11 comes back exactly where marking accepts no list at all
   pub none : (answer ≡ Refused 11 0) ↔ ((words : List ℕ) → accepted (markOf bytes words) ≡ false)
 
-module _ {bytes work list : List ℕ} {answer : Answer} {work′ list′ : List ℕ} (m : Made bytes work list answer work′ list′)
+module _ {bytes work list : List ℕ} {answer : Answer} {count : ℕ} {work′ list′ : List ℕ} (m : Made bytes work list answer count work′ list′)
     (g : Galley) (read : galleyOf bytes ≡ reads.Galley g) (enough : workNeeded g ≤ length work) (room : listNeeded g ≤ length list) where
   makes : answer ≡ made (modelOf bytes g)
   unfolding makeOf makeRead

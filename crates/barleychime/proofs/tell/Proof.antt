@@ -1,12 +1,21 @@
--- `tell` meets its contract: what is stored and what is returned are the answer's six numbers.
+-- `tell` meets its contract: what is stored and what is returned are the answer's six numbers and the two words of the count.
 use borrow.Author.Needs.{needs}
+use native.Mathlib.Omega.{arith}
 use mathlib.Core.Path.{ap}
-use Rattle.barleychime.specs.Six.{wordsOfNumbers}
+use Rattle.barleychime.specs.Eight.{wordsOfNumbers}
 use Rattle.barleychime.proofs.tell.Statement.{statement}
 use Rattle.barleychime.proofs.tell.Tie as tie
 
+cast-low : tie.Need-cast-low
+cast-low c = omega arith
+
+cast-high : tie.Need-cast-high
+cast-high c = omega arith
+
 returns : tie.Need-returns
-returns c = (ap (λ n. n .number) (c .before .six-numbers .ensures), ap wordsOfNumbers (c .before .six-numbers .ensures))
+returns c =
+    let n = c .before .six-numbers .ensures in
+    (ap (λ n. n .number) n, ap (λ n. wordsOfNumbers n (c .before .before .args .weighed)) n)
 
 pub tell-spec : {M : Type 1} → statement M
-tell-spec = tie.close (tie.spec (λ c κs. search needs) returns)
+tell-spec = tie.close (tie.spec (λ c κs. search needs) cast-low cast-high returns)

@@ -14,7 +14,9 @@ make-read-requires c κs =
     }
 
 returns-2 : tie.Need-returns-2
-returns-2 c = made-refused _ _ _ _ _ (sym (c .before .before .before .read-galley .ensures) ∙ c .before .reading2 .given .1)
+returns-2 c =
+    rw (c .turned-away .ensures)
+    (made-refused _ _ _ _ _ (sym (c .before .before .before .before .read-galley .ensures) ∙ c .before .before .reading2 .given .1))
 
 pub make-spec : {M : Type 1} → statement M
 make-spec =
@@ -25,6 +27,7 @@ make-spec =
     (λ c. search needs)
     make-read-requires
     (λ c. search needs)
+    (λ c κs. search needs)
     (λ c. search needs)
     (λ c. search needs)
     (λ c. search needs)

@@ -1,5 +1,5 @@
 -- `make_read` meets its contract: each way out leaves what the definition says, and the work area that was filled is cleared of all
--- that filling wrote.
+-- that filling wrote; the count is that of the galley that was read.
 use Prim.Native.Nat.{_+_, _*_, _<_}
 use borrow.Author.Needs.{needs}
 use denote.Ref.{now}
@@ -7,6 +7,7 @@ use lib.ListN.{length}
 use native.Mathlib.Omega.{arith}
 use mathlib.Core.Path.{_≡_}
 use mathlib.Core.List.{[]}
+use Rattle.galley.specs.laws.Sound.{sound}
 use Rattle.making.specs.Make.{workNeeded, listNeeded}
 use Rattle.making.specs.laws.Made.{read-few, read-small, needed-is, needed-small, list-small, room-small, made-nine, made-ten, made-fillable, made-solved, made-best}
 use Rattle.making.proofs.make_read.Statement.{statement}
@@ -37,26 +38,26 @@ room c = rw (c .page-words .ensures .1)
 mul-room : tie.Need-mul-room
 mul-room c = omega (arith, room (c .before .before), room-small (c .before .before .before .before .before .before .before .before .pre))
 
-cast-t13 : tie.Need-cast-t13
-cast-t13 c =
+cast-turned-away : tie.Need-cast-turned-away
+cast-turned-away c =
     let asked = c .before .before .before .before .before .before .before .before .before .pre in
     omega (arith, needed (c .before .before .before .before), needed-small asked, room (c .before .before .before), room-small asked)
 
 returns : tie.Need-returns
 returns c =
-    let start = c .before .before .before .before .before .before .before .before .before in
-    let short : length (now (start .args .work)) < c .before .before .before .before .words-needed .result = omega arith in
-    made-nine (start .pre) _ _ _ (needed (c .before .before .before .before)) short _ (omega arith)
+    let start = c .before .before .before .before .before .before .before .before .before .before in
+    let short : length (now (start .args .work)) < c .before .before .before .before .before .words-needed .result = omega arith in
+    rw (c .turned-away .ensures) (made-nine (start .pre) _ _ _ (needed (c .before .before .before .before .before)) short _ (omega arith))
 
-cast-t14 : tie.Need-cast-t14
-cast-t14 c =
+cast-turned-away-2 : tie.Need-cast-turned-away-2
+cast-turned-away-2 c =
     let asked = c .before .before .before .before .before .before .before .before .before .before .pre in
     omega (arith, needed (c .before .before .before .before .before), needed-small asked, room (c .before .before .before .before), room-small asked)
 
 returns-2 : tie.Need-returns-2
 returns-2 c =
-    let wide = c .before .before .before .before .page-words .ensures .1 in
-    rw wide (made-ten (c .before .before .before .before .before .before .before .before .before .before .pre) _ _ _ (needed (c .before .before .before .before .before)) (search needs) (rw wide at (c .if2 .taken)))
+    let wide = c .before .before .before .before .before .page-words .ensures .1 in
+    rw (c .turned-away2 .ensures, wide) (made-ten (c .before .before .before .before .before .before .before .before .before .before .before .pre) _ _ _ (needed (c .before .before .before .before .before .before)) (search needs) (rw wide at (c .before .if2 .taken)))
 
 fill-requires : tie.Need-fill-requires
 fill-requires c κs = made-fillable (c .before .before .before .before .before .before .before .before .before .before .before .pre) _ [] _ (needed (c .before .before .before .before .before .before)) (search needs)
@@ -66,11 +67,14 @@ best-pages-requires c κs =
     made-solved (c .before .before .before .before .before .before .before .before .before .before .before .before .before .before .before .before .pre) _ _ _ (needed (c .before .before .before .before .before .before .before .before .before .before .before)) (c .before .before .before .before .before .before .before .if1 .left)
     (rw (c .before .before .before .before .before .before .before .before .before .before .page-words .ensures .1) at (c .before .before .before .before .before .before .if2 .left)) _ (c .before .before .before .before .fill .ensures)
 
+weighed-requires : tie.Need-weighed-requires
+weighed-requires c κs = sound _ _ (c .before .before .before .before .before .before .before .before .before .before .before .before .before .before .before .before .before .before .before .before .before .before .before .pre .reads)
+
 returns-3 : tie.Need-returns-3
 returns-3 c =
-    made-best (c .before .before .before .before .before .before .before .before .before .before .before .before .before .before .before .before .before .before .before .before .before .before .before .pre) _ _ _ (needed (c .before .before .before .before .before .before .before .before .before .before .before .before .before .before .before .before .before .before)) (c .before .before .before .before .before .before .before .before .before .before .before .before .before .before .if1 .left)
-    (rw (c .before .before .before .before .before .before .before .before .before .before .before .before .before .before .before .before .before .page-words .ensures .1) at (c .before .before .before .before .before .before .before .before .before .before .before .before .before .if2 .left)) _ _ _ _ (c .before .before .before .before .before .before .before .before .before .before .before .fill .ensures) (c .before .before .clear .ensures)
-    (c .before .before .before .before .before .before .best-pages .ensures)
+    made-best (c .before .before .before .before .before .before .before .before .before .before .before .before .before .before .before .before .before .before .before .before .before .before .before .before .pre) _ _ _ (needed (c .before .before .before .before .before .before .before .before .before .before .before .before .before .before .before .before .before .before .before)) (c .before .before .before .before .before .before .before .before .before .before .before .before .before .before .before .if1 .left)
+    (rw (c .before .before .before .before .before .before .before .before .before .before .before .before .before .before .before .before .before .before .page-words .ensures .1) at (c .before .before .before .before .before .before .before .before .before .before .before .before .before .before .if2 .left)) _ _ _ _ _ (c .before .before .before .before .before .before .before .before .before .before .before .before .fill .ensures) (c .before .before .before .clear .ensures)
+    (c .before .before .before .before .before .before .before .best-pages .ensures) (c .weighed .ensures)
 
 pub make-read-spec : {M : Type 1} → statement M
 make-read-spec =
@@ -82,13 +86,16 @@ make-read-spec =
     add-room
     add-room-2
     mul-room
-    cast-t13
+    cast-turned-away
+    (λ c κs. search needs)
     returns
-    cast-t14
+    cast-turned-away-2
+    (λ c κs. search needs)
     returns-2
     fill-requires
     best-pages-requires
     (λ c κs. search needs)
+    weighed-requires
     (λ c. search needs)
     (λ c. search needs)
     returns-3)
