@@ -4,9 +4,12 @@ import os
 import pathlib
 import subprocess
 
+from reference.beforehand import lengths
+
 ROOT = pathlib.Path(__file__).resolve().parents[1]
 WORD, LENGTH = ctypes.c_uint32, ctypes.c_size_t
 HIGHEST = 2**32 - 1
+ANSWER, FORECAST = 8, 6  # words of an answer and of a forecast
 
 
 def proved(crate):
@@ -37,19 +40,33 @@ def held(lent_words, words):
     return tuple(lent_words)[:len(words)]
 
 
-def answered(returned, six):
-    """An answer as the reference gives it, with anything amiss in its numbers told."""
-    number, place, *counts = six
+def told(words):
+    """Lent words for so many that are told, and one past them that stays."""
+    return lent([HIGHEST] * (words + 1))
+
+
+def wide(low, high):
+    return high << 32 | low
+
+
+def answered(returned, lent_answer):
+    """An answer as the reference gives it, with anything amiss in its numbers told; and the count of pages weighed."""
+    *eight, beyond = lent_answer
+    number, place, *counts, low, high = eight
+    weighed = wide(low, high)
     if returned != number:
-        return ('returned', returned, *six)
+        return ('returned', returned, *eight), weighed
+    if beyond != HIGHEST:
+        return ('wrote past the answer', *eight), weighed
     if number == 0:
-        return ('accepted', *counts) if place == 0 else ('accepted with a place', *six)
-    return ('refused', number, place) if not any(counts) else ('refused with counts', *six)
+        return ('accepted', *counts) if place == 0 else ('accepted with a place', *eight), weighed
+    return ('refused', number, place) if not any(counts) else ('refused with counts', *eight), weighed
 
 
-def six(answer):
-    """The six words of an answer that the reference gives."""
-    return (0, 0, *answer[1:]) if answer[0] == 'accepted' else (*answer[1:], 0, 0, 0, 0)
+def eight(answer, weighed=0):
+    """The eight words of an answer that the reference gives, with this count of pages weighed."""
+    six = (0, 0, *answer[1:]) if answer[0] == 'accepted' else (*answer[1:], 0, 0, 0, 0)
+    return (*six, weighed % 2**32, weighed >> 32)
 
 
 class Engine:
@@ -59,6 +76,7 @@ class Engine:
         bytes_lent, words_lent = (ctypes.c_char_p, LENGTH), (ctypes.c_void_p, LENGTH)
         self.c_make = self.declared(library, making, *bytes_lent, *words_lent, *words_lent, ctypes.c_void_p)
         self.c_mark = self.declared(library, 'barleychime_mark', *bytes_lent, *words_lent, ctypes.c_void_p)
+        self.c_forecast = self.declared(library, 'barleychime_forecast', *bytes_lent, ctypes.c_void_p)
         self.c_section = self.declared(library, 'barleychime_section', WORD, ctypes.c_void_p, ctypes.c_void_p)
         self.c_report = self.declared(library, 'barleychime_report', *words_lent, ctypes.c_void_p)
 
@@ -69,16 +87,26 @@ class Engine:
         return call
 
     def make(self, data, work, pages):
-        """The answer, and the work area and the page list afterwards."""
-        lent_work, lent_pages, answer = lent(work), lent(pages), lent([HIGHEST] * 6)
+        """The answer, the count of pages weighed, and the work area and the page list afterwards."""
+        lent_work, lent_pages, answer = lent(work), lent(pages), told(ANSWER)
         returned = self.c_make(data, len(data), lent_work, len(work), lent_pages, len(pages), answer)
-        return answered(returned, answer), held(lent_work, work), held(lent_pages, pages)
+        return *answered(returned, answer), held(lent_work, work), held(lent_pages, pages)
 
     def mark(self, data, words):
         """The answer; the list is only read."""
-        lent_words, answer = lent(words), lent([HIGHEST] * 6)
-        returned = self.c_mark(data, len(data), lent_words, len(words), answer)
-        return answered(returned, answer) if held(lent_words, words) == tuple(words) else ('wrote to the list',)
+        lent_words, answer = lent(words), told(ANSWER)
+        marked, weighed = answered(self.c_mark(data, len(data), lent_words, len(words), answer), answer)
+        if held(lent_words, words) != tuple(words):
+            return ('wrote to the list',)
+        return ('marked with a count', *marked, weighed) if weighed else marked
+
+    def forecast(self, data):
+        """Number, place, words of work area and of page list, and the ceiling; or what is amiss."""
+        forecast = told(FORECAST)
+        returned = self.c_forecast(data, len(data), forecast)
+        number, *words, low, high, beyond = forecast
+        right = returned == number and beyond == HIGHEST
+        return (number, *words, wide(low, high)) if right else ('returned', returned, *forecast)
 
     def section(self, size, numbers, answer):
         """The number that is returned, and the numbers and the answer afterwards."""
@@ -94,22 +122,15 @@ class Engine:
         return returned, tuple(lent_report) if held(lent_words, words) == tuple(words) else ('wrote to the marks',)
 
 
-def lengths(galley):
-    """The words that making needs of the work area and of the page list."""
-    places = 1
-    for size in galley.sizes:
-        places *= size + 1
-    return 8 * places, len(galley.streams) * sum(galley.sizes)
-
-
-def made(galley, best, answer, work, pages):
-    """What making owes for a galley with this best list, whose marking is given: the answer, the work area and the page list."""
+def made(galley, best, answer, weighed, work, pages):
+    """What making owes for a galley with this best list, whose marking is given, and so many pages weighed: the answer, the
+    count, the work area and the page list."""
     work_words, list_words = lengths(galley)
     if len(work) < work_words:
-        return ('refused', 9, work_words), work, pages
+        return ('refused', 9, work_words), 0, work, pages
     if len(pages) < list_words:
-        return ('refused', 10, list_words), work, pages
+        return ('refused', 10, list_words), 0, work, pages
     cleared = (0,) * work_words + work[work_words:]
     if best is None:
-        return ('refused', 11, 0), cleared, pages
-    return answer, cleared, tuple(best) + pages[len(best):]
+        return ('refused', 11, 0), weighed, cleared, pages
+    return answer, weighed, cleared, tuple(best) + pages[len(best):]

@@ -2,7 +2,7 @@
 
 from dataclasses import replace
 
-from reference import marking, search
+from reference import beforehand, marking, search
 from reference.galley import HIGHEST_FOLIO
 
 # Which page a spread begins with hangs on the first folio: every parity, with and without the record, in single-sided work too.
@@ -18,6 +18,7 @@ OF_REFUSALS = ['14 by a line', '14 by a figure', '16 on an earlier page', '16 on
 OF_CHOICES = ['an even last folio decides against an even page count', 'kept figures change the list',
               'kept figures leave no list', 'lastMin changes the list', 'lastMin leaves no list', 'the later figure decides',
               'the later table decides']
+OF_WEIGHING = ['pages weighed and no list', 'a stream of which no block fits']
 
 
 def of_galley(g):
@@ -102,6 +103,14 @@ def of_choice(g, lists, best):
             yield 'kept figures change the list' if best else 'kept figures leave no list'
     if g.spec.edition == 2 and search.best_by_table(replace(g, spec=g.spec._replace(lastmin=None))) != best:
         yield 'lastMin changes the list' if best else 'lastMin leaves no list'
+
+
+def of_weighing(g, best, weighed):
+    """Of the pages weighed and of what is told of them beforehand."""
+    if best is None and weighed:
+        yield 'pages weighed and no list'
+    if any(stream and beforehand.most_together(g, stream) == 0 for stream in g.streams):
+        yield 'a stream of which no block fits'
 
 
 def of_ties(g, lists, best):

@@ -3,7 +3,7 @@
 import random
 
 import engine
-from reference import cases, marking, refusals, sample, search
+from reference import beforehand, cases, marking, refusals, sample, search
 from reference.galley import write
 
 BEYOND = 5  # words lent past what is needed, to see that they stay
@@ -14,15 +14,15 @@ def litter(rng, words):
 
 
 def made_right(tally, make, rng, what, galley, best):
-    """Making answers the best list or 11 and leaves just what document 01 says, whatever the memory held."""
+    """Making answers the best list or 11, counts what it weighs and leaves just what document 01 says, whatever the memory held."""
     data, (work_words, list_words) = write(galley), engine.lengths(galley)
-    answer = best and marking.mark(galley, best)
+    answer, weighed = best and marking.mark(galley, best), beforehand.weighed_by_runs(galley)
     work, pages = litter(rng, work_words + BEYOND), litter(rng, list_words + BEYOND)
     ways = [('making', work, pages), ('exact lengths for', work[:work_words], pages[:list_words]),
             ('work a word short for', work[1:work_words], pages[1:list_words]),
             ('list a word short for', work[:work_words], pages[1:list_words])]
     for way, lent_work, lent_pages in ways:
-        tally.same(f'{way} {what}', make(data, lent_work, lent_pages), engine.made(galley, best, answer, lent_work, lent_pages))
+        tally.same(f'{way} {what}', make(data, lent_work, lent_pages), engine.made(galley, best, answer, weighed, lent_work, lent_pages))
 
 
 def run(tally, archive, folder):
@@ -30,6 +30,7 @@ def run(tally, archive, folder):
     rng = random.Random(1)
     for name, galley, best, _ in cases.MADE:
         made_right(tally, called.make, rng, name, galley, best)
+        tally.same(f'forecast of {name}', called.forecast(write(galley)), beforehand.forecast(('galley', galley)))
     for name, galley, words, due in cases.MARKED + cases.MARKED_LONG:
         tally.same(f'marking {name}', called.mark(write(galley), words), due)
     tally.group('archive: cases')
@@ -37,7 +38,8 @@ def run(tally, archive, folder):
         due = ('refused', number, place)
         tally.same(f'marking {name}', called.mark(data, (1, 1)), due)
         work, pages = litter(rng, 64), litter(rng, 8)
-        tally.same(f'making {name}', called.make(data, work, pages), (due, work, pages))
+        tally.same(f'making {name}', called.make(data, work, pages), (due, 0, work, pages))
+        tally.same(f'forecast of {name}', called.forecast(data), beforehand.forecast(due))
     tally.group('archive: refused files')
     for galley in [*sample.galleys(101, 250, 4, 3), *sample.galleys(111, 150, 3, 2, 2)]:
         made_right(tally, called.make, rng, galley, galley, search.best(galley))

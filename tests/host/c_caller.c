@@ -1,7 +1,7 @@
 /* Case A through the C interface: makes it, prints what the program prints, marks two lists, and tries too little memory.
  * Then two sections, one of a size that there is none of, and two reports, one with a paper below its engine. At last case A with
  * every record that it can have: double-sided from folio 38, the last page held to lastMin, the figure kept; and a galley with
- * a table, whose lists have three words a page. */
+ * a table, whose lists have three words a page; what each of the two is told to need beforehand, and what making weighed. */
 #include <barleychime.h>
 #include <stdio.h>
 #include <string.h>
@@ -64,7 +64,7 @@ static void write_table(void)
     put("ED", NULL, 0);
 }
 
-static void print_answer(const uint32_t answer[6])
+static void print_answer(const uint32_t answer[BARLEYCHIME_ANSWER_WORDS])
 {
     if (answer[BARLEYCHIME_NUMBER] != 0) {
         printf("R %u %u\n", (unsigned)answer[BARLEYCHIME_NUMBER], (unsigned)answer[BARLEYCHIME_PLACE]);
@@ -72,6 +72,29 @@ static void print_answer(const uint32_t answer[6])
         printf("%u %u %u %u\n", (unsigned)answer[BARLEYCHIME_PAGES], (unsigned)answer[BARLEYCHIME_X],
                (unsigned)answer[BARLEYCHIME_Y], (unsigned)answer[BARLEYCHIME_TURNS]);
     }
+}
+
+static unsigned long wide(uint32_t low, uint32_t high)
+{
+    return (unsigned long)((uint64_t)high << 32 | low);
+}
+
+/* What is told of the galley, and of a making's answer what was weighed. */
+static void print_forecast(const uint32_t answer[BARLEYCHIME_ANSWER_WORDS])
+{
+    uint32_t told[BARLEYCHIME_FORECAST_WORDS + 1];
+
+    told[BARLEYCHIME_FORECAST_WORDS] = 7;
+    if (barleychime_forecast(galley, galley_len, told) != told[BARLEYCHIME_FORECAST_NUMBER] ||
+        told[BARLEYCHIME_FORECAST_WORDS] != 7) {
+        printf("a wrong number, or a word too many\n");
+        return;
+    }
+    printf("%u %u: %u %u %lu, %lu weighed\n", (unsigned)told[BARLEYCHIME_FORECAST_NUMBER],
+           (unsigned)told[BARLEYCHIME_FORECAST_PLACE], (unsigned)told[BARLEYCHIME_FORECAST_WORK],
+           (unsigned)told[BARLEYCHIME_FORECAST_LIST],
+           wide(told[BARLEYCHIME_FORECAST_CEILING_LOW], told[BARLEYCHIME_FORECAST_CEILING_HIGH]),
+           wide(answer[BARLEYCHIME_WEIGHED_LOW], answer[BARLEYCHIME_WEIGHED_HIGH]));
 }
 
 static void print_section(uint32_t size)
@@ -102,7 +125,7 @@ static void print_table(void)
 {
     static uint32_t work[TABLES_WORK], pages[TABLES_LIST];
     const uint32_t two_words[4] = {2, 1, 3, 1};
-    uint32_t answer[6];
+    uint32_t answer[BARLEYCHIME_ANSWER_WORDS];
 
     printf("%u ", (unsigned)barleychime_page_words(galley, galley_len));
     write_table();
@@ -113,6 +136,7 @@ static void print_table(void)
         const uint32_t *end = pages + 3 * page;
         printf("%u %u %u %u\n", (unsigned)page + 1, (unsigned)end[0], (unsigned)end[1], (unsigned)end[2]);
     }
+    print_forecast(answer);
     barleychime_mark(galley, galley_len, two_words, 4, answer);
     print_answer(answer);
     barleychime_make(galley, galley_len, work, TABLES_WORK - 1, pages, TABLES_LIST, answer);
@@ -126,10 +150,10 @@ int main(void)
     static uint32_t work[WORK + 1], pages[LIST + 1];
     const uint32_t too_long[4] = {3, 0, 3, 1}, too_high[4] = {2, 1, 3, 1}, last_mins[3] = {20, 21, 31};
     struct barleychime_paper papers[2] = {{2, 0, 1, 1, 1}, {2, 1, 1, 0xffffffffu, 1}};
-    uint32_t answer[6];
+    uint32_t answer[BARLEYCHIME_ANSWER_WORDS + 1];
 
     write_case_a();
-    work[WORK] = pages[LIST] = 7;
+    work[WORK] = pages[LIST] = answer[BARLEYCHIME_ANSWER_WORDS] = 7;
     if (barleychime_make(galley, galley_len, work, WORK, pages, LIST, answer) != answer[BARLEYCHIME_NUMBER]) {
         return 1;
     }
@@ -142,9 +166,10 @@ int main(void)
             return 1;
         }
     }
-    if (work[WORK] != 7 || pages[LIST] != 7) {
+    if (work[WORK] != 7 || pages[LIST] != 7 || answer[BARLEYCHIME_ANSWER_WORDS] != 7) {
         return 1;
     }
+    print_forecast(answer);
 
     barleychime_mark(galley, galley_len, too_long, 4, answer);
     print_answer(answer);
@@ -163,6 +188,7 @@ int main(void)
         write_every_record(last_mins[k]);
         barleychime_make(galley, galley_len, work, WORK, pages, LIST, answer);
         print_answer(answer);
+        print_forecast(answer);
     }
     print_table();
     return 0;

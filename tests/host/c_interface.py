@@ -4,12 +4,15 @@ import shutil
 import subprocess
 
 DUE = ('2 0 1 1\n1 1 1\n2 3 1\n'  # made
+       '0 0: 64 8 64, 19 weighed\n'  # told beforehand, and weighed
        '2 1 1 2\nR 15 1\n'  # marked
        'R 9 64\nR 10 8\n'  # too little memory lent
        '8 1 2 7 6 3 4 5\nR 33 6\n'  # sections
        '0: 0 0 2 4 1 2 4294967296 1 4294967295 4294967294 2\n32: 32 2 0 0 0 0 0 0 0 0 0\n'  # reported
-       '2 0 0 0\nR 11 0\nR 3 0\n'  # every record, with lastMin as high as the last page is, higher, and out of range
-       '2 3\n2 1 1 2\n1 2 1 0\n2 3 1 1\nR 12 0\nR 9 128\nR 10 15\n')  # a table: words a page, made, marked, too little memory
+       # every record, with lastMin as high as the last page is, higher, and out of range
+       '2 0 0 0\n0 0: 64 8 64, 19 weighed\nR 11 0\n0 0: 64 8 64, 19 weighed\nR 3 0\n3 0: 0 0 0, 0 weighed\n'
+       # a table: words a page, made, told and weighed, marked, too little memory
+       '2 3\n2 1 1 2\n1 2 1 0\n2 3 1 1\n0 0: 128 15 256, 64 weighed\nR 12 0\nR 9 128\nR 10 15\n')
 STRICT = ['-Wall', '-Wextra', '-Werror', '-pedantic']
 
 

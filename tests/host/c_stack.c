@@ -1,7 +1,7 @@
 /* Makes or marks on a thread that has a given number of bytes of stack left at the call.
  *
  *     c_stack                     prints the header's figures, for making and for marking
- *     c_stack BYTES GALLEY        makes the galley: prints the bytes left at the call, those taken, and the six words
+ *     c_stack BYTES GALLEY        makes the galley: prints the bytes left at the call, those taken, and the eight words
  *     c_stack BYTES GALLEY LIST   marks the list, two or three numbers a page, in the same way
  *
  * Below the stack lies memory that nobody may touch, so a call that takes more ends the program by a signal. Above the
@@ -24,7 +24,7 @@
 #define PAINT 0xa5
 
 static uint8_t galley[BARLEYCHIME_LONGEST_GALLEY + 1];
-static uint32_t pages[BARLEYCHIME_MOST_LIST_WORDS], answer[6], *work;
+static uint32_t pages[BARLEYCHIME_MOST_LIST_WORDS], answer[BARLEYCHIME_ANSWER_WORDS], *work;
 static size_t galley_len, work_len, pages_len = BARLEYCHIME_MOST_LIST_WORDS;
 static int marks = 0;
 
@@ -39,16 +39,16 @@ typedef uint32_t marker(const uint8_t *, size_t, const uint32_t *, size_t, uint3
 
 /* Stand-ins that only see where a call finds the stack. */
 static uint32_t see_make(const uint8_t *bytes, size_t bytes_len, uint32_t *area, size_t area_len, uint32_t *list,
-                         size_t list_len, uint32_t *six)
+                         size_t list_len, uint32_t *eight)
 {
     SEE_STACK();
-    return bytes != NULL && area != NULL && list != NULL && six != NULL && bytes_len + area_len + list_len > 0;
+    return bytes != NULL && area != NULL && list != NULL && eight != NULL && bytes_len + area_len + list_len > 0;
 }
 
-static uint32_t see_mark(const uint8_t *bytes, size_t bytes_len, const uint32_t *list, size_t list_len, uint32_t *six)
+static uint32_t see_mark(const uint8_t *bytes, size_t bytes_len, const uint32_t *list, size_t list_len, uint32_t *eight)
 {
     SEE_STACK();
-    return bytes != NULL && list != NULL && six != NULL && bytes_len + list_len > 0;
+    return bytes != NULL && list != NULL && eight != NULL && bytes_len + list_len > 0;
 }
 
 /* One call, of the engine or of its stand-in, from the same place: no compiler knows which. */
@@ -107,10 +107,9 @@ static int read_galley(const char *name)
 /* As much work area as the galley needs; a word where it is refused. */
 static int take_work(void)
 {
-    uint32_t none = 0;
-    if (barleychime_make(galley, galley_len, &none, 0, pages, pages_len, answer) == 9) {
-        work_len = answer[BARLEYCHIME_PLACE];
-    }
+    uint32_t forecast[BARLEYCHIME_FORECAST_WORDS];
+    barleychime_forecast(galley, galley_len, forecast);
+    work_len = forecast[BARLEYCHIME_FORECAST_WORK];
     work = malloc((work_len + 1) * sizeof *work);
     return work != NULL;
 }
@@ -144,7 +143,7 @@ int main(int count, char **words)
         return 2;
     }
     printf("%zu %zu", left, taken);
-    for (int k = 0; k < 6; k++) {
+    for (int k = 0; k < BARLEYCHIME_ANSWER_WORDS; k++) {
         printf(" %u", (unsigned)answer[k]);
     }
     printf("\n");

@@ -28,6 +28,7 @@ import command_line  # noqa: E402
 import examples  # noqa: E402
 import explained  # noqa: E402
 import folding  # noqa: E402
+import foretold  # noqa: E402
 import reported  # noqa: E402
 import round_trips  # noqa: E402
 import samples  # noqa: E402
@@ -52,6 +53,7 @@ def main():
         command_line.run(tally, command, ROOT, folder)
         round_trips.run(tally, command, ROOT, folder)
         explained.run(tally, command, folder)
+        foretold.run(tally, command, ROOT, folder)
         reported.run(tally, command, ROOT, folder)
         examples.run(tally, command, ROOT, library, folder)
         samples.run(tally, command, ROOT, folder)

@@ -8,9 +8,9 @@ import signal
 import subprocess
 
 from c_interface import STRICT
-from engine import six
+from engine import eight
 from frames import Unknown, needed, symbols
-from reference import marking
+from reference import beforehand, marking
 from reference.galley import read
 
 SPARE = 4096  # bytes that the header may have more than the machine code takes, and that more than is seen
@@ -27,34 +27,40 @@ def built(root, library, folder, binding):
 
 
 def called(program, stack, files):
-    """Exit status, bytes left at the call, bytes taken, and the six words of the answer."""
+    """Exit status, bytes left at the call, bytes taken, and the eight words of the answer."""
     ran = subprocess.run([program, str(stack), *files], capture_output=True, text=True)
     left, taken, *answer = map(int, ran.stdout.split()) if ran.returncode == 0 else (0, 0)
     return ran.returncode, left, taken, tuple(answer)
 
 
 def calls(command, root, folder):
-    """What is called, with the answer that is due: (whether it marks, name, files, six words)."""
+    """What is called, with the answer that is due: (whether it marks, name, files, eight words)."""
     made, none = root / 'samples/real/mpman-p003.galley', root / 'samples/real/mpman-p081.galley'
     tabled, cut = root / 'samples/real/memman-p211-tables.galley', folder / 'cut.galley'
     cut.write_bytes(made.read_bytes()[:-1])
-    refused = (1, made.stat().st_size - 2, 0, 0, 0, 0)
+    refused, in_vain = eight(('refused', 1, made.stat().st_size - 2)), eight(('refused', 11, 0), weighed(none))
     (lists, best), (tabled_lists, tabled_best) = (best_list(command, path, folder) for path in (made, tabled))
     latex = made.with_suffix('.latex')
-    loose = six(marking.mark(read(made.read_bytes())[1], tuple(map(int, latex.read_text().split()))))
-    return [(False, 'a chapter made', [made], best), (False, 'no pagination', [none], (11, 0, 0, 0, 0, 0)),
-            (False, 'a chapter with tables made', [tabled], tabled_best), (True, 'its list', [tabled, tabled_lists], tabled_best),
-            (False, 'a galley cut short', [cut], refused), (True, 'the best list', [made, lists], best),
+    loose = eight(marking.mark(read(made.read_bytes())[1], tuple(map(int, latex.read_text().split()))))
+    return [(False, 'a chapter made', [made], eight(best, weighed(made))), (False, 'no pagination', [none], in_vain),
+            (False, 'a chapter with tables made', [tabled], eight(tabled_best, weighed(tabled))),
+            (True, 'its list', [tabled, tabled_lists], eight(tabled_best)),
+            (False, 'a galley cut short', [cut], refused), (True, 'the best list', [made, lists], eight(best)),
             (True, "LaTeX's list", [made, latex], loose), (True, 'a list for a galley cut short', [cut, lists], refused)]
 
 
 def best_list(command, path, folder):
-    """A file with the list that is made of a galley, and the six words that are due for it."""
+    """A file with the list that is made of a galley, and its mark."""
     pages = [line.split()[1:] for line in command.text('make', path)[1].splitlines()[1:]]
     lists = folder / f'{path.stem}.list'
     lists.write_text(''.join(' '.join(page) + '\n' for page in pages))
     words = tuple(int(number) for page in pages for number in page)
-    return lists, six(marking.mark(read(path.read_bytes())[1], words))
+    return lists, marking.mark(read(path.read_bytes())[1], words)
+
+
+def weighed(path):
+    """The pages that making weighs of a galley."""
+    return beforehand.weighed_by_runs(read(path.read_bytes())[1])
 
 
 def figures(tally, stated, takes, seen):
@@ -103,5 +109,6 @@ def run(tally, command, root, library, folder):
         marks = what[0]
         seen[marks] = max(seen[marks], threads(tally, lazy, now, what, stated[marks], takes[marks]))
     figures(tally, stated, takes, seen)
-    tally.same('stack of a report, under 1,000 bytes', needed(library, 'barleychime_report') < 1_000, True)
+    for name in ('report', 'forecast'):
+        tally.same(f'stack of a {name}, under 1,000 bytes', needed(library, f'barleychime_{name}') < 1_000, True)
     tally.group('stack', f'; making takes {takes[0]:,} bytes, marking {takes[1]:,}')

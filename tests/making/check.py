@@ -1,7 +1,10 @@
-"""The proved making, compiled, against a search of all lists in Python: the answer, the list, and every word of lent memory.
-Galleys with too many lists are compared with the reference's table instead. Kinds of galleys, of answers and of choices among
-lists are counted, so that one that is missing fails. The last line is 'N passed, M failed'."""
+"""The proved making, compiled, against a search of all lists in Python: the answer, the list, and every word of lent memory;
+and the pages weighed against all pairs of start and end, and what is told of them beforehand. Galleys with too many lists are
+compared with the reference's table instead, those with too many pairs with the reference's runs of lines. Kinds of galleys, of
+answers and of choices among lists are counted, so that one that is missing fails. The last line is 'N passed, M failed'."""
+import functools
 import itertools
+import math
 import pathlib
 import random
 import sys
@@ -10,17 +13,31 @@ sys.path.insert(0, str(pathlib.Path(__file__).resolve().parents[1]))
 import engine  # noqa: E402
 import kinds  # noqa: E402
 import windows  # noqa: E402
-from reference import cases, galley, marking, sample, search  # noqa: E402
+from reference import beforehand, cases, galley, marking, sample, search  # noqa: E402
 from tally import Tally  # noqa: E402
 
 GALLEYS, LEFT, LARGER, FINE, LONG, SEED = 2_400, 300, 60, 1_400, 100, 20261116
 TABLED, TABLED_LEFT, TABLED_FINE = 1_200, 400, 300
-MOST_LISTS = 2_000
+MOST_LISTS, MOST_PAIRS = 2_000, 400
 
 
 def due(g, best, work, pages):
-    """What making owes: its answer, the work area and the page list afterwards."""
-    return engine.made(g, best, best and marking.mark(g, best), work, pages)
+    """What making owes: its answer, the count of pages weighed, the work area and the page list afterwards."""
+    return engine.made(g, best, best and marking.mark(g, best), weighed(g), work, pages)
+
+
+def pairs(g):
+    """The pairs of start and end where everything fits one page."""
+    places = math.prod(size + 1 for size in g.sizes)
+    return math.prod((size + 1) * (size + 2) // 2 for size in g.sizes) - places
+
+
+@functools.lru_cache(maxsize=1)
+def weighed(g):
+    """The pages weighed, by all pairs where these are few."""
+    if not any(block.height or block.least for stream in g.streams for block in stream) and g.spec.smin == 0:
+        return pairs(g)
+    return beforehand.weighed(g) if pairs(g) <= MOST_PAIRS else beforehand.weighed_by_runs(g)
 
 
 def dirty(rng, length):
@@ -60,11 +77,14 @@ def largest(make, g):
 
 
 def main():
-    make = engine.Engine(engine.load(engine.archive())).make
-    tally, refilled, rng = Tally(), 0, random.Random(SEED)
+    called = engine.Engine(engine.load(engine.archive()))
+    make, tally, refilled, rng = called.make, Tally(), 0, random.Random(SEED)
 
     def try_all(name, g, best):
-        tally.kind(*kinds.of_galley(g), *(kinds.of_list(g, best) if best else ()))
+        tally.kind(*kinds.of_galley(g), *(kinds.of_list(g, best) if best else ()), *kinds.of_weighing(g, best, weighed(g)))
+        forecast = called.forecast(galley.write(g))
+        tally.same(f'forecast of {name}', forecast, beforehand.forecast(('galley', g)))
+        tally.same(f'{name} weighs no more than was told', weighed(g) <= forecast[-1], True)
         for work, pages in lendings(rng, g):
             expected = due(g, best, work, pages)
             tally.kind(expected[0][1] if expected[0][0] == 'refused' else f'sides {g.spec.sides}')
@@ -93,15 +113,19 @@ def main():
     for sides in (1, 2):
         for what, g in (('the largest galley', cases.LONGEST), ('a large galley with tables', cases.LARGE_TABLES)):
             tally.same(f'{what} of height 0, sides {sides}', largest(make, cases.respec(g, sides=sides)), True)
+    for what, g in (('the largest galley', cases.LONGEST), ('the largest galley with tables', cases.LONGEST_TABLES)):
+        ceiling = math.prod(size + 1 for size in g.sizes)**2
+        tally.same(f'forecast of {what}, of height 0', called.forecast(galley.write(g)), (0, 0, *engine.lengths(g), ceiling))
     for number, g in enumerate([*sample.galleys(SEED + 2, 400, 5, 3), *sample.galleys(SEED + 11, 200, 4, 2, 3)]):
         broken = sample.broken(rng, galley.write(g))
         read = galley.read(broken)
         if read[0] == 'refused':
             work, pages = dirty(rng, 40), dirty(rng, 10)
             tally.kind('refused galley')
-            tally.same(f'broken galley {number}', make(broken, work, pages), (read, work, pages))
+            tally.same(f'broken galley {number}', make(broken, work, pages), (read, 0, work, pages))
+            tally.same(f'forecast of broken galley {number}', called.forecast(broken), beforehand.forecast(read))
     tally.enough((9, 10, 11, 'sides 1', 'sides 2', 'refused galley'), 20)
-    tally.enough((*kinds.OF_GALLEYS, *kinds.OF_LISTS, *kinds.OF_CHOICES), 20)
+    tally.enough((*kinds.OF_GALLEYS, *kinds.OF_LISTS, *kinds.OF_CHOICES, *kinds.OF_WEIGHING), 20)
     tally.same('windows that empty and refill', refilled >= 1_000, True)
     print('makings by answer:', dict(sorted(tally.kinds.items(), key=str)), f'and {refilled} windows that empty and refill')
     return tally.end()

@@ -9,7 +9,7 @@ from pathlib import Path
 sys.path.insert(0, str(Path(__file__).resolve().parents[1]))
 
 import kinds  # noqa: E402
-from reference import cases, marking, refusals, sample, search  # noqa: E402
+from reference import beforehand, cases, marking, refusals, sample, search  # noqa: E402
 from reference.galley import Figure, Galley, Line, Spec, Table, read, write  # noqa: E402
 from tally import Tally  # noqa: E402
 
@@ -182,6 +182,19 @@ def swapped(tally):
     tally.group('figures and tables swapped')
 
 
+def weighings(tally):
+    """What is weighed, by all pairs and by runs of lines; the most blocks together, by every run of blocks; never past the ceiling."""
+    for galley in [*sample.galleys(28, 150, 5, 3), *sample.galleys(29, 100, 3, 2, 2), *sample.fine_galleys(30, 40, 6, 10, 3),
+                   *sample.fine_galleys(31, 20, 4, 6, 2, 2), *(galley for _, galley, _, _ in cases.MADE if sum(galley.sizes) < 20)]:
+        weighed = beforehand.weighed(galley)
+        tally.same(f'weighed of {galley}', beforehand.weighed_by_runs(galley), weighed)
+        most = [max(b - a for a in range(len(stream) + 1) for b in range(a, len(stream) + 1)
+                    if marking.stacked(stream[a:b], 'least') <= galley.spec.htmax) for stream in galley.streams]
+        tally.same(f'most together of {galley}', [beforehand.most_together(galley, stream) for stream in galley.streams], most)
+        tally.same(f'ceiling of {galley}', weighed <= beforehand.ceiling(galley), True)
+    tally.group('what is weighed, and its ceiling')
+
+
 def larger(tally):
     """Larger galleys: what the table returns is valid, and no valid list one slip away from it ranks before it."""
     rng = random.Random(10)
@@ -198,7 +211,7 @@ def larger(tally):
 
 def main():
     tally = Tally()
-    for group in (made, marked, turned_away, round_trips, all_lists, random_lists, searches, editions, swapped, larger):
+    for group in (made, marked, turned_away, round_trips, all_lists, random_lists, searches, editions, swapped, weighings, larger):
         group(tally)
     for number in [*range(1, 9), *range(12, 19)]:
         tally.same(f'refusal {number} is reached', number in tally.refusals, True)

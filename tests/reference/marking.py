@@ -68,8 +68,12 @@ def loosest(galley, start, end):
 def height(galley, start, end, space, separation):
     """The blocks of each stream, the spaces strictly between them, and the separation between kinds."""
     kinds = [stream[u:v] for stream, u, v in zip(galley.streams, start, end) if u < v]
-    blocks = sum(block.height for kind in kinds for block in kind)
-    return blocks + sum(getattr(block, space) for kind in kinds for block in kind[:-1]) + (len(kinds) - 1) * separation
+    return sum(stacked(kind, space) for kind in kinds) + (len(kinds) - 1) * separation
+
+
+def stacked(blocks, space):
+    """Blocks of one stream and the spaces strictly between them."""
+    return sum(block.height for block in blocks) + sum(getattr(block, space) for block in blocks[:-1])
 
 
 def turns(galley, ends):

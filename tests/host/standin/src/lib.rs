@@ -50,9 +50,26 @@ pub unsafe extern "C" fn barleychime_mark(
 }
 
 unsafe fn put(answer: *mut u32, made: native::Answer) -> u32 {
-    let words = [made.number, made.place, made.p, made.x, made.y, made.t];
-    unsafe { from_raw_parts_mut(answer, 6) }.copy_from_slice(&words);
+    let [low, high] = two(made.weighed);
+    let words = [made.number, made.place, made.p, made.x, made.y, made.t, low, high];
+    unsafe { from_raw_parts_mut(answer, words.len()) }.copy_from_slice(&words);
     made.number
+}
+
+/// The low word and the high word.
+fn two(number: u64) -> [u32; 2] {
+    [number as u32, (number >> 32) as u32]
+}
+
+/// # Safety
+/// As `include/barleychime.h` says.
+#[no_mangle]
+pub unsafe extern "C" fn barleychime_forecast(galley: *const u8, galley_len: usize, forecast: *mut u32) -> u32 {
+    let told = native::forecast(unsafe { from_raw_parts(galley, galley_len) });
+    let [low, high] = two(told.ceiling);
+    let words = [told.number, told.place, told.work, told.list, low, high];
+    unsafe { from_raw_parts_mut(forecast, words.len()) }.copy_from_slice(&words);
+    told.number
 }
 
 /// # Safety
