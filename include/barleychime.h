@@ -5,8 +5,8 @@
  * nothing, and call nothing but memset of the C library. Calls on memory that is not shared may run at the same time.
  *
  * What the caller owes, because no call can see it:
- *   - A pointer leads to as many bytes or words as its length says, or to the 6 words of an answer. It is aligned as its type
- *     is, and it is not null, not even where the length is 0 and nothing is read.
+ *   - A pointer leads to as many bytes or words as its length says, or to the 8 words of an answer, the 6 of a forecast. It is
+ *     aligned as its type is, and it is not null, not even where the length is 0 and nothing is read.
  *   - An area that is written overlaps no other area of the call, and nobody else reads or writes it during the call. Nobody
  *     writes an area that is only read.
  *   - The thread has BARLEYCHIME_STACK_BYTES of stack left.
@@ -32,7 +32,8 @@
  * Double-sided (sides 2), an even folio and the next one face each other on a spread, so the first folio decides on spreads and
  * turns. Pages are counted from 1 all the same, in page lists, answers and places.
  *
- * Refusals: the call returns the number, answer[0] is the number, answer[1] the place, the rest of the answer is 0.
+ * Refusals: the call returns the number, answer[0] is the number, answer[1] the place, the rest of the answer is 0, but for
+ * the count of pages weighed, which making has with 11 too.
  *
  * The galley's writer can mend these. Place: byte offset of the record's mark, or where one was due; for 8, of what follows.
  *    1  the galley stops short, inside a record or without its ED
@@ -64,7 +65,7 @@
  * Whoever asked for the section can mend this, which only barleychime_section answers. Place: the size.
  *   33  no section has so many pages: their number is a multiple of 4 from 4 to 64
  *
- * Making and marking read the galley first and answer 1 to 8 alike. Making then looks at the lengths, 9 before 10, and
+ * Making, marking and the forecast read the galley first and answer 1 to 8 alike. Making then looks at the lengths, 9 before 10, and
  * searches only where both suffice. Of several broken rules marking answers the one on the earliest page, and there the
  * lowest number.
  */
@@ -94,14 +95,32 @@
 #define BARLEYCHIME_STACK_BYTES ((size_t)131072)
 #define BARLEYCHIME_MARK_STACK_BYTES ((size_t)1024)
 
-/* What the six words of an answer are. */
+/* Words of an answer, of making and of marking: every caller lends so many. */
+#define BARLEYCHIME_ANSWER_WORDS 8
+
+/* What the eight words of an answer are. */
 enum {
     BARLEYCHIME_NUMBER = 0, /* 0, or the number of the refusal */
     BARLEYCHIME_PLACE = 1,  /* 0, or the refusal's place */
     BARLEYCHIME_PAGES = 2,  /* p: pages */
     BARLEYCHIME_X = 3,      /* pages, or spreads, between citations and their figures and tables, summed over these */
     BARLEYCHIME_Y = 4,      /* turns from the first page to the last: pages, or spreads, between them */
-    BARLEYCHIME_TURNS = 5   /* T = alpha * X + beta * Y */
+    BARLEYCHIME_TURNS = 5,  /* T = alpha * X + beta * Y */
+    BARLEYCHIME_WEIGHED_LOW = 6, /* the count of pages weighed, of 64 bits: its low word and its high word; 0 of marking */
+    BARLEYCHIME_WEIGHED_HIGH = 7
+};
+
+/* Words of a forecast. */
+#define BARLEYCHIME_FORECAST_WORDS 6
+
+/* What the six words of a forecast are. */
+enum {
+    BARLEYCHIME_FORECAST_NUMBER = 0, /* 0, or the number of the refusal */
+    BARLEYCHIME_FORECAST_PLACE = 1,  /* 0, or the refusal's place */
+    BARLEYCHIME_FORECAST_WORK = 2,   /* words of work area that making needs */
+    BARLEYCHIME_FORECAST_LIST = 3,   /* words of page list that making needs */
+    BARLEYCHIME_FORECAST_CEILING_LOW = 4, /* the ceiling on the pages weighed, of 64 bits: its low word and its high word */
+    BARLEYCHIME_FORECAST_CEILING_HIGH = 5
 };
 
 /* The mark of one paper: what marking answered for its list, and the engine's T for the same galley. */
@@ -138,9 +157,12 @@ extern "C" {
  *   galley      galley_len bytes, only read
  *   work        at least BARLEYCHIME_WORK_WORDS(m, n) words, of any contents; with tables BARLEYCHIME_TABLES_WORK_WORDS(m, n, k)
  *   pages       at least BARLEYCHIME_LIST_WORDS(m, n) words, of any contents; with tables BARLEYCHIME_TABLES_LIST_WORDS(m, n, k)
- *   answer      6 words, always written: number, place, p, X, Y, T
- * Longer areas are fine. To learn the lengths without reading the galley, call with both lengths 0: 9 answers with the
- * words of work area, and with enough of that 10 with the words of page list.
+ *   answer      8 words, always written: number, place, p, X, Y, T, and the count of pages weighed, low word and high word
+ * Longer areas are fine. barleychime_forecast tells the lengths beforehand; 9 and 10 tell them too, each with its own.
+ *
+ * The count is of pages weighed in the plain sense: the pairs of a start and an end, reached or not, with something between
+ * them whose tightest height is at most htMax, each pair once. The search itself looks at far fewer. It is there on success and
+ * on 11, and it is never above the forecast's ceiling.
  *
  * Returns 0 for success. Afterwards:
  *   success         2*p words of pages, or 3*p where there are tables, hold the list, the rest of it is as before; the words
@@ -149,13 +171,23 @@ extern "C" {
  *   other refusals  pages and work area are as before
  */
 uint32_t barleychime_make(const uint8_t *galley, size_t galley_len, uint32_t *work, size_t work_len, uint32_t *pages,
-                          size_t pages_len, uint32_t answer[6]);
+                          size_t pages_len, uint32_t answer[BARLEYCHIME_ANSWER_WORDS]);
 
 /* Marks a page list of pages_len words for a galley. Reads both, writes the answer and nothing else.
  * Returns 0 if the list is a valid pagination, with p, X, Y, T in the answer.
  */
 uint32_t barleychime_mark(const uint8_t *galley, size_t galley_len, const uint32_t *pages, size_t pages_len,
-                          uint32_t answer[6]);
+                          uint32_t answer[BARLEYCHIME_ANSWER_WORDS]);
+
+/* Tells of a galley beforehand what making needs and how many pages it weighs at most, under the same terms as the others and
+ * with under 1,000 bytes of stack. Reads the galley, writes the forecast and nothing else.
+ *   forecast    6 words, always written: number, place, words of work area, words of page list, and the ceiling on the pages
+ *               weighed, low word and high word
+ * The ceiling is (m + 1)(n + 1)(k + 1)(L + 1)(G + 1)(K + 1): L, G and K are the most consecutive lines, figures and tables whose
+ * tightest height by themselves is at most htMax. It is below 2 to the 51st.
+ * Returns 0 for success. A refused galley has its number and its place, and 0 in the other words.
+ */
+uint32_t barleychime_forecast(const uint8_t *galley, size_t galley_len, uint32_t forecast[BARLEYCHIME_FORECAST_WORDS]);
 
 /* The words that a page takes in a list for a galley: 3 where it has tables, else 2; 2 also where the galley is refused. Two
  * words are one page, and no page too many, or else marking answers 12.
@@ -163,7 +195,7 @@ uint32_t barleychime_mark(const uint8_t *galley, size_t galley_len, const uint32
 static inline size_t barleychime_page_words(const uint8_t *galley, size_t galley_len)
 {
     const uint32_t page[2] = {0, 0};
-    uint32_t answer[6];
+    uint32_t answer[BARLEYCHIME_ANSWER_WORDS];
     return barleychime_mark(galley, galley_len, page, 2, answer) == 12 ? 3 : 2;
 }
 

@@ -26,6 +26,7 @@ const MAKING: [&str; 13] = [
     "growth of engine",
     "growth of m · n · G",
 ];
+const WEIGHING: [&str; 8] = ["weighing", "lines", "figures", "tables", "weighed", "ceiling", "count", "count / making"];
 const MARKING: [&str; 4] = ["marking", "engine", "native", "engine / native"];
 
 fn main() {
@@ -41,15 +42,20 @@ fn main() {
         std::process::exit(2);
     };
     println!("The fastest of {runs}, or the first where that takes over 5 s; processor time.\n");
+    let mut weighings = Vec::new();
     head(&MAKING);
     for chain in chains() {
         let mut half = None;
         for shape in chain.into_iter().filter(|shape| shape.name.contains(wanted)) {
             let made = making(shape, runs);
             row(&cells(shape, &made, half.as_ref()));
+            weighings.push(weighing(shape, &made));
             half = Some((shape, made));
         }
     }
+    println!();
+    head(&WEIGHING);
+    weighings.iter().for_each(|cells| row(cells));
     println!();
     head(&MARKING);
     for shape in HANDBOOKS.into_iter().chain(TABLED).filter(|shape| shape.name.contains(wanted)) {
@@ -79,6 +85,20 @@ fn cells(shape: Shape, made: &Making, half: Option<&(Shape, Making)>) -> [String
         made.plain.map_or_else(none, |plain| format!("{:.1}", ratio(plain, made.engine))),
         growth(|_, made| made.engine.as_secs_f64()),
         growth(|shape, made| f64::from(shape.lines) * f64::from(shape.figures) * f64::from(made.most_figures)),
+    ]
+}
+
+/// What one galley's making weighs: the pass that counts it, in plain Rust, and its share of the making of which it is part.
+fn weighing(shape: Shape, made: &Making) -> [String; WEIGHING.len()] {
+    [
+        shape.name.into(),
+        shape.lines.to_string(),
+        shape.figures.to_string(),
+        shape.tables.to_string(),
+        made.weighed.to_string(),
+        made.ceiling.to_string(),
+        shown(made.count),
+        format!("{:.2}", ratio(made.count, made.queue)),
     ]
 }
 

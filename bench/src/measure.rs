@@ -2,7 +2,7 @@
 
 use crate::clock;
 use crate::galleys::{galley, Shape};
-use barleychime::engine::{self, Measure, Refusal};
+use barleychime::engine::{self, Making as Made, Measure, Refusal};
 use std::hint::black_box;
 use std::time::Duration;
 
@@ -19,6 +19,10 @@ pub struct Making {
     pub engine: Duration,
     pub queue: Duration,
     pub plain: Option<Duration>,
+    /// The pages weighed, their ceiling, and the pass of plain Rust that counts them, which is part of its makings.
+    pub weighed: u64,
+    pub ceiling: u64,
+    pub count: Duration,
 }
 
 pub struct Marking {
@@ -26,20 +30,19 @@ pub struct Marking {
     pub native: Duration,
 }
 
-type Answer = Result<Measure, Refusal>;
-type Make<'a> = &'a dyn Fn(&[u8], &mut [u32], &mut [u32]) -> Answer;
+type Make<'a> = &'a dyn Fn(&[u8], &mut [u32], &mut [u32]) -> Made;
 
 /// Making by the engine, by the queues of plain Rust, and by its plain search where that ends in time.
 pub fn making(shape: Shape, runs: u32) -> Making {
     let makes: [Make; 3] =
-        [&engine::make_in, &|bytes, work, list| answer_of(native::make(bytes, work, list)), &|bytes, work, list| {
-            answer_of(native::make_plain(bytes, work, list))
+        [&engine::make_in, &|bytes, work, list| made_of(native::make(bytes, work, list)), &|bytes, work, list| {
+            made_of(native::make_plain(bytes, work, list))
         }];
     let makes = &makes[..if shape.plain { 3 } else { 2 }];
     let galley = galley(shape);
     let (work_words, list_words) = shape.words();
     let (mut work, list) = (vec![0; work_words], vec![0; list_words]);
-    let mut times = [Duration::MAX; 3];
+    let (mut times, mut count) = ([Duration::MAX; 3], Duration::MAX);
     let mut answers = vec![];
     for run in 0..runs {
         for (make, time) in makes.iter().zip(&mut times) {
@@ -47,15 +50,18 @@ pub fn making(shape: Shape, runs: u32) -> Making {
                 continue;
             }
             let mut list = list.clone();
-            let answer = timed(time, || make(black_box(&galley.bytes), &mut work, &mut list));
-            answers.push((answer, list));
+            let made = timed(time, || make(black_box(&galley.bytes), &mut work, &mut list));
+            answers.push((made, list));
         }
+        timed(&mut count, || native::weighed(black_box(&galley.bytes)));
     }
-    let (answer, _) = &answers[0];
+    let (Made { answer, weighed }, _) = answers[0];
     assert!(answers.iter().all(|other| *other == answers[0]), "{}: not one answer and one list", shape.name);
-    let turns = answer.as_ref().map_or_else(Refusal::to_string, |measure| measure.turns.to_string());
-    let [engine, queue, plain] = times;
-    Making { turns, most_figures: galley.most_figures, engine, queue, plain: shape.plain.then_some(plain) }
+    let turns = answer.map_or_else(|refusal| refusal.to_string(), |measure| measure.turns.to_string());
+    let ceiling = engine::forecast(&galley.bytes).map_or(0, |told| told.ceiling);
+    assert!(weighed <= ceiling, "{}: more is weighed than was told", shape.name);
+    let ([engine, queue, plain], most_figures) = (times, galley.most_figures);
+    Making { turns, most_figures, engine, queue, plain: shape.plain.then_some(plain), weighed, ceiling, count }
 }
 
 /// Marking of the list that making gives.
@@ -69,16 +75,17 @@ pub fn marking(shape: Shape, runs: u32) -> Marking {
     for _ in 0..runs {
         let marked = timed(&mut engine, || many(|| engine::mark(black_box(&bytes), list)));
         let due = timed(&mut native, || many(|| native::mark(black_box(&bytes), list)));
-        assert!(marked == answer_of(due), "{}: the engine answers {marked:?}, plain Rust {due:?}", shape.name);
+        assert!(marked == made_of(due).answer, "{}: the engine answers {marked:?}, plain Rust {due:?}", shape.name);
     }
     Marking { engine: engine / MARKINGS, native: native / MARKINGS }
 }
 
-fn answer_of(native: native::Answer) -> Answer {
-    match native.number {
+fn made_of(native: native::Answer) -> Made {
+    let answer = match native.number {
         0 => Ok(Measure { pages: native.p, x: native.x, y: native.y, turns: native.t }),
         number => Err(Refusal { number, place: native.place }),
-    }
+    };
+    Made { answer, weighed: native.weighed }
 }
 
 fn timed<Made>(best: &mut Duration, work: impl FnOnce() -> Made) -> Made {

@@ -4,7 +4,7 @@ use crate::output::{say, Output};
 use barleychime::engine::{self, Desk, Mark, Refusal};
 use barleychime::galley::Galley;
 use barleychime::input::title;
-use barleychime::{explain, fill, input, list, refusal, report, text};
+use barleychime::{explain, fill, forecast, input, list, refusal, report, text};
 
 #[derive(Clone, Copy, PartialEq, Eq)]
 pub enum Outcome {
@@ -13,18 +13,78 @@ pub enum Outcome {
     Failed,
 }
 
-pub fn make(name: &str, output: &mut Output) -> Result<Outcome, String> {
+/// Makes a galley; `verbose` also says what was weighed, as far as the galley reads.
+pub fn make(name: &str, verbose: bool, output: &mut Output) -> Result<Outcome, String> {
     let bytes = input::galley(name)?;
     let mut desk = Desk::new();
     let refusal = match desk.make(&bytes) {
         Ok((measure, pages)) => {
             let words = pages.len() / measure.pages as usize;
             output.print(list::print(measure, pages, words))?;
-            return Ok(Outcome::Success);
+            None
         }
-        Err(refusal) => refusal,
+        Err(refusal) => Some(refusal),
     };
-    refuse_galley(name, &bytes, refusal, &mut desk, output)
+    let weighed = desk.weighed();
+    let outcome = match refusal {
+        None => Outcome::Success,
+        Some(refusal) => refuse_galley(name, &bytes, refusal, &mut desk, output)?,
+    };
+    if let (true, Ok(told)) = (verbose, engine::forecast(&bytes)) {
+        say(&format!("{}: {weighed} pages weighed, of at most {}", title(name), told.ceiling));
+    }
+    Ok(outcome)
+}
+
+/// What is told of each galley beforehand: in words, or a line for each; one that cannot be read does not keep the others
+/// from being told.
+pub fn forecast(names: &[&str], lines: bool, output: &mut Output) -> Result<Outcome, String> {
+    let mut outcomes = Outcomes::default();
+    for &name in names {
+        let label = if lines || names.len() > 1 { format!(" {name}") } else { String::new() };
+        let Some(bytes) = outcomes.read(input::galley(name)) else { continue };
+        match (engine::forecast(&bytes), Galley::decode(&bytes)) {
+            (Ok(told), _) if lines => output.print(format!("{}{label}\n", forecast::line(&told)))?,
+            (Ok(told), Some(galley)) => {
+                let heading = if names.len() > 1 { format!("{name}:\n") } else { String::new() };
+                output.print(heading + &forecast::in_words(&told, &galley))?;
+            }
+            (Ok(_), None) => return Err(unreadable(name)),
+            (Err(refusal), _) => {
+                output.print(format!("{refusal}{label}\n"))?;
+                say_why(name, refusal);
+                hint_at_pack(name, &bytes, refusal);
+                outcomes.refused = true;
+            }
+        }
+    }
+    Ok(outcomes.whole())
+}
+
+/// Whether any of several files was refused or could not be read.
+#[derive(Default)]
+struct Outcomes {
+    refused: bool,
+    failed: bool,
+}
+
+impl Outcomes {
+    /// What was read; if nothing was, that is said.
+    fn read<Contents>(&mut self, read: Result<Contents, String>) -> Option<Contents> {
+        read.map_err(|message| say(&message)).inspect_err(|()| self.failed = true).ok()
+    }
+
+    fn whole(&self) -> Outcome {
+        match (self.failed, self.refused) {
+            (true, _) => Outcome::Failed,
+            (false, true) => Outcome::Refused,
+            (false, false) => Outcome::Success,
+        }
+    }
+}
+
+fn unreadable(galley: &str) -> String {
+    format!("{}: the engine reads it, this command cannot", title(galley))
 }
 
 /// A galley that cannot be made, with what would help.
@@ -60,31 +120,20 @@ fn hint_at_pack(name: &str, bytes: &[u8], refusal: Refusal) {
 pub fn mark(galley: &str, lists: &[&str], output: &mut Output) -> Result<Outcome, String> {
     let bytes = input::galley(galley)?;
     let width = engine::page_words(&bytes).ok();
-    let (mut refused, mut failed) = (false, false);
+    let mut outcomes = Outcomes::default();
     for &name in lists {
         let label = if lists.len() > 1 { format!(" {name}") } else { String::new() };
-        let words = match read_list(name, width) {
-            Ok(words) => words,
-            Err(message) => {
-                say(&message);
-                failed = true;
-                continue;
-            }
-        };
+        let Some(words) = outcomes.read(read_list(name, width)) else { continue };
         match engine::mark(&bytes, &words) {
             Ok(measure) => output.print(format!("{}{label}\n", list::measure_line(measure)))?,
             Err(refusal) => {
                 output.print(format!("{refusal}{label}\n"))?;
                 say_why(if refusal.number <= 8 { galley } else { name }, refusal);
-                refused = true;
+                outcomes.refused = true;
             }
         }
     }
-    Ok(match (failed, refused) {
-        (true, _) => Outcome::Failed,
-        (false, true) => Outcome::Refused,
-        (false, false) => Outcome::Success,
-    })
+    Ok(outcomes.whole())
 }
 
 /// A list of so many words a page, if that is known: a galley that is refused has none.
@@ -101,7 +150,7 @@ pub fn explain(galley_name: &str, list: &str, output: &mut Output) -> Result<Out
             output.print(explain::against_best(&bytes, measure))?;
             return Ok(Outcome::Success);
         }
-        (Ok(_), None) => return Err(format!("{}: the engine reads it, this command cannot", title(galley_name))),
+        (Ok(_), None) => return Err(unreadable(galley_name)),
         (Err(refusal), Some(galley)) if refusal.number > 8 => {
             output.print(explain::refused(&galley, &words, refusal))?;
         }

@@ -2,6 +2,8 @@
 
 #[allow(unsafe_code)]
 mod c {
+    use super::{ANSWER_WORDS, FORECAST_WORDS};
+
     extern "C" {
         pub fn barleychime_make(
             galley: *const u8,
@@ -10,19 +12,25 @@ mod c {
             work_len: usize,
             pages: *mut u32,
             pages_len: usize,
-            answer: *mut [u32; 6],
+            answer: *mut [u32; ANSWER_WORDS],
         ) -> u32;
         pub fn barleychime_mark(
             galley: *const u8,
             galley_len: usize,
             pages: *const u32,
             pages_len: usize,
-            answer: *mut [u32; 6],
+            answer: *mut [u32; ANSWER_WORDS],
         ) -> u32;
+        pub fn barleychime_forecast(galley: *const u8, galley_len: usize, forecast: *mut [u32; FORECAST_WORDS]) -> u32;
         pub fn barleychime_report(marks: *const super::Mark, marks_len: usize, report: *mut [u64; 11]) -> u32;
         pub fn barleychime_section(size: u32, numbers: *mut [u32; 64], answer: *mut [u32; 2]) -> u32;
     }
 }
+
+/// Words of an answer, of making and of marking.
+const ANSWER_WORDS: usize = 8;
+/// Words of a forecast.
+const FORECAST_WORDS: usize = 6;
 
 /// What a valid list comes to.
 #[derive(Clone, Copy, Debug, PartialEq, Eq)]
@@ -40,11 +48,52 @@ pub struct Refusal {
     pub place: u32,
 }
 
-/// Makes a galley's pages in lent memory, of any contents: for m lines, n figures and k tables 8·(m + 1)·(n + 1)·(k + 1)
-/// words of work, and 2·(m + n) words of list, or 3·(m + n + k) where there are tables.
+/// What making gives besides the list.
+#[derive(Clone, Copy, Debug, PartialEq, Eq)]
+pub struct Making {
+    pub answer: Result<Measure, Refusal>,
+    /// The pages weighed, in the plain sense: the pairs of a start and an end, reached or not, with something between them
+    /// whose tightest height is at most htMax. It is there on success and where no pagination exists (11), and 0 with every
+    /// other refusal. The search itself looks at far fewer.
+    pub weighed: u64,
+}
+
+/// What is told of a galley beforehand.
+#[derive(Clone, Copy, Debug, PartialEq, Eq)]
+pub struct Forecast {
+    /// Words of work area that making needs.
+    pub work: u32,
+    /// Words of page list that making needs.
+    pub list: u32,
+    /// No making of the galley weighs more pages.
+    pub ceiling: u64,
+}
+
+/// Tells of a galley beforehand what making needs, and how many pages it weighs at most. A galley that is refused is
+/// refused as making and marking refuse it, with one of 1 to 8.
 #[allow(unsafe_code)]
-pub fn make_in(galley: &[u8], work: &mut [u32], pages: &mut [u32]) -> Result<Measure, Refusal> {
-    let mut answer = [0; 6];
+pub fn forecast(galley: &[u8]) -> Result<Forecast, Refusal> {
+    let mut words = [0; FORECAST_WORDS];
+    // The bytes are those of a slice, and the engine writes the words alone.
+    unsafe {
+        c::barleychime_forecast(galley.as_ptr(), galley.len(), &mut words);
+    }
+    let [number, place, work, list, low, high] = words;
+    match number {
+        0 => Ok(Forecast { work, list, ceiling: wide(low, high) }),
+        _ => Err(Refusal { number, place }),
+    }
+}
+
+fn wide(low: u32, high: u32) -> u64 {
+    u64::from(high) << 32 | u64::from(low)
+}
+
+/// Makes a galley's pages in lent memory, of any contents: for m lines, n figures and k tables 8·(m + 1)·(n + 1)·(k + 1)
+/// words of work, and 2·(m + n) words of list, or 3·(m + n + k) where there are tables. [`forecast`] tells them.
+#[allow(unsafe_code)]
+pub fn make_in(galley: &[u8], work: &mut [u32], pages: &mut [u32]) -> Making {
+    let mut answer = [0; ANSWER_WORDS];
     // The areas are those of slices that the borrow checker keeps apart, and the engine reads and writes nothing else.
     unsafe {
         c::barleychime_make(
@@ -57,32 +106,34 @@ pub fn make_in(galley: &[u8], work: &mut [u32], pages: &mut [u32]) -> Result<Mea
             &mut answer,
         );
     }
-    result(answer)
+    made(answer)
 }
 
 /// Marks a page list: [`page_words`] words a page.
 #[allow(unsafe_code)]
 pub fn mark(galley: &[u8], pages: &[u32]) -> Result<Measure, Refusal> {
-    let mut answer = [0; 6];
+    let mut answer = [0; ANSWER_WORDS];
     // As above.
     unsafe {
         c::barleychime_mark(galley.as_ptr(), galley.len(), pages.as_ptr(), pages.len(), &mut answer);
     }
-    result(answer)
+    made(answer).answer
 }
 
-fn result([number, place, pages, x, y, turns]: [u32; 6]) -> Result<Measure, Refusal> {
-    match number {
+fn made([number, place, pages, x, y, turns, low, high]: [u32; ANSWER_WORDS]) -> Making {
+    let answer = match number {
         0 => Ok(Measure { pages, x, y, turns }),
         _ => Err(Refusal { number, place }),
-    }
+    };
+    Making { answer, weighed: wide(low, high) }
 }
 
-/// Memory for making, kept from one galley to the next. It grows to what the engine asks for.
+/// Memory for making, kept from one galley to the next. It grows to what the forecast tells.
 #[derive(Default)]
 pub struct Desk {
     work: Vec<u32>,
     pages: Vec<u32>,
+    weighed: u64,
 }
 
 impl Desk {
@@ -92,21 +143,26 @@ impl Desk {
 
     /// Makes a galley's pages: the measure, and the list, of [`page_words`] words a page.
     pub fn make(&mut self, galley: &[u8]) -> Result<(Measure, &[u32]), Refusal> {
-        loop {
-            match make_in(galley, &mut self.work, &mut self.pages) {
-                Ok(measure) => {
-                    let words = page_words(galley)? * measure.pages as usize;
-                    return Ok((measure, &self.pages[..words]));
-                }
-                Err(Refusal { number: 9, place }) if place as usize > self.work.len() => {
-                    self.work.resize(place as usize, 0)
-                }
-                Err(Refusal { number: 10, place }) if place as usize > self.pages.len() => {
-                    self.pages.resize(place as usize, 0)
-                }
-                Err(refusal) => return Err(refusal),
-            }
-        }
+        self.weighed = 0;
+        let Forecast { work, list, .. } = forecast(galley)?;
+        grow(&mut self.work, work as usize);
+        grow(&mut self.pages, list as usize);
+        let Making { answer, weighed } = make_in(galley, &mut self.work, &mut self.pages);
+        self.weighed = weighed;
+        let measure = answer?;
+        let words = page_words(galley)? * measure.pages as usize;
+        Ok((measure, &self.pages[..words]))
+    }
+
+    /// The pages weighed by the last making, as [`Making`] has them.
+    pub fn weighed(&self) -> u64 {
+        self.weighed
+    }
+}
+
+fn grow(area: &mut Vec<u32>, words: usize) {
+    if area.len() < words {
+        area.resize(words, 0);
     }
 }
 

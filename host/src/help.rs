@@ -10,6 +10,7 @@ const WHOLE: &str = "\
 Makes the pages of a galley with the fewest page turns, and marks page lists.
 
   barleychime make GALLEY            the best page list
+  barleychime forecast GALLEY...     memory, pages weighed and time, told before a galley is made
   barleychime mark GALLEY LIST...    pages and turns of page lists, or what they break
   barleychime explain GALLEY LIST    a page list in words, page by page
   barleychime pack TEXT              a galley written as text, as a galley file
@@ -23,12 +24,26 @@ A file called - is standard input. Exit status: 0 success, 1 refused, 2 an error
 ";
 
 pub const MAKE: &str = "\
-barleychime make GALLEY
+barleychime make [--verbose] GALLEY
 
 Prints `p X Y T` (pages, turns to figures and tables, turns from first page to last, weighted turns), then `q i j` for each
 page q: lines and figures placed so far. Where the galley has tables it is `q i j d`, d being the tables placed so far. A
 refusal is printed as `R number place`, and in words on standard error. Where no pagination exists (11) the greatest htMin at
-which one does is printed there too, and under G2 the greatest lastMin; the galley is not changed.
+which one does is printed there too, and under G2 the greatest lastMin; the galley is not changed. With --verbose the pages
+weighed are told on standard error, and what `barleychime forecast` had told of them: the pairs of a start and an end, reached
+or not, with something between them whose tightest height is at most htMax. The search itself looks at far fewer.
+";
+
+pub const FORECAST: &str = "\
+barleychime forecast [--lines] GALLEY...
+
+Prints what a galley asks for without making it: the words of work area and of page list, and in megabytes; a ceiling on the
+pages weighed, which is (m + 1)(n + 1)(k + 1)(L + 1)(G + 1)(K + 1) for m lines, n figures and k tables, of which L, G and K in a
+row fit a page by themselves; and a time, which is an estimate from the rate that is stated, of a step for each place and each
+run of figures and of tables. Of several galleys each follows its name.
+
+With --lines each galley is a line `work list ceiling GALLEY`, so that a series can be sorted. A galley that is refused is
+`R number place`, as `barleychime make` has it, with the reason in words on standard error.
 ";
 
 pub const MARK: &str = "\

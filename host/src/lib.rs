@@ -7,6 +7,7 @@
 pub mod engine;
 pub mod explain;
 pub mod fill;
+pub mod forecast;
 pub mod galley;
 pub mod input;
 pub mod list;

@@ -44,6 +44,7 @@ fn run(arguments: &[String], output: &mut Output) -> Result<Outcome, String> {
         "--help" | "-h" => return told(output, &help::whole()),
         "--version" | "-V" => return told(output, concat!("barleychime ", env!("CARGO_PKG_VERSION"), "\n")),
         "make" => help::MAKE,
+        "forecast" => help::FORECAST,
         "mark" => help::MARK,
         "explain" => help::EXPLAIN,
         "pack" => help::PACK,
@@ -52,9 +53,17 @@ fn run(arguments: &[String], output: &mut Output) -> Result<Outcome, String> {
         "fold" => help::FOLD,
         _ => return Err(format!("{command}: no such command; `barleychime --help` names them")),
     };
-    // The one option besides help: what is handed in is marks, and no galley with lists.
-    let (marks, rest) = match rest {
-        [first, rest @ ..] if command == "report" && first == "--marks" => (true, rest),
+    // Besides help three commands have an option, which stands before the files: to say what was weighed; a line for each
+    // galley; what is handed in is marks, and no galley with lists.
+    let (chosen, rest) = match rest {
+        [first, rest @ ..]
+            if matches!(
+                (command.as_str(), first.as_str()),
+                ("make", "--verbose") | ("forecast", "--lines") | ("report", "--marks")
+            ) =>
+        {
+            (true, rest)
+        }
         _ => (false, rest),
     };
     let Some(names) = names(rest)? else { return told(output, help) };
@@ -62,13 +71,14 @@ fn run(arguments: &[String], output: &mut Output) -> Result<Outcome, String> {
         return Err("standard input can be read only once".into());
     }
     match (command.as_str(), names.as_slice()) {
-        ("make", [galley]) => commands::make(galley, output),
+        ("make", [galley]) => commands::make(galley, chosen, output),
+        ("forecast", galleys @ [_, ..]) => commands::forecast(galleys, chosen, output),
         ("mark", [galley, lists @ ..]) if !lists.is_empty() => commands::mark(galley, lists, output),
         ("explain", [galley, list]) => commands::explain(galley, list, output),
         ("pack", [text]) => commands::pack(text, output),
         ("unpack", [galley]) => commands::unpack(galley, output),
-        ("report", [file]) if marks => commands::report_on_marks(file, output),
-        ("report", [galley, lists @ ..]) if !marks && !lists.is_empty() => commands::report(galley, lists, output),
+        ("report", [file]) if chosen => commands::report_on_marks(file, output),
+        ("report", [galley, lists @ ..]) if !chosen && !lists.is_empty() => commands::report(galley, lists, output),
         ("fold", []) => fold::all(output),
         ("fold", [size]) => fold::one(size, output),
         _ => Err(format!("usage: {}", help.lines().next().unwrap_or(""))),

@@ -9,6 +9,7 @@
 #![no_std]
 #![forbid(unsafe_code)]
 
+mod forecast;
 mod make;
 mod mark;
 mod page;
@@ -20,17 +21,20 @@ mod report;
 mod spec;
 mod sums;
 mod sweep;
+mod weighed;
 
+pub use forecast::{forecast, Forecast};
 pub use make::{make, make_plain};
 pub use mark::mark;
 pub use report::{report, Mark};
+pub use weighed::weighed;
 
 /// Words a page takes in the lists of a galley: 3 where it has tables, else 2, also where it is refused.
 pub fn page_words(bytes: &[u8]) -> usize {
     read::read(bytes).map_or(2, |galley| galley.page_words())
 }
 
-/// Success has number and place 0; a refusal has everything else 0.
+/// Success has number and place 0; a refusal has everything else 0, but for the count of what making weighs on 11.
 #[derive(Clone, Copy, Debug, Default, PartialEq, Eq)]
 pub struct Answer {
     pub number: u32,
@@ -39,6 +43,7 @@ pub struct Answer {
     pub x: u32,
     pub y: u32,
     pub t: u32,
+    pub weighed: u64,
 }
 
 impl Answer {

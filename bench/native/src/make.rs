@@ -1,8 +1,10 @@
 //! The making: for every place and side of the page ending there the least cost, from the best of all starts.
 
+use crate::forecast::{list_words, work_words};
 use crate::mark::measure;
-use crate::places::{columns, floats_at, least, side_before, whole, Least, ENDS, OPENS, PLACE};
+use crate::places::{floats_at, least, side_before, whole, Least, ENDS, OPENS};
 use crate::read::{read, Galley};
+use crate::weighed::weighed_of;
 use crate::{plain, sweep, Answer};
 
 /// Making with the search by queues, as the engine does it.
@@ -20,9 +22,7 @@ fn make_by(fill: impl Fn(&Galley, &mut [u32]), bytes: &[u8], work: &mut [u32], l
         Err(refusal) => return refusal,
         Ok(galley) => galley,
     };
-    let needed = PLACE * (galley.m + 1) * columns(&galley);
-    let words = galley.page_words();
-    let longest = words * galley.blocks();
+    let (needed, longest, words) = (work_words(&galley), list_words(&galley), galley.page_words());
     if work.len() < needed {
         return Answer::refused(9, needed);
     }
@@ -40,7 +40,7 @@ fn make_by(fill: impl Fn(&Galley, &mut [u32]), bytes: &[u8], work: &mut [u32], l
         }
     };
     work.fill(0);
-    answer
+    Answer { weighed: weighed_of(&galley), ..answer }
 }
 
 /// The side of the last page of the best list: of equal costs, that of an even last folio.

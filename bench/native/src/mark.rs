@@ -68,7 +68,8 @@ pub fn measure(galley: &Galley, list: &[u32]) -> Answer {
     let x = turns_to(galley, list, 1, galley.n, |k| galley.figure(k).last)
         + turns_to(galley, list, 2, galley.k, |k| galley.table(k).last);
     let y = leaf(galley, pages) - leaf(galley, 1);
-    Answer { number: 0, place: 0, p: pages as u32, x, y, t: galley.spec.alpha * x + galley.spec.beta * y }
+    let t = galley.spec.alpha * x + galley.spec.beta * y;
+    Answer { p: pages as u32, x, y, t, ..Answer::default() }
 }
 
 /// The turns from the lines that cite the floats of a stream to the floats themselves.

@@ -53,25 +53,25 @@ pub fn fill(galley: &Galley, work: &mut [u32]) {
 
 /// The floats of a page: how high they are by themselves, and of how many kinds.
 #[derive(Clone, Copy)]
-struct Floats {
-    height: Height,
-    kinds: u32,
+pub struct Floats {
+    pub height: Height,
+    pub kinds: u32,
 }
 
 impl Floats {
-    fn with_tables(self, spec: &Spec, tables: Height, some: bool) -> Floats {
+    pub fn with_tables(self, spec: &Spec, tables: Height, some: bool) -> Floats {
         let height = self.height.beside(tables, some && self.kinds > 0, spec);
         Floats { height, kinds: self.kinds + u32::from(some) }
     }
 
     /// What they add to the lines of a page.
-    fn beside_lines(self, spec: &Spec) -> Height {
+    pub fn beside_lines(self, spec: &Spec) -> Height {
         self.height.beside(Height::default(), self.kinds > 0, spec)
     }
 }
 
 /// The earliest table after which the others up to table d fit a page beside the given figures.
-fn earliest_table(spec: &Spec, figures: Floats, tables: &TableSums, d: usize) -> usize {
+pub fn earliest_table(spec: &Spec, figures: Floats, tables: &TableSums, d: usize) -> usize {
     let fits = |c: usize| figures.with_tables(spec, tables.between(c, d), c < d).height.tight <= spec.ht_max;
     (0..d).find(|&c| fits(c)).unwrap_or(d)
 }
