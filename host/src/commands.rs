@@ -1,7 +1,7 @@
 //! The commands on files: files in, an answer out.
 
 use crate::output::{say, Output};
-use barleychime::engine::{self, Desk, Mark, Refusal};
+use barleychime::engine::{self, Mark, Memory, Refusal};
 use barleychime::galley::Galley;
 use barleychime::input::title;
 use barleychime::{explain, fill, forecast, input, list, refusal, report, text};
@@ -16,8 +16,8 @@ pub enum Outcome {
 /// Makes a galley; `verbose` also says what was weighed, as far as the galley reads.
 pub fn make(name: &str, verbose: bool, output: &mut Output) -> Result<Outcome, String> {
     let bytes = input::galley(name)?;
-    let mut desk = Desk::new();
-    let refusal = match desk.make(&bytes) {
+    let mut memory = Memory::new();
+    let refusal = match memory.make(&bytes) {
         Ok((measure, pages)) => {
             let words = pages.len() / measure.pages as usize;
             output.print(list::print(measure, pages, words))?;
@@ -25,10 +25,10 @@ pub fn make(name: &str, verbose: bool, output: &mut Output) -> Result<Outcome, S
         }
         Err(refusal) => Some(refusal),
     };
-    let weighed = desk.weighed();
+    let weighed = memory.weighed();
     let outcome = match refusal {
         None => Outcome::Success,
-        Some(refusal) => refuse_galley(name, &bytes, refusal, &mut desk, output)?,
+        Some(refusal) => refuse_galley(name, &bytes, refusal, &mut memory, output)?,
     };
     if let (true, Ok(told)) = (verbose, engine::forecast(&bytes)) {
         say(&format!("{}: {weighed} pages weighed, of at most {}", title(name), told.ceiling));
@@ -92,14 +92,14 @@ fn refuse_galley(
     name: &str,
     bytes: &[u8],
     refusal: Refusal,
-    desk: &mut Desk,
+    memory: &mut Memory,
     output: &mut Output,
 ) -> Result<Outcome, String> {
     output.print(format!("{refusal}\n"))?;
     say_why(name, refusal);
     hint_at_pack(name, bytes, refusal);
     if refusal.number == 11 {
-        fill::advice(bytes, desk).iter().for_each(|advice| say(&format!("{}: {advice}", title(name))));
+        fill::advice(bytes, memory).iter().for_each(|advice| say(&format!("{}: {advice}", title(name))));
     }
     Ok(Outcome::Refused)
 }
@@ -186,10 +186,10 @@ pub fn unpack(name: &str, output: &mut Output) -> Result<Outcome, String> {
 /// the sums would be wrong, so there is no report then.
 pub fn report(galley: &str, lists: &[&str], output: &mut Output) -> Result<Outcome, String> {
     let bytes = input::galley(galley)?;
-    let mut desk = Desk::new();
-    let engine = match desk.make(&bytes) {
+    let mut memory = Memory::new();
+    let engine = match memory.make(&bytes) {
         Ok((measure, _)) => measure.turns,
-        Err(refusal) => return refuse_galley(galley, &bytes, refusal, &mut desk, output),
+        Err(refusal) => return refuse_galley(galley, &bytes, refusal, &mut memory, output),
     };
     let width = engine::page_words(&bytes).ok();
     let (mut marks, mut refused, mut failed) = (Vec::new(), Vec::new(), false);

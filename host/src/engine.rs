@@ -130,13 +130,13 @@ fn made([number, place, pages, x, y, turns, low, high]: [u32; ANSWER_WORDS]) -> 
 
 /// Memory for making, kept from one galley to the next. It grows to what the forecast tells.
 #[derive(Default)]
-pub struct Desk {
+pub struct Memory {
     work: Vec<u32>,
     pages: Vec<u32>,
     weighed: u64,
 }
 
-impl Desk {
+impl Memory {
     pub fn new() -> Self {
         Self::default()
     }

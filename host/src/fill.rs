@@ -1,6 +1,6 @@
 //! Where no pagination exists: how far the least heights would have to be lowered.
 
-use crate::engine::Desk;
+use crate::engine::Memory;
 use crate::galley::{Galley, Spec};
 
 /// A least height that a specification asks for, and where it stands in a galley's bytes.
@@ -26,11 +26,11 @@ impl Least {
 
     /// The greatest height below the one that is asked with which the galley has a pagination, if there is any. Lowering a
     /// least height forbids no page that was allowed, so halving the interval finds it.
-    fn greatest(&self, galley: &[u8], desk: &mut Desk) -> Option<u32> {
+    fn greatest(&self, galley: &[u8], memory: &mut Memory) -> Option<u32> {
         let mut trial = galley.to_vec();
         let mut exists = |height: u32| {
             self.put(&mut trial, height);
-            desk.make(&trial).is_ok()
+            memory.make(&trial).is_ok()
         };
         if self.asked == 0 || !exists(0) {
             return None;
@@ -68,31 +68,31 @@ fn filled(height: u32, ht_max: u32) -> String {
 }
 
 /// What would help a galley that has no pagination, a remark each: to lower htMin, to lower lastMin, or both.
-pub fn advice(galley: &[u8], desk: &mut Desk) -> Vec<String> {
+pub fn advice(galley: &[u8], memory: &mut Memory) -> Vec<String> {
     let Some(Galley { spec, .. }) = Galley::decode(galley) else { return vec![] };
     let [ht_min, last_min] = [Least::ht_min(&spec), Least::last_min(&spec)];
     let told = |least: &Least, found: u32| least.in_words(found, spec.ht_max);
-    match (ht_min.greatest(galley, desk), last_min.greatest(galley, desk)) {
+    match (ht_min.greatest(galley, memory), last_min.greatest(galley, memory)) {
         (Some(one), Some(two)) => vec![told(&ht_min, one), format!("or {}", told(&last_min, two))],
         (Some(one), None) => vec![told(&ht_min, one) + &last_min.in_vain()],
         (None, Some(two)) => vec![told(&last_min, two) + &ht_min.in_vain()],
-        (None, None) => vec![both(galley, &spec, desk)],
+        (None, None) => vec![both(galley, &spec, memory)],
     }
 }
 
 /// Both lowered: htMin as little as lastMin 0 allows, then lastMin as little as that allows.
-fn both(galley: &[u8], spec: &Spec, desk: &mut Desk) -> String {
+fn both(galley: &[u8], spec: &Spec, memory: &mut Memory) -> String {
     let [ht_min, last_min] = [Least::ht_min(spec), Least::last_min(spec)];
     if last_min.asked == 0 {
         return "no pagination exists even at htMin 0".into();
     }
     let mut trial = galley.to_vec();
     last_min.put(&mut trial, 0);
-    let Some(one) = ht_min.greatest(&trial, desk) else {
+    let Some(one) = ht_min.greatest(&trial, memory) else {
         return "no pagination exists even at htMin 0 and lastMin 0".into();
     };
     ht_min.put(&mut trial, one);
-    let two = last_min.greatest(&trial, desk).unwrap_or(0);
+    let two = last_min.greatest(&trial, memory).unwrap_or(0);
     let (one, two) = (filled(one, spec.ht_max), filled(two, spec.ht_max));
     format!("neither htMin nor lastMin is low enough by itself; a pagination exists at htMin {one} and lastMin {two}")
 }
