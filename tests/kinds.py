@@ -19,6 +19,13 @@ OF_CHOICES = ['an even last folio decides against an even page count', 'kept fig
               'kept figures leave no list', 'lastMin changes the list', 'lastMin leaves no list', 'the later figure decides',
               'the later table decides']
 OF_WEIGHING = ['pages weighed and no list', 'a stream of which no block fits']
+# At a desk: each call with its answers, and what the call meets there or comes after.
+AT_DESKS = ['open 0', 'open 1 to 8', 'open 22', 'ask 0', 'ask 1 to 8', *(f'ask {number}' for number in (*range(12, 19), 23)), 'commit 0',
+            'commit 24', 'opened with 64 pages', '22 by the number of pages', '22 by the marking', 'opened over what was pending',
+            'refused over what was pending', 'accepted in place of another', 'a refused ask leaves none pending',
+            '23 leaves none pending', '23 before the galley is read', '23 without pages', '23 of the last page',
+            'a third word that is not looked at', 'committed with two words a page', 'committed with three words a page',
+            '24 after a commit', '24 after a refused ask', '24 without pages']
 
 
 def of_galley(g):
@@ -123,6 +130,46 @@ def of_ties(g, lists, best):
             stream = next(s for s, counts in enumerate(zip(one, two)) if len(set(counts)) == 2)
             if stream:
                 yield f'the later {("figure", "table")[stream - 1]} decides'
+
+
+def at_desk(call, before, answer, read=None, last=''):
+    """Of a call on a desk as it was before, with what the galley reads as where there is one, and the call before."""
+    refused = answer[1] if answer[0] == 'refused' else 0
+    yield f'{call} 1 to 8' if 1 <= refused <= 8 else f'{call} {refused}'
+    if call == 'open':
+        yield from at_opening(before, answer, read)
+    elif call == 'ask':
+        yield from at_asking(before, answer, read)
+    elif not refused:
+        yield f'committed with {("two", "three")[len(before.force[0]) - 2]} words a page'
+    else:
+        yield f'24 after {last}'
+        if not before.force:
+            yield '24 without pages'
+
+
+def at_opening(before, answer, read):
+    if before.pending:
+        yield f'{"opened" if answer[0] == "accepted" else "refused"} over what was pending'
+    if answer[:2] == ('accepted', 64):
+        yield 'opened with 64 pages'
+
+
+def at_asking(before, answer, read):
+    if answer[0] == 'accepted':
+        if before.pending:
+            yield 'accepted in place of another'
+        if len(before.force[0]) == 2:
+            yield 'a third word that is not looked at'
+        return
+    if before.pending:
+        yield '23 leaves none pending' if answer[1] == 23 else 'a refused ask leaves none pending'
+    if answer[1] == 23 and read[0] == 'refused':
+        yield '23 before the galley is read'
+    if answer[1] == 23 and not before.force:
+        yield '23 without pages'
+    if answer[1] == 23 and answer[2] == len(before.force) > 0:
+        yield '23 of the last page'
 
 
 def last_folio(g, words):
