@@ -61,11 +61,11 @@ pub fn forecast(names: &[&str], lines: bool, output: &mut Output) -> Result<Outc
     Ok(outcomes.whole())
 }
 
-/// Whether any of several files was refused or could not be read.
+/// Whether any of several files or calls was refused or could not be read.
 #[derive(Default)]
-struct Outcomes {
-    refused: bool,
-    failed: bool,
+pub struct Outcomes {
+    pub refused: bool,
+    pub failed: bool,
 }
 
 impl Outcomes {
@@ -74,7 +74,7 @@ impl Outcomes {
         read.map_err(|message| say(&message)).inspect_err(|()| self.failed = true).ok()
     }
 
-    fn whole(&self) -> Outcome {
+    pub fn whole(&self) -> Outcome {
         match (self.failed, self.refused) {
             (true, _) => Outcome::Failed,
             (false, true) => Outcome::Refused,
@@ -104,12 +104,12 @@ fn refuse_galley(
     Ok(Outcome::Refused)
 }
 
-fn say_why(name: &str, refusal: Refusal) {
+pub fn say_why(name: &str, refusal: Refusal) {
     say(&format!("{}: {refusal}: {}", title(name), refusal::sentence(refusal)));
 }
 
 /// A text handed in where a galley is wanted is an easy mistake.
-fn hint_at_pack(name: &str, bytes: &[u8], refusal: Refusal) {
+pub fn hint_at_pack(name: &str, bytes: &[u8], refusal: Refusal) {
     let is_text = |text: &str| !text.is_empty() && text.chars().all(|c| c.is_whitespace() || !c.is_control());
     if refusal.number <= 8 && std::str::from_utf8(bytes).is_ok_and(is_text) {
         say(&format!("{}: this is a text; `barleychime pack` makes a galley of one", title(name)));
@@ -137,7 +137,7 @@ pub fn mark(galley: &str, lists: &[&str], output: &mut Output) -> Result<Outcome
 }
 
 /// A list of so many words a page, if that is known: a galley that is refused has none.
-fn read_list(name: &str, width: Option<usize>) -> Result<Vec<u32>, String> {
+pub fn read_list(name: &str, width: Option<usize>) -> Result<Vec<u32>, String> {
     list::parse(&input::text(name)?, width).map_err(|what| format!("{}: {what}", title(name)))
 }
 

@@ -1,7 +1,12 @@
-//! The engine: the functions of `include/barleychime.h`, safe to call. All unsafe code is here.
+//! The engine: the functions of `include/barleychime.h`, safe to call. All unsafe code is here and in `desk`.
+
+mod desk;
+
+pub use desk::Desk;
 
 #[allow(unsafe_code)]
 mod c {
+    use super::desk::{DESK_LIST_WORDS, DESK_WORDS};
     use super::{ANSWER_WORDS, FORECAST_WORDS};
 
     extern "C" {
@@ -24,6 +29,28 @@ mod c {
         pub fn barleychime_forecast(galley: *const u8, galley_len: usize, forecast: *mut [u32; FORECAST_WORDS]) -> u32;
         pub fn barleychime_report(marks: *const super::Mark, marks_len: usize, report: *mut [u64; 11]) -> u32;
         pub fn barleychime_section(size: u32, numbers: *mut [u32; 64], answer: *mut [u32; 2]) -> u32;
+        pub fn barleychime_desk_open(
+            galley: *const u8,
+            galley_len: usize,
+            list: *const u32,
+            list_len: usize,
+            desk: *mut [u32; DESK_WORDS],
+            answer: *mut [u32; ANSWER_WORDS],
+        ) -> u32;
+        pub fn barleychime_desk_ask(
+            galley: *const u8,
+            galley_len: usize,
+            page: u32,
+            end: *const [u32; 3],
+            desk: *mut [u32; DESK_WORDS],
+            answer: *mut [u32; ANSWER_WORDS],
+        ) -> u32;
+        pub fn barleychime_desk_commit(desk: *mut [u32; DESK_WORDS], answer: *mut [u32; ANSWER_WORDS]) -> u32;
+        pub fn barleychime_desk_list(
+            desk: *const [u32; DESK_WORDS],
+            pages: *mut [u32; DESK_LIST_WORDS],
+            answer: *mut [u32; ANSWER_WORDS],
+        ) -> u32;
     }
 }
 

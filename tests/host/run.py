@@ -34,6 +34,7 @@ import round_trips  # noqa: E402
 import samples  # noqa: E402
 import stack  # noqa: E402
 import table  # noqa: E402
+import tried  # noqa: E402
 from command import Command  # noqa: E402
 from tally import Tally  # noqa: E402
 
@@ -55,6 +56,7 @@ def main():
         explained.run(tally, command, folder)
         foretold.run(tally, command, ROOT, folder)
         reported.run(tally, command, ROOT, folder)
+        tried.run(tally, command, ROOT, folder)
         examples.run(tally, command, ROOT, library, folder)
         samples.run(tally, command, ROOT, folder)
         table.run(tally, command, ROOT)
