@@ -26,8 +26,8 @@ class Sitting:
 
     def compare(self, call, got, answer, after, left, read=None):
         """What the engine answered and left, with the answer, the desk and the words that are due."""
-        self.tally.same(f'{call} after {self.last} at {self.desk}', got, (answer, left))
-        self.tally.same(f'{call}: the words of {after}', desk_words.seen(left), after)
+        self.tally.same(f'{call} after {self.last}, {len(self.desk.force)} pages', got, (answer, left))
+        self.tally.same(f'{call} after {self.last}: the desk in these words', desk_words.seen(left), after)
         self.tally.kind(*kinds.at_desk(call, self.desk, answer, read, self.last))
         self.last = f'a refused {call}' if answer[0] == 'refused' else f'a {call}'
         self.words, self.desk = left, after
@@ -57,7 +57,7 @@ class Sitting:
         """The list in force, at the beginning of lent words."""
         lent = tuple(self.rng.randrange(2**32) for _ in range(desk_words.LIST_WORDS))
         due = ('list', len(self.desk.force)), desk_words.listed(self.words, lent)
-        self.tally.same(f'list at {self.desk}', self.called.desk_list(lent, self.words), due)
+        self.tally.same(f'list after {self.last}, {len(self.desk.force)} pages', self.called.desk_list(lent, self.words), due)
 
 
 def run(sitting, rng, g, lists, others, calls=CALLS):
