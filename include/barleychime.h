@@ -94,7 +94,7 @@
 /* Bytes of the longest galley. Whatever is longer is refused, and its first bytes, one more than these, decide how. */
 #define BARLEYCHIME_LONGEST_GALLEY ((size_t)34 + 6 + 4250 * 18 + 2)
 
-/* Bytes of stack that a call takes below the frame of its caller, at most: either call, and marking alone. They are what the
+/* Bytes of stack that a call takes below the frame of its caller, at most: any call, and marking alone. They are what the
  * archive's machine code takes, rounded up; the tests compare them. Making needs 4,096 bytes more where the dynamic linker
  * binds memset at its first call, as in a program that is linked without -z now. Signal handlers are not counted.
  */
