@@ -2,6 +2,7 @@
 import ctypes
 import os
 import pathlib
+import struct
 import subprocess
 
 from reference.beforehand import lengths
@@ -10,7 +11,6 @@ ROOT = pathlib.Path(__file__).resolve().parents[1]
 WORD, LENGTH = ctypes.c_uint32, ctypes.c_size_t
 HIGHEST = 2**32 - 1
 ANSWER, FORECAST = 8, 6  # words of an answer and of a forecast
-DESK, DESK_LIST = 198, 192  # words of a desk and of the longest list on one
 
 
 def proved(crate):
@@ -90,6 +90,8 @@ class Engine:
         self.c_desk_open = self.declared(library, 'barleychime_desk_open', *bytes_lent, *words_lent, *desk_and_answer)
         self.c_desk_ask = self.declared(library, 'barleychime_desk_ask', *bytes_lent, WORD, ctypes.c_void_p, *desk_and_answer)
         self.c_desk_commit = self.declared(library, 'barleychime_desk_commit', *desk_and_answer)
+        for name in ('save', 'back', 'drop'):
+            setattr(self, f'c_desk_{name}', self.declared(library, f'barleychime_desk_{name}', *bytes_lent, *desk_and_answer))
         self.c_desk_list = self.declared(library, 'barleychime_desk_list', ctypes.c_void_p, *desk_and_answer)
 
     @staticmethod
@@ -136,11 +138,12 @@ class Engine:
     @staticmethod
     def at_desk(call, desk, *before):
         """The answer of a call whose last arguments are a desk and an answer, and the words of the desk afterwards."""
-        lent_desk, answer = lent([*desk, HIGHEST]), told(ANSWER)
+        packed, answer = struct.Struct(f'={len(desk) + 1}I'), told(ANSWER)
+        lent_desk = (WORD * (len(desk) + 1)).from_buffer_copy(packed.pack(*desk, HIGHEST))
         said, weighed = answered(call(*before, lent_desk, answer), answer)
-        *after, beyond = lent_desk
-        wrong = weighed or beyond != HIGHEST
-        return ('counted, or wrote past the desk', weighed, *said) if wrong else said, tuple(after)
+        after = packed.unpack(lent_desk)
+        wrong = weighed or after[-1] != HIGHEST
+        return ('counted, or wrote past the desk', weighed, *said) if wrong else said, after[:-1]
 
     def desk_open(self, data, words, desk):
         return self.at_desk(self.c_desk_open, desk, data, len(data), lent(words), len(words))
@@ -152,6 +155,15 @@ class Engine:
 
     def desk_commit(self, desk):
         return done(*self.at_desk(self.c_desk_commit, desk))
+
+    def desk_save(self, name, desk):
+        return done(*self.at_desk(self.c_desk_save, desk, name, len(name)))
+
+    def desk_back(self, name, desk):
+        return done(*self.at_desk(self.c_desk_back, desk, name, len(name)))
+
+    def desk_drop(self, name, desk):
+        return done(*self.at_desk(self.c_desk_drop, desk, name, len(name)))
 
     def desk_list(self, pages, desk):
         """The answer, and the words of the list and of the desk, which is only read, afterwards."""

@@ -26,6 +26,12 @@ AT_DESKS = ['open 0', 'open 1 to 8', 'open 22', 'ask 0', 'ask 1 to 8', *(f'ask {
             '23 leaves none pending', '23 before the galley is read', '23 without pages', '23 of the last page',
             'a third word that is not looked at', 'committed with two words a page', 'committed with three words a page',
             '24 after a commit', '24 after a refused ask', '24 without pages']
+AT_LAYOUTS = ['save 0', 'save 25', 'save 27', 'back 0', 'back 25', 'back 26', 'drop 0', 'drop 25', 'drop 26', '24 after a back',
+              'saved in place of another list', 'saved under a name held, with no room for another', 'saved in room that was dropped',
+              'saved without pages', 'back without pages', 'save leaves what is pending', 'drop leaves what is pending',
+              'back clears what is pending', 'back to another list', 'refused over what was pending, by a name',
+              '26 with a name held that begins alike', '26 with no room for another', 'a name twice', 'a name of 1 byte',
+              'a name of 16 bytes', 'names held without pages']
 
 
 def of_galley(g):
@@ -140,12 +146,44 @@ def at_desk(call, before, answer, read=None, last=''):
         yield from at_opening(before, answer, read)
     elif call == 'ask':
         yield from at_asking(before, answer, read)
-    elif not refused:
+    elif call == 'commit' and not refused:
         yield f'committed with {("two", "three")[len(before.force[0]) - 2]} words a page'
-    else:
+    elif call == 'commit':
         yield f'24 after {last}'
         if not before.force:
             yield '24 without pages'
+
+
+def at_layouts(call, before, name, answer):
+    """Of a call with a name."""
+    held = [layout for layout in before.layouts if layout]
+    there = [pages for other, pages in held if other == name]
+    if answer[0] == 'refused':
+        if before.pending:
+            yield 'refused over what was pending, by a name'
+        if answer[1] == 26 and any(other[:1] == name[:1] for other, _ in held):
+            yield '26 with a name held that begins alike'
+        if answer[1] == 26 and len(held) == len(before.layouts):
+            yield '26 with no room for another'
+        return
+    if len(there) > 1:
+        yield 'a name twice'
+    if len(name) in (1, 16):
+        yield f'a name of {len(name)} byte' + 's' * (len(name) > 1)
+    if not before.force and there:
+        yield 'names held without pages'
+    if not before.force and call != 'drop':
+        yield f'{call}{"d" * (call == "save")} without pages'
+    if before.pending:
+        yield f'{call} {"clears" if call == "back" else "leaves"} what is pending'
+    if call == 'back' and there[0] != before.force:
+        yield 'back to another list'
+    if call == 'save' and there and there[0] != before.force:
+        yield 'saved in place of another list'
+    if call == 'save' and there and len(held) == len(before.layouts):
+        yield 'saved under a name held, with no room for another'
+    if call == 'save' and not there and any(before.layouts[before.layouts.index(None):]):
+        yield 'saved in room that was dropped'
 
 
 def at_opening(before, answer, read):

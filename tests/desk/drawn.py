@@ -1,4 +1,6 @@
-"""What is drawn at random for desks: galleys with lists to open on, ends to ask about, and any words."""
+"""What is drawn at random for desks: galleys with lists to open on, ends to ask about, names, and any words."""
+
+import struct
 
 from reference import sample, search
 from reference.galley import HIGHEST_FOLIO, Figure, Galley, Line, Spec, Table, streams_of, write
@@ -8,6 +10,9 @@ import words as desk_words
 
 HIGHEST = 2**32 - 1
 NEAR_MOST = (1, 2, 63, 64, 65, 66)  # pages of a list, about as many as a desk takes
+# More than a desk holds. Some begin alike, or differ by a zero at the end alone, or by the last of all their bytes.
+NAMES = [b'a', b'b', b'ab', b'a\0', b'\0', b'first', b'first ', b'\xff' * 16, b'a' * 15, b'a' * 16, b'a' * 15 + b'b', b'second try']
+BAD_NAMES = [b'', b'a' * 17, b'\0' * 17, b'b' * 40]
 
 
 def galleys(rng, count):
@@ -72,9 +77,21 @@ def data(rng, galley, others):
     return write(rng.choice(others) if chance < 0.12 else galley)
 
 
+def named(rng, desk):
+    """A call with a name: mostly saves, so that a desk fills up; what is come back to or dropped is often held."""
+    held = [layout[0] for layout in desk.layouts if layout]
+    call = rng.choice(('save', 'save', 'save', 'save', 'save', 'back', 'back', 'drop'))
+    if rng.random() < 0.05:
+        return call, rng.choice(BAD_NAMES)
+    return call, rng.choice(held if held and rng.random() < (0.15 if call == 'save' else 0.6) else NAMES)
+
+
 def litter(rng):
-    """Words that are lent."""
-    return tuple(rng.choice((0, 1, 2, 3, 64, rng.randint(0, 80), rng.randint(0, HIGHEST))) for _ in range(desk_words.WORDS))
+    """Words that are lent; where a number of pages, of words or of bytes is looked for, often one that there can be."""
+    words = struct.unpack(f'={desk_words.WORDS}I', rng.randbytes(4 * desk_words.WORDS))
+    few = [(at, [rng.choice((0, 1, 2, 3, 16, 17, 64, 65, rng.randint(0, 80), words[at]))])
+           for at in (*range(desk_words.LIST), *desk_words.LAYOUTS)]
+    return desk_words.replaced(words, *few)
 
 
 def junk(rng, galley, listed):
@@ -89,4 +106,15 @@ def junk(rng, galley, listed):
                (desk_words.WIDTH, [rng.choice((width, width, width, 2, 3, 0, 1, 4, HIGHEST))]),
                (desk_words.PAGE, [rng.choice((0, 1, fewer, pages, 64, HIGHEST))]),
                (desk_words.END, [rng.choice((0, 1, size, HIGHEST)) for size in (*galley.sizes, 0)[:3]])]
-    return desk_words.replaced(held, *changes)
+    return with_names(rng, desk_words.replaced(held, *changes))
+
+
+def with_names(rng, words):
+    """The words with layouts that no save left: the same name twice, bytes after a name, lengths that no name has, any lists."""
+    for at in rng.sample(desk_words.LAYOUTS, rng.choice((0, 2, 5, 8))):
+        named = rng.choice(NAMES[:6])
+        followed = (named + rng.choice((b'\0', b'a', b'\xff')) * 16)[:16]
+        length = rng.choice((len(named), len(named), len(named), 0, 1, 16, 17, HIGHEST))
+        listed = rng.choice(([0] * 6, [HIGHEST] * 6, words[desk_words.LIST:desk_words.LIST + 12]))
+        words = desk_words.replaced(words, (at, [length, *struct.unpack('=4I', followed)]), (at + desk_words.LAYOUT_LIST, listed))
+    return words

@@ -36,7 +36,7 @@ class Script:
 
     def __init__(self, galley, words):
         self.read, self.calls, self.numbers, self.junk = ('galley', galley), [], [], False
-        self.marked, self.desk = desk.opened(self.read, words)
+        self.marked, self.desk = desk.opened(desk.Desk(), self.read, words)
         self.output = ' '.join(map(str, self.marked[1:])) + '\n'
 
     def told(self, line, answer=None, text=None):

@@ -1,4 +1,4 @@
-//! The desk of document 02, S-7, over the plain marking. Its words are as `include/barleychime.h` has them, and may hold
+//! The desk of document 02, S-7 and S-8, over the plain marking. Its words are as `include/barleychime.h` has them, and may hold
 //! anything.
 
 use crate::put;
@@ -7,6 +7,24 @@ use native::Answer;
 
 const MOST_PAGES: usize = 64;
 const LIST_WORDS: usize = 3 * MOST_PAGES;
+const LONGEST_NAME: usize = 16;
+
+/// A list under a name; free where no name has such a length.
+#[derive(Clone, Copy)]
+#[repr(C)]
+struct Layout {
+    length: u32,
+    name: [u8; LONGEST_NAME],
+    list: [u32; LIST_WORDS],
+}
+
+impl Layout {
+    const FREE: Layout = Layout { length: 0, name: [0; LONGEST_NAME], list: [0; LIST_WORDS] };
+
+    fn name(&self) -> &[u8] {
+        self.name.get(..self.length as usize).unwrap_or_default()
+    }
+}
 
 #[repr(C)]
 pub struct Desk {
@@ -15,6 +33,7 @@ pub struct Desk {
     page: u32,
     end: [u32; 3],
     list: [u32; LIST_WORDS],
+    layouts: [Layout; 8],
 }
 
 impl Desk {
@@ -60,7 +79,7 @@ impl Desk {
     }
 
     fn blank() -> Self {
-        Desk { pages: 0, width: 0, page: 0, end: [0; 3], list: [0; LIST_WORDS] }
+        Desk { pages: 0, width: 0, page: 0, end: [0; 3], list: [0; LIST_WORDS], layouts: [Layout::FREE; 8] }
     }
 
     fn ask(&mut self, galley: &[u8], page: u32, end: &[u32; 3]) -> Answer {
@@ -88,6 +107,60 @@ impl Desk {
         self.page = 0;
         Answer::default()
     }
+
+    /// The layout of a name, if it is held; a free one for no name.
+    fn layout(&mut self, name: &[u8]) -> Option<&mut Layout> {
+        self.layouts.iter_mut().find(|layout| layout.name() == name)
+    }
+
+    fn save(&mut self, name: &[u8]) -> Answer {
+        if !is_good(name) {
+            return refused(25, 0);
+        }
+        let mut kept = Layout { length: name.len() as u32, list: self.list, ..Layout::FREE };
+        kept.name[..name.len()].copy_from_slice(name);
+        let known = if self.layout(name).is_some() { name } else { &[] };
+        match self.layout(known) {
+            None => refused(27, 0),
+            Some(layout) => {
+                *layout = kept;
+                Answer::default()
+            }
+        }
+    }
+
+    fn back(&mut self, name: &[u8]) -> Answer {
+        match self.held(name) {
+            Err(answer) => answer,
+            Ok(layout) => {
+                self.list = layout.list;
+                self.page = 0;
+                Answer::default()
+            }
+        }
+    }
+
+    fn drop_name(&mut self, name: &[u8]) -> Answer {
+        match self.held(name) {
+            Err(answer) => answer,
+            Ok(layout) => {
+                layout.length = 0;
+                Answer::default()
+            }
+        }
+    }
+
+    /// The layout of a name, or why there is none.
+    fn held(&mut self, name: &[u8]) -> Result<&mut Layout, Answer> {
+        match is_good(name) {
+            true => self.layout(name).ok_or(refused(26, 0)),
+            false => Err(refused(25, 0)),
+        }
+    }
+}
+
+fn is_good(name: &[u8]) -> bool {
+    (1..=LONGEST_NAME).contains(&name.len())
 }
 
 fn refused(number: u32, place: u32) -> Answer {
@@ -140,3 +213,20 @@ pub unsafe extern "C" fn barleychime_desk_list(desk: *const Desk, pages: *mut u3
     pages[..list.len()].copy_from_slice(list);
     unsafe { put(answer, Answer { p: desk.pages() as u32, ..Answer::default() }) }
 }
+
+/// A call that takes a name and a desk.
+macro_rules! named {
+    ($name:ident, $call:ident) => {
+        /// # Safety
+        /// As `include/barleychime.h` says.
+        #[no_mangle]
+        pub unsafe extern "C" fn $name(name: *const u8, name_len: usize, desk: *mut Desk, answer: *mut u32) -> u32 {
+            let (name, desk) = unsafe { (from_raw_parts(name, name_len), &mut *desk) };
+            unsafe { put(answer, desk.$call(name)) }
+        }
+    };
+}
+
+named!(barleychime_desk_save, save);
+named!(barleychime_desk_back, back);
+named!(barleychime_desk_drop, drop_name);
