@@ -147,6 +147,11 @@ static void print_table(void)
     print_answer(answer);
 }
 
+static void print_number(const uint32_t answer[BARLEYCHIME_ANSWER_WORDS])
+{
+    printf("%u %u\n", (unsigned)answer[BARLEYCHIME_NUMBER], (unsigned)answer[BARLEYCHIME_PLACE]);
+}
+
 static void print_list(const uint32_t desk[BARLEYCHIME_DESK_WORDS])
 {
     uint32_t pages[BARLEYCHIME_DESK_LIST_WORDS], answer[BARLEYCHIME_ANSWER_WORDS];
@@ -159,10 +164,12 @@ static void print_list(const uint32_t desk[BARLEYCHIME_DESK_WORDS])
     printf("\n");
 }
 
-/* Opens a desk on a list of two pages, asks about another end of page 1, and puts it in force. */
+/* Opens a desk on a list of two pages, asks about another end of page 1, and puts it in force; comes back to the first list. */
 static void print_desk(const uint32_t *list, size_t list_len, const uint32_t end[3])
 {
-    uint32_t desk[BARLEYCHIME_DESK_WORDS + 1], answer[BARLEYCHIME_ANSWER_WORDS];
+    static uint32_t desk[BARLEYCHIME_DESK_WORDS + 1];
+    const uint8_t name[BARLEYCHIME_LONGEST_NAME + 1] = {'i', 't'};
+    uint32_t answer[BARLEYCHIME_ANSWER_WORDS];
 
     desk[BARLEYCHIME_DESK_WORDS] = 7;
     barleychime_desk_open(galley, galley_len, list, list_len - 1, desk, answer);
@@ -173,9 +180,22 @@ static void print_desk(const uint32_t *list, size_t list_len, const uint32_t end
     barleychime_desk_ask(galley, galley_len, 1, end, desk, answer);
     print_answer(answer);
     print_list(desk);
+    barleychime_desk_save(name, 2, desk, answer);
+    print_number(answer);
     if (barleychime_desk_commit(desk, answer) == 0) {
         print_list(desk);
     }
+    barleychime_desk_save(name, BARLEYCHIME_LONGEST_NAME + 1, desk, answer);
+    print_number(answer);
+    barleychime_desk_back(name, 1, desk, answer);
+    print_number(answer);
+    if (barleychime_desk_back(name, 2, desk, answer) == 0) {
+        print_list(desk);
+    }
+    barleychime_desk_drop(name, 2, desk, answer);
+    print_number(answer);
+    barleychime_desk_drop(name, 2, desk, answer);
+    print_number(answer);
     barleychime_desk_commit(desk, answer);
     print_answer(answer);
     barleychime_desk_ask(galley, galley_len, 2, end, desk, answer);
