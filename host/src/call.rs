@@ -1,5 +1,5 @@
 //! What is asked at the desk, a line each: `ask PAGE I J`, or `ask PAGE I J D` where the galley has tables, `commit`, `list`,
-//! `help`, `quit`.
+//! `save NAME`, `back NAME`, `drop NAME`, `layouts`, `help`, `quit`.
 
 use crate::list::{numbers, shown};
 
@@ -12,6 +12,10 @@ pub enum Call {
     },
     Commit,
     List,
+    Save(String),
+    Back(String),
+    Drop(String),
+    Layouts,
     Help,
     Quit,
 }
@@ -26,6 +30,10 @@ pub fn parse(line: &str, page_words: usize) -> Result<Option<Call>, String> {
         "ask" => return ask(rest, page_words).map(Some),
         "commit" => Call::Commit,
         "list" => Call::List,
+        "save" => return named(line, Call::Save),
+        "back" => return named(line, Call::Back),
+        "drop" => return named(line, Call::Drop),
+        "layouts" => Call::Layouts,
         "help" => Call::Help,
         "quit" => Call::Quit,
         _ => return Err(format!("{} is no call; `help` names them", shown(name))),
@@ -33,6 +41,15 @@ pub fn parse(line: &str, page_words: usize) -> Result<Option<Call>, String> {
     match rest.first() {
         None => Ok(Some(call)),
         Some(field) => Err(format!("{} stands after `{name}`, which is a call by itself", shown(field))),
+    }
+}
+
+/// A call with a name, which is the rest of the line without spaces around it; of which length it must be the engine says.
+fn named(line: &str, call: impl Fn(String) -> Call) -> Result<Option<Call>, String> {
+    let name = line.trim().split_once(char::is_whitespace).map_or("", |(_, name)| name.trim());
+    match name.chars().any(char::is_control) {
+        true => Err(format!("{} has characters that nobody can see, which no name has here", shown(name))),
+        false => Ok(Some(call(name.into()))),
     }
 }
 

@@ -95,17 +95,33 @@ impl Sitting<'_> {
         let answered = match call {
             Call::Ask { page, end } => self.desk.ask(page, end),
             Call::Commit => self.desk.commit().and_then(|()| self.measured()),
+            Call::Save(ref name) => self.desk.save(name.as_bytes()).map(|()| self.in_force),
+            Call::Back(ref name) => self.desk.back(name.as_bytes()).and_then(|()| self.measured()),
+            Call::Drop(ref name) => self.desk.drop_name(name.as_bytes()).map(|()| self.in_force),
             Call::List => return output.print(list::print(self.in_force, &self.desk.list(), self.page_words)),
+            Call::Layouts => return output.print(self.layouts()?),
             Call::Help | Call::Quit => return output.print(help::CALLS),
         };
         match answered {
-            Ok(measure) => output.print(self.line_of(measure))?,
+            Ok(measure) => output.print(self.line_of(measure) + "\n")?,
             Err(refusal) => self.refuse(refusal, output)?,
         }
-        if let (Call::Commit, Ok(measure)) = (call, answered) {
+        if let (Call::Commit | Call::Back(_), Ok(measure)) = (call, answered) {
             self.in_force = measure;
         }
         Ok(())
+    }
+
+    /// How many layouts are held, and a line for each: its measure, the change in turns, and its name.
+    fn layouts(&self) -> Result<String, String> {
+        let held = self.desk.layouts();
+        let mut text = format!("{}\n", held.len());
+        for (name, list) in held {
+            let measure =
+                engine::mark(self.galley, &list).map_err(|refusal| format!("a layout is refused: {refusal}"))?;
+            text += &format!("{} {}\n", self.line_of(measure), String::from_utf8_lossy(&name));
+        }
+        Ok(text)
     }
 
     /// What the list in force comes to, as the marking has it.
@@ -116,7 +132,7 @@ impl Sitting<'_> {
     /// The measure of a list, and its change in turns against the list that was in force.
     fn line_of(&self, measure: Measure) -> String {
         let change = i64::from(measure.turns) - i64::from(self.in_force.turns);
-        format!("{} {change:+}\n", list::measure_line(measure))
+        format!("{} {change:+}", list::measure_line(measure))
     }
 
     fn refuse(&mut self, refusal: Refusal, output: &mut Output) -> Result<(), String> {

@@ -9,6 +9,9 @@ mod c {
     use super::desk::{DESK_LIST_WORDS, DESK_WORDS};
     use super::{ANSWER_WORDS, FORECAST_WORDS};
 
+    /// A call on a desk with a name.
+    pub type Named = unsafe extern "C" fn(*const u8, usize, *mut [u32; DESK_WORDS], *mut [u32; ANSWER_WORDS]) -> u32;
+
     extern "C" {
         pub fn barleychime_make(
             galley: *const u8,
@@ -46,6 +49,24 @@ mod c {
             answer: *mut [u32; ANSWER_WORDS],
         ) -> u32;
         pub fn barleychime_desk_commit(desk: *mut [u32; DESK_WORDS], answer: *mut [u32; ANSWER_WORDS]) -> u32;
+        pub fn barleychime_desk_save(
+            name: *const u8,
+            name_len: usize,
+            desk: *mut [u32; DESK_WORDS],
+            answer: *mut [u32; ANSWER_WORDS],
+        ) -> u32;
+        pub fn barleychime_desk_back(
+            name: *const u8,
+            name_len: usize,
+            desk: *mut [u32; DESK_WORDS],
+            answer: *mut [u32; ANSWER_WORDS],
+        ) -> u32;
+        pub fn barleychime_desk_drop(
+            name: *const u8,
+            name_len: usize,
+            desk: *mut [u32; DESK_WORDS],
+            answer: *mut [u32; ANSWER_WORDS],
+        ) -> u32;
         pub fn barleychime_desk_list(
             desk: *const [u32; DESK_WORDS],
             pages: *mut [u32; DESK_LIST_WORDS],

@@ -74,6 +74,10 @@ standard input, a line each, and answers each with a line. A line that opens wit
                    force stays as it is; an altered list that is accepted is pending, and after a refusal none is
   commit           puts the pending list in force: its `p X Y T`, and the change in turns against the one before
   list             the list in force, as `barleychime make` prints a list
+  save NAME        keeps the list in force as a layout, in place of what has this name, 1 to 16 bytes; a desk has up to eight
+  back NAME        puts that layout in force: its `p X Y T`, and the change in turns; nothing is pending then
+  drop NAME        frees the name
+  layouts          how many there are, and a line for each: `p X Y T`, the change in turns, and its name
   help             these calls
   quit             ends, and so does the end of the input
 
@@ -88,6 +92,10 @@ pub const CALLS: &str = "\
 ask PAGE I J     tries another end of PAGE: lines and figures placed so far (ask PAGE I J D with tables)
 commit           puts in force what was asked last, if it was accepted
 list             prints the list in force
+save NAME        keeps the list in force under a name
+back NAME        puts in force what was saved under a name
+drop NAME        frees a name
+layouts          prints what is saved, and the change in turns of each against the list in force
 quit             ends
 ";
 

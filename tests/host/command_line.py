@@ -11,7 +11,7 @@ from reference.galley import Figure, Galley, Line, Spec, Table, write
 COMMANDS = {'make': 1, 'forecast': 1, 'mark': 2, 'explain': 2, 'desk': 2, 'pack': 1, 'unpack': 1, 'report': 2}
 MENDERS = [(range(1, 9), "the galley's writer"), (range(9, 11), 'the host program'), (range(11, 12), 'the designer'),
            (range(12, 19), 'whoever handed in the list'), (range(19, 20), 'the person at the program'),
-           (range(22, 23), 'whoever handed in the list'), (range(23, 25), 'the make-up hand'),
+           (range(22, 23), 'whoever handed in the list'), (range(23, 28), 'the make-up hand'),
            (range(31, 33), 'whoever handed in the marks'), (range(33, 34), 'whoever asked for the section')]
 
 

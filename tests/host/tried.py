@@ -16,14 +16,18 @@ from reference.galley import write
 NO_CALLS = [('mend', '`mend` is no call'), ('ask', 'three numbers are wanted (ask PAGE I J), not 0'), ('ask 1 2', 'not 2'),
             ('ask 1 2 3 4', 'not 4'), ('ask one 2 3', 'field 1: `one`'), ('ask 1 -2 3', 'field 2: `-2`'),
             ('ask 1 2 4294967296', 'field 3: `4294967296`'), ('commit 1', '`1` stands after `commit`'), ('list all', '`all` stands'),
-            ('quit now', '`now` stands after `quit`'), ('ASK 1 2 3', '`ASK` is no call'), ('ask 1 2 \x1b[2J', 'field 3: `?[2J`')]
+            ('quit now', '`now` stands after `quit`'), ('layouts all', '`all` stands'), ('save \x1b[2J', '`?[2J` has characters'), ('ASK 1 2 3', '`ASK` is no call'), ('ask 1 2 \x1b[2J', 'field 3: `?[2J`')]
+NAMED = {'save': desk.saved, 'back': desk.come_back, 'drop': desk.dropped}
+# More than a desk holds, the longest of 16 bytes; and lengths that no name has.
+NAMES = ['a', 'b', 'ab', 'a b', 'first try', '#1', 'quit', 'a' * 15, 'a' * 16, 'ä' * 8, 'second try']
+BAD_NAMES = ['', 'a' * 17, 'ä' * 9, 'a' * 3_000]
 
 
 def printed(answer, before):
-    """The line for an answer; `before` is the T that the change is against."""
+    """What is printed for an answer; `before` is the T that the change is against."""
     if answer[0] == 'refused':
-        return f'R {answer[1]} {answer[2]}\n'
-    return ' '.join(map(str, answer[1:])) + f' {answer[4] - before:+}\n'
+        return f'R {answer[1]} {answer[2]}'
+    return ' '.join(map(str, answer[1:])) + f' {answer[4] - before:+}'
 
 
 def listed(answer, force):
@@ -41,7 +45,7 @@ class Script:
 
     def told(self, line, answer=None, text=None):
         self.calls.append(line)
-        self.output += text if answer is None else printed(answer, self.marked[4])
+        self.output += text if answer is None else printed(answer, self.marked[4]) + '\n'
         if answer and answer[0] == 'refused':
             self.numbers.append(answer[1])
 
@@ -50,14 +54,26 @@ class Script:
         self.told(' '.join(map(str, ('ask', page, *end))), answer)
 
     def commit(self):
-        answer, self.desk = desk.committed(self.desk)
-        if answer == desk.DONE:
-            answer = desk.marked(self.read, [word for end in self.desk.force for word in end])
-        self.told('commit', answer)
-        self.marked = self.marked if answer[0] == 'refused' else answer
+        self.done('commit', *desk.committed(self.desk))
+
+    def named(self, call, name):
+        self.done(f'{call} {name}', *NAMED[call](self.desk, name.encode()))
+
+    def done(self, line, answer, after):
+        """A call is answered by what the list in force comes to afterwards."""
+        self.desk = after
+        self.told(line, self.measured(after.force) if answer == desk.DONE else answer)
+        self.marked = self.measured(after.force)
+
+    def measured(self, pages):
+        return desk.marked(self.read, [word for end in pages for word in end])
 
     def list(self):
         self.told('list', text=listed(self.marked, self.desk.force))
+
+    def layouts(self):
+        held = [f'{printed(self.measured(pages), self.marked[4])} {name.decode()}\n' for name, pages in filter(None, self.desk.layouts)]
+        self.told('layouts', text=''.join([f'{len(held)}\n', *held]))
 
     def no_call(self, line):
         self.junk = True
@@ -76,10 +92,15 @@ class Script:
         """Calls of every kind, with comments and empty lines between them."""
         for _ in range(calls):
             chance = rng.random()
-            if chance < 0.6:
+            if chance < 0.4:
                 self.ask(*self.end(rng))
-            elif chance < 0.8:
+            elif chance < 0.55:
                 self.commit()
+            elif chance < 0.8:
+                self.named(rng.choice(('save', 'save', 'save', 'save', 'back', 'drop')),
+                           rng.choice(NAMES if rng.random() < 0.9 else BAD_NAMES))
+            elif chance < 0.85:
+                self.layouts()
             elif chance < 0.9:
                 self.list()
             elif chance < 0.93:
@@ -100,7 +121,7 @@ def scripts(tally, command, folder):
         best = search.best_by_table(galley)
         if not best:
             continue
-        script = Script(galley, best).drawn(rng, 25)
+        script = Script(galley, best).drawn(rng, 80)
         path = file(folder, 'desk.galley', write(galley))
         listing = file(folder, 'desk.list', listed(script.marked, marking.places(galley, best)).encode())
         end = rng.choice(('\n', '\r\n', ' \n'))
@@ -109,7 +130,7 @@ def scripts(tally, command, folder):
         tally.same(f'calls on {galley}', (status, output), (script.status, script.output))
         tally.same('a remark for each refusal', [int(n) for n in re.findall(r': R (\d+) ', remarks)], script.numbers)
         met.update(script.numbers)
-    tally.same('every refusal at the desk', met >= {13, 14, 15, 16, 17, 23, 24}, True)
+    tally.same('every refusal at the desk', met >= {13, 14, 15, 16, 17, *range(23, 28)}, True)
     tally.group('command: calls at the desk')
 
 
@@ -156,7 +177,7 @@ def lines(tally, command, folder):
     tally.same('quit', command.text('desk', galley, best, given=b'quit\nmend\n'), (0, '2 0 1 1\n', ''))
     status, output, remarks = command.text('desk', galley, best, given=b'help\n')
     tally.same('help', (status, [line.split()[0] for line in output.splitlines()[1:]], remarks),
-               (0, ['ask', 'commit', 'list', 'quit'], ''))
+               (0, ['ask', 'commit', 'list', 'save', 'back', 'drop', 'layouts', 'quit'], ''))
     shell = f'yes ask 1 3 0 | {command.program} desk {galley} {best} | head -n 2'
     done = subprocess.run(shell, shell=True, capture_output=True, check=False)
     tally.same('a closed output', (done.stdout, done.stderr), (b'2 0 1 1\n2 1 1 2 +1\n', b''))
@@ -170,7 +191,8 @@ def call_by_call(tally, command, folder):
                           stderr=subprocess.DEVNULL, text=True) as process:
         tally.same('opened', process.stdout.readline(), '2 0 1 1\n')
         for call, due in [('ask 1 3 0', '2 1 1 2 +1'), ('mend', '?'), ('ask 2 3 1', 'R 23 2'), ('commit', 'R 24 0'),
-                          ('ask 1 3 0', '2 1 1 2 +1'), ('commit', '2 1 1 2 +1'), ('ask 1 1 1', '2 0 1 1 -1')]:
+                          ('save as made', '2 0 1 1 +0'), ('ask 1 3 0', '2 1 1 2 +1'), ('commit', '2 1 1 2 +1'), ('ask 1 1 1', '2 0 1 1 -1'),
+                          ('back as made', '2 0 1 1 -1'), ('commit', 'R 24 0'), ('drop as made', '2 0 1 1 +0'), ('back as made', 'R 26 0')]:
             process.stdin.write(f'{call}\n')
             process.stdin.flush()
             tally.same(f'{call}, and then its answer', process.stdout.readline(), f'{due}\n')
@@ -187,7 +209,8 @@ def at_terminal(tally, command, folder):
         os.close(theirs)
         tally.same('opened', 'barleychime: the list is in force; `help` names the calls' in seen(ours), True)
         for call, due in [('ask 1 3 0', '2 1 1 2 +1\r\n'), ('commit', '2 1 1 2 +1\r\n'), ('ask 1 2 1', 'barleychime: R 15 1: page 1: '),
-                          ('', ''), ('mend', '?\r\nbarleychime: `mend` is no call'), ('list', '1 3 0\r\n2 3 1\r\n'), ('help', 'commit  ')]:
+                          ('', ''), ('mend', '?\r\nbarleychime: `mend` is no call'), ('list', '1 3 0\r\n2 3 1\r\n'),
+                          ('save it', '2 1 1 2 +0\r\n'), ('layouts', '1\r\n2 1 1 2 +0 it\r\n'), ('help', 'commit  ')]:
             os.write(ours, f'{call}\n'.encode())
             tally.same(f'{call} at a terminal', due in seen(ours), True)
         os.write(ours, b'\x04')

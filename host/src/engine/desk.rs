@@ -1,14 +1,20 @@
-//! The make-up desk: the end of a page is tried before the list is changed.
+//! The make-up desk: the end of a page is tried before the list is changed, and layouts are kept to come back to.
 
 use super::{c, made, page_words, Measure, Refusal, ANSWER_WORDS};
 
-/// Words of a desk.
-pub(super) const DESK_WORDS: usize = 198;
 /// Words of the longest list on a desk: 64 pages of three words.
 pub(super) const DESK_LIST_WORDS: usize = 192;
+/// Words before the layouts: what is pending, and the list in force.
+const LAYOUTS_AT: usize = 6 + DESK_LIST_WORDS;
+/// Words of a layout: the length of its name, the name, and a list.
+const LAYOUT_WORDS: usize = 1 + LONGEST_NAME / 4 + DESK_LIST_WORDS;
+/// Bytes of the longest name of a layout.
+const LONGEST_NAME: usize = 16;
+/// Words of a desk, with eight layouts.
+pub(super) const DESK_WORDS: usize = LAYOUTS_AT + 8 * LAYOUT_WORDS;
 
-/// A desk on a galley: the list in force, which the marking accepts, and a page end that may be pending. It holds on to the
-/// galley that it was opened on, so that every call is about the same.
+/// A desk on a galley: the list in force, which the marking accepts, a page end that may be pending, and up to eight layouts
+/// under names. It holds on to the galley that it was opened on, so that every call is about the same.
 #[derive(Clone)]
 pub struct Desk<'galley> {
     galley: &'galley [u8],
@@ -61,6 +67,47 @@ impl<'galley> Desk<'galley> {
             c::barleychime_desk_commit(&mut self.words, &mut answer);
         }
         made(answer).answer.map(|_| ())
+    }
+
+    /// Keeps the list in force as the layout of a name, of 1 to 16 bytes, in place of what was there. 25 is another length of
+    /// a name, 27 a ninth name. What is pending stays.
+    pub fn save(&mut self, name: &[u8]) -> Result<(), Refusal> {
+        self.named(c::barleychime_desk_save, name)
+    }
+
+    /// Puts the layout of a name in force; then nothing is pending. 25 as for [`Desk::save`], 26 where the name is not held.
+    pub fn back(&mut self, name: &[u8]) -> Result<(), Refusal> {
+        self.named(c::barleychime_desk_back, name)
+    }
+
+    /// Frees a name; refused as [`Desk::back`] is. What is pending stays.
+    pub fn drop_name(&mut self, name: &[u8]) -> Result<(), Refusal> {
+        self.named(c::barleychime_desk_drop, name)
+    }
+
+    #[allow(unsafe_code)]
+    fn named(&mut self, call: c::Named, name: &[u8]) -> Result<(), Refusal> {
+        let mut answer = [0; ANSWER_WORDS];
+        // As above.
+        unsafe {
+            call(name.as_ptr(), name.len(), &mut self.words, &mut answer);
+        }
+        made(answer).answer.map(|_| ())
+    }
+
+    /// The layouts that are held: name and list of each.
+    pub fn layouts(&self) -> Vec<(Vec<u8>, Vec<u32>)> {
+        let list_words = self.page_words * self.words[0] as usize;
+        let mut held = Vec::new();
+        for layout in self.words[LAYOUTS_AT..].chunks_exact(LAYOUT_WORDS) {
+            let (name, list) = layout[1..].split_at(LONGEST_NAME / 4);
+            let bytes: Vec<u8> = name.iter().flat_map(|word| word.to_ne_bytes()).collect();
+            let length = layout[0] as usize;
+            if (1..=LONGEST_NAME).contains(&length) {
+                held.push((bytes[..length].to_vec(), list[..list_words].to_vec()));
+            }
+        }
+        held
     }
 
     /// The list in force, of [`page_words`] words a page.
