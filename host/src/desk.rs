@@ -5,7 +5,8 @@ use crate::help;
 use crate::output::{say, Output};
 use barleychime::call::{self, Call};
 use barleychime::engine::{self, Desk, Measure, Refusal};
-use barleychime::{input, list, refusal};
+use barleychime::galley::Galley;
+use barleychime::{explain, input, list, refusal};
 use std::io::{self, BufRead, IsTerminal, Read, Write};
 
 /// More than any call that can be of use.
@@ -104,7 +105,7 @@ impl Sitting<'_> {
         };
         match answered {
             Ok(measure) => output.print(self.line_of(measure) + "\n")?,
-            Err(refusal) => self.refuse(refusal, output)?,
+            Err(refusal) => self.refuse(&call, refusal, output)?,
         }
         if let (Call::Commit | Call::Back(_), Ok(measure)) = (call, answered) {
             self.in_force = measure;
@@ -135,11 +136,24 @@ impl Sitting<'_> {
         format!("{} {change:+}", list::measure_line(measure))
     }
 
-    fn refuse(&mut self, refusal: Refusal, output: &mut Output) -> Result<(), String> {
+    fn refuse(&mut self, call: &Call, refusal: Refusal, output: &mut Output) -> Result<(), String> {
         output.print(format!("{refusal}\n"))?;
-        self.remark(&format!("{refusal}: {}", refusal::sentence(refusal)));
+        self.remark(&format!("{refusal}: {}{}", refusal::sentence(refusal), self.in_numbers(call, refusal)));
         self.outcomes.refused = true;
         Ok(())
+    }
+
+    /// The numbers by which the list that was asked about breaks a rule; nothing of other calls and refusals.
+    fn in_numbers(&self, call: &Call, refusal: Refusal) -> String {
+        let (Call::Ask { page, end }, 12..=18, Some(galley)) = (call, refusal.number, Galley::decode(self.galley))
+        else {
+            return String::new();
+        };
+        let mut altered = self.desk.list();
+        let at = self.page_words * (*page as usize - 1);
+        altered[at..at + self.page_words].copy_from_slice(&end[..self.page_words]);
+        let numbers = explain::in_numbers(&galley, &altered, refusal);
+        format!(" ({})", numbers.lines().map(str::trim).collect::<Vec<_>>().join("; "))
     }
 
     /// A remark on the line that was read last; who types it sees which one.

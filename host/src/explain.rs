@@ -40,11 +40,16 @@ pub fn refused(galley: &Galley, list: &[u32], refusal: Refusal) -> String {
     for page in pages.iter().take(refusal.place as usize) {
         text += &page_in_words(galley, &pages, page);
     }
-    let numbers = match pages.get((refusal.place as usize).wrapping_sub(1)) {
+    text + &format!("refused, {refusal}: {}\n{}\n", sentence(refusal), in_numbers(galley, list, refusal))
+}
+
+/// The numbers by which a list breaks one of 12 to 18.
+pub fn in_numbers(galley: &Galley, list: &[u32], refusal: Refusal) -> String {
+    let pages = Page::all(list, galley.page_words());
+    match pages.get((refusal.place as usize).wrapping_sub(1)) {
         Some(page) => broken_in_numbers(galley, page, page.number == pages.len(), refusal.number),
         None => broken_length(galley, list),
-    };
-    text + &format!("refused, {refusal}: {}\n{numbers}\n", sentence(refusal))
+    }
 }
 
 /// A galley that is refused itself: the record, and its field if one is at fault.

@@ -173,6 +173,9 @@ def lines(tally, command, folder):
     tally.same('a line that is no text', (status, output, 'line 1: not text' in remarks), (2, '2 0 1 1\n?\n2 1 1 2 +1\n', True))
     status, output, remarks = command.text('desk', galley, best, given=b'#' * 100_000 + b'\nask 1 3 0\n')
     tally.same('a line without end', (status, output, 'line 1: too long' in remarks), (2, '2 0 1 1\n', True))
+    status, output, remarks = command.text('desk', galley, best, given=b'ask 1 2 1\nask 1 0 0\n')
+    tally.same('refused asks in numbers', (status, re.findall(r'\((.*)\)$', remarks, re.M)),
+               (1, ['40 is above htMax 30 by 10', 'it ends where it starts, after 0 lines and 0 figures']))
     tally.same('no calls', command.text('desk', galley, best), (0, '2 0 1 1\n', ''))
     tally.same('quit', command.text('desk', galley, best, given=b'quit\nmend\n'), (0, '2 0 1 1\n', ''))
     status, output, remarks = command.text('desk', galley, best, given=b'help\n')
@@ -208,7 +211,7 @@ def at_terminal(tally, command, folder):
     with subprocess.Popen([command.program, 'desk', galley, best], stdin=theirs, stdout=theirs, stderr=theirs) as process:
         os.close(theirs)
         tally.same('opened', 'barleychime: the list is in force; `help` names the calls' in seen(ours), True)
-        for call, due in [('ask 1 3 0', '2 1 1 2 +1\r\n'), ('commit', '2 1 1 2 +1\r\n'), ('ask 1 2 1', 'barleychime: R 15 1: page 1: '),
+        for call, due in [('ask 1 3 0', '2 1 1 2 +1\r\n'), ('commit', '2 1 1 2 +1\r\n'), ('ask 1 2 1', 'by 10)\r\n'),
                           ('', ''), ('mend', '?\r\nbarleychime: `mend` is no call'), ('list', '1 3 0\r\n2 3 1\r\n'),
                           ('save it', '2 1 1 2 +0\r\n'), ('layouts', '1\r\n2 1 1 2 +0 it\r\n'), ('help', 'commit  ')]:
             os.write(ours, f'{call}\n'.encode())
