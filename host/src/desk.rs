@@ -29,7 +29,7 @@ pub fn desk(galley: &str, list: &str, output: &mut Output) -> Result<Outcome, St
         }
     };
     output.print(format!("{}\n", list::measure_line(in_force)))?;
-    let at_terminal = io::stdin().is_terminal();
+    let at_terminal = io::stdin().is_terminal() && io::stderr().is_terminal();
     let page_words = words.len() / in_force.pages as usize;
     let sitting =
         Sitting { galley: &bytes, page_words, desk, in_force, at_terminal, line: 0, outcomes: Outcomes::default() };
