@@ -8,6 +8,7 @@ import sys
 import time
 
 sys.path.insert(0, str(pathlib.Path(__file__).resolve().parents[1]))
+import byhand  # noqa: E402
 import drawn  # noqa: E402
 import engine  # noqa: E402
 import kinds  # noqa: E402
@@ -55,6 +56,15 @@ class Sitting:
     def commit(self):
         answer, after = desk.committed(self.desk)
         return self.compare('commit', self.called.desk_commit(self.words), answer, after, desk_words.committed(self.words, answer))
+
+    def save(self, name):
+        return self.named('save', name)
+
+    def back(self, name):
+        return self.named('back', name)
+
+    def drop(self, name):
+        return self.named('drop', name)
 
     def named(self, call, name):
         """One of the calls that take a name."""
@@ -120,9 +130,17 @@ def theorem(tally, sitting, rng, g, opening):
         tally.same(f'pages of {pages} for {g}', len(pages), len(opening) // len(g.streams))
 
 
+def by_hand(sitting):
+    """Answers that were worked out by hand."""
+    for number, (call, arguments, answer, force) in enumerate(byhand.STEPS, 1):
+        got = getattr(sitting, call)(*arguments)
+        sitting.tally.same(f'step {number}, {call} {arguments[1:]}', (got, sitting.desk.force), (answer, force))
+
+
 def main():
     called = engine.Engine(engine.load(engine.archive()))
     tally, rng, began = Tally(), random.Random(SEED), time.time()
+    by_hand(Sitting(called, tally, rng, (0,) * desk_words.WORDS))
     some = list(drawn.galleys(rng, GALLEYS))
     others = [g for g, _ in some]
     for g, lists in some:
