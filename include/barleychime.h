@@ -2,7 +2,8 @@
  *
  * Making gives the pagination with the fewest page turns that a galley's page specification allows; marking judges a
  * pagination that is handed in. Both work on lent memory alone: they allocate nothing, keep nothing between calls, print
- * nothing, and call nothing but memset of the C library. Calls on memory that is not shared may run at the same time.
+ * nothing, and call nothing but memcpy and memset of the C library. Calls on memory that is not shared may run at the same
+ * time.
  *
  * What the caller owes, because no call can see it:
  *   - A pointer leads to as many bytes or words as its length says, or to as many as an array parameter has: the 8 words of an
@@ -97,8 +98,9 @@
 #define BARLEYCHIME_LONGEST_GALLEY ((size_t)34 + 6 + 4250 * 18 + 2)
 
 /* Bytes of stack that a call takes below the frame of its caller, at most: any call, and marking alone. They are what the
- * archive's machine code takes, rounded up; the tests compare them. Making needs 4,096 bytes more where the dynamic linker
- * binds memset at its first call, as in a program that is linked without -z now. Signal handlers are not counted.
+ * archive's machine code takes, rounded up; the tests compare them. Making and the calls of a desk need 4,096 bytes more
+ * where the dynamic linker binds memcpy or memset at its first call, as in a program that is linked without -z now. Signal
+ * handlers are not counted.
  */
 #define BARLEYCHIME_STACK_BYTES ((size_t)131072)
 #define BARLEYCHIME_MARK_STACK_BYTES ((size_t)1024)

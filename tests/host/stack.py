@@ -14,7 +14,7 @@ from reference import beforehand, marking
 from reference.galley import read
 
 SPARE = 4096  # bytes that the header may have more than the machine code takes, and that more than is seen
-BINDING = 4096  # bytes for the dynamic linker where it binds memset at its first call, as the header has it
+BINDING = 4096  # bytes for the dynamic linker where it binds memcpy or memset at its first call, as the header has it
 STEP = 32  # bytes to which the stack that is left can be set
 
 
