@@ -40,7 +40,7 @@ def passed(galley):
 
 
 def following(galley, opening):
-    """The opening with any page after it, each count up to one too many; and with half a page after it."""
-    for page in product(*(range(size + 2) for size in galley.sizes)):
+    """The opening with any page after it, each count from one too few to one too many; and with half a page after it."""
+    for page in product(*(range(max(0, u - 1), size + 2) for u, size in zip(end(galley, opening), galley.sizes))):
         yield opening + page
     yield opening + galley.sizes[:-1]
