@@ -11,6 +11,7 @@ from reference.galley import Figure, Galley, Line, Spec, Table, write
 COMMANDS = {'make': 1, 'forecast': 1, 'mark': 2, 'explain': 2, 'pack': 1, 'unpack': 1, 'report': 2}
 MENDERS = [(range(1, 9), "the galley's writer"), (range(9, 11), 'the host program'), (range(11, 12), 'the designer'),
            (range(12, 19), 'whoever handed in the list'), (range(19, 20), 'the person at the program'),
+           (range(20, 22), 'whoever handed in the opening'),
            (range(31, 33), 'whoever handed in the marks'), (range(33, 34), 'whoever asked for the section')]
 
 
@@ -33,7 +34,9 @@ def documented(root, number, mender, told):
 
 
 def usage(tally, command, root):
-    for arguments in [(), ('mend',), ('--mend',), ('make', '--mend'), ('make',), ('make', 'a', 'b'), ('make', 'a', '--verbose'), ('forecast',), ('forecast', '--lines'),
+    for arguments in [(), ('mend',), ('--mend',), ('make', '--mend'), ('make',), ('make', 'a', 'b'), ('make', 'a', '--verbose'),
+                      ('make', '--after'), ('make', '--after', 'a'), ('make', '--after', '-', '-'), ('make', '--after', 'a', '--after', 'b', 'c'),
+                      ('make', 'a', '--after', 'b'), ('mark', '--after', 'a', 'b', 'c'), ('forecast',), ('forecast', '--lines'),
                       ('forecast', '--verbose', 'a'), ('forecast', '-', '-'), ('mark', '--verbose', 'a', 'b'), ('mark', 'a'),
                       ('explain', 'a'), ('explain', 'a', 'b', 'c'), ('pack',), ('unpack', 'a', 'b'),
                       ('mark', '-', '-'), ('explain', '-', '-'), ('make', '')]:
@@ -184,20 +187,21 @@ def outputs(tally, command, folder):
     tally.group('command: outputs')
 
 
-def greatest(galley, field):
-    """By trying every value of htmin or lastmin; None if there is no pagination at any."""
+def greatest(galley, field, opening):
+    """By trying every value of htmin or lastmin; None if no pagination begins with the opening at any."""
     asked = getattr(galley.spec, field) or 0
-    return next((value for value in range(asked, -1, -1) if search.best_by_table(cases.respec(galley, **{field: value}))), None)
+    values = range(asked, -1, -1)
+    return next((value for value in values if search.best_by_table(cases.respec(galley, **{field: value}), opening)), None)
 
 
 def filled(galley, height):
     return f'{height} ({height * 1_000 // galley.spec.htmax / 10} % of htMax)'
 
 
-def advice(galley):
+def advice(galley, opening=()):
     """What would help, a remark each, and which kind of advice it is."""
-    spec, one = galley.spec, greatest(galley, 'htmin')
-    two = greatest(galley, 'lastmin') if spec.lastmin else None
+    spec, one = galley.spec, greatest(galley, 'htmin', opening)
+    two = greatest(galley, 'lastmin', opening) if spec.lastmin else None
     words = 'is {}; the greatest at which a pagination exists is'
     by_ht_min = f'htMin {words.format(spec.htmin)} {one is not None and filled(galley, one)}'
     by_last_min = f'lastMin {words.format(spec.lastmin)} {two is not None and filled(galley, two)}'
@@ -209,10 +213,10 @@ def advice(galley):
         return [by_last_min + ('; no htMin is low enough by itself' if spec.htmin else '')], 'lastMin'
     if not spec.lastmin:
         return ['no pagination exists even at htMin 0'], 'none'
-    one = greatest(cases.respec(galley, lastmin=0), 'htmin')
+    one = greatest(cases.respec(galley, lastmin=0), 'htmin', opening)
     if one is None:
         return ['no pagination exists even at htMin 0 and lastMin 0'], 'none of both'
-    two = greatest(cases.respec(galley, htmin=one), 'lastmin')
+    two = greatest(cases.respec(galley, htmin=one), 'lastmin', opening)
     return [f'neither htMin nor lastMin is low enough by itself; a pagination exists at htMin {filled(galley, one)} '
             f'and lastMin {filled(galley, two)}'], 'both'
 

@@ -29,6 +29,7 @@ import examples  # noqa: E402
 import explained  # noqa: E402
 import folding  # noqa: E402
 import foretold  # noqa: E402
+import printed  # noqa: E402
 import reported  # noqa: E402
 import round_trips  # noqa: E402
 import samples  # noqa: E402
@@ -54,6 +55,7 @@ def main():
         round_trips.run(tally, command, ROOT, folder)
         explained.run(tally, command, folder)
         foretold.run(tally, command, ROOT, folder)
+        printed.run(tally, command, folder)
         reported.run(tally, command, ROOT, folder)
         examples.run(tally, command, ROOT, library, folder)
         samples.run(tally, command, ROOT, folder)
