@@ -1,6 +1,6 @@
 //! The commands on files: files in, an answer out.
 
-use crate::output::{say, Output};
+use crate::output::{say, watched, Output};
 use barleychime::engine::{self, Desk, Mark, Refusal};
 use barleychime::galley::Galley;
 use barleychime::input::title;
@@ -14,10 +14,12 @@ pub enum Outcome {
     Failed,
 }
 
-/// How a galley is made: after the opening that a list holds, and whether it is also said what was weighed.
+/// How a galley is made: after the opening that a list holds; whether it is said what would help where no pagination
+/// exists, and what was weighed.
 #[derive(Default)]
 pub struct Ways<'a> {
     pub after: Option<&'a str>,
+    pub advise: bool,
     pub verbose: bool,
 }
 
@@ -43,7 +45,13 @@ pub fn make(name: &str, ways: &Ways, output: &mut Output) -> Result<Outcome, Str
         (Some(refusal @ Refusal { number: 20 | 21, .. }), Some(list)) => {
             refuse_opening(list, &bytes, &opening, refusal, output)?
         }
-        (Some(refusal), _) => refuse_galley(name, &bytes, &opening, refusal, &mut desk, output)?,
+        (Some(refusal), _) => {
+            let outcome = refuse_galley(name, &bytes, refusal, output)?;
+            if refusal.number == 11 {
+                advise(name, &bytes, &opening, ways, &mut desk);
+            }
+            outcome
+        }
     };
     if let (true, Ok(told)) = (ways.verbose, engine::forecast(&bytes)) {
         say(&format!("{}: {weighed} pages weighed, of at most {}", title(name), told.ceiling));
@@ -119,26 +127,35 @@ fn unreadable(galley: &str) -> String {
     format!("{}: the engine reads it, this command cannot", title(galley))
 }
 
-/// A galley that cannot be made, or not after the opening, with what would help.
-fn refuse_galley(
-    name: &str,
-    bytes: &[u8],
-    opening: &[u32],
-    refusal: Refusal,
-    desk: &mut Desk,
-    output: &mut Output,
-) -> Result<Outcome, String> {
+/// A galley that cannot be made.
+fn refuse_galley(name: &str, bytes: &[u8], refusal: Refusal, output: &mut Output) -> Result<Outcome, String> {
     output.print(format!("{refusal}\n"))?;
     say_why(name, refusal);
     hint_at_pack(name, bytes, refusal);
-    if refusal.number == 11 {
-        if !opening.is_empty() {
-            say(&format!("{}: 11 is here about the paginations that begin with the opening", title(name)));
-        }
-        fill::advice(bytes, opening, desk).iter().for_each(|advice| say(&format!("{}: {advice}", title(name))));
-    }
     Ok(Outcome::Refused)
 }
+
+/// What would help where no pagination exists, if that is asked for. It takes a making for each trial, so a person at a
+/// terminal is told what is tried.
+fn advise(name: &str, bytes: &[u8], opening: &[u32], ways: &Ways, desk: &mut Desk) {
+    let remark = |what: &str| say(&format!("{}: {what}", title(name)));
+    if !opening.is_empty() {
+        remark("11 is here about the paginations that begin with the opening");
+    }
+    if !ways.advise {
+        remark(ADVICE);
+        return;
+    }
+    let mut tell = |what: &str| {
+        if watched() {
+            remark(what);
+        }
+    };
+    fill::advice(bytes, opening, desk, &mut tell).iter().for_each(|advice| remark(advice));
+}
+
+/// What is said on 11 unless the advice itself is.
+const ADVICE: &str = "`barleychime make --advise` tries lower least heights and says which would do";
 
 fn say_why(name: &str, refusal: Refusal) {
     say(&format!("{}: {refusal}: {}", title(name), refusal::sentence(refusal)));
@@ -225,7 +242,13 @@ pub fn report(galley: &str, lists: &[&str], output: &mut Output) -> Result<Outco
     let mut desk = Desk::new();
     let engine = match desk.make(&bytes) {
         Ok((measure, _)) => measure.turns,
-        Err(refusal) => return refuse_galley(galley, &bytes, &[], refusal, &mut desk, output),
+        Err(refusal) => {
+            let outcome = refuse_galley(galley, &bytes, refusal, output)?;
+            if refusal.number == 11 {
+                say(&format!("{}: {ADVICE}", title(galley)));
+            }
+            return Ok(outcome);
+        }
     };
     let width = engine::page_words(&bytes).ok();
     let (mut marks, mut refused, mut failed) = (Vec::new(), Vec::new(), false);

@@ -94,6 +94,10 @@ fn options<'a>(command: &str, arguments: &'a [String]) -> (Options<'a>, &'a [Str
                 options.ways.after = Some(list);
                 others
             }
+            ("make", "--advise", _) => {
+                options.ways.advise = true;
+                others
+            }
             ("make", "--verbose", _) => {
                 options.ways.verbose = true;
                 others

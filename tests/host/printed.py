@@ -2,7 +2,8 @@
 
 import random
 
-from command_line import advice, file
+from advised import advice, unasked
+from command_line import file
 from explained import forbidden, too_soon
 from junk import JUNK, JUNK_TABLED
 from reference import cases, marking, openings, sample, search
@@ -94,11 +95,13 @@ def none_left(tally, command, folder):
         some = [opening for opening, _ in zip(openings.passed(galley), range(40)) if opening and not search.best_by_table(galley, opening)]
         for opening in some[:2]:
             path, list_path = file(folder, 'none.galley', write(galley)), file(folder, 'none.list', listed(galley, opening).encode())
-            status, output, said = command.text('make', '--after', list_path, path)
+            status, output, said = command.text('make', '--advise', '--after', list_path, path)
             (due, _), stays = advice(galley, opening), kept(galley, opening)
-            told = ['11 is here about the paginations that begin with the opening', *due, stays]
-            tally.same(f'{opening} of {galley}', (status, output, said.splitlines()[1:]),
-                       (1, 'R 11 0\n', [f'barleychime: {path}: {remark}' for remark in told]))
+            begins = '11 is here about the paginations that begin with the opening'
+            told = [f'barleychime: {path}: {remark}' for remark in (begins, *due, stays)]
+            tally.same(f'{opening} of {galley}', (status, output, said.splitlines()[1:]), (1, 'R 11 0\n', told))
+            status, output, said = command.text('make', '--after', list_path, path)
+            tally.same('no advice unasked', (status, output, said.splitlines()[1:]), (1, 'R 11 0\n', [told[0], unasked(path)]))
             met.add(stays.split(' that begins with ')[0])
     tally.same('every kind of help', len(met), 3)
     tally.group('command: openings that no pagination begins with')

@@ -22,6 +22,7 @@ PROVED = ROOT / 'target/staticlib/libbarleychime.a'
 sys.path.insert(0, str(ROOT / 'tests'))
 sys.path.insert(0, str(ROOT / 'tests' / 'host'))
 
+import advised  # noqa: E402
 import archive  # noqa: E402
 import c_interface  # noqa: E402
 import command_line  # noqa: E402
@@ -52,6 +53,7 @@ def main():
         c_interface.run(tally, ROOT, library, folder)
         archive.run(tally, library, folder)
         command_line.run(tally, command, ROOT, folder)
+        advised.run(tally, command, folder)
         round_trips.run(tally, command, ROOT, folder)
         explained.run(tally, command, folder)
         foretold.run(tally, command, ROOT, folder)
