@@ -230,6 +230,25 @@ def fault_by_marking(galley, opening):
     return (20, broken[0]) if broken else (21, pages) if opening[-width:] == galley.sizes else None
 
 
+def loosened(tally):
+    """A lower htMin loses no valid list and changes no mark, whatever the opening, and adds no turns (S-14)."""
+    fewer = 0
+    rng = random.Random(38)
+    for galley in [*sample.galleys(35, 250, 5, 2), *sample.galleys(36, 80, 2, 2, 1), *sample.left_galleys(37, 40)]:
+        lower = cases.respec(galley, htmin=rng.choice((0, galley.spec.htmin // 2)))
+        lists = {words: marking.mark(lower, words) for words in search.every(lower)}
+        kept = {words: marking.mark(galley, words) for words in search.every(galley)}
+        tally.same(f'lists and marks of {galley}', [words for words in kept if lists.get(words) != kept[words]], [])
+        for opening in openings.passed(galley):
+            one, two = (search.best(each, opening) for each in (galley, lower))
+            turns = [marking.mark(galley, one)[4], marking.mark(lower, two)[4]] if one and two else [0, 0]
+            fewer += turns[1] < turns[0]
+            tally.same(f'{opening} of {galley}', (openings.fault(lower, opening), one is None or two is not None, turns[1] <= turns[0]),
+                       (None, True, True))
+    tally.same('fewer turns now and then', fewer > 0, True)
+    tally.group('a lower htMin', f' ({fewer} times fewer turns)')
+
+
 def larger(tally):
     """Larger galleys: what the table returns is valid, and no valid list one slip away from it ranks before it."""
     rng = random.Random(10)
@@ -246,7 +265,8 @@ def larger(tally):
 
 def main():
     tally = Tally()
-    for group in (made, marked, turned_away, round_trips, all_lists, random_lists, searches, editions, swapped, weighings, begun, larger):
+    for group in (made, marked, turned_away, round_trips, all_lists, random_lists, searches, editions, swapped, weighings, begun,
+                  loosened, larger):
         group(tally)
     for number in [*range(1, 9), *range(12, 19)]:
         tally.same(f'refusal {number} is reached', number in tally.refusals, True)
