@@ -5,8 +5,9 @@
  * nothing, and call nothing but memset of the C library. Calls on memory that is not shared may run at the same time.
  *
  * What the caller owes, because no call can see it:
- *   - A pointer leads to as many bytes or words as its length says, or to the 8 words of an answer, the 6 of a forecast. It is
- *     aligned as its type is, and it is not null, not even where the length is 0 and nothing is read.
+ *   - A pointer leads to as many bytes or words as its length says, or to as many as an array parameter has: the 8 words of an
+ *     answer, the 6 of a forecast, the words of a desk. It is aligned as its type is, and it is not null, not even where the
+ *     length is 0 and nothing is read.
  *   - An area that is written overlaps no other area of the call, and nobody else reads or writes it during the call. Nobody
  *     writes an area that is only read.
  *   - The thread has BARLEYCHIME_STACK_BYTES of stack left.
@@ -62,6 +63,13 @@
  * from 1, or 0 where the opening ends within a page; for 21, the number of pages.
  *   20  the opening ends within a page, or the page, as one that is not the last, breaks one of 13 to 17
  *   21  the opening already places everything, and no page is left to make
+ * These belong to the desk. Place: 0; for 23, the page. Whoever handed in the list can mend 22, the make-up hand the others.
+ *   22  the marking does not accept the list, or it has more than 64 pages
+ *   23  the page asked about is not one of the list in force, or is its last
+ *   24  nothing is pending that could be put in force
+ *   25  the name of a layout has no bytes, or more than 16
+ *   26  no layout is held under this name
+ *   27  eight layouts are held under other names, and a desk has no room for a ninth
  * Whoever handed in the marks can mend these, which only the report answers. Place: for 31, 0; for 32, the paper, counted
  * from 1.
  *   31  there are more marks than a report takes (10,000 is the most)
@@ -69,9 +77,9 @@
  * Whoever asked for the section can mend this, which only barleychime_section answers. Place: the size.
  *   33  no section has so many pages: their number is a multiple of 4 from 4 to 64
  *
- * Making, marking and the forecast read the galley first and answer 1 to 8 alike. Making then looks at the lengths, 9 before 10,
- * then at an opening, 20 before 21, and searches only where none of these is due. Of several broken rules marking answers the
- * one on the earliest page, and there the lowest number.
+ * Making, marking, the forecast and the opening of a desk read the galley first and answer 1 to 8 alike. Making then looks at the
+ * lengths, 9 before 10, then at an opening, 20 before 21, and searches only where none of these is due. Of several broken rules
+ * marking answers the one on the earliest page, and there the lowest number.
  */
 #ifndef BARLEYCHIME_H
 #define BARLEYCHIME_H
@@ -151,6 +159,33 @@ enum {
     BARLEYCHIME_REPORT_COUNT = 10
 };
 
+/* Pages of the longest list on a desk, and the words of such a list; layouts that a desk has room for, the words of each, and the
+ * bytes of the longest name; and the words of a desk, 7,096 bytes.
+ */
+#define BARLEYCHIME_DESK_PAGES 64
+#define BARLEYCHIME_DESK_LIST_WORDS 192
+#define BARLEYCHIME_MOST_LAYOUTS 8
+#define BARLEYCHIME_LAYOUT_WORDS 197
+#define BARLEYCHIME_LONGEST_NAME 16
+#define BARLEYCHIME_DESK_WORDS 1774
+
+/* What the words of a desk are. */
+enum {
+    BARLEYCHIME_DESK_COUNT = 0, /* p: pages of the list in force, 1 to 64; 0 on a desk without pages */
+    BARLEYCHIME_DESK_WIDTH = 1, /* words a page: 2, or 3 where there are tables */
+    BARLEYCHIME_DESK_PAGE = 2,  /* the page whose new end is pending; 0 where nothing is */
+    BARLEYCHIME_DESK_END = 3,   /* three words, its new end; the third is not looked at where a page has two */
+    BARLEYCHIME_DESK_LIST = 6,  /* 192 words, the list in force and whatever follows it */
+    BARLEYCHIME_DESK_LAYOUTS = 198 /* eight layouts, of 197 words each */
+};
+
+/* What the words of a layout are. It has as many pages as the list in force, so their number stands once, on the desk. */
+enum {
+    BARLEYCHIME_LAYOUT_NAME_LENGTH = 0, /* bytes of its name, 1 to 16; the layout is free where this is anything else */
+    BARLEYCHIME_LAYOUT_NAME = 1,        /* four words: the bytes of its name, as they stand in memory, and then zeros */
+    BARLEYCHIME_LAYOUT_LIST = 5         /* 192 words, as those of the list in force */
+};
+
 #ifdef __cplusplus
 extern "C" {
 #endif
@@ -215,6 +250,68 @@ static inline size_t barleychime_page_words(const uint8_t *galley, size_t galley
     uint32_t answer[BARLEYCHIME_ANSWER_WORDS];
     return barleychime_mark(galley, galley_len, page, 2, answer) == 12 ? 3 : 2;
 }
+
+/* A desk, at which another end of a page is tried before the list is changed, and layouts are kept to come back to.
+ *
+ * A desk is BARLEYCHIME_DESK_WORDS words that the caller owns and lends to each call: plain data, which may be copied and kept,
+ * without a pointer and without the galley. On it are the list in force, what is pending, which is a page and its new end, and
+ * up to eight layouts under names of 1 to 16 bytes. Names are any bytes; two are the same where length and bytes are. A galley is
+ * given again with each ask; it has to be the one that the desk was opened on if the answers are to be about the list in force.
+ *
+ * A desk may hold anything, also what no call left there; every call on it is defined, reads and writes what is lent and nothing
+ * else, and ends. It has the pages that its first word says where these are at most 64 and a page has 2 words or 3, and else none;
+ * a new end is pending where its page is one of 1 to p - 1; of layouts with the same name the first counts. On a desk without pages
+ * every ask is 23 and every commit 24, and what is saved there is an empty list.
+ *
+ * All of them write an answer and return its number. Opening and asking answer as marking does; the others have 0 after number and
+ * place, but for p of the list in force where that is asked for. For a desk opened unrefused, and any calls about its galley after
+ * that: a name not dropped since gives the list that was in force when it was last saved; the list in force is the one last come
+ * back to, as it was saved then, else the opening one, with exactly the ends altered that were committed since, in the order of the
+ * commits; and marking accepts it and every layout, all of which have as many pages.
+ */
+
+/* Opens a desk on a galley and a list of list_len words, and marks the list.
+ *   desk        of any contents; on success all of it is written: the list in force is the one lent, nothing is pending, no
+ *               layout is held, and the words that are not used are 0
+ * A refused galley is refused as ever; then 22 is a list that marking does not accept, whatever rule it breaks, or one of more than
+ * BARLEYCHIME_DESK_PAGES pages. Refused at opening, a desk has no pages: its first word is 0, and the others are as before;
+ * so names that it held are held, each with an empty list.
+ */
+uint32_t barleychime_desk_open(const uint8_t *galley, size_t galley_len, const uint32_t *list, size_t list_len,
+                               uint32_t desk[BARLEYCHIME_DESK_WORDS], uint32_t answer[BARLEYCHIME_ANSWER_WORDS]);
+
+/* Marks the list in force with another end of a page, 1 to p - 1: the lines, the figures and the tables placed so far.
+ *   end         3 words, only read; the third is not looked at in a galley without tables
+ * The list in force stays as it is. An ask that is accepted is pending, in place of an earlier one; after one that is refused, by
+ * any number, nothing is. 23 is tested before the galley is read; then the answer is that of marking, of 1 to 8 and 12 to 18.
+ */
+uint32_t barleychime_desk_ask(const uint8_t *galley, size_t galley_len, uint32_t page, const uint32_t end[3],
+                              uint32_t desk[BARLEYCHIME_DESK_WORDS], uint32_t answer[BARLEYCHIME_ANSWER_WORDS]);
+
+/* Puts in force what is pending; then nothing is pending. 24 where nothing was, and the desk is as before. */
+uint32_t barleychime_desk_commit(uint32_t desk[BARLEYCHIME_DESK_WORDS], uint32_t answer[BARLEYCHIME_ANSWER_WORDS]);
+
+/* Keeps the list in force as the layout of a name of name_len bytes, in place of what the name has, else as the first layout that
+ * is free. 25 is a bad length of a name, 27 a ninth name; then the desk is as before. What is pending stays.
+ */
+uint32_t barleychime_desk_save(const uint8_t *name, size_t name_len, uint32_t desk[BARLEYCHIME_DESK_WORDS],
+                               uint32_t answer[BARLEYCHIME_ANSWER_WORDS]);
+
+/* Comes back to the layout of a name: puts it in force, and then nothing is pending. The layout stays. 25, and then 26 where the
+ * name is not held; then the desk is as before, and what is pending stays.
+ */
+uint32_t barleychime_desk_back(const uint8_t *name, size_t name_len, uint32_t desk[BARLEYCHIME_DESK_WORDS],
+                               uint32_t answer[BARLEYCHIME_ANSWER_WORDS]);
+
+/* Frees a name: its length on the desk is 0, and all else stays, also what is pending. Refused as coming back is. */
+uint32_t barleychime_desk_drop(const uint8_t *name, size_t name_len, uint32_t desk[BARLEYCHIME_DESK_WORDS],
+                               uint32_t answer[BARLEYCHIME_ANSWER_WORDS]);
+
+/* Tells the list in force: its words at the beginning of pages, whose other words stay, and p in the answer, whose other words
+ * are 0. The desk is only read. Returns 0: it is never refused. Without pages p is 0 and all of pages stays.
+ */
+uint32_t barleychime_desk_list(const uint32_t desk[BARLEYCHIME_DESK_WORDS], uint32_t pages[BARLEYCHIME_DESK_LIST_WORDS],
+                               uint32_t answer[BARLEYCHIME_ANSWER_WORDS]);
 
 /* Reports on marks_len papers, in exact sums, under the same terms as the others and with under 1,000 bytes of stack.
  *   marks       marks_len papers, only read; not null even where there are none

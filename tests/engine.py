@@ -2,6 +2,7 @@
 import ctypes
 import os
 import pathlib
+import struct
 import subprocess
 
 from reference.beforehand import lengths
@@ -69,6 +70,12 @@ def eight(answer, weighed=0):
     return (*six, weighed % 2**32, weighed >> 32)
 
 
+def done(answer, *after):
+    """What a call that answers number and place alone answered: nothing else is told."""
+    told_more = answer[0] != 'accepted' or any(answer[1:])
+    return answer if told_more else ('done',), *after
+
+
 class Engine:
     """The functions of include/barleychime.h, on bytes and tuples of words; `making` names another function of making's type, which
     has a namesake that takes an opening."""
@@ -82,6 +89,13 @@ class Engine:
         self.c_forecast = self.declared(library, 'barleychime_forecast', *bytes_lent, ctypes.c_void_p)
         self.c_section = self.declared(library, 'barleychime_section', WORD, ctypes.c_void_p, ctypes.c_void_p)
         self.c_report = self.declared(library, 'barleychime_report', *words_lent, ctypes.c_void_p)
+        desk_and_answer = (ctypes.c_void_p, ctypes.c_void_p)
+        self.c_desk_open = self.declared(library, 'barleychime_desk_open', *bytes_lent, *words_lent, *desk_and_answer)
+        self.c_desk_ask = self.declared(library, 'barleychime_desk_ask', *bytes_lent, WORD, ctypes.c_void_p, *desk_and_answer)
+        self.c_desk_commit = self.declared(library, 'barleychime_desk_commit', *desk_and_answer)
+        for name in ('save', 'back', 'drop'):
+            setattr(self, f'c_desk_{name}', self.declared(library, f'barleychime_desk_{name}', *bytes_lent, *desk_and_answer))
+        self.c_desk_list = self.declared(library, 'barleychime_desk_list', ctypes.c_void_p, *desk_and_answer)
 
     @staticmethod
     def declared(library, name, *types):
@@ -131,6 +145,44 @@ class Engine:
         lent_words, lent_report = lent(words), (ctypes.c_uint64 * len(report))(*report)
         returned = self.c_report(lent_words, len(marks), lent_report)
         return returned, tuple(lent_report) if held(lent_words, words) == tuple(words) else ('wrote to the marks',)
+
+    @staticmethod
+    def at_desk(call, desk, *before):
+        """The answer of a call whose last arguments are a desk and an answer, and the words of the desk afterwards."""
+        packed, answer = struct.Struct(f'={len(desk) + 1}I'), told(ANSWER)
+        lent_desk = (WORD * (len(desk) + 1)).from_buffer_copy(packed.pack(*desk, HIGHEST))
+        said, weighed = answered(call(*before, lent_desk, answer), answer)
+        after = packed.unpack(lent_desk)
+        wrong = weighed or after[-1] != HIGHEST
+        return ('counted, or wrote past the desk', weighed, *said) if wrong else said, after[:-1]
+
+    def desk_open(self, data, words, desk):
+        return self.at_desk(self.c_desk_open, desk, data, len(data), lent(words), len(words))
+
+    def desk_ask(self, data, page, end, desk):
+        lent_end = lent(end)
+        said, after = self.at_desk(self.c_desk_ask, desk, data, len(data), page, lent_end)
+        return said if held(lent_end, end) == tuple(end) else ('wrote to the end', *said), after
+
+    def desk_commit(self, desk):
+        return done(*self.at_desk(self.c_desk_commit, desk))
+
+    def desk_save(self, name, desk):
+        return done(*self.at_desk(self.c_desk_save, desk, name, len(name)))
+
+    def desk_back(self, name, desk):
+        return done(*self.at_desk(self.c_desk_back, desk, name, len(name)))
+
+    def desk_drop(self, name, desk):
+        return done(*self.at_desk(self.c_desk_drop, desk, name, len(name)))
+
+    def desk_list(self, pages, desk):
+        """The answer, and the words of the list and of the desk, which is only read, afterwards."""
+        lent_desk, lent_pages, answer = lent(desk), lent([*pages, HIGHEST]), told(ANSWER)
+        said, weighed = answered(self.c_desk_list(lent_desk, lent_pages, answer), answer)
+        *after, beyond = lent_pages
+        wrong = weighed or beyond != HIGHEST or held(lent_desk, desk) != tuple(desk) or any(said[2:])
+        return ('counted, or wrote to the desk or past the list', *said) if wrong else ('list', said[1]), tuple(after)
 
 
 def made(galley, best, answer, weighed, work, pages, fault=None):

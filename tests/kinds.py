@@ -26,6 +26,19 @@ OF_OPENINGS = ['no opening', 'an opening that leaves none', 'an opening that cos
                'an opening that ends on a left-hand page', 'an opening that ends on a right-hand page',
                'an opening with all lines', 'an opening with all floats', 'an opening without a line',
                'an opening whose last page waits for its citation', 'an opening whose last page is below lastMin']
+# At a desk: each call with its answers, and what the call meets there or comes after.
+AT_DESKS = ['open 0', 'open 1 to 8', 'open 22', 'ask 0', 'ask 1 to 8', *(f'ask {number}' for number in (*range(12, 19), 23)), 'commit 0',
+            'commit 24', 'opened with 64 pages', '22 by the number of pages', '22 by the marking', 'opened over what was pending',
+            'refused over what was pending', 'accepted in place of another', 'a refused ask leaves none pending',
+            '23 leaves none pending', '23 before the galley is read', '23 without pages', '23 of the last page',
+            'a third word that is not looked at', 'committed with two words a page', 'committed with three words a page',
+            '24 after a commit', '24 after a refused ask', '24 without pages']
+AT_LAYOUTS = ['save 0', 'save 25', 'save 27', 'back 0', 'back 25', 'back 26', 'drop 0', 'drop 25', 'drop 26', '24 after a back',
+              'saved in place of another list', 'saved under a name held, with no room for another', 'saved in room that was dropped',
+              'saved without pages', 'back without pages', 'save leaves what is pending', 'drop leaves what is pending',
+              'back clears what is pending', 'back to another list', 'refused over what was pending, by a name',
+              '26 with a name held that begins alike', '26 with no room for another', 'a name twice', 'a name of 1 byte',
+              'a name of 16 bytes', 'names held without pages']
 
 
 def of_galley(g):
@@ -185,6 +198,78 @@ def of_ties(g, lists, best):
             stream = next(s for s, counts in enumerate(zip(one, two)) if len(set(counts)) == 2)
             if stream:
                 yield f'the later {("figure", "table")[stream - 1]} decides'
+
+
+def at_desk(call, before, answer, read=None, last=''):
+    """Of a call on a desk as it was before, with what the galley reads as where there is one, and the call before."""
+    refused = answer[1] if answer[0] == 'refused' else 0
+    yield f'{call} 1 to 8' if 1 <= refused <= 8 else f'{call} {refused}'
+    if call == 'open':
+        yield from at_opening(before, answer, read)
+    elif call == 'ask':
+        yield from at_asking(before, answer, read)
+    elif call == 'commit' and not refused:
+        yield f'committed with {("two", "three")[len(before.force[0]) - 2]} words a page'
+    elif call == 'commit':
+        yield f'24 after {last}'
+        if not before.force:
+            yield '24 without pages'
+
+
+def at_layouts(call, before, name, answer):
+    """Of a call with a name."""
+    held = [layout for layout in before.layouts if layout]
+    there = [pages for other, pages in held if other == name]
+    if answer[0] == 'refused':
+        if before.pending:
+            yield 'refused over what was pending, by a name'
+        if answer[1] == 26 and any(other[:1] == name[:1] for other, _ in held):
+            yield '26 with a name held that begins alike'
+        if answer[1] == 26 and len(held) == len(before.layouts):
+            yield '26 with no room for another'
+        return
+    if len(there) > 1:
+        yield 'a name twice'
+    if len(name) in (1, 16):
+        yield f'a name of {len(name)} byte' + 's' * (len(name) > 1)
+    if not before.force and there:
+        yield 'names held without pages'
+    if not before.force and call != 'drop':
+        yield f'{call}{"d" * (call == "save")} without pages'
+    if before.pending:
+        yield f'{call} {"clears" if call == "back" else "leaves"} what is pending'
+    if call == 'back' and there[0] != before.force:
+        yield 'back to another list'
+    if call == 'save' and there and there[0] != before.force:
+        yield 'saved in place of another list'
+    if call == 'save' and there and len(held) == len(before.layouts):
+        yield 'saved under a name held, with no room for another'
+    if call == 'save' and not there and any(before.layouts[before.layouts.index(None):]):
+        yield 'saved in room that was dropped'
+
+
+def at_opening(before, answer, read):
+    if before.pending:
+        yield f'{"opened" if answer[0] == "accepted" else "refused"} over what was pending'
+    if answer[:2] == ('accepted', 64):
+        yield 'opened with 64 pages'
+
+
+def at_asking(before, answer, read):
+    if answer[0] == 'accepted':
+        if before.pending:
+            yield 'accepted in place of another'
+        if len(before.force[0]) == 2:
+            yield 'a third word that is not looked at'
+        return
+    if before.pending:
+        yield '23 leaves none pending' if answer[1] == 23 else 'a refused ask leaves none pending'
+    if answer[1] == 23 and read[0] == 'refused':
+        yield '23 before the galley is read'
+    if answer[1] == 23 and not before.force:
+        yield '23 without pages'
+    if answer[1] == 23 and answer[2] == len(before.force) > 0:
+        yield '23 of the last page'
 
 
 def last_folio(g, words):

@@ -1,7 +1,7 @@
 //! The commands on files: files in, an answer out.
 
 use crate::output::{say, watched, Output};
-use barleychime::engine::{self, Desk, Mark, Refusal};
+use barleychime::engine::{self, Memory, Mark, Refusal};
 use barleychime::galley::Galley;
 use barleychime::input::title;
 use barleychime::list::Extent;
@@ -30,8 +30,8 @@ pub fn make(name: &str, ways: &Ways, output: &mut Output) -> Result<Outcome, Str
         None => vec![],
         Some(list) => read_list(list, engine::page_words(&bytes).ok(), Extent::Opening)?,
     };
-    let mut desk = Desk::new();
-    let refusal = match desk.make_after(&bytes, &opening) {
+    let mut memory = Memory::new();
+    let refusal = match memory.make_after(&bytes, &opening) {
         Ok((measure, pages)) => {
             let words = pages.len() / measure.pages as usize;
             output.print(list::print(measure, pages, words))?;
@@ -39,7 +39,7 @@ pub fn make(name: &str, ways: &Ways, output: &mut Output) -> Result<Outcome, Str
         }
         Err(refusal) => Some(refusal),
     };
-    let weighed = desk.weighed();
+    let weighed = memory.weighed();
     let outcome = match (refusal, ways.after) {
         (None, _) => Outcome::Success,
         (Some(refusal @ Refusal { number: 20 | 21, .. }), Some(list)) => {
@@ -48,7 +48,7 @@ pub fn make(name: &str, ways: &Ways, output: &mut Output) -> Result<Outcome, Str
         (Some(refusal), _) => {
             let outcome = refuse_galley(name, &bytes, refusal, output)?;
             if refusal.number == 11 {
-                advise(name, &bytes, &opening, ways, &mut desk);
+                advise(name, &bytes, &opening, ways, &mut memory);
             }
             outcome
         }
@@ -101,11 +101,11 @@ pub fn forecast(names: &[&str], lines: bool, output: &mut Output) -> Result<Outc
     Ok(outcomes.whole())
 }
 
-/// Whether any of several files was refused or could not be read.
+/// Whether any of several files or calls was refused or could not be read.
 #[derive(Default)]
-struct Outcomes {
-    refused: bool,
-    failed: bool,
+pub struct Outcomes {
+    pub refused: bool,
+    pub failed: bool,
 }
 
 impl Outcomes {
@@ -114,7 +114,7 @@ impl Outcomes {
         read.map_err(|message| say(&message)).inspect_err(|()| self.failed = true).ok()
     }
 
-    fn whole(&self) -> Outcome {
+    pub fn whole(&self) -> Outcome {
         match (self.failed, self.refused) {
             (true, _) => Outcome::Failed,
             (false, true) => Outcome::Refused,
@@ -137,7 +137,7 @@ fn refuse_galley(name: &str, bytes: &[u8], refusal: Refusal, output: &mut Output
 
 /// What would help where no pagination exists, if that is asked for. It takes a making for each trial, so a person at a
 /// terminal is told what is tried.
-fn advise(name: &str, bytes: &[u8], opening: &[u32], ways: &Ways, desk: &mut Desk) {
+fn advise(name: &str, bytes: &[u8], opening: &[u32], ways: &Ways, memory: &mut Memory) {
     let remark = |what: &str| say(&format!("{}: {what}", title(name)));
     if !opening.is_empty() {
         remark("11 is here about the paginations that begin with the opening");
@@ -151,18 +151,18 @@ fn advise(name: &str, bytes: &[u8], opening: &[u32], ways: &Ways, desk: &mut Des
             remark(what);
         }
     };
-    fill::advice(bytes, opening, desk, &mut tell).iter().for_each(|advice| remark(advice));
+    fill::advice(bytes, opening, memory, &mut tell).iter().for_each(|advice| remark(advice));
 }
 
 /// What is said on 11 unless the advice itself is.
 const ADVICE: &str = "`barleychime make --advise` tries lower least heights and says which would do";
 
-fn say_why(name: &str, refusal: Refusal) {
+pub fn say_why(name: &str, refusal: Refusal) {
     say(&format!("{}: {refusal}: {}", title(name), refusal::sentence(refusal)));
 }
 
 /// A text handed in where a galley is wanted is an easy mistake.
-fn hint_at_pack(name: &str, bytes: &[u8], refusal: Refusal) {
+pub fn hint_at_pack(name: &str, bytes: &[u8], refusal: Refusal) {
     let is_text = |text: &str| !text.is_empty() && text.chars().all(|c| c.is_whitespace() || !c.is_control());
     if refusal.number <= 8 && std::str::from_utf8(bytes).is_ok_and(is_text) {
         say(&format!("{}: this is a text; `barleychime pack` makes a galley of one", title(name)));
@@ -190,7 +190,7 @@ pub fn mark(galley: &str, lists: &[&str], output: &mut Output) -> Result<Outcome
 }
 
 /// A list of so many words a page, if that is known: a galley that is refused has none.
-fn read_list(name: &str, width: Option<usize>, extent: Extent) -> Result<Vec<u32>, String> {
+pub fn read_list(name: &str, width: Option<usize>, extent: Extent) -> Result<Vec<u32>, String> {
     list::parse(&input::text(name)?, width, extent).map_err(|what| format!("{}: {what}", title(name)))
 }
 
@@ -239,8 +239,8 @@ pub fn unpack(name: &str, output: &mut Output) -> Result<Outcome, String> {
 /// the sums would be wrong, so there is no report then.
 pub fn report(galley: &str, lists: &[&str], output: &mut Output) -> Result<Outcome, String> {
     let bytes = input::galley(galley)?;
-    let mut desk = Desk::new();
-    let engine = match desk.make(&bytes) {
+    let mut memory = Memory::new();
+    let engine = match memory.make(&bytes) {
         Ok((measure, _)) => measure.turns,
         Err(refusal) => {
             let outcome = refuse_galley(galley, &bytes, refusal, output)?;

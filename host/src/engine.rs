@@ -1,8 +1,16 @@
-//! The engine: the functions of `include/barleychime.h`, safe to call. All unsafe code is here.
+//! The engine: the functions of `include/barleychime.h`, safe to call. All unsafe code is here and in `desk`.
+
+mod desk;
+
+pub use desk::Desk;
 
 #[allow(unsafe_code)]
 mod c {
+    use super::desk::{DESK_LIST_WORDS, DESK_WORDS};
     use super::{ANSWER_WORDS, FORECAST_WORDS};
+
+    /// A call on a desk with a name.
+    pub type Named = unsafe extern "C" fn(*const u8, usize, *mut [u32; DESK_WORDS], *mut [u32; ANSWER_WORDS]) -> u32;
 
     extern "C" {
         pub fn barleychime_make(
@@ -35,6 +43,46 @@ mod c {
         pub fn barleychime_forecast(galley: *const u8, galley_len: usize, forecast: *mut [u32; FORECAST_WORDS]) -> u32;
         pub fn barleychime_report(marks: *const super::Mark, marks_len: usize, report: *mut [u64; 11]) -> u32;
         pub fn barleychime_section(size: u32, numbers: *mut [u32; 64], answer: *mut [u32; 2]) -> u32;
+        pub fn barleychime_desk_open(
+            galley: *const u8,
+            galley_len: usize,
+            list: *const u32,
+            list_len: usize,
+            desk: *mut [u32; DESK_WORDS],
+            answer: *mut [u32; ANSWER_WORDS],
+        ) -> u32;
+        pub fn barleychime_desk_ask(
+            galley: *const u8,
+            galley_len: usize,
+            page: u32,
+            end: *const [u32; 3],
+            desk: *mut [u32; DESK_WORDS],
+            answer: *mut [u32; ANSWER_WORDS],
+        ) -> u32;
+        pub fn barleychime_desk_commit(desk: *mut [u32; DESK_WORDS], answer: *mut [u32; ANSWER_WORDS]) -> u32;
+        pub fn barleychime_desk_save(
+            name: *const u8,
+            name_len: usize,
+            desk: *mut [u32; DESK_WORDS],
+            answer: *mut [u32; ANSWER_WORDS],
+        ) -> u32;
+        pub fn barleychime_desk_back(
+            name: *const u8,
+            name_len: usize,
+            desk: *mut [u32; DESK_WORDS],
+            answer: *mut [u32; ANSWER_WORDS],
+        ) -> u32;
+        pub fn barleychime_desk_drop(
+            name: *const u8,
+            name_len: usize,
+            desk: *mut [u32; DESK_WORDS],
+            answer: *mut [u32; ANSWER_WORDS],
+        ) -> u32;
+        pub fn barleychime_desk_list(
+            desk: *const [u32; DESK_WORDS],
+            pages: *mut [u32; DESK_LIST_WORDS],
+            answer: *mut [u32; ANSWER_WORDS],
+        ) -> u32;
     }
 }
 
@@ -164,13 +212,13 @@ fn made([number, place, pages, x, y, turns, low, high]: [u32; ANSWER_WORDS]) -> 
 
 /// Memory for making, kept from one galley to the next. It grows to what the forecast tells.
 #[derive(Default)]
-pub struct Desk {
+pub struct Memory {
     work: Vec<u32>,
     pages: Vec<u32>,
     weighed: u64,
 }
 
-impl Desk {
+impl Memory {
     pub fn new() -> Self {
         Self::default()
     }

@@ -1,6 +1,6 @@
 //! A page list in words: page by page, and for a refused one the rule that it breaks with the numbers that break it.
 
-use crate::engine::{self, Desk, Measure, Refusal};
+use crate::engine::{self, Memory, Measure, Refusal};
 use crate::galley::{Float, Galley};
 use crate::list::spaced;
 use crate::page::{folio, spread, Page, Place};
@@ -23,7 +23,7 @@ pub fn accepted(galley: &Galley, list: &[u32], measure: Measure) -> String {
 
 /// How the list compares with the engine's own.
 pub fn against_best(bytes: &[u8], measure: Measure) -> String {
-    match Desk::new().make(bytes) {
+    match Memory::new().make(bytes) {
         Ok((best, _)) if best.turns == measure.turns => "no list has fewer turns\n".into(),
         Ok((best, _)) => {
             let more = measure.turns.saturating_sub(best.turns);

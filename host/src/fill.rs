@@ -1,6 +1,6 @@
 //! Where no pagination exists: how far the least heights would have to be lowered, and how much of an opening could stay.
 
-use crate::engine::{page_words, Desk};
+use crate::engine::{page_words, Memory};
 use crate::galley::{Galley, Spec};
 use std::collections::BTreeMap;
 
@@ -13,7 +13,7 @@ struct Trials<'a> {
     galley: Vec<u8>,
     second_edition: bool,
     opening: &'a [u32],
-    desk: &'a mut Desk,
+    memory: &'a mut Memory,
     tell: &'a mut dyn FnMut(&str),
     tried: BTreeMap<(u32, u32), bool>,
 }
@@ -31,7 +31,7 @@ impl Trials<'_> {
             heights += &format!(" and lastMin {last_min}");
         }
         (self.tell)(&format!("trying {heights}"));
-        let exists = self.desk.make_after(&self.galley, self.opening).is_ok();
+        let exists = self.memory.make_after(&self.galley, self.opening).is_ok();
         self.tried.insert((ht_min, last_min), exists);
         exists
     }
@@ -58,12 +58,12 @@ fn greatest(last: u32, mut succeeds: impl FnMut(u32) -> bool) -> Option<u32> {
 
 /// What would help a galley that has no pagination which begins with the opening, a remark each: to lower htMin, to lower
 /// lastMin, or both; or to keep less of the opening. What is tried is told beforehand.
-pub fn advice(galley: &[u8], opening: &[u32], desk: &mut Desk, tell: &mut dyn FnMut(&str)) -> Vec<String> {
+pub fn advice(galley: &[u8], opening: &[u32], memory: &mut Memory, tell: &mut dyn FnMut(&str)) -> Vec<String> {
     let Some(Galley { spec, .. }) = Galley::decode(galley) else { return vec![] };
     let (second_edition, tried) = (spec.last_min.is_some(), BTreeMap::new());
-    let mut trials = Trials { galley: galley.to_vec(), second_edition, opening, desk, tell, tried };
+    let mut trials = Trials { galley: galley.to_vec(), second_edition, opening, memory, tell, tried };
     let mut remarks = lowered(&spec, &mut trials);
-    remarks.extend(shortened(galley, opening, desk, tell));
+    remarks.extend(shortened(galley, opening, memory, tell));
     remarks
 }
 
@@ -117,12 +117,12 @@ fn both(ht_max: u32, ht_min: u32, last_min: u32, trials: &mut Trials) -> String 
 }
 
 /// How many pages of the opening could stay: a list that begins with pages begins with fewer of them.
-fn shortened(galley: &[u8], opening: &[u32], desk: &mut Desk, tell: &mut dyn FnMut(&str)) -> Option<String> {
+fn shortened(galley: &[u8], opening: &[u32], memory: &mut Memory, tell: &mut dyn FnMut(&str)) -> Option<String> {
     let words = page_words(galley).ok()?;
     let pages = (opening.len() / words) as u32;
     let stays = |kept: u32| {
         tell(&format!("trying the first {kept} of the opening's {pages} pages"));
-        desk.make_after(galley, &opening[..words * kept as usize]).is_ok()
+        memory.make_after(galley, &opening[..words * kept as usize]).is_ok()
     };
     (pages > 0).then(|| match greatest(pages, stays) {
         None => "no pagination exists without the opening either".into(),

@@ -13,6 +13,7 @@ Makes the pages of a galley with the fewest page turns, and marks page lists.
   barleychime forecast GALLEY...     memory, pages weighed and time, told before a galley is made
   barleychime mark GALLEY LIST...    pages and turns of page lists, or what they break
   barleychime explain GALLEY LIST    a page list in words, page by page
+  barleychime desk GALLEY LIST       page ends tried on a page list, call by call
   barleychime pack TEXT              a galley written as text, as a galley file
   barleychime unpack GALLEY          a galley file as text
   barleychime report GALLEY LIST...  exact sums over marked lists, and the mean excess over the engine
@@ -72,6 +73,42 @@ barleychime explain GALLEY LIST
 Says page by page what it holds, its heights and those that are asked, its spread, and the turns that each figure and
 each table costs. For a refused list it says which page breaks which rule, with the numbers. Heights are in hundredths of
 a point. Pages are counted from 1; where the galley opens on another folio, each page is named with its folio too.
+";
+
+pub const DESK: &str = "\
+barleychime desk GALLEY LIST
+
+Opens a desk on a list that the marking accepts, of at most 64 pages, and prints its `p X Y T`. Then it reads calls from
+standard input, a line each, and answers each with a line. A line that opens with `#` is a comment.
+
+  ask PAGE I J     `p X Y T` of the list with another end of PAGE, lines and figures placed so far, and the change in turns
+                   against the list in force, as +1, +0 or -1; where the galley has tables it is `ask PAGE I J D`. The list in
+                   force stays as it is; an altered list that is accepted is pending, and after a refusal none is
+  commit           puts the pending list in force: its `p X Y T`, and the change in turns against the one before
+  list             the list in force, as `barleychime make` prints a list
+  save NAME        keeps the list in force as a layout, in place of what has this name, 1 to 16 bytes; a desk has up to eight
+  back NAME        puts that layout in force: its `p X Y T`, and the change in turns; nothing is pending then
+  drop NAME        frees the name
+  layouts          how many there are, and a line for each: `p X Y T`, the change in turns, and its name
+  help             these calls
+  quit             ends, and so does the end of the input
+
+What is refused is answered by `R number place`, and a line that is no call by `?`; the reason is given in words on standard
+error. Nothing is written to LIST: `list` prints what can be kept. At a terminal there is a prompt, on standard error. Exit
+status: 0 if every call was answered, 1 if one was refused or the desk was refused at opening, 2 if a line was no call or for
+any other error.
+";
+
+/// What `help` says at the desk.
+pub const CALLS: &str = "\
+ask PAGE I J     tries another end of PAGE: lines and figures placed so far (ask PAGE I J D with tables)
+commit           puts in force what was asked last, if it was accepted
+list             prints the list in force
+save NAME        keeps the list in force under a name
+back NAME        puts in force what was saved under a name
+drop NAME        frees a name
+layouts          prints what is saved, and the change in turns of each against the list in force
+quit             ends
 ";
 
 pub const PACK: &str = "\

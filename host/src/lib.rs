@@ -4,6 +4,7 @@
 
 #![deny(unsafe_code)]
 
+pub mod call;
 pub mod engine;
 pub mod explain;
 pub mod fill;

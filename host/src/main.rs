@@ -2,6 +2,7 @@
 #![forbid(unsafe_code)]
 
 mod commands;
+mod desk;
 mod fold;
 mod help;
 mod output;
@@ -47,6 +48,7 @@ fn run(arguments: &[String], output: &mut Output) -> Result<Outcome, String> {
         "forecast" => help::FORECAST,
         "mark" => help::MARK,
         "explain" => help::EXPLAIN,
+        "desk" => help::DESK,
         "pack" => help::PACK,
         "unpack" => help::UNPACK,
         "report" => help::REPORT,
@@ -63,6 +65,10 @@ fn run(arguments: &[String], output: &mut Output) -> Result<Outcome, String> {
         ("forecast", galleys @ [_, ..]) => commands::forecast(galleys, options.lines, output),
         ("mark", [galley, lists @ ..]) if !lists.is_empty() => commands::mark(galley, lists, output),
         ("explain", [galley, list]) => commands::explain(galley, list, output),
+        ("desk", [_, ..]) if names.contains(&"-") => {
+            Err("standard input has the calls, and can be no file here".into())
+        }
+        ("desk", [galley, list]) => desk::desk(galley, list, output),
         ("pack", [text]) => commands::pack(text, output),
         ("unpack", [galley]) => commands::unpack(galley, output),
         ("report", [file]) if options.marks => commands::report_on_marks(file, output),

@@ -2,7 +2,8 @@
  * Then two sections, one of a size that there is none of, and two reports, one with a paper below its engine. At last case A with
  * every record that it can have: double-sided from folio 38, the last page held to lastMin, the figure kept; and a galley with
  * a table, whose lists have three words a page; what each of the two is told to need beforehand, and what making weighed. Case A
- * after openings: one that costs a turn, one of no words, half a page, a page that breaks a rule, one that places everything. */
+ * after openings: one that costs a turn, one of no words, half a page, a page that breaks a rule, one that places everything. Last
+ * a desk on case A, and one on the galley with a table. */
 #include <barleychime.h>
 #include <stdio.h>
 #include <string.h>
@@ -41,6 +42,7 @@ static void put_blocks(const char *figure_mark)
 static void write_case_a(void)
 {
     const uint32_t spec[7] = {30, 30, 0, 0, 1, 1, 1};
+    galley_len = 0;
     put("GS", spec, 7);
     put_blocks("FG");
 }
@@ -166,10 +168,69 @@ static void print_after(const uint32_t *opening, size_t opening_len)
     print_forecast(answer);
 }
 
+static void print_number(const uint32_t answer[BARLEYCHIME_ANSWER_WORDS])
+{
+    printf("%u %u\n", (unsigned)answer[BARLEYCHIME_NUMBER], (unsigned)answer[BARLEYCHIME_PLACE]);
+}
+
+static void print_list(const uint32_t desk[BARLEYCHIME_DESK_WORDS])
+{
+    uint32_t pages[BARLEYCHIME_DESK_LIST_WORDS], answer[BARLEYCHIME_ANSWER_WORDS];
+
+    barleychime_desk_list(desk, pages, answer);
+    printf("%u:", (unsigned)answer[BARLEYCHIME_PAGES]);
+    for (uint32_t k = 0; k < answer[BARLEYCHIME_PAGES] * desk[BARLEYCHIME_DESK_WIDTH]; k++) {
+        printf(" %u", (unsigned)pages[k]);
+    }
+    printf("\n");
+}
+
+/* Opens a desk on a list of two pages, asks about another end of page 1, and puts it in force; comes back to the first list. */
+static void print_desk(const uint32_t *list, size_t list_len, const uint32_t end[3])
+{
+    static uint32_t desk[BARLEYCHIME_DESK_WORDS + 1];
+    const uint8_t name[BARLEYCHIME_LONGEST_NAME + 1] = {'i', 't'};
+    uint32_t answer[BARLEYCHIME_ANSWER_WORDS];
+
+    desk[BARLEYCHIME_DESK_WORDS] = 7;
+    barleychime_desk_open(galley, galley_len, list, list_len - 1, desk, answer);
+    print_answer(answer);
+    print_list(desk);
+    barleychime_desk_open(galley, galley_len, list, list_len, desk, answer);
+    print_answer(answer);
+    barleychime_desk_ask(galley, galley_len, 1, end, desk, answer);
+    print_answer(answer);
+    print_list(desk);
+    barleychime_desk_save(name, 2, desk, answer);
+    print_number(answer);
+    if (barleychime_desk_commit(desk, answer) == 0) {
+        print_list(desk);
+    }
+    barleychime_desk_save(name, BARLEYCHIME_LONGEST_NAME + 1, desk, answer);
+    print_number(answer);
+    barleychime_desk_back(name, 1, desk, answer);
+    print_number(answer);
+    if (barleychime_desk_back(name, 2, desk, answer) == 0) {
+        print_list(desk);
+    }
+    barleychime_desk_drop(name, 2, desk, answer);
+    print_number(answer);
+    barleychime_desk_drop(name, 2, desk, answer);
+    print_number(answer);
+    barleychime_desk_commit(desk, answer);
+    print_answer(answer);
+    barleychime_desk_ask(galley, galley_len, 2, end, desk, answer);
+    print_answer(answer);
+    if (desk[BARLEYCHIME_DESK_WORDS] != 7) {
+        printf("a word too many\n");
+    }
+}
+
 int main(void)
 {
     static uint32_t work[WORK + 1], pages[LIST + 1];
     const uint32_t too_long[4] = {3, 0, 3, 1}, too_high[4] = {2, 1, 3, 1}, last_mins[3] = {20, 21, 31};
+    const uint32_t tabled[6] = {2, 1, 0, 3, 1, 1}, later[3] = {2, 0, 1}, earlier[3] = {1, 1, 0xffffffffu};
     struct barleychime_paper papers[2] = {{2, 0, 1, 1, 1}, {2, 1, 1, 0xffffffffu, 1}};
     uint32_t answer[BARLEYCHIME_ANSWER_WORDS + 1];
 
@@ -219,5 +280,8 @@ int main(void)
         print_forecast(answer);
     }
     print_table();
+    print_desk(tabled, 6, later);
+    write_case_a();
+    print_desk(too_long, 4, earlier);
     return 0;
 }

@@ -15,7 +15,11 @@ DUE = ('2 0 1 1\n1 1 1\n2 3 1\n'  # made
        # every record, with lastMin as high as the last page is, higher, and out of range
        '2 0 0 0\n0 0: 64 8 64, 19 weighed\nR 11 0\n0 0: 64 8 64, 19 weighed\nR 3 0\n3 0: 0 0 0, 0 weighed\n'
        # a table: words a page, made, told and weighed, marked, too little memory
-       '2 3\n2 1 1 2\n1 2 1 0\n2 3 1 1\n0 0: 128 15 256, 64 weighed\nR 12 0\nR 9 128\nR 10 15\n')
+       '2 3\n2 1 1 2\n1 2 1 0\n2 3 1 1\n0 0: 128 15 256, 64 weighed\nR 12 0\nR 9 128\nR 10 15\n'
+       # desks, with the table and on case A: refused, opened and asked, saved, committed; too long a name, one that is not held, back,
+       # dropped and dropped again; nothing pending, the last page
+       'R 22 0\n0:\n2 1 1 2\n2 1 1 2\n2: 2 1 0 3 1 1\n0 0\n2: 2 0 1 3 1 1\n25 0\n26 0\n2: 2 1 0 3 1 1\n0 0\n26 0\nR 24 0\nR 23 2\n'
+       'R 22 0\n0:\n2 1 1 2\n2 0 1 1\n2: 3 0 3 1\n0 0\n2: 1 1 3 1\n25 0\n26 0\n2: 3 0 3 1\n0 0\n26 0\nR 24 0\nR 23 2\n')
 STRICT = ['-Wall', '-Wextra', '-Werror', '-pedantic']
 
 

@@ -36,6 +36,7 @@ import round_trips  # noqa: E402
 import samples  # noqa: E402
 import stack  # noqa: E402
 import table  # noqa: E402
+import tried  # noqa: E402
 from command import Command  # noqa: E402
 from tally import Tally  # noqa: E402
 
@@ -59,6 +60,7 @@ def main():
         foretold.run(tally, command, ROOT, folder)
         printed.run(tally, command, folder)
         reported.run(tally, command, ROOT, folder)
+        tried.run(tally, command, ROOT, folder)
         examples.run(tally, command, ROOT, library, folder)
         samples.run(tally, command, ROOT, folder)
         table.run(tally, command, ROOT)

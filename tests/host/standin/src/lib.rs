@@ -1,6 +1,7 @@
 //! The functions of `include/barleychime.h` over the plain Rust implementation, and making by its plain search. Never
 //! shipped: it lets the command, the tests and the benchmark be tried without the proved archive.
 
+mod desk;
 mod section;
 
 use core::slice::{from_raw_parts, from_raw_parts_mut};

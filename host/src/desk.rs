@@ -1,0 +1,153 @@
+//! The command `desk`: page ends tried line by line, by a person at a terminal or by a script through a pipe.
+
+use crate::commands::{hint_at_pack, read_list, say_why, Outcome, Outcomes};
+use crate::help;
+use crate::output::{say, Output};
+use barleychime::call::{self, Call};
+use barleychime::engine::{self, Desk, Measure, Refusal};
+use barleychime::list::Extent;
+use barleychime::{input, list, refusal};
+use std::io::{self, BufRead, IsTerminal, Read, Write};
+
+/// More than any call that can be of use.
+const LONGEST_LINE: u64 = 4_096;
+
+/// Opens a desk on a galley and a list, and answers calls from standard input until there are no more.
+pub fn desk(galley: &str, list: &str, output: &mut Output) -> Result<Outcome, String> {
+    let bytes = input::galley(galley)?;
+    let words = read_list(list, engine::page_words(&bytes).ok(), Extent::Whole)?;
+    let (desk, in_force) = match Desk::open(&bytes, &words) {
+        Ok(opened) => opened,
+        Err(refusal) => {
+            output.print(format!("{refusal}\n"))?;
+            say_why(if refusal.number <= 8 { galley } else { list }, refusal);
+            hint_at_pack(galley, &bytes, refusal);
+            if let (22, Err(marked)) = (refusal.number, engine::mark(&bytes, &words)) {
+                say_why(list, marked);
+            }
+            return Ok(Outcome::Refused);
+        }
+    };
+    output.print(format!("{}\n", list::measure_line(in_force)))?;
+    let at_terminal = io::stdin().is_terminal();
+    let page_words = words.len() / in_force.pages as usize;
+    let sitting =
+        Sitting { galley: &bytes, page_words, desk, in_force, at_terminal, line: 0, outcomes: Outcomes::default() };
+    sitting.answer_all(output)
+}
+
+/// A desk with somebody at it.
+struct Sitting<'galley> {
+    galley: &'galley [u8],
+    page_words: usize,
+    desk: Desk<'galley>,
+    /// What the list in force comes to.
+    in_force: Measure,
+    at_terminal: bool,
+    /// The line that was read last, counted from 1.
+    line: usize,
+    outcomes: Outcomes,
+}
+
+impl Sitting<'_> {
+    fn answer_all(mut self, output: &mut Output) -> Result<Outcome, String> {
+        if self.at_terminal {
+            say("the list is in force; `help` names the calls, `quit` ends");
+        }
+        while let Some(line) = self.next_line()? {
+            let parsed = line.and_then(|line| call::parse(&line, self.page_words));
+            match parsed {
+                Ok(None) => {}
+                Ok(Some(Call::Quit)) => break,
+                Ok(Some(call)) => self.answer(call, output)?,
+                // Whoever sent the line waits for an answer.
+                Err(what) => {
+                    output.print("?\n")?;
+                    self.remark(&what);
+                    self.outcomes.failed = true;
+                }
+            }
+        }
+        Ok(self.outcomes.whole())
+    }
+
+    /// The next line, or why it cannot be read as one; none at the end.
+    fn next_line(&mut self) -> Result<Option<Result<String, String>>, String> {
+        if self.at_terminal {
+            // A prompt is no answer, and need not be seen.
+            let _ = write!(io::stderr(), "desk> ");
+        }
+        let mut line = Vec::new();
+        let read = io::stdin().lock().take(LONGEST_LINE + 1).read_until(b'\n', &mut line);
+        self.line += 1;
+        match read.map_err(|error| format!("standard input: {error}"))? {
+            0 => {
+                if self.at_terminal {
+                    let _ = writeln!(io::stderr());
+                }
+                Ok(None)
+            }
+            bytes if bytes as u64 > LONGEST_LINE => Err(format!("line {}: too long for a call", self.line)),
+            _ => Ok(Some(String::from_utf8(line).map_err(|_| "not text".into()))),
+        }
+    }
+
+    fn answer(&mut self, call: Call, output: &mut Output) -> Result<(), String> {
+        let answered = match call {
+            Call::Ask { page, end } => self.desk.ask(page, end),
+            Call::Commit => self.desk.commit().and_then(|()| self.measured()),
+            Call::Save(ref name) => self.desk.save(name.as_bytes()).map(|()| self.in_force),
+            Call::Back(ref name) => self.desk.back(name.as_bytes()).and_then(|()| self.measured()),
+            Call::Drop(ref name) => self.desk.drop_name(name.as_bytes()).map(|()| self.in_force),
+            Call::List => return output.print(list::print(self.in_force, &self.desk.list(), self.page_words)),
+            Call::Layouts => return output.print(self.layouts()?),
+            Call::Help | Call::Quit => return output.print(help::CALLS),
+        };
+        match answered {
+            Ok(measure) => output.print(self.line_of(measure) + "\n")?,
+            Err(refusal) => self.refuse(refusal, output)?,
+        }
+        if let (Call::Commit | Call::Back(_), Ok(measure)) = (call, answered) {
+            self.in_force = measure;
+        }
+        Ok(())
+    }
+
+    /// How many layouts are held, and a line for each: its measure, the change in turns, and its name.
+    fn layouts(&self) -> Result<String, String> {
+        let held = self.desk.layouts();
+        let mut text = format!("{}\n", held.len());
+        for (name, list) in held {
+            let measure =
+                engine::mark(self.galley, &list).map_err(|refusal| format!("a layout is refused: {refusal}"))?;
+            text += &format!("{} {}\n", self.line_of(measure), String::from_utf8_lossy(&name));
+        }
+        Ok(text)
+    }
+
+    /// What the list in force comes to, as the marking has it.
+    fn measured(&self) -> Result<Measure, Refusal> {
+        engine::mark(self.galley, &self.desk.list())
+    }
+
+    /// The measure of a list, and its change in turns against the list that was in force.
+    fn line_of(&self, measure: Measure) -> String {
+        let change = i64::from(measure.turns) - i64::from(self.in_force.turns);
+        format!("{} {change:+}", list::measure_line(measure))
+    }
+
+    fn refuse(&mut self, refusal: Refusal, output: &mut Output) -> Result<(), String> {
+        output.print(format!("{refusal}\n"))?;
+        self.remark(&format!("{refusal}: {}", refusal::sentence(refusal)));
+        self.outcomes.refused = true;
+        Ok(())
+    }
+
+    /// A remark on the line that was read last; who types it sees which one.
+    fn remark(&self, what: &str) {
+        match self.at_terminal {
+            true => say(what),
+            false => say(&format!("line {}: {what}", self.line)),
+        }
+    }
+}

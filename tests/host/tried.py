@@ -1,0 +1,251 @@
+"""Page ends tried at the desk through the command: by scripts, all at once and call by call, and by a person at a terminal; what
+is answered, against the reference."""
+
+import os
+import pty
+import random
+import re
+import select
+import subprocess
+
+from command_line import file
+from reference import cases, desk, marking, refusals, sample, search
+from reference.galley import write
+
+# Lines that are no calls, for a galley without tables, and a part of the remark.
+NO_CALLS = [('mend', '`mend` is no call'), ('ask', 'three numbers are wanted (ask PAGE I J), not 0'), ('ask 1 2', 'not 2'),
+            ('ask 1 2 3 4', 'not 4'), ('ask one 2 3', 'field 1: `one`'), ('ask 1 -2 3', 'field 2: `-2`'),
+            ('ask 1 2 4294967296', 'field 3: `4294967296`'), ('commit 1', '`1` stands after `commit`'), ('list all', '`all` stands'),
+            ('quit now', '`now` stands after `quit`'), ('layouts all', '`all` stands'), ('save \x1b[2J', '`?[2J` has characters'), ('ASK 1 2 3', '`ASK` is no call'), ('ask 1 2 \x1b[2J', 'field 3: `?[2J`')]
+NAMED = {'save': desk.saved, 'back': desk.come_back, 'drop': desk.dropped}
+# More than a desk holds, the longest of 16 bytes; and lengths that no name has.
+NAMES = ['a', 'b', 'ab', 'a b', 'first try', '#1', 'quit', 'a' * 15, 'a' * 16, 'ä' * 8, 'second try']
+BAD_NAMES = ['', 'a' * 17, 'ä' * 9, 'a' * 3_000]
+
+
+def printed(answer, before):
+    """What is printed for an answer; `before` is the T that the change is against."""
+    if answer[0] == 'refused':
+        return f'R {answer[1]} {answer[2]}'
+    return ' '.join(map(str, answer[1:])) + f' {answer[4] - before:+}'
+
+
+def listed(answer, force):
+    lines = [answer[1:], *((page, *end) for page, end in enumerate(force, 1))]
+    return ''.join(' '.join(map(str, line)) + '\n' for line in lines)
+
+
+class Script:
+    """Calls to a desk of the reference, their lines, the output that is due and whether any call was refused or none."""
+
+    def __init__(self, galley, words):
+        self.read, self.calls, self.numbers, self.junk = ('galley', galley), [], [], False
+        self.marked, self.desk = desk.opened(desk.Desk(), self.read, words)
+        self.output = ' '.join(map(str, self.marked[1:])) + '\n'
+
+    def told(self, line, answer=None, text=None):
+        self.calls.append(line)
+        self.output += text if answer is None else printed(answer, self.marked[4]) + '\n'
+        if answer and answer[0] == 'refused':
+            self.numbers.append(answer[1])
+
+    def ask(self, page, end):
+        answer, self.desk = desk.asked(self.desk, self.read, page, end)
+        self.told(' '.join(map(str, ('ask', page, *end))), answer)
+
+    def commit(self):
+        self.done('commit', *desk.committed(self.desk))
+
+    def named(self, call, name):
+        self.done(f'{call} {name}', *NAMED[call](self.desk, name.encode()))
+
+    def done(self, line, answer, after):
+        """A call is answered by what the list in force comes to afterwards."""
+        self.desk = after
+        self.told(line, self.measured(after.force) if answer == desk.DONE else answer)
+        self.marked = self.measured(after.force)
+
+    def measured(self, pages):
+        return desk.marked(self.read, [word for end in pages for word in end])
+
+    def list(self):
+        self.told('list', text=listed(self.marked, self.desk.force))
+
+    def layouts(self):
+        held = [f'{printed(self.measured(pages), self.marked[4])} {name.decode()}\n' for name, pages in filter(None, self.desk.layouts)]
+        self.told('layouts', text=''.join([f'{len(held)}\n', *held]))
+
+    def no_call(self, line):
+        self.junk = True
+        self.told(line, text='?\n')
+
+    def end(self, rng):
+        """A page, mostly one that can be asked about, and an end between its neighbours."""
+        galley, force = self.read[1], self.desk.force
+        page = rng.randint(1, max(1, len(force) - 1)) if rng.random() < 0.8 else rng.randint(0, len(force) + 1)
+        if not 1 <= page < len(force):
+            return page, galley.sizes
+        before, after = (galley.nothing, *force)[page - 1], force[page]
+        return page, tuple(map(rng.randint, before, after))
+
+    def drawn(self, rng, calls):
+        """Calls of every kind, with comments and empty lines between them."""
+        for _ in range(calls):
+            chance = rng.random()
+            if chance < 0.4:
+                self.ask(*self.end(rng))
+            elif chance < 0.55:
+                self.commit()
+            elif chance < 0.8:
+                self.named(rng.choice(('save', 'save', 'save', 'save', 'back', 'drop')),
+                           rng.choice(NAMES if rng.random() < 0.9 else BAD_NAMES))
+            elif chance < 0.85:
+                self.layouts()
+            elif chance < 0.9:
+                self.list()
+            elif chance < 0.93:
+                self.no_call(rng.choice(('ask 1', 'commits', 'ask 1 x 0 0', '?')))
+            else:
+                self.calls.append(rng.choice(('', '  \t', '# ask 1 1 1', '#')))
+        return self
+
+    @property
+    def status(self):
+        return 2 if self.junk else 1 if self.numbers else 0
+
+
+def scripts(tally, command, folder):
+    """Random galleys and calls, piped in at once, with and without the last newline and with other ends of lines."""
+    rng, met = random.Random(150), set()
+    for galley in [*sample.galleys(150, 90, 8, 4), *sample.galleys(151, 60, 5, 3, 3)]:
+        best = search.best_by_table(galley)
+        if not best:
+            continue
+        script = Script(galley, best).drawn(rng, 80)
+        path = file(folder, 'desk.galley', write(galley))
+        listing = file(folder, 'desk.list', listed(script.marked, marking.places(galley, best)).encode())
+        end = rng.choice(('\n', '\r\n', ' \n'))
+        given = end.join(script.calls) + rng.choice(('', end, f'{end}quit\nask\n'))
+        status, output, remarks = command.text('desk', path, listing, given=given.encode())
+        tally.same(f'calls on {galley}', (status, output), (script.status, script.output))
+        tally.same('a remark for each refusal', [int(n) for n in re.findall(r': R (\d+) ', remarks)], script.numbers)
+        met.update(script.numbers)
+    tally.same('every refusal at the desk', met >= {13, 14, 15, 16, 17, *range(23, 28)}, True)
+    tally.group('command: calls at the desk')
+
+
+def openings(tally, command, folder):
+    """What a desk does not open on, and that nothing is read or answered then."""
+    galley, best = file(folder, 'a.galley', write(cases.A)), file(folder, 'best.list', b'1 1\n3 1\n')
+    for name, data, number, place in refusals.files():
+        bad, due = file(folder, 'bad.galley', data), f'R {number} {place}'
+        status, output, remarks = command.text('desk', bad, best, given=b'ask 1 1 1\n')
+        tally.same(f'desk on {name}', (status, output, f'{bad}: {due}: ' in remarks), (1, f'{due}\n', True))
+    high = file(folder, 'high.list', b'2 1\n3 1\n')
+    status, output, remarks = command.text('desk', galley, high, given=b'list\n')
+    told = [f'barleychime: {high}: R 22 0: ' in remarks, f'barleychime: {high}: R 15 1: page 1: ' in remarks]
+    tally.same('desk on a refused list', (status, output, told), (1, 'R 22 0\n', [True, True]))
+    for pages, due in ((64, (0, '64 0 63 63000\n', 0)), (65, (1, 'R 22 0\n', 1))):
+        lines = cases.plain(cases.LONGEST.spec, pages * (0,), [])
+        path = file(folder, 'long.galley', write(lines))
+        listing = file(folder, 'long.list', ''.join(f'{page} 0\n' for page in range(1, pages + 1)).encode())
+        status, output, remarks = command.text('desk', path, listing)
+        tally.same(f'desk on {pages} pages', (status, output, remarks.count('\n')), due)
+    junk = file(folder, 'junk.list', b'1 1\nthree 1\n')
+    status, output, remarks = command.text('desk', galley, junk)
+    tally.same('desk on a list that is none', (status, output, 'line 2: field 1' in remarks), (2, '', True))
+    tally.group('command: desks that do not open')
+
+
+def lines(tally, command, folder):
+    """Lines that are no calls are answered and do not end it; a line without end does."""
+    galley, best = file(folder, 'a.galley', write(cases.A)), file(folder, 'best.list', b'1 1\n3 1\n')
+    tabled, listing = file(folder, 'k.galley', write(cases.K)), file(folder, 'k.list', b'2 1 0\n3 1 1\n')
+    for line, told in NO_CALLS:
+        status, output, remarks = command.text('desk', galley, best, given=f'# mine\n{line}\nask 1 3 0\n'.encode())
+        plain = all(character.isprintable() or character == '\n' for character in remarks)
+        tally.same(f'{line!r}', (status, output, 'line 2: ' in remarks and told in remarks, plain),
+                   (2, '2 0 1 1\n?\n2 1 1 2 +1\n', True, True))
+    status, output, remarks = command.text('desk', tabled, listing, given=b'ask 1 2 1\nask 1 2 1 1\nask 1 3 0 0\n')
+    told = 'four numbers are wanted (ask PAGE I J D), since the galley has tables, not 3' in remarks
+    tally.same('three numbers with tables', (status, output.split('\n')[1], told), (2, '?', True))
+    status, output, remarks = command.text('desk', galley, best, given=b'\xff\xfe\nask 1 3 0\n')
+    tally.same('a line that is no text', (status, output, 'line 1: not text' in remarks), (2, '2 0 1 1\n?\n2 1 1 2 +1\n', True))
+    status, output, remarks = command.text('desk', galley, best, given=b'#' * 100_000 + b'\nask 1 3 0\n')
+    tally.same('a line without end', (status, output, 'line 1: too long' in remarks), (2, '2 0 1 1\n', True))
+    tally.same('no calls', command.text('desk', galley, best), (0, '2 0 1 1\n', ''))
+    tally.same('quit', command.text('desk', galley, best, given=b'quit\nmend\n'), (0, '2 0 1 1\n', ''))
+    status, output, remarks = command.text('desk', galley, best, given=b'help\n')
+    tally.same('help', (status, [line.split()[0] for line in output.splitlines()[1:]], remarks),
+               (0, ['ask', 'commit', 'list', 'save', 'back', 'drop', 'layouts', 'quit'], ''))
+    shell = f'yes ask 1 3 0 | {command.program} desk {galley} {best} | head -n 2'
+    done = subprocess.run(shell, shell=True, capture_output=True, check=False)
+    tally.same('a closed output', (done.stdout, done.stderr), (b'2 0 1 1\n2 1 1 2 +1\n', b''))
+    tally.group('command: lines at the desk')
+
+
+def call_by_call(tally, command, folder):
+    """A script that waits for each answer before its next call."""
+    galley, best = file(folder, 'a.galley', write(cases.A)), file(folder, 'best.list', b'1 1\n3 1\n')
+    with subprocess.Popen([command.program, 'desk', galley, best], stdin=subprocess.PIPE, stdout=subprocess.PIPE,
+                          stderr=subprocess.DEVNULL, text=True) as process:
+        tally.same('opened', process.stdout.readline(), '2 0 1 1\n')
+        for call, due in [('ask 1 3 0', '2 1 1 2 +1'), ('mend', '?'), ('ask 2 3 1', 'R 23 2'), ('commit', 'R 24 0'),
+                          ('save as made', '2 0 1 1 +0'), ('ask 1 3 0', '2 1 1 2 +1'), ('commit', '2 1 1 2 +1'), ('ask 1 1 1', '2 0 1 1 -1'),
+                          ('back as made', '2 0 1 1 -1'), ('commit', 'R 24 0'), ('drop as made', '2 0 1 1 +0'), ('back as made', 'R 26 0')]:
+            process.stdin.write(f'{call}\n')
+            process.stdin.flush()
+            tally.same(f'{call}, and then its answer', process.stdout.readline(), f'{due}\n')
+        process.stdin.close()
+        tally.same('what follows', (process.stdout.read(), process.wait(30)), ('', 2))
+    tally.group('command: calls one by one')
+
+
+def at_terminal(tally, command, folder):
+    """A person: every call after a prompt, the answer before the next one; the end of the input is typed."""
+    galley, best = file(folder, 'a.galley', write(cases.A)), file(folder, 'best.list', b'1 1\n3 1\n')
+    ours, theirs = pty.openpty()
+    with subprocess.Popen([command.program, 'desk', galley, best], stdin=theirs, stdout=theirs, stderr=theirs) as process:
+        os.close(theirs)
+        tally.same('opened', 'barleychime: the list is in force; `help` names the calls' in seen(ours), True)
+        for call, due in [('ask 1 3 0', '2 1 1 2 +1\r\n'), ('commit', '2 1 1 2 +1\r\n'), ('ask 1 2 1', 'barleychime: R 15 1: page 1: '),
+                          ('', ''), ('mend', '?\r\nbarleychime: `mend` is no call'), ('list', '1 3 0\r\n2 3 1\r\n'),
+                          ('save it', '2 1 1 2 +0\r\n'), ('layouts', '1\r\n2 1 1 2 +0 it\r\n'), ('help', 'commit  ')]:
+            os.write(ours, f'{call}\n'.encode())
+            tally.same(f'{call} at a terminal', due in seen(ours), True)
+        os.write(ours, b'\x04')
+        tally.same('the end', process.wait(30), 2)
+    os.close(ours)
+    tally.group('command: a terminal')
+
+
+def seen(terminal):
+    """What a terminal shows up to the next prompt."""
+    text = ''
+    while not text.endswith('desk> ') and select.select([terminal], [], [], 30)[0]:
+        text += os.read(terminal, 4_096).decode()
+    return text
+
+
+def documented(tally, command, root, folder):
+    """README's command lines, and the calls that are there to try."""
+    readme = (root / 'README.md').read_text()
+    [typed, piped] = re.findall(r'^    (barleychime desk .*)$', readme, re.M)
+    tally.same('the calls are for the same desk', piped, f'{typed} < samples/close.calls')
+    [packed] = re.findall(r'^    (barleychime pack .* > close.galley)$', readme, re.M)
+    path = f'{command.program.parent}{os.pathsep}{os.environ["PATH"]}'
+    work = folder / 'documented'
+    work.mkdir()
+    (work / 'samples').symlink_to(root / 'samples')
+    ran = subprocess.run(f'{packed}; {piped}', shell=True, cwd=work, capture_output=True, text=True, env={**os.environ, 'PATH': path})
+    tally.same('calls to try', (ran.returncode, ran.stdout), (1, (root / 'tests/host/expected/desk-close.txt').read_text()))
+    tally.group('command: the documented desk')
+
+
+def run(tally, command, root, folder):
+    openings(tally, command, folder)
+    lines(tally, command, folder)
+    scripts(tally, command, folder)
+    call_by_call(tally, command, folder)
+    at_terminal(tally, command, folder)
+    documented(tally, command, root, folder)
