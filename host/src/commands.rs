@@ -1,7 +1,7 @@
 //! The commands on files: files in, an answer out.
 
 use crate::output::{say, watched, Output};
-use barleychime::engine::{self, Memory, Mark, Refusal};
+use barleychime::engine::{self, Mark, Memory, Refusal};
 use barleychime::galley::Galley;
 use barleychime::input::title;
 use barleychime::list::Extent;

@@ -1,6 +1,6 @@
 //! A page list in words: page by page, and for a refused one the rule that it breaks with the numbers that break it.
 
-use crate::engine::{self, Memory, Measure, Refusal};
+use crate::engine::{self, Measure, Memory, Refusal};
 use crate::galley::{Float, Galley};
 use crate::list::spaced;
 use crate::page::{folio, spread, Page, Place};
