@@ -1,9 +1,9 @@
 /* Barleychime: page make-up and marking for galleys with figures and tables.
  *
- * Making gives the pagination with the fewest page turns that a galley's page specification allows; marking judges a
- * pagination that is handed in. Both work on lent memory alone: they allocate nothing, keep nothing between calls, print
- * nothing, and call nothing but memcpy and memset of the C library. Calls on memory that is not shared may run at the same
- * time.
+ * Making gives the pagination with the fewest page turns that a galley's page specification allows, of all or of those that
+ * begin with an opening that is already printed; marking judges a pagination that is handed in. Both work on lent memory alone:
+ * they allocate nothing, keep nothing between calls, print nothing, and call nothing but memcpy and memset of the C library.
+ * Calls on memory that is not shared may run at the same time.
  *
  * What the caller owes, because no call can see it:
  *   - A pointer leads to as many bytes or words as its length says, or to as many as an array parameter has: the 8 words of an
@@ -49,7 +49,7 @@
  * The host program can mend these, which only making answers. Place: words needed.
  *    9  the work area that is lent is not long enough
  *   10  the page list that is lent is not long enough
- * The designer can mend this, which only making answers. Place: 0.
+ * The designer can mend this, which only making answers. Place: 0. With an opening it means that none begins so.
  *   11  no pagination of this galley meets its page specification
  * Whoever handed in the list can mend these, which only marking answers. Place: page, counted from 1; for 12, 0; for 18, the
  * number of pages.
@@ -60,6 +60,10 @@
  *   16  the page is lower than htMin, or the last page lower than lastMin, even at its loosest
  *   17  a figure or table stands on a spread that ends before the line that cites it
  *   18  the list ends before everything is placed
+ * Whoever handed in the opening can mend these, which only making after an opening answers. Place: for 20, the page, counted
+ * from 1, or 0 where the opening ends within a page; for 21, the number of pages.
+ *   20  the opening ends within a page, or the page, as one that is not the last, breaks one of 13 to 17
+ *   21  the opening already places everything, and no page is left to make
  * These belong to the desk. Place: 0; for 23, the page. Whoever handed in the list can mend 22, the make-up hand the others.
  *   22  the marking does not accept the list, or it has more than 64 pages
  *   23  the page asked about is not one of the list in force, or is its last
@@ -75,8 +79,8 @@
  *   33  no section has so many pages: their number is a multiple of 4 from 4 to 64
  *
  * Making, marking, the forecast and the opening of a desk read the galley first and answer 1 to 8 alike. Making then looks at the
- * lengths, 9 before 10, and searches only where both suffice. Of several broken rules marking answers the one on the earliest
- * page, and there the lowest number.
+ * lengths, 9 before 10, then at an opening, 20 before 21, and searches only where none of these is due. Of several broken rules
+ * marking answers the one on the earliest page, and there the lowest number.
  */
 #ifndef BARLEYCHIME_H
 #define BARLEYCHIME_H
@@ -209,6 +213,19 @@ extern "C" {
  */
 uint32_t barleychime_make(const uint8_t *galley, size_t galley_len, uint32_t *work, size_t work_len, uint32_t *pages,
                           size_t pages_len, uint32_t answer[BARLEYCHIME_ANSWER_WORDS]);
+
+/* Makes the pages of a galley after an opening, a page list whose pages are printed and stay: of the valid lists that begin with
+ * it the one with the fewest turns. Without words it is barleychime_make, and everything said there holds here.
+ *   opening     opening_len words, only read; not null even where there are none
+ * The whole list is written, the opening included, and p, X, Y, T are those of the whole list. 11 means that no valid list
+ * begins so. Of pages weighed only those count that start at or past the opening's end in lines, in figures and in tables.
+ * An opening has whole pages, none of which breaks 13 to 17 (20); none counts as the last of a list, so that each has htMin, and
+ * 17 is asked of a page that ends its spread alone. Nothing else is asked of its length, but that something is left to place
+ * (21). After 20 and 21 pages and work area are as before. Half-way through a galley it takes less than half of the time.
+ */
+uint32_t barleychime_make_after(const uint8_t *galley, size_t galley_len, const uint32_t *opening, size_t opening_len,
+                                uint32_t *work, size_t work_len, uint32_t *pages, size_t pages_len,
+                                uint32_t answer[BARLEYCHIME_ANSWER_WORDS]);
 
 /* Marks a page list of pages_len words for a galley. Reads both, writes the answer and nothing else.
  * Returns 0 if the list is a valid pagination, with p, X, Y, T in the answer.

@@ -77,11 +77,14 @@ def done(answer, *after):
 
 
 class Engine:
-    """The functions of include/barleychime.h, on bytes and tuples of words; `making` names another function of making's type."""
+    """The functions of include/barleychime.h, on bytes and tuples of words; `making` names another function of making's type, which
+    has a namesake that takes an opening."""
 
     def __init__(self, library, making='barleychime_make'):
         bytes_lent, words_lent = (ctypes.c_char_p, LENGTH), (ctypes.c_void_p, LENGTH)
         self.c_make = self.declared(library, making, *bytes_lent, *words_lent, *words_lent, ctypes.c_void_p)
+        self.c_make_after = self.declared(library, f'{making}_after', *bytes_lent, *words_lent, *words_lent, *words_lent,
+                                          ctypes.c_void_p)
         self.c_mark = self.declared(library, 'barleychime_mark', *bytes_lent, *words_lent, ctypes.c_void_p)
         self.c_forecast = self.declared(library, 'barleychime_forecast', *bytes_lent, ctypes.c_void_p)
         self.c_section = self.declared(library, 'barleychime_section', WORD, ctypes.c_void_p, ctypes.c_void_p)
@@ -104,6 +107,14 @@ class Engine:
         """The answer, the count of pages weighed, and the work area and the page list afterwards."""
         lent_work, lent_pages, answer = lent(work), lent(pages), told(ANSWER)
         returned = self.c_make(data, len(data), lent_work, len(work), lent_pages, len(pages), answer)
+        return *answered(returned, answer), held(lent_work, work), held(lent_pages, pages)
+
+    def make_after(self, data, opening, work, pages):
+        """The same of lists that begin with an opening, which is only read."""
+        lent_opening, lent_work, lent_pages, answer = lent(opening), lent(work), lent(pages), told(ANSWER)
+        returned = self.c_make_after(data, len(data), lent_opening, len(opening), lent_work, len(work), lent_pages, len(pages), answer)
+        if held(lent_opening, opening) != tuple(opening):
+            return ('wrote to the opening',)
         return *answered(returned, answer), held(lent_work, work), held(lent_pages, pages)
 
     def mark(self, data, words):
@@ -174,14 +185,16 @@ class Engine:
         return ('counted, or wrote to the desk or past the list', *said) if wrong else ('list', said[1]), tuple(after)
 
 
-def made(galley, best, answer, weighed, work, pages):
+def made(galley, best, answer, weighed, work, pages, fault=None):
     """What making owes for a galley with this best list, whose marking is given, and so many pages weighed: the answer, the
-    count, the work area and the page list."""
+    count, the work area and the page list. A fault is that of an opening, 20 or 21 with its place."""
     work_words, list_words = lengths(galley)
     if len(work) < work_words:
         return ('refused', 9, work_words), 0, work, pages
     if len(pages) < list_words:
         return ('refused', 10, list_words), 0, work, pages
+    if fault:
+        return ('refused', *fault), 0, work, pages
     cleared = (0,) * work_words + work[work_words:]
     if best is None:
         return ('refused', 11, 0), weighed, cleared, pages

@@ -19,6 +19,13 @@ OF_CHOICES = ['an even last folio decides against an even page count', 'kept fig
               'kept figures leave no list', 'lastMin changes the list', 'lastMin leaves no list', 'the later figure decides',
               'the later table decides']
 OF_WEIGHING = ['pages weighed and no list', 'a stream of which no block fits']
+OF_REFUSED_OPENINGS = ['20 for half a page', *(f'20 by {rule}' for rule in range(13, 18)), '20 on a later page',
+                       '20 after everything is placed', '20 before 21', '20 by 16, not as a last page', '21']
+OF_OPENINGS = ['no opening', 'an opening that leaves none', 'an opening that costs a turn', 'an opening of the best list',
+               'an opening that costs nothing and changes the list', 'an opening that a tie decides after',
+               'an opening that ends on a left-hand page', 'an opening that ends on a right-hand page',
+               'an opening with all lines', 'an opening with all floats', 'an opening without a line',
+               'an opening whose last page waits for its citation', 'an opening whose last page is below lastMin']
 # At a desk: each call with its answers, and what the call meets there or comes after.
 AT_DESKS = ['open 0', 'open 1 to 8', 'open 22', 'ask 0', 'ask 1 to 8', *(f'ask {number}' for number in (*range(12, 19), 23)), 'commit 0',
             'commit 24', 'opened with 64 pages', '22 by the number of pages', '22 by the marking', 'opened over what was pending',
@@ -124,6 +131,61 @@ def of_weighing(g, best, weighed):
         yield 'pages weighed and no list'
     if any(stream and beforehand.most_together(g, stream) == 0 for stream in g.streams):
         yield 'a stream of which no block fits'
+
+
+def of_refused_opening(g, opening, number, place):
+    """Of an opening that 20 or 21 refuses."""
+    if number == 21 or place == 0:
+        yield '21' if number == 21 else '20 for half a page'
+        return
+    ends = [g.nothing, *marking.places(g, opening)]
+    (start, end), last = ends[place - 1:place + 1], place == len(ends) - 1
+    rule = marking.page_fault(g, start, end, place, last=False)
+    yield f'20 by {rule}'
+    if place > 1:
+        yield '20 on a later page'
+    if start == g.sizes:
+        yield '20 after everything is placed'
+    if last and end == g.sizes:
+        yield '20 before 21'
+    if rule == 16 and last and marking.page_fault(g, start, end, place, last=True) != 16:
+        yield '20 by 16, not as a last page'
+
+
+def of_opening(g, opening, lists, best, ordinary):
+    """Of an opening that is let through, the valid lists that begin with it, the best of them, and the best of all lists."""
+    if not opening:
+        yield 'no opening'
+        return
+    if best is None:
+        yield from ['an opening that leaves none'] if ordinary else []
+    elif best == ordinary:
+        yield 'an opening of the best list'
+    else:
+        dearer = search.rank(g, best)[0] > search.rank(g, ordinary)[0]
+        yield 'an opening that costs a turn' if dearer else 'an opening that costs nothing and changes the list'
+    if best and sum(marking.mark(g, words)[4] == marking.mark(g, best)[4] for words in lists) > 1:
+        yield 'an opening that a tie decides after'
+    yield from of_opening_end(g, opening)
+
+
+def of_opening_end(g, opening):
+    """Of the place and the page that an opening ends with."""
+    start, end = [g.nothing, *marking.places(g, opening)][-2:]
+    page = len(opening) // len(g.streams)
+    if g.spec.sides == 2:
+        yield f'an opening that ends on a {("left", "right")[(g.folio + page - 1) % 2]}-hand page'
+    if end[0] == g.sizes[0]:
+        yield 'an opening with all lines'
+    if end[1:] == g.sizes[1:] and any(end[1:]):
+        yield 'an opening with all floats'
+    if end[0] == 0:
+        yield 'an opening without a line'
+    as_last = marking.page_fault(g, start, end, page, last=True)
+    if as_last == 17:
+        yield 'an opening whose last page waits for its citation'
+    if as_last == 16:
+        yield 'an opening whose last page is below lastMin'
 
 
 def of_ties(g, lists, best):

@@ -8,7 +8,7 @@ mod galleys;
 mod measure;
 
 use galleys::{chains, Shape, HANDBOOKS, TABLED};
-use measure::{making, marking, Making, Marking};
+use measure::{after_opening, making, marking, After, Making, Marking};
 use std::time::Duration;
 
 const MAKING: [&str; 13] = [
@@ -27,6 +27,8 @@ const MAKING: [&str; 13] = [
     "growth of m · n · G",
 ];
 const WEIGHING: [&str; 8] = ["weighing", "lines", "figures", "tables", "weighed", "ceiling", "count", "count / making"];
+const AFTER: [&str; 7] =
+    ["making after an opening", "pages printed", "pages", "engine", "native queue", "engine / queue", "engine / whole"];
 const MARKING: [&str; 4] = ["marking", "engine", "native", "engine / native"];
 
 fn main() {
@@ -56,13 +58,37 @@ fn main() {
     println!();
     head(&WEIGHING);
     weighings.iter().for_each(|cells| row(cells));
+    let measured = || HANDBOOKS.into_iter().chain(TABLED).filter(|shape| shape.name.contains(wanted));
+    println!();
+    head(&AFTER);
+    measured().for_each(|shape| row(&after(shape, &after_opening(shape, runs))));
     println!();
     head(&MARKING);
-    for shape in HANDBOOKS.into_iter().chain(TABLED).filter(|shape| shape.name.contains(wanted)) {
+    for shape in measured() {
         let Marking { engine, native } = marking(shape, runs);
-        let name = if shape.tables == 0 { shape.name.into() } else { format!("{}, {}", shape.name, shape.tables) };
-        row(&[name, shown(engine), shown(native), format!("{:.2}", ratio(engine, native))]);
+        row(&[named(shape), shown(engine), shown(native), format!("{:.2}", ratio(engine, native))]);
     }
+}
+
+fn named(shape: Shape) -> String {
+    if shape.tables == 0 {
+        shape.name.into()
+    } else {
+        format!("{}, {}", shape.name, shape.tables)
+    }
+}
+
+/// One galley's making after half of its pages, against plain Rust and against the making of all of them.
+fn after(shape: Shape, made: &After) -> [String; AFTER.len()] {
+    [
+        named(shape),
+        made.printed.to_string(),
+        made.pages.to_string(),
+        shown(made.engine),
+        shown(made.queue),
+        format!("{:.2}", ratio(made.engine, made.queue)),
+        format!("{:.2}", ratio(made.engine, made.whole)),
+    ]
 }
 
 /// One galley's making; the growth is over the galley of half the size.

@@ -25,6 +25,16 @@ pub struct Making {
     pub count: Duration,
 }
 
+/// Making after an opening, the first half of the pages that are made without one.
+pub struct After {
+    pub printed: usize,
+    pub pages: usize,
+    pub engine: Duration,
+    pub queue: Duration,
+    /// The engine's making without an opening.
+    pub whole: Duration,
+}
+
 pub struct Marking {
     pub engine: Duration,
     pub native: Duration,
@@ -62,6 +72,28 @@ pub fn making(shape: Shape, runs: u32) -> Making {
     assert!(weighed <= ceiling, "{}: more is weighed than was told", shape.name);
     let ([engine, queue, plain], most_figures) = (times, galley.most_figures);
     Making { turns, most_figures, engine, queue, plain: shape.plain.then_some(plain), weighed, ceiling, count }
+}
+
+/// Making after the first half of the pages, and of the whole, which is the same list.
+pub fn after_opening(shape: Shape, runs: u32) -> After {
+    let bytes = galley(shape).bytes;
+    let (work_words, list_words) = shape.words();
+    let (mut work, mut list) = (vec![0; work_words], vec![0; list_words]);
+    let pages = native::make(&bytes, &mut work, &mut list).p as usize;
+    let (printed, whole_list) = (pages / 2, list.clone());
+    let opening = &whole_list[..shape.page_words() * printed];
+    let [mut engine, mut queue, mut whole] = [Duration::MAX; 3];
+    for run in 0..runs {
+        if run > 0 && whole > LONG {
+            break;
+        }
+        let made = timed(&mut engine, || engine::make_after_in(black_box(&bytes), opening, &mut work, &mut list));
+        assert!(list == whole_list, "{}: the engine's list after an opening is another", shape.name);
+        let due = timed(&mut queue, || native::make_after(black_box(&bytes), opening, &mut work, &mut list));
+        assert!(list == whole_list && made == made_of(due), "{}: not one answer after an opening", shape.name);
+        timed(&mut whole, || engine::make_in(black_box(&bytes), &mut work, &mut list));
+    }
+    After { printed, pages, engine, queue, whole }
 }
 
 /// Marking of the list that making gives.

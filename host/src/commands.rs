@@ -1,9 +1,10 @@
 //! The commands on files: files in, an answer out.
 
-use crate::output::{say, Output};
+use crate::output::{say, watched, Output};
 use barleychime::engine::{self, Mark, Memory, Refusal};
 use barleychime::galley::Galley;
 use barleychime::input::title;
+use barleychime::list::Extent;
 use barleychime::{explain, fill, forecast, input, list, refusal, report, text};
 
 #[derive(Clone, Copy, PartialEq, Eq)]
@@ -13,11 +14,24 @@ pub enum Outcome {
     Failed,
 }
 
-/// Makes a galley; `verbose` also says what was weighed, as far as the galley reads.
-pub fn make(name: &str, verbose: bool, output: &mut Output) -> Result<Outcome, String> {
+/// How a galley is made: after the opening that a list holds; whether it is said what would help where no pagination
+/// exists, and what was weighed.
+#[derive(Default)]
+pub struct Ways<'a> {
+    pub after: Option<&'a str>,
+    pub advise: bool,
+    pub verbose: bool,
+}
+
+/// Makes a galley; what was weighed is said as far as the galley reads.
+pub fn make(name: &str, ways: &Ways, output: &mut Output) -> Result<Outcome, String> {
     let bytes = input::galley(name)?;
+    let opening = match ways.after {
+        None => vec![],
+        Some(list) => read_list(list, engine::page_words(&bytes).ok(), Extent::Opening)?,
+    };
     let mut memory = Memory::new();
-    let refusal = match memory.make(&bytes) {
+    let refusal = match memory.make_after(&bytes, &opening) {
         Ok((measure, pages)) => {
             let words = pages.len() / measure.pages as usize;
             output.print(list::print(measure, pages, words))?;
@@ -26,14 +40,40 @@ pub fn make(name: &str, verbose: bool, output: &mut Output) -> Result<Outcome, S
         Err(refusal) => Some(refusal),
     };
     let weighed = memory.weighed();
-    let outcome = match refusal {
-        None => Outcome::Success,
-        Some(refusal) => refuse_galley(name, &bytes, refusal, &mut memory, output)?,
+    let outcome = match (refusal, ways.after) {
+        (None, _) => Outcome::Success,
+        (Some(refusal @ Refusal { number: 20 | 21, .. }), Some(list)) => {
+            refuse_opening(list, &bytes, &opening, refusal, output)?
+        }
+        (Some(refusal), _) => {
+            let outcome = refuse_galley(name, &bytes, refusal, output)?;
+            if refusal.number == 11 {
+                advise(name, &bytes, &opening, ways, &mut memory);
+            }
+            outcome
+        }
     };
-    if let (true, Ok(told)) = (verbose, engine::forecast(&bytes)) {
+    if let (true, Ok(told)) = (ways.verbose, engine::forecast(&bytes)) {
         say(&format!("{}: {weighed} pages weighed, of at most {}", title(name), told.ceiling));
     }
     Ok(outcome)
+}
+
+/// An opening that no list can begin with, and the rule that it breaks.
+fn refuse_opening(
+    list: &str,
+    bytes: &[u8],
+    opening: &[u32],
+    refusal: Refusal,
+    output: &mut Output,
+) -> Result<Outcome, String> {
+    output.print(format!("{refusal}\n"))?;
+    say_why(list, refusal);
+    if let (20, Some(galley)) = (refusal.number, Galley::decode(bytes)) {
+        let broken = explain::broken_opening(bytes, &galley, opening, refusal.place as usize);
+        broken.iter().for_each(|broken| say(&format!("{}: {broken}", title(list))));
+    }
+    Ok(Outcome::Refused)
 }
 
 /// What is told of each galley beforehand: in words, or a line for each; one that cannot be read does not keep the others
@@ -87,22 +127,35 @@ fn unreadable(galley: &str) -> String {
     format!("{}: the engine reads it, this command cannot", title(galley))
 }
 
-/// A galley that cannot be made, with what would help.
-fn refuse_galley(
-    name: &str,
-    bytes: &[u8],
-    refusal: Refusal,
-    memory: &mut Memory,
-    output: &mut Output,
-) -> Result<Outcome, String> {
+/// A galley that cannot be made.
+fn refuse_galley(name: &str, bytes: &[u8], refusal: Refusal, output: &mut Output) -> Result<Outcome, String> {
     output.print(format!("{refusal}\n"))?;
     say_why(name, refusal);
     hint_at_pack(name, bytes, refusal);
-    if refusal.number == 11 {
-        fill::advice(bytes, memory).iter().for_each(|advice| say(&format!("{}: {advice}", title(name))));
-    }
     Ok(Outcome::Refused)
 }
+
+/// What would help where no pagination exists, if that is asked for. It takes a making for each trial, so a person at a
+/// terminal is told what is tried.
+fn advise(name: &str, bytes: &[u8], opening: &[u32], ways: &Ways, memory: &mut Memory) {
+    let remark = |what: &str| say(&format!("{}: {what}", title(name)));
+    if !opening.is_empty() {
+        remark("11 is here about the paginations that begin with the opening");
+    }
+    if !ways.advise {
+        remark(ADVICE);
+        return;
+    }
+    let mut tell = |what: &str| {
+        if watched() {
+            remark(what);
+        }
+    };
+    fill::advice(bytes, opening, memory, &mut tell).iter().for_each(|advice| remark(advice));
+}
+
+/// What is said on 11 unless the advice itself is.
+const ADVICE: &str = "`barleychime make --advise` tries lower least heights and says which would do";
 
 pub fn say_why(name: &str, refusal: Refusal) {
     say(&format!("{}: {refusal}: {}", title(name), refusal::sentence(refusal)));
@@ -123,7 +176,7 @@ pub fn mark(galley: &str, lists: &[&str], output: &mut Output) -> Result<Outcome
     let mut outcomes = Outcomes::default();
     for &name in lists {
         let label = if lists.len() > 1 { format!(" {name}") } else { String::new() };
-        let Some(words) = outcomes.read(read_list(name, width)) else { continue };
+        let Some(words) = outcomes.read(read_list(name, width, Extent::Whole)) else { continue };
         match engine::mark(&bytes, &words) {
             Ok(measure) => output.print(format!("{}{label}\n", list::measure_line(measure)))?,
             Err(refusal) => {
@@ -137,13 +190,13 @@ pub fn mark(galley: &str, lists: &[&str], output: &mut Output) -> Result<Outcome
 }
 
 /// A list of so many words a page, if that is known: a galley that is refused has none.
-pub fn read_list(name: &str, width: Option<usize>) -> Result<Vec<u32>, String> {
-    list::parse(&input::text(name)?, width).map_err(|what| format!("{}: {what}", title(name)))
+pub fn read_list(name: &str, width: Option<usize>, extent: Extent) -> Result<Vec<u32>, String> {
+    list::parse(&input::text(name)?, width, extent).map_err(|what| format!("{}: {what}", title(name)))
 }
 
 pub fn explain(galley_name: &str, list: &str, output: &mut Output) -> Result<Outcome, String> {
     let bytes = input::galley(galley_name)?;
-    let words = read_list(list, engine::page_words(&bytes).ok())?;
+    let words = read_list(list, engine::page_words(&bytes).ok(), Extent::Whole)?;
     match (engine::mark(&bytes, &words), Galley::decode(&bytes)) {
         (Ok(measure), Some(galley)) => {
             output.print(explain::accepted(&galley, &words, measure))?;
@@ -189,12 +242,18 @@ pub fn report(galley: &str, lists: &[&str], output: &mut Output) -> Result<Outco
     let mut memory = Memory::new();
     let engine = match memory.make(&bytes) {
         Ok((measure, _)) => measure.turns,
-        Err(refusal) => return refuse_galley(galley, &bytes, refusal, &mut memory, output),
+        Err(refusal) => {
+            let outcome = refuse_galley(galley, &bytes, refusal, output)?;
+            if refusal.number == 11 {
+                say(&format!("{}: {ADVICE}", title(galley)));
+            }
+            return Ok(outcome);
+        }
     };
     let width = engine::page_words(&bytes).ok();
     let (mut marks, mut refused, mut failed) = (Vec::new(), Vec::new(), false);
     for &name in lists {
-        match read_list(name, width).map(|words| engine::mark(&bytes, &words)) {
+        match read_list(name, width, Extent::Whole).map(|words| engine::mark(&bytes, &words)) {
             Ok(Ok(engine::Measure { pages, x, y, turns })) => marks.push(Mark { pages, x, y, turns, engine }),
             Ok(Err(refusal)) => {
                 say_why(name, refusal);

@@ -6,6 +6,7 @@ use crate::output::{say, Output};
 use barleychime::call::{self, Call};
 use barleychime::engine::{self, Desk, Measure, Refusal};
 use barleychime::galley::Galley;
+use barleychime::list::Extent;
 use barleychime::{explain, input, list, refusal};
 use std::io::{self, BufRead, IsTerminal, Read, Write};
 
@@ -15,7 +16,7 @@ const LONGEST_LINE: u64 = 4_096;
 /// Opens a desk on a galley and a list, and answers calls from standard input until there are no more.
 pub fn desk(galley: &str, list: &str, output: &mut Output) -> Result<Outcome, String> {
     let bytes = input::galley(galley)?;
-    let words = read_list(list, engine::page_words(&bytes).ok())?;
+    let words = read_list(list, engine::page_words(&bytes).ok(), Extent::Whole)?;
     let (desk, in_force) = match Desk::open(&bytes, &words) {
         Ok(opened) => opened,
         Err(refusal) => {

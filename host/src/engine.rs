@@ -22,6 +22,17 @@ mod c {
             pages_len: usize,
             answer: *mut [u32; ANSWER_WORDS],
         ) -> u32;
+        pub fn barleychime_make_after(
+            galley: *const u8,
+            galley_len: usize,
+            opening: *const u32,
+            opening_len: usize,
+            work: *mut u32,
+            work_len: usize,
+            pages: *mut u32,
+            pages_len: usize,
+            answer: *mut [u32; ANSWER_WORDS],
+        ) -> u32;
         pub fn barleychime_mark(
             galley: *const u8,
             galley_len: usize,
@@ -157,6 +168,29 @@ pub fn make_in(galley: &[u8], work: &mut [u32], pages: &mut [u32]) -> Making {
     made(answer)
 }
 
+/// Makes a galley's pages after an opening that is printed, [`page_words`] words a page: of the lists that begin with it the
+/// one with the fewest turns, the opening included. Without words it is [`make_in`]. The opening is refused with 20 if it ends
+/// within a page or a page breaks one of rules 13 to 17, and with 21 if it places everything.
+#[allow(unsafe_code)]
+pub fn make_after_in(galley: &[u8], opening: &[u32], work: &mut [u32], pages: &mut [u32]) -> Making {
+    let mut answer = [0; ANSWER_WORDS];
+    // As above.
+    unsafe {
+        c::barleychime_make_after(
+            galley.as_ptr(),
+            galley.len(),
+            opening.as_ptr(),
+            opening.len(),
+            work.as_mut_ptr(),
+            work.len(),
+            pages.as_mut_ptr(),
+            pages.len(),
+            &mut answer,
+        );
+    }
+    made(answer)
+}
+
 /// Marks a page list: [`page_words`] words a page.
 #[allow(unsafe_code)]
 pub fn mark(galley: &[u8], pages: &[u32]) -> Result<Measure, Refusal> {
@@ -191,11 +225,16 @@ impl Memory {
 
     /// Makes a galley's pages: the measure, and the list, of [`page_words`] words a page.
     pub fn make(&mut self, galley: &[u8]) -> Result<(Measure, &[u32]), Refusal> {
+        self.make_after(galley, &[])
+    }
+
+    /// Makes a galley's pages after an opening that is printed, as [`make_after_in`] has it.
+    pub fn make_after(&mut self, galley: &[u8], opening: &[u32]) -> Result<(Measure, &[u32]), Refusal> {
         self.weighed = 0;
         let Forecast { work, list, .. } = forecast(galley)?;
         grow(&mut self.work, work as usize);
         grow(&mut self.pages, list as usize);
-        let Making { answer, weighed } = make_in(galley, &mut self.work, &mut self.pages);
+        let Making { answer, weighed } = make_after_in(galley, opening, &mut self.work, &mut self.pages);
         self.weighed = weighed;
         let measure = answer?;
         let words = page_words(galley)? * measure.pages as usize;

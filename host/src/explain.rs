@@ -1,11 +1,11 @@
 //! A page list in words: page by page, and for a refused one the rule that it breaks with the numbers that break it.
 
-use crate::engine::{Measure, Memory, Refusal};
+use crate::engine::{self, Measure, Memory, Refusal};
 use crate::galley::{Float, Galley};
 use crate::list::spaced;
 use crate::page::{folio, spread, Page, Place};
 use crate::record::Record;
-use crate::refusal::{mender, sentence};
+use crate::refusal::{meaning_of, mender, sentence};
 use crate::text::field_at_fault;
 
 /// An accepted list.
@@ -50,6 +50,19 @@ pub fn in_numbers(galley: &Galley, list: &[u32], refusal: Refusal) -> String {
         Some(page) => broken_in_numbers(galley, page, page.number == pages.len(), refusal.number),
         None => broken_length(galley, list),
     }
+}
+
+/// The rule that a page of an opening breaks, and the numbers that break it. The engine is asked: with a page after it the page
+/// is not the last of a list, and no more than in an opening. None where a list with that page would be too long.
+pub fn broken_opening(bytes: &[u8], galley: &Galley, opening: &[u32], page: usize) -> Option<String> {
+    let words = galley.page_words();
+    let mut list = opening.get(..words * page)?.to_vec();
+    list.resize(words * (page + 1), 0);
+    let rule = engine::mark(bytes, &list).err().filter(|refusal| refusal.place as usize == page)?.number;
+    let pages = Page::all(&list, words);
+    let numbers = broken_in_numbers(galley, pages.get(page.checked_sub(1)?)?, false, rule);
+    let numbers: Vec<&str> = numbers.lines().map(str::trim).collect();
+    Some(format!("page {page} breaks rule {rule}, {}: {}", meaning_of(rule), numbers.join("; ")))
 }
 
 /// A galley that is refused itself: the record, and its field if one is at fault.

@@ -9,7 +9,7 @@ pub fn whole() -> String {
 const WHOLE: &str = "\
 Makes the pages of a galley with the fewest page turns, and marks page lists.
 
-  barleychime make GALLEY            the best page list
+  barleychime make GALLEY            the best page list, or with --after LIST the best that begins with a list
   barleychime forecast GALLEY...     memory, pages weighed and time, told before a galley is made
   barleychime mark GALLEY LIST...    pages and turns of page lists, or what they break
   barleychime explain GALLEY LIST    a page list in words, page by page
@@ -25,14 +25,26 @@ A file called - is standard input. Exit status: 0 success, 1 refused, 2 an error
 ";
 
 pub const MAKE: &str = "\
-barleychime make [--verbose] GALLEY
+barleychime make [--after LIST] [--advise] [--verbose] GALLEY
 
 Prints `p X Y T` (pages, turns to figures and tables, turns from first page to last, weighted turns), then `q i j` for each
 page q: lines and figures placed so far. Where the galley has tables it is `q i j d`, d being the tables placed so far. A
-refusal is printed as `R number place`, and in words on standard error. Where no pagination exists (11) the greatest htMin at
-which one does is printed there too, and under G2 the greatest lastMin; the galley is not changed. With --verbose the pages
-weighed are told on standard error, and what `barleychime forecast` had told of them: the pairs of a start and an end, reached
-or not, with something between them whose tightest height is at most htMax. The search itself looks at far fewer.
+refusal is printed as `R number place`, and in words on standard error.
+
+With --advise it is also said there, where no pagination exists (11), what would help: the greatest htMin at which one does,
+and under G2 the greatest lastMin; the galley is not changed. Where there is none even at 0, nothing else is tried. Heights
+are searched by halves, up to 17 makings each, and a terminal is told which are tried. That finds the greatest htMin because
+of a theorem: lowering htMin never loses a pagination, nor adds turns. Lowering lastMin forbids no page either.
+
+With --verbose the pages weighed are told on standard error, and what `barleychime forecast` had told of them: the pairs of a
+start and an end, reached or not, with something between them whose tightest height is at most htMax. The search itself looks
+at far fewer.
+
+With --after the pages in LIST are printed and stay: of the lists that begin with them the best is made, and all its pages are
+printed here. LIST has lines `i j`, or `i j d`, as `barleychime mark` takes them, or is what `barleychime make` prints, or the
+first lines of that. None of its pages counts as the last. 20 is an opening that ends within a page or breaks a rule, which is
+then named, 21 one that leaves nothing to make, and 11 means that no pagination begins so; --advise then also says how many of
+its pages could stay. Without a page in LIST it is an ordinary making.
 ";
 
 pub const FORECAST: &str = "\

@@ -20,9 +20,16 @@ pub fn measure_line(measure: Measure) -> String {
     format!("{} {} {} {}", measure.pages, measure.x, measure.y, measure.turns)
 }
 
+/// How much of a list is handed in: all its pages, or its first pages alone.
+#[derive(Clone, Copy, PartialEq, Eq)]
+pub enum Extent {
+    Whole,
+    Opening,
+}
+
 /// The words of a list, so many a page; where nobody knows how many, as for a galley that is refused, as many as its first
 /// page has. An error names the line, and the field where there is one.
-pub fn parse(text: &str, mut words: Option<usize>) -> Result<Vec<u32>, String> {
+pub fn parse(text: &str, mut words: Option<usize>, extent: Extent) -> Result<Vec<u32>, String> {
     let mut list = Vec::new();
     let mut pages = 0;
     let mut claimed = None;
@@ -53,7 +60,10 @@ pub fn parse(text: &str, mut words: Option<usize>) -> Result<Vec<u32>, String> {
         list.extend_from_slice(counts);
     }
     match claimed {
-        Some(claimed) if claimed != pages => Err(format!("the first line says {claimed} pages, but {pages} follow")),
+        // The first lines of what `make` prints are an opening.
+        Some(claimed) if claimed < pages || (claimed > pages && extent == Extent::Whole) => {
+            Err(format!("the first line says {claimed} pages, but {pages} follow"))
+        }
         _ => Ok(list),
     }
 }

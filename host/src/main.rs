@@ -7,7 +7,7 @@ mod fold;
 mod help;
 mod output;
 
-use commands::Outcome;
+use commands::{Outcome, Ways};
 use output::{say, Output};
 use std::process::ExitCode;
 
@@ -55,26 +55,14 @@ fn run(arguments: &[String], output: &mut Output) -> Result<Outcome, String> {
         "fold" => help::FOLD,
         _ => return Err(format!("{command}: no such command; `barleychime --help` names them")),
     };
-    // Besides help three commands have an option, which stands before the files: to say what was weighed; a line for each
-    // galley; what is handed in is marks, and no galley with lists.
-    let (chosen, rest) = match rest {
-        [first, rest @ ..]
-            if matches!(
-                (command.as_str(), first.as_str()),
-                ("make", "--verbose") | ("forecast", "--lines") | ("report", "--marks")
-            ) =>
-        {
-            (true, rest)
-        }
-        _ => (false, rest),
-    };
+    let (options, rest) = options(command, rest);
     let Some(names) = names(rest)? else { return told(output, help) };
-    if names.iter().filter(|&&name| name == "-").count() > 1 {
+    if names.iter().chain(&options.ways.after).filter(|&&name| name == "-").count() > 1 {
         return Err("standard input can be read only once".into());
     }
     match (command.as_str(), names.as_slice()) {
-        ("make", [galley]) => commands::make(galley, chosen, output),
-        ("forecast", galleys @ [_, ..]) => commands::forecast(galleys, chosen, output),
+        ("make", [galley]) => commands::make(galley, &options.ways, output),
+        ("forecast", galleys @ [_, ..]) => commands::forecast(galleys, options.lines, output),
         ("mark", [galley, lists @ ..]) if !lists.is_empty() => commands::mark(galley, lists, output),
         ("explain", [galley, list]) => commands::explain(galley, list, output),
         ("desk", [_, ..]) if names.contains(&"-") => {
@@ -83,12 +71,55 @@ fn run(arguments: &[String], output: &mut Output) -> Result<Outcome, String> {
         ("desk", [galley, list]) => desk::desk(galley, list, output),
         ("pack", [text]) => commands::pack(text, output),
         ("unpack", [galley]) => commands::unpack(galley, output),
-        ("report", [file]) if chosen => commands::report_on_marks(file, output),
-        ("report", [galley, lists @ ..]) if !chosen && !lists.is_empty() => commands::report(galley, lists, output),
+        ("report", [file]) if options.marks => commands::report_on_marks(file, output),
+        ("report", [galley, lists @ ..]) if !options.marks && !lists.is_empty() => {
+            commands::report(galley, lists, output)
+        }
         ("fold", []) => fold::all(output),
         ("fold", [size]) => fold::one(size, output),
         _ => Err(format!("usage: {}", help.lines().next().unwrap_or(""))),
     }
+}
+
+/// What commands have besides help: ways of making; a line for each galley; what is handed in is marks, and no galley with
+/// lists.
+#[derive(Default)]
+struct Options<'a> {
+    ways: Ways<'a>,
+    lines: bool,
+    marks: bool,
+}
+
+/// The options of a command, which stand before its files, and what follows them.
+fn options<'a>(command: &str, arguments: &'a [String]) -> (Options<'a>, &'a [String]) {
+    let mut options = Options::default();
+    let mut rest = arguments;
+    while let [first, others @ ..] = rest {
+        rest = match (command, first.as_str(), others) {
+            ("make", "--after", [list, others @ ..]) if options.ways.after.is_none() => {
+                options.ways.after = Some(list);
+                others
+            }
+            ("make", "--advise", _) => {
+                options.ways.advise = true;
+                others
+            }
+            ("make", "--verbose", _) => {
+                options.ways.verbose = true;
+                others
+            }
+            ("forecast", "--lines", _) => {
+                options.lines = true;
+                others
+            }
+            ("report", "--marks", _) => {
+                options.marks = true;
+                others
+            }
+            _ => break,
+        };
+    }
+    (options, rest)
 }
 
 fn told(output: &mut Output, text: &str) -> Result<Outcome, String> {

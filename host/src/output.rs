@@ -1,6 +1,6 @@
 //! Standard output for answers, standard error for remarks.
 
-use std::io::{self, Write};
+use std::io::{self, IsTerminal, Write};
 
 pub struct Output(io::StdoutLock<'static>);
 
@@ -23,4 +23,9 @@ impl Output {
 /// A remark. There is nobody to tell if it cannot be written.
 pub fn say(remark: &str) {
     let _ = writeln!(io::stderr(), "barleychime: {remark}");
+}
+
+/// Whether remarks go to a terminal, where somebody waits.
+pub fn watched() -> bool {
+    io::stderr().is_terminal()
 }

@@ -9,6 +9,7 @@ enum Place {
     Words,
     Nothing,
     Page,
+    PageIfAny,
     Pages,
     Bytes,
     Paper,
@@ -57,6 +58,12 @@ const MEANINGS: &[Meaning] = &[
     meaning(17, Place::Page, "a figure or table stands on a spread that ends before the line that cites it"),
     meaning(18, Place::Pages, "the list ends before everything is placed"),
     meaning(19, Place::Bytes, "the input is longer than the small program takes"),
+    meaning(
+        20,
+        Place::PageIfAny,
+        "the opening ends within a page, or the page, as one that is not the last, breaks one of 13 to 17",
+    ),
+    meaning(21, Place::Pages, "the opening already places everything, and no page is left to make"),
     meaning(22, Place::Nothing, "the marking does not accept the list, or it has more than 64 pages"),
     meaning(23, Place::Page, "the page asked about is not one of the list in force, or is its last"),
     meaning(24, Place::Nothing, "nothing is pending that could be put in force"),
@@ -75,6 +82,7 @@ pub fn mender(number: u32) -> &'static str {
         9 | 10 => "the host program",
         11 => "the designer",
         12..=18 | 22 => "whoever handed in the list",
+        20 | 21 => "whoever handed in the opening",
         23..=27 => "the make-up hand",
         31 | 32 => "whoever handed in the marks",
         33 => "whoever asked for the section",
@@ -95,6 +103,11 @@ impl fmt::Display for Refusal {
     }
 }
 
+/// What a refusal of this number says, without its place.
+pub fn meaning_of(number: u32) -> &'static str {
+    MEANINGS.iter().find(|meaning| meaning.number == number).map_or("", |meaning| meaning.sentence)
+}
+
 /// The refusal in one sentence.
 pub fn sentence(refusal: Refusal) -> String {
     let Some(Meaning { sentence, place, .. }) = refusal.meaning() else {
@@ -105,7 +118,8 @@ pub fn sentence(refusal: Refusal) -> String {
         Place::Byte => format!("at byte {count}: "),
         Place::Words => format!("{count} words are needed: "),
         Place::Nothing => String::new(),
-        Place::Page => format!("page {count}: "),
+        Place::PageIfAny if count == 0 => String::new(),
+        Place::Page | Place::PageIfAny => format!("page {count}: "),
         Place::Pages => format!("page {count}, the last: "),
         Place::Bytes => format!("more than {count} bytes: "),
         Place::Paper => format!("paper {count}: "),

@@ -25,6 +25,15 @@ def made_right(tally, make, rng, what, galley, best):
         tally.same(f'{way} {what}', make(data, lent_work, lent_pages), engine.made(galley, best, answer, weighed, lent_work, lent_pages))
 
 
+def made_after(tally, make_after, rng, what, galley, opening, best, told):
+    """Making after an opening, with the list and its numbers or the refusal that is due."""
+    fault = None if best or told[0] == 11 else told
+    weighed = beforehand.weighed(galley, opening) if fault is None else 0
+    work, pages = (litter(rng, words + BEYOND) for words in engine.lengths(galley))
+    due = engine.made(galley, best, best and ('accepted', *told), weighed, work, pages, fault)
+    tally.same(f'making {what}', make_after(write(galley), opening, work, pages), due)
+
+
 def run(tally, archive, folder):
     called = engine.Engine(engine.load(archive, folder))
     rng = random.Random(1)
@@ -33,12 +42,15 @@ def run(tally, archive, folder):
         tally.same(f'forecast of {name}', called.forecast(write(galley)), beforehand.forecast(('galley', galley)))
     for name, galley, words, due in cases.MARKED + cases.MARKED_LONG:
         tally.same(f'marking {name}', called.mark(write(galley), words), due)
+    for name, galley, opening, best, told in cases.AFTER:
+        made_after(tally, called.make_after, rng, name, galley, opening, best, told)
     tally.group('archive: cases')
     for name, data, number, place in refusals.files():
         due = ('refused', number, place)
         tally.same(f'marking {name}', called.mark(data, (1, 1)), due)
         work, pages = litter(rng, 64), litter(rng, 8)
         tally.same(f'making {name}', called.make(data, work, pages), (due, 0, work, pages))
+        tally.same(f'making {name} after an opening', called.make_after(data, litter(rng, 3), work, pages), (due, 0, work, pages))
         tally.same(f'forecast of {name}', called.forecast(data), beforehand.forecast(due))
     tally.group('archive: refused files')
     for galley in [*sample.galleys(101, 250, 4, 3), *sample.galleys(111, 150, 3, 2, 2)]:

@@ -1,8 +1,9 @@
 /* Case A through the C interface: makes it, prints what the program prints, marks two lists, and tries too little memory.
  * Then two sections, one of a size that there is none of, and two reports, one with a paper below its engine. At last case A with
  * every record that it can have: double-sided from folio 38, the last page held to lastMin, the figure kept; and a galley with
- * a table, whose lists have three words a page; what each of the two is told to need beforehand, and what making weighed. Last a desk
- * on case A, and one on the galley with a table. */
+ * a table, whose lists have three words a page; what each of the two is told to need beforehand, and what making weighed. Case A
+ * after openings: one that costs a turn, one of no words, half a page, a page that breaks a rule, one that places everything. Last
+ * a desk on case A, and one on the galley with a table. */
 #include <barleychime.h>
 #include <stdio.h>
 #include <string.h>
@@ -147,6 +148,26 @@ static void print_table(void)
     print_answer(answer);
 }
 
+/* What is made of the galley after an opening of so many words; an opening is only read, so it may be all that there is. */
+static void print_after(const uint32_t *opening, size_t opening_len)
+{
+    static uint32_t work[WORK], pages[LIST];
+    uint32_t answer[BARLEYCHIME_ANSWER_WORDS + 1];
+
+    answer[BARLEYCHIME_ANSWER_WORDS] = 7;
+    if (barleychime_make_after(galley, galley_len, opening, opening_len, work, WORK, pages, LIST, answer) !=
+            answer[BARLEYCHIME_NUMBER] ||
+        answer[BARLEYCHIME_ANSWER_WORDS] != 7) {
+        printf("a wrong number, or a word too many\n");
+        return;
+    }
+    print_answer(answer);
+    for (uint32_t page = 0; page < answer[BARLEYCHIME_PAGES]; page++) {
+        printf("%u %u %u\n", (unsigned)page + 1, (unsigned)pages[2 * page], (unsigned)pages[2 * page + 1]);
+    }
+    print_forecast(answer);
+}
+
 static void print_number(const uint32_t answer[BARLEYCHIME_ANSWER_WORDS])
 {
     printf("%u %u\n", (unsigned)answer[BARLEYCHIME_NUMBER], (unsigned)answer[BARLEYCHIME_PLACE]);
@@ -240,6 +261,13 @@ int main(void)
     print_answer(answer);
     barleychime_make(galley, galley_len, work, WORK, pages, 0, answer);
     print_answer(answer);
+    print_after(too_long, 2);
+    print_after(too_long, 0);
+    print_after(too_long, 3);
+    print_after(too_high, 2);
+    galley[5] = 0; /* htMin */
+    print_after(too_long, 4);
+    galley[5] = 30;
     print_section(8);
     print_section(6);
     print_report(papers);

@@ -7,6 +7,9 @@ DUE = ('2 0 1 1\n1 1 1\n2 3 1\n'  # made
        '0 0: 64 8 64, 19 weighed\n'  # told beforehand, and weighed
        '2 1 1 2\nR 15 1\n'  # marked
        'R 9 64\nR 10 8\n'  # too little memory lent
+       # after openings
+       '2 1 1 2\n1 3 0\n2 3 1\n0 0: 64 8 64, 1 weighed\n2 0 1 1\n1 1 1\n2 3 1\n0 0: 64 8 64, 19 weighed\n'
+       'R 20 0\n0 0: 64 8 64, 0 weighed\nR 20 1\n0 0: 64 8 64, 0 weighed\nR 21 2\n0 0: 64 8 64, 0 weighed\n'
        '8 1 2 7 6 3 4 5\nR 33 6\n'  # sections
        '0: 0 0 2 4 1 2 4294967296 1 4294967295 4294967294 2\n32: 32 2 0 0 0 0 0 0 0 0 0\n'  # reported
        # every record, with lastMin as high as the last page is, higher, and out of range

@@ -3,6 +3,7 @@
  *     c_stack                     prints the header's figures, for making and for marking
  *     c_stack BYTES GALLEY        makes the galley: prints the bytes left at the call, those taken, and the eight words
  *     c_stack BYTES GALLEY LIST   marks the list, two or three numbers a page, in the same way
+ *     c_stack BYTES GALLEY LIST after   makes the galley after the list, which is an opening
  *
  * Below the stack lies memory that nobody may touch, so a call that takes more ends the program by a signal. Above the
  * call a thread's stack has the thread's own data and the frames of those that called; what the stack has too much is given
@@ -24,55 +25,66 @@
 #define PAINT 0xa5
 
 static uint8_t galley[BARLEYCHIME_LONGEST_GALLEY + 1];
-static uint32_t pages[BARLEYCHIME_MOST_LIST_WORDS], answer[BARLEYCHIME_ANSWER_WORDS], *work;
-static size_t galley_len, work_len, pages_len = BARLEYCHIME_MOST_LIST_WORDS;
-static int marks = 0;
+static uint32_t pages[BARLEYCHIME_MOST_LIST_WORDS], list[BARLEYCHIME_MOST_LIST_WORDS], answer[BARLEYCHIME_ANSWER_WORDS], *work;
+static size_t galley_len, work_len, list_len;
+static enum { MAKES, MARKS, MAKES_AFTER } task = MAKES;
 
 static unsigned char *lowest, *at_call; /* the stack's first byte, and where the caller's frame ends at the call */
 static size_t wanted, left, taken;
 
 typedef uint32_t maker(const uint8_t *, size_t, uint32_t *, size_t, uint32_t *, size_t, uint32_t *);
+typedef uint32_t after_maker(const uint8_t *, size_t, const uint32_t *, size_t, uint32_t *, size_t, uint32_t *, size_t, uint32_t *);
 typedef uint32_t marker(const uint8_t *, size_t, const uint32_t *, size_t, uint32_t *);
 
 /* Between the end of the caller's frame and a frame pointer lie the return address and the frame pointer before. */
 #define SEE_STACK() (at_call = (unsigned char *)__builtin_frame_address(0) + 2 * sizeof(void *))
 
 /* Stand-ins that only see where a call finds the stack. */
-static uint32_t see_make(const uint8_t *bytes, size_t bytes_len, uint32_t *area, size_t area_len, uint32_t *list,
-                         size_t list_len, uint32_t *eight)
+static uint32_t see_make(const uint8_t *bytes, size_t bytes_len, uint32_t *area, size_t area_len, uint32_t *room,
+                         size_t room_len, uint32_t *words)
 {
     SEE_STACK();
-    return bytes != NULL && area != NULL && list != NULL && eight != NULL && bytes_len + area_len + list_len > 0;
+    return bytes != NULL && area != NULL && room != NULL && words != NULL && bytes_len + area_len + room_len > 0;
 }
 
-static uint32_t see_mark(const uint8_t *bytes, size_t bytes_len, const uint32_t *list, size_t list_len, uint32_t *eight)
+static uint32_t see_after(const uint8_t *bytes, size_t bytes_len, const uint32_t *opening, size_t opening_len, uint32_t *area,
+                          size_t area_len, uint32_t *room, size_t room_len, uint32_t *words)
 {
     SEE_STACK();
-    return bytes != NULL && list != NULL && eight != NULL && bytes_len + list_len > 0;
+    return bytes != NULL && opening != NULL && area != NULL && room != NULL && words != NULL &&
+           bytes_len + opening_len + area_len + room_len > 0;
+}
+
+static uint32_t see_mark(const uint8_t *bytes, size_t bytes_len, const uint32_t *pairs, size_t pairs_len, uint32_t *words)
+{
+    SEE_STACK();
+    return bytes != NULL && pairs != NULL && words != NULL && bytes_len + pairs_len > 0;
 }
 
 /* One call, of the engine or of its stand-in, from the same place: no compiler knows which. */
-static __attribute__((noinline)) void call(maker *volatile make, marker *volatile mark)
+static __attribute__((noinline)) void call(maker *volatile make, after_maker *volatile after, marker *volatile mark)
 {
-    if (marks) {
-        mark(galley, galley_len, pages, pages_len, answer);
+    if (task == MARKS) {
+        mark(galley, galley_len, list, list_len, answer);
+    } else if (task == MAKES_AFTER) {
+        after(galley, galley_len, list, list_len, work, work_len, pages, BARLEYCHIME_MOST_LIST_WORDS, answer);
     } else {
-        make(galley, galley_len, work, work_len, pages, pages_len, answer);
+        make(galley, galley_len, work, work_len, pages, BARLEYCHIME_MOST_LIST_WORDS, answer);
     }
 }
 
 static void *run(void *given)
 {
     volatile unsigned char *byte;
-    call(see_make, see_mark);
+    call(see_make, see_after, see_mark);
     left = (size_t)(at_call - lowest);
     *(volatile char *)alloca(left - wanted - ALIGNMENT) = 0; /* alloca may take ALIGNMENT more */
-    call(see_make, see_mark);
+    call(see_make, see_after, see_mark);
     left = (size_t)(at_call - lowest);
     for (byte = lowest; byte < at_call; byte++) {
         *byte = PAINT;
     }
-    call(barleychime_make, barleychime_mark);
+    call(barleychime_make, barleychime_make_after, barleychime_mark);
     for (byte = lowest; byte < at_call && *byte == PAINT; byte++) {
     }
     taken = (size_t)(at_call - byte);
@@ -120,9 +132,8 @@ static int read_list(const char *name)
     if (file == NULL) {
         return 0;
     }
-    marks = 1;
-    for (pages_len = 0; pages_len < BARLEYCHIME_MOST_LIST_WORDS; pages_len++) {
-        if (fscanf(file, "%" SCNu32, &pages[pages_len]) != 1) {
+    for (list_len = 0; list_len < BARLEYCHIME_MOST_LIST_WORDS; list_len++) {
+        if (fscanf(file, "%" SCNu32, &list[list_len]) != 1) {
             break;
         }
     }
@@ -138,6 +149,7 @@ int main(int count, char **words)
     if (count < 3 || !read_galley(words[2]) || !take_work() || (count > 3 && !read_list(words[3]))) {
         return 2;
     }
+    task = count > 4 ? MAKES_AFTER : count > 3 ? MARKS : MAKES;
     wanted = strtoul(words[1], NULL, 10);
     if (!run_on_thread()) {
         return 2;

@@ -1,16 +1,16 @@
-"""The command end to end: options, names, standard input, statuses, bad files, lists with junk, help where 11 is due."""
+"""The command end to end: options, names, standard input, statuses, bad files, lists with junk."""
 
-import collections
 import re
 import subprocess
 
 from junk import JUNK, JUNK_TABLED
-from reference import cases, marking, refusals, sample, search
+from reference import cases, marking, refusals
 from reference.galley import Figure, Galley, Line, Spec, Table, write
 
 COMMANDS = {'make': 1, 'forecast': 1, 'mark': 2, 'explain': 2, 'desk': 2, 'pack': 1, 'unpack': 1, 'report': 2}
 MENDERS = [(range(1, 9), "the galley's writer"), (range(9, 11), 'the host program'), (range(11, 12), 'the designer'),
            (range(12, 19), 'whoever handed in the list'), (range(19, 20), 'the person at the program'),
+           (range(20, 22), 'whoever handed in the opening'),
            (range(22, 23), 'whoever handed in the list'), (range(23, 28), 'the make-up hand'),
            (range(31, 33), 'whoever handed in the marks'), (range(33, 34), 'whoever asked for the section')]
 
@@ -34,7 +34,9 @@ def documented(root, number, mender, told):
 
 
 def usage(tally, command, root):
-    for arguments in [(), ('mend',), ('--mend',), ('make', '--mend'), ('make',), ('make', 'a', 'b'), ('make', 'a', '--verbose'), ('forecast',), ('forecast', '--lines'),
+    for arguments in [(), ('mend',), ('--mend',), ('make', '--mend'), ('make',), ('make', 'a', 'b'), ('make', 'a', '--verbose'),
+                      ('make', '--after'), ('make', '--after', 'a'), ('make', '--after', '-', '-'), ('make', '--after', 'a', '--after', 'b', 'c'),
+                      ('make', 'a', '--after', 'b'), ('mark', '--after', 'a', 'b', 'c'), ('forecast',), ('forecast', '--lines'),
                       ('forecast', '--verbose', 'a'), ('forecast', '-', '-'), ('mark', '--verbose', 'a', 'b'), ('mark', 'a'),
                       ('explain', 'a'), ('explain', 'a', 'b', 'c'), ('desk', 'a'), ('desk', 'a', 'b', 'c'), ('desk', '-', 'b'),
                       ('desk', 'a', '-'), ('pack',), ('unpack', 'a', 'b'), ('mark', '-', '-'), ('explain', '-', '-'), ('make', '')]:
@@ -185,55 +187,7 @@ def outputs(tally, command, folder):
     tally.group('command: outputs')
 
 
-def greatest(galley, field):
-    """By trying every value of htmin or lastmin; None if there is no pagination at any."""
-    asked = getattr(galley.spec, field) or 0
-    return next((value for value in range(asked, -1, -1) if search.best_by_table(cases.respec(galley, **{field: value}))), None)
-
-
-def filled(galley, height):
-    return f'{height} ({height * 1_000 // galley.spec.htmax / 10} % of htMax)'
-
-
-def advice(galley):
-    """What would help, a remark each, and which kind of advice it is."""
-    spec, one = galley.spec, greatest(galley, 'htmin')
-    two = greatest(galley, 'lastmin') if spec.lastmin else None
-    words = 'is {}; the greatest at which a pagination exists is'
-    by_ht_min = f'htMin {words.format(spec.htmin)} {one is not None and filled(galley, one)}'
-    by_last_min = f'lastMin {words.format(spec.lastmin)} {two is not None and filled(galley, two)}'
-    if one is not None and two is not None:
-        return [by_ht_min, f'or {by_last_min}'], 'either'
-    if one is not None:
-        return [by_ht_min + ('; no lastMin is low enough by itself' if spec.lastmin else '')], 'htMin'
-    if two is not None:
-        return [by_last_min + ('; no htMin is low enough by itself' if spec.htmin else '')], 'lastMin'
-    if not spec.lastmin:
-        return ['no pagination exists even at htMin 0'], 'none'
-    one = greatest(cases.respec(galley, lastmin=0), 'htmin')
-    if one is None:
-        return ['no pagination exists even at htMin 0 and lastMin 0'], 'none of both'
-    two = greatest(cases.respec(galley, htmin=one), 'lastmin')
-    return [f'neither htMin nor lastMin is low enough by itself; a pagination exists at htMin {filled(galley, one)} '
-            f'and lastMin {filled(galley, two)}'], 'both'
-
-
-def help_with_11(tally, command, folder):
-    some = [galley for galley in [*sample.galleys(104, 700, 6, 3), *sample.galleys(107, 60, 4, 2, 2)]
-            if not search.best_by_table(galley)]
-    met = collections.Counter()
-    for galley in [cases.A_TALL, cases.respec(cases.B, htmin=21), cases.respec(cases.A, lastmin=21), *some]:
-        path, (due, kind) = file(folder, 'none.galley', write(galley)), advice(galley)
-        status, output, remarks = command.text('make', path)
-        told = [f'barleychime: {path}: {remark}' for remark in due]
-        tally.same(f'help with {galley}', (status, output, remarks.splitlines()[1:]), (1, 'R 11 0\n', told))
-        tally.same('the galley is as before', path.read_bytes(), write(galley))
-        met[kind] += 1
-    tally.same('every kind of help', {*met}, {'either', 'htMin', 'lastMin', 'both', 'none', 'none of both'})
-    tally.group('command: help where no pagination exists', f' ({dict(met)})')
-
-
 def run(tally, command, root, folder):
     usage(tally, command, root)
-    for group in (bad_files, lists, making, full_size, outputs, help_with_11):
+    for group in (bad_files, lists, making, full_size, outputs):
         group(tally, command, folder)

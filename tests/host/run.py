@@ -22,6 +22,7 @@ PROVED = ROOT / 'target/staticlib/libbarleychime.a'
 sys.path.insert(0, str(ROOT / 'tests'))
 sys.path.insert(0, str(ROOT / 'tests' / 'host'))
 
+import advised  # noqa: E402
 import archive  # noqa: E402
 import c_interface  # noqa: E402
 import command_line  # noqa: E402
@@ -29,6 +30,7 @@ import examples  # noqa: E402
 import explained  # noqa: E402
 import folding  # noqa: E402
 import foretold  # noqa: E402
+import printed  # noqa: E402
 import reported  # noqa: E402
 import round_trips  # noqa: E402
 import samples  # noqa: E402
@@ -52,9 +54,11 @@ def main():
         c_interface.run(tally, ROOT, library, folder)
         archive.run(tally, library, folder)
         command_line.run(tally, command, ROOT, folder)
+        advised.run(tally, command, folder)
         round_trips.run(tally, command, ROOT, folder)
         explained.run(tally, command, folder)
         foretold.run(tally, command, ROOT, folder)
+        printed.run(tally, command, folder)
         reported.run(tally, command, ROOT, folder)
         tried.run(tally, command, ROOT, folder)
         examples.run(tally, command, ROOT, library, folder)

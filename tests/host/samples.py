@@ -30,7 +30,7 @@ def derived(tally, real):
 
 
 def run(tally, command, root, folder):
-    lists, expected = root / 'samples/lists', root / 'tests/host/expected'
+    lists, openings, expected = root / 'samples/lists', root / 'samples/openings', root / 'tests/host/expected'
     for case, text in CASES.items():
         _, data, _ = command.run('pack', root / f'samples/{text}.txt')
         galley = folder / f'{case}.galley'
@@ -39,11 +39,15 @@ def run(tally, command, root, folder):
         for path in sorted(lists.glob(f'{case}-*.list')):
             texts[f'mark-{path.stem}'] = command.text('mark', galley, path)[1]
             texts[f'explain-{path.stem}'] = command.text('explain', galley, path)[1]
+        for path in sorted(openings.glob(f'{case}-*.list')):
+            texts[f'after-{path.stem}'] = command.text('make', '--after', path, galley)[1]
         for name, text in texts.items():
             name = name if case in name.split('-') else f'{name}-{case}'
             tally.same(name, text, (expected / f'{name}.txt').read_text())
     due = [f'mark-{path.stem}.txt' for path in lists.iterdir()]
     tally.same('every list has its answer', sorted(path.name for path in expected.glob('mark-*')), sorted(due))
+    due = [f'after-{path.stem}.txt' for path in openings.iterdir()]
+    tally.same('every opening has its answer', sorted(path.name for path in expected.glob('after-*')), sorted(due))
     texts = sorted(path.stem for path in (root / 'samples').glob('*.txt'))
     tally.same('every text has its answer', texts, sorted(CASES.values()))
     tally.group('samples')

@@ -10,7 +10,7 @@ import subprocess
 from c_interface import STRICT
 from engine import eight
 from frames import Unknown, needed, symbols
-from reference import beforehand, marking
+from reference import beforehand, marking, openings
 from reference.galley import read
 
 SPARE = 4096  # bytes that the header may have more than the machine code takes, and that more than is seen
@@ -40,10 +40,15 @@ def calls(command, root, folder):
     cut.write_bytes(made.read_bytes()[:-1])
     refused, in_vain = eight(('refused', 1, made.stat().st_size - 2)), eight(('refused', 11, 0), weighed(none))
     (lists, best), (tabled_lists, tabled_best) = (best_list(command, path, folder) for path in (made, tabled))
+    opening = folder / 'printed.list'
+    opening.write_text(''.join(lists.read_text().splitlines(keepends=True)[:40]))
+    printed = eight(best, weighed(made, tuple(map(int, opening.read_text().split()))))
     latex = made.with_suffix('.latex')
     loose = eight(marking.mark(read(made.read_bytes())[1], tuple(map(int, latex.read_text().split()))))
     return [(False, 'a chapter made', [made], eight(best, weighed(made))), (False, 'no pagination', [none], in_vain),
             (False, 'a chapter with tables made', [tabled], eight(tabled_best, weighed(tabled))),
+            (False, 'a chapter made after an opening', [made, opening, 'after'], printed),
+            (False, 'a whole list as an opening', [tabled, tabled_lists, 'after'], eight(due_of_opening(tabled, tabled_lists))),
             (True, 'its list', [tabled, tabled_lists], eight(tabled_best)),
             (False, 'a galley cut short', [cut], refused), (True, 'the best list', [made, lists], eight(best)),
             (True, "LaTeX's list", [made, latex], loose), (True, 'a list for a galley cut short', [cut, lists], refused)]
@@ -58,9 +63,14 @@ def best_list(command, path, folder):
     return lists, marking.mark(read(path.read_bytes())[1], words)
 
 
-def weighed(path):
+def weighed(path, opening=()):
     """The pages that making weighs of a galley."""
-    return beforehand.weighed_by_runs(read(path.read_bytes())[1])
+    return beforehand.weighed_by_runs(read(path.read_bytes())[1], opening)
+
+
+def due_of_opening(path, lists):
+    """The refusal of a whole list as an opening: 21, or 20 where its last page is low."""
+    return ('refused', *openings.fault(read(path.read_bytes())[1], tuple(map(int, lists.read_text().split()))))
 
 
 def figures(tally, stated, takes, seen):
@@ -98,7 +108,7 @@ def linked(tally, root, library):
 def run(tally, command, root, library, folder):
     linked(tally, root, library)
     try:
-        takes = [needed(library, name) for name in ('barleychime_make', 'barleychime_mark')]
+        takes = [max(needed(library, f'barleychime_{name}') for name in names) for names in (('make', 'make_after'), ('mark',))]
     except Unknown as error:
         tally.same('the machine code can be followed', str(error), '')
         return

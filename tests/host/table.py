@@ -60,7 +60,7 @@ def latex(command, galley, words):
 
 def engine(command, galley):
     """X + Y = T of the best list; where there is none, the greatest fill at which there is one."""
-    _, output, remarks = command.text('make', '-', given=write(galley))
+    _, output, remarks = command.text('make', '--advise', '-', given=write(galley))
     if output != 'R 11 0\n':
         return turns(*output.split()[1:4])
     fill = re.search(r'\(([\d.]+) % of htMax\)', remarks)

@@ -1,5 +1,5 @@
 """The plain Rust of bench/native, which the engine is measured against: both of its searches against the reference, and
-against each other on galleys that the reference takes too long for. The last line is 'N passed, M failed'."""
+against each other on galleys that the reference takes too long for, and after openings. The last line is 'N passed, M failed'."""
 import pathlib
 import random
 import subprocess
@@ -20,7 +20,7 @@ def build():
     command = ['cargo', 'build', '--release', '--offline', '--quiet', '--manifest-path', STANDIN / 'Cargo.toml']
     subprocess.run(command, check=True)
     library = engine.load(STANDIN / 'target' / 'release' / 'libbarleychime.a')
-    return engine.Engine(library).make, engine.Engine(library, 'plain_make').make
+    return engine.Engine(library), engine.Engine(library, 'plain_make')
 
 
 def known():
@@ -49,18 +49,31 @@ def main():
     tally = Tally()
 
     def compare(name, g, *expected):
+        data = galley.write(g)
         work, pages = (tuple(rng.choices((0, 1, 2, engine.HIGHEST), k=length + 3)) for length in engine.lengths(g))
-        first, *others = [make(galley.write(g), work, pages) for make in (by_queues, plain)]
+        first, *others = [native.make(data, work, pages) for native in (by_queues, plain)]
         others += [check.due(g, best, work, pages) for best in expected]
         tally.same(name, [first] * len(others), others)
+        opening = begun(g, first)
+        tally.same(f'{name} after {opening}', by_queues.make_after(data, opening, work, pages),
+                   plain.make_after(data, opening, work, pages))
+
+    def begun(g, made):
+        """Some first pages of a list that was made, the last of them now and then with a line more or less."""
+        (told, *counts), pages, width = made[0], made[-1], len(g.streams)
+        if told != 'accepted':
+            return g.sizes
+        opening = list(pages[:width * rng.randint(1, counts[0])])
+        opening[-width] += rng.choice((0, 0, 1, -1)) if 0 < opening[-width] else 0
+        return tuple(opening)
 
     for name, g, best in known():
         compare(name, g, best)
     for number, g in enumerate(unknown()):
         compare(f'galley {number} of unknown best list', g)
     # The plain search would take minutes.
-    tally.same('the largest galley of height 0', check.largest(by_queues, cases.LONGEST), True)
-    tally.same('a large galley of height 0 with tables', check.largest(by_queues, cases.LARGE_TABLES), True)
+    tally.same('the largest galley of height 0', check.largest(by_queues.make, cases.LONGEST), True)
+    tally.same('a large galley of height 0 with tables', check.largest(by_queues.make, cases.LARGE_TABLES), True)
     return tally.end()
 
 

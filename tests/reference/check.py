@@ -9,7 +9,7 @@ from pathlib import Path
 sys.path.insert(0, str(Path(__file__).resolve().parents[1]))
 
 import kinds  # noqa: E402
-from reference import beforehand, cases, marking, refusals, sample, search  # noqa: E402
+from reference import beforehand, cases, marking, openings, refusals, sample, search  # noqa: E402
 from reference.galley import Figure, Galley, Line, Spec, Table, read, write  # noqa: E402
 from tally import Tally  # noqa: E402
 
@@ -195,6 +195,60 @@ def weighings(tally):
     tally.group('what is weighed, and its ceiling')
 
 
+def begun(tally):
+    """Openings: the cases; and for all openings of small galleys what the searches find against the lists that begin so, what is
+    weighed by all pairs and by runs of lines, and 20 against the marking of a list that goes on."""
+    for name, galley, opening, words, told in cases.AFTER:
+        fault, found = openings.fault(galley, opening), None
+        if fault is None:
+            found = search.best(galley, opening)
+            tally.same(f'{name}, by table', search.best_by_table(galley, opening), found)
+            fault = (11, 0) if found is None else None
+        tally.same(name, (found, fault or marking.mark(galley, found)[1:]), (words, told))
+    for galley in [*sample.galleys(32, 60, 4, 2), *sample.galleys(33, 40, 2, 1, 1), *sample.left_galleys(34, 20)]:
+        lists = list(search.every(galley))
+        for opening in openings.passed(galley):
+            due = openings.beginning(lists, opening)
+            best = search.first(galley, due)
+            tally.same(f'lists after {opening} of {galley}', sorted(search.every(galley, opening)), sorted(due))
+            tally.same('the best of them', (search.best(galley, opening), search.best_by_table(galley, opening)), (best, best))
+            weighed = beforehand.weighed(galley, opening)
+            tally.same('weighed after it', beforehand.weighed_by_runs(galley, opening), weighed)
+            tally.same('no more than without it', weighed <= beforehand.weighed(galley), True)
+            for further in openings.following(galley, opening):
+                tally.same(f'{further} as an opening of {galley}', openings.fault(galley, further), fault_by_marking(galley, further))
+    tally.group('openings')
+
+
+def fault_by_marking(galley, opening):
+    """20 and 21 as the paper's map and the marking give them: an opening's page breaks what it breaks with a page after it."""
+    width = len(galley.streams)
+    pages = len(opening) // width
+    if len(opening) % width:
+        return 20, 0
+    broken = [page for page in range(1, pages + 1) if refusals.of_page(galley, opening[:width * page], last=False)]
+    return (20, broken[0]) if broken else (21, pages) if opening[-width:] == galley.sizes else None
+
+
+def loosened(tally):
+    """A lower htMin loses no valid list and changes no mark, whatever the opening, and adds no turns (S-14)."""
+    fewer = 0
+    rng = random.Random(38)
+    for galley in [*sample.galleys(35, 250, 5, 2), *sample.galleys(36, 80, 2, 2, 1), *sample.left_galleys(37, 40)]:
+        lower = cases.respec(galley, htmin=rng.choice((0, galley.spec.htmin // 2)))
+        lists = {words: marking.mark(lower, words) for words in search.every(lower)}
+        kept = {words: marking.mark(galley, words) for words in search.every(galley)}
+        tally.same(f'lists and marks of {galley}', [words for words in kept if lists.get(words) != kept[words]], [])
+        for opening in openings.passed(galley):
+            one, two = (search.best(each, opening) for each in (galley, lower))
+            turns = [marking.mark(galley, one)[4], marking.mark(lower, two)[4]] if one and two else [0, 0]
+            fewer += turns[1] < turns[0]
+            tally.same(f'{opening} of {galley}', (openings.fault(lower, opening), one is None or two is not None, turns[1] <= turns[0]),
+                       (None, True, True))
+    tally.same('fewer turns now and then', fewer > 0, True)
+    tally.group('a lower htMin', f' ({fewer} times fewer turns)')
+
+
 def larger(tally):
     """Larger galleys: what the table returns is valid, and no valid list one slip away from it ranks before it."""
     rng = random.Random(10)
@@ -211,7 +265,8 @@ def larger(tally):
 
 def main():
     tally = Tally()
-    for group in (made, marked, turned_away, round_trips, all_lists, random_lists, searches, editions, swapped, weighings, larger):
+    for group in (made, marked, turned_away, round_trips, all_lists, random_lists, searches, editions, swapped, weighings, begun,
+                  loosened, larger):
         group(tally)
     for number in [*range(1, 9), *range(12, 19)]:
         tally.same(f'refusal {number} is reached', number in tally.refusals, True)

@@ -1,12 +1,13 @@
-"""Making: the best list by looking at every list, and again by a table for galleys with too many lists."""
+"""Making: the best list by looking at every list, and again by a table for galleys with too many lists. An opening is one that
+20 and 21 let through; the empty one is begun with by every list."""
 
 from itertools import product
 
-from . import marking
+from . import marking, openings
 
 
-def every(galley):
-    """Every valid list, by trying each page end that rules 13 to 17 allow after each start."""
+def every(galley, opening=()):
+    """Every valid list that begins with an opening, by trying each page end that rules 13 to 17 allow after each start."""
     whole = galley.sizes
 
     def onward(start, page):
@@ -18,12 +19,13 @@ def every(galley):
             for rest in [()] if last else onward(end, page + 1):
                 yield end + rest
 
-    return onward(galley.nothing, 1)
+    printed = len(opening) // len(whole)
+    return (tuple(opening) + rest for rest in onward(openings.end(galley, opening), printed + 1))
 
 
-def best(galley):
-    """The first of all valid lists in document 01's order, or None if there is none (11)."""
-    return first(galley, every(galley))
+def best(galley, opening=()):
+    """The first in document 01's order of all valid lists that begin with an opening, or None if there is none (11)."""
+    return first(galley, every(galley, opening))
 
 
 def first(galley, lists):
@@ -46,17 +48,18 @@ def later_first(place):
 ENDS, OPENS = 1, 0  # a page's side: whether its leaf ends with it (single-sided, always) or goes on to the next page
 
 
-def best_by_table(galley):
+def best_by_table(galley, opening=()):
     """As best, from a table with one entry for each place and side of the page that ends there.
 
     Turning a leaf costs beta and, for each float that is cited but still waiting, alpha; over all turns that makes T. Nothing
     is turned before page 1. A page's side fixes that of the page before it, so the least cost with the latest start is all
-    there is to keep.
+    there is to keep. What an opening costs is the same for every list that begins with it, so it is left out.
     """
     double = galley.spec.sides == 2
     cited = [[sum(block.cite <= i for block in floats) for floats in galley.floats] for i in range(len(galley.lines) + 1)]
-    # Before page 1 there is the side of the folio before its own.
-    table = {(galley.nothing, OPENS if galley.folio % 2 else ENDS): (0, galley.nothing)}
+    # Before page 1 there is the side of the folio before its own; an opening ends on that of its last page.
+    origin, printed = openings.end(galley, opening), len(opening) // len(galley.streams)
+    table = {(origin, OPENS if (galley.folio + printed) % 2 else ENDS): (0, origin)}
     for start in product(*(range(size + 1) for size in galley.sizes)):
         for side in (OPENS, ENDS):
             if (start, side) not in table:
@@ -71,13 +74,13 @@ def best_by_table(galley):
                     table[end, next_side] = min(entry, table.get((end, next_side), entry))
     # Double-sided, even folios open a spread, so OPENS is the even last folio and goes first.
     ends = [(table[galley.sizes, side][0], side) for side in (OPENS, ENDS) if (galley.sizes, side) in table]
-    return traced(table, galley, min(ends)[1], double) if ends else None
+    return tuple(opening) + traced(table, galley, origin, min(ends)[1], double) if ends else None
 
 
-def traced(table, galley, side, double):
-    """The list that the table's starts spell, from the last page back to the first."""
+def traced(table, galley, origin, side, double):
+    """The pages that the table's starts spell, from the last one back to the first after the origin."""
     words, end = (), galley.sizes
-    while end != galley.nothing:
+    while end != origin:
         words = end + words
         end, side = later_first(table[end, side][1]), (ENDS - side if double else ENDS)
     return words

@@ -12,6 +12,7 @@
 mod forecast;
 mod make;
 mod mark;
+mod opening;
 mod page;
 mod places;
 mod plain;
@@ -24,7 +25,7 @@ mod sweep;
 mod weighed;
 
 pub use forecast::{forecast, Forecast};
-pub use make::{make, make_plain};
+pub use make::{make, make_after, make_plain, make_plain_after};
 pub use mark::mark;
 pub use report::{report, Mark};
 pub use weighed::weighed;

@@ -2,6 +2,7 @@
 
 use crate::forecast::{list_words, work_words};
 use crate::mark::measure;
+use crate::opening::{origin_of, Origin};
 use crate::places::{floats_at, least, side_before, whole, Least, ENDS, OPENS};
 use crate::read::{read, Galley};
 use crate::weighed::weighed_of;
@@ -9,15 +10,27 @@ use crate::{plain, sweep, Answer};
 
 /// Making with the search by queues, as the engine does it.
 pub fn make(bytes: &[u8], work: &mut [u32], list: &mut [u32]) -> Answer {
-    make_by(sweep::fill, bytes, work, list)
+    make_after(bytes, &[], work, list)
 }
 
-/// The same with the plain search.
+/// The same of lists that begin with an opening.
+pub fn make_after(bytes: &[u8], opening: &[u32], work: &mut [u32], list: &mut [u32]) -> Answer {
+    make_by(sweep::fill, bytes, opening, work, list)
+}
+
+/// Making with the plain search.
 pub fn make_plain(bytes: &[u8], work: &mut [u32], list: &mut [u32]) -> Answer {
-    make_by(plain::fill, bytes, work, list)
+    make_plain_after(bytes, &[], work, list)
 }
 
-fn make_by(fill: impl Fn(&Galley, &mut [u32]), bytes: &[u8], work: &mut [u32], list: &mut [u32]) -> Answer {
+/// The same of lists that begin with an opening.
+pub fn make_plain_after(bytes: &[u8], opening: &[u32], work: &mut [u32], list: &mut [u32]) -> Answer {
+    make_by(plain::fill, bytes, opening, work, list)
+}
+
+type Fill = fn(&Galley, &Origin, &mut [u32]);
+
+fn make_by(fill: Fill, bytes: &[u8], opening: &[u32], work: &mut [u32], list: &mut [u32]) -> Answer {
     let galley = match read(bytes) {
         Err(refusal) => return refusal,
         Ok(galley) => galley,
@@ -29,18 +42,24 @@ fn make_by(fill: impl Fn(&Galley, &mut [u32]), bytes: &[u8], work: &mut [u32], l
     if list.len() < longest {
         return Answer::refused(10, longest);
     }
+    let origin = match origin_of(&galley, opening) {
+        Err(refusal) => return refusal,
+        Ok(origin) => origin,
+    };
     let work = &mut work[..needed];
-    fill(&galley, work);
+    fill(&galley, &origin, work);
     let answer = match best_end(&galley, work) {
         None => Answer::refused(11, 0),
         Some(side) => {
-            let pages = trace(&galley, work, side, &mut []);
-            trace(&galley, work, side, &mut list[..words * pages]);
-            measure(&galley, &list[..words * pages])
+            let pages = trace(&galley, &origin, work, side, &mut []);
+            let (printed, end) = (opening.len(), opening.len() + words * pages);
+            list[..printed].copy_from_slice(opening);
+            trace(&galley, &origin, work, side, &mut list[printed..end]);
+            measure(&galley, &list[..end])
         }
     };
     work.fill(0);
-    Answer { weighed: weighed_of(&galley), ..answer }
+    Answer { weighed: weighed_of(&galley, origin.placed), ..answer }
 }
 
 /// The side of the last page of the best list: of equal costs, that of an even last folio.
@@ -54,13 +73,14 @@ fn best_end(galley: &Galley, work: &[u32]) -> Option<usize> {
     }
 }
 
-/// Follows the starts from the last page to the first and counts them; a list of that many pages gets their ends.
-fn trace(galley: &Galley, work: &[u32], side: usize, list: &mut [u32]) -> usize {
-    let words = galley.page_words();
+/// Follows the starts from the last page to the first after the origin and counts them; a list of that many pages gets
+/// their ends.
+fn trace(galley: &Galley, origin: &Origin, work: &[u32], side: usize, list: &mut [u32]) -> usize {
+    let (words, origin) = (galley.page_words(), origin.place(galley));
     let mut end = whole(galley);
     let mut side = side;
     let mut pages = 0;
-    while end != (0, 0) {
+    while end != origin {
         let Some(Least { start, .. }) = least(galley, work, end, side) else { break };
         pages += 1;
         if words * pages <= list.len() {

@@ -34,13 +34,13 @@ fn mark_galley(galley: &Galley, list: &[u32]) -> Answer {
 }
 
 /// Where a page ends, by its two words or three.
-fn end_of(list: &[u32], words: usize, page: usize) -> Placed {
+pub fn end_of(list: &[u32], words: usize, page: usize) -> Placed {
     let at = words * (page - 1);
     [list[at] as usize, list[at + 1] as usize, if words == 3 { list[at + 2] as usize } else { 0 }]
 }
 
 /// The first of 13 to 17 that the page breaks, or 0.
-fn broken_rule(galley: &Galley, start: Placed, end: Placed, page: usize, last: bool) -> u32 {
+pub fn broken_rule(galley: &Galley, start: Placed, end: Placed, page: usize, last: bool) -> u32 {
     let ([a, b, c], [i, j, d]) = (start, end);
     if i < a || j < b || d < c || i > galley.m || j > galley.n || d > galley.k || start == end {
         return 13;

@@ -1,6 +1,5 @@
 //! The places: what the work area holds of each, the sides of a page, and what a page costs that ends at one.
 
-use crate::page::ends_leaf;
 use crate::read::Galley;
 
 /// Words of a place: two sides of a tag, the cost, the starting line and the starting column.
@@ -61,9 +60,9 @@ pub fn store(galley: &Galley, work: &mut [u32], place: Place, side: usize, least
     work[at..at + SIDE].copy_from_slice(&words);
 }
 
-/// Every place of a column unreached.
-pub fn clear_column(galley: &Galley, work: &mut [u32], column: usize) {
-    work[entry(galley, (0, column), OPENS)..entry(galley, (0, column + 1), OPENS)].fill(0);
+/// Every place of a column from a line on unreached.
+pub fn clear_column(galley: &Galley, work: &mut [u32], line: usize, column: usize) {
+    work[entry(galley, (line, column), OPENS)..entry(galley, (0, column + 1), OPENS)].fill(0);
 }
 
 /// The side of the page before one of this side.
@@ -84,13 +83,8 @@ pub fn first_side(sides: u32) -> usize {
     }
 }
 
-/// Nothing placed, before page 1.
+/// The entry where the search begins, which no page starts before.
 pub const ORIGIN: Least = Least { cost: 0, start: (0, 0) };
-
-/// The side before page 1, which opens its spread or ends it.
-pub fn origin_side(galley: &Galley) -> usize {
-    side_before(galley.spec.sides, if ends_leaf(galley, 1) { ENDS } else { OPENS })
-}
 
 /// Whether a page may end after line i.
 pub fn may_end(galley: &Galley, i: usize) -> bool {

@@ -1,30 +1,31 @@
 //! The plain search: for every place and side all starts are weighed, however many fit a page.
 
+use crate::opening::Origin;
 use crate::page::Height;
 use crate::places::{
-    column_of, columns, first_side, floats_at, least, may_end, may_part, origin_side, price, side_before, store, whole,
-    Cited, Least, Place, ENDS, OPENS, ORIGIN,
+    column_of, columns, first_side, floats_at, least, may_end, may_part, price, side_before, store, whole, Cited,
+    Least, Place, ENDS, OPENS, ORIGIN,
 };
 use crate::read::Galley;
 
-pub fn fill(galley: &Galley, work: &mut [u32]) {
-    for column in 0..columns(galley) {
+pub fn fill(galley: &Galley, origin: &Origin, work: &mut [u32]) {
+    for column in (0..columns(galley)).filter(|&column| origin.reaches(floats_at(galley, column))) {
         let mut cited = Cited::default();
-        for i in 0..=galley.m {
+        for i in origin.line()..=galley.m {
             cited = cited.through(galley, i);
-            fill_place(galley, work, (i, column), cited);
+            fill_place(galley, origin, work, (i, column), cited);
         }
     }
 }
 
-fn fill_place(galley: &Galley, work: &mut [u32], place: Place, cited: Cited) {
+fn fill_place(galley: &Galley, origin: &Origin, work: &mut [u32], place: Place, cited: Cited) {
     let (i, column) = place;
     let floats = floats_at(galley, column);
     let mut best = [None; 2];
-    if place == (0, 0) {
-        best[origin_side(galley)] = Some(ORIGIN);
+    if place == origin.place(galley) {
+        best[origin.side] = Some(ORIGIN);
     } else if may_end(galley, i) && may_part(galley, floats.0) && (galley.spec.sides == 2 || cited.covers(floats)) {
-        best = best_starts(galley, work, place);
+        best = best_starts(galley, origin, work, place);
         // A float cited further on may not stand on a spread that ends before its citation.
         if !cited.covers(floats) {
             best[ENDS] = None;
@@ -37,14 +38,14 @@ fn fill_place(galley: &Galley, work: &mut [u32], place: Place, cited: Cited) {
     store(galley, work, place, ENDS, best[ENDS]);
 }
 
-/// For each side the best start of a page to a place by its heights: from the latest start to the earliest, so that only a
-/// smaller cost changes the choice.
-pub fn best_starts(galley: &Galley, work: &[u32], place: Place) -> [Option<Least>; 2] {
-    let (spec, i) = (&galley.spec, place.0);
+/// For each side the best start of a page to a place by its heights: from the latest start to the earliest, which is the
+/// origin, so that only a smaller cost changes the choice.
+pub fn best_starts(galley: &Galley, origin: &Origin, work: &[u32], place: Place) -> [Option<Least>; 2] {
+    let (spec, i, [line, figure, table]) = (&galley.spec, place.0, origin.placed);
     let (j, d) = floats_at(galley, place.1);
     let mut best: [Option<Least>; 2] = [None; 2];
     let mut lines = Height::default();
-    for a in (0..=i).rev() {
+    for a in (line..=i).rev() {
         if a < i {
             lines = lines.with(galley.line(a + 1), a + 1 == i);
             if lines.tight > spec.ht_max {
@@ -52,7 +53,7 @@ pub fn best_starts(galley: &Galley, work: &[u32], place: Place) -> [Option<Least
             }
         }
         let mut figures = Height::default();
-        for b in (0..=j).rev() {
+        for b in (figure..=j).rev() {
             if b < j {
                 figures = figures.with(galley.figure(b + 1), b + 1 == j);
             }
@@ -61,7 +62,7 @@ pub fn best_starts(galley: &Galley, work: &[u32], place: Place) -> [Option<Least
                 break;
             }
             let mut tables = Height::default();
-            for c in (0..=d).rev() {
+            for c in (table..=d).rev() {
                 if c < d {
                     tables = tables.with(galley.table(c + 1), c + 1 == d);
                 }

@@ -4,10 +4,11 @@
 //! start after are then a window. Too early a line makes the page too high, too late a line makes it too low, and as i
 //! grows the page only grows, so neither end of the window ever falls and a queue holds what is worth weighing.
 
+use crate::opening::Origin;
 use crate::page::Height;
 use crate::places::{
-    citation, clear_column, column_of, columns, first_side, floats_at, least, may_end, may_part, origin_side, price,
-    side_before, store, whole, Cited, Least, ENDS, OPENS, ORIGIN,
+    citation, clear_column, column_of, columns, first_side, floats_at, least, may_end, may_part, price, side_before,
+    store, whole, Cited, Least, ENDS, OPENS, ORIGIN,
 };
 use crate::plain::best_starts;
 use crate::queue::Queue;
@@ -18,35 +19,38 @@ use crate::sums::{sums_of, LineSums, TableSums};
 /// The queue of each side of the page that ends at a place.
 type Queues = [Queue; 2];
 
-pub fn fill(galley: &Galley, work: &mut [u32]) {
+pub fn fill(galley: &Galley, origin: &Origin, work: &mut [u32]) {
     let (lines, figures, tables) = sums_of(galley);
     let mut queues = [Queue::new(), Queue::new()];
-    // The earliest figure after which the others up to figure j fit a page.
-    let mut earliest = 0;
-    for to in 0..columns(galley) {
+    let [line, mut earliest, table] = origin.placed;
+    // As `earliest` moves on: the earliest figure after which the others up to figure j fit a page.
+    for to in origin.column(galley)..columns(galley) {
         let (j, d) = floats_at(galley, to);
-        clear_column(galley, work, to);
+        if !origin.reaches((j, d)) {
+            continue;
+        }
+        clear_column(galley, work, line, to);
         while figures.between(earliest, j).tight > galley.spec.ht_max {
             earliest += 1;
         }
         if !may_part(galley, j) {
             continue;
         }
-        if to == 0 {
-            store(galley, work, (0, 0), origin_side(galley), Some(ORIGIN));
+        if to == origin.column(galley) {
+            store(galley, work, (line, to), origin.side, Some(ORIGIN));
         }
         // Where the page starts in the column itself, the column feeds itself, so that comes last.
         for b in earliest..=j {
             let some = Floats { height: figures.between(b, j), kinds: u32::from(b < j) };
-            for c in earliest_table(&galley.spec, some, &tables, d)..=d {
+            for c in earliest_table(&galley.spec, some, &tables, table, d)..=d {
                 let floats = some.with_tables(&galley.spec, tables.between(c, d), c < d);
                 let pages = Pages { from: column_of(galley, (b, c)), to, floats };
-                sweep(galley, work, &lines, &mut queues, &pages);
+                sweep(galley, origin, work, &lines, &mut queues, &pages);
             }
         }
     }
     // The last page is held to a height of its own, so its starts are another window.
-    let best = best_starts(galley, work, whole(galley));
+    let best = best_starts(galley, origin, work, whole(galley));
     store(galley, work, whole(galley), OPENS, best[OPENS]);
     store(galley, work, whole(galley), ENDS, best[ENDS]);
 }
@@ -70,10 +74,10 @@ impl Floats {
     }
 }
 
-/// The earliest table after which the others up to table d fit a page beside the given figures.
-pub fn earliest_table(spec: &Spec, figures: Floats, tables: &TableSums, d: usize) -> usize {
+/// The earliest table from `first` on after which the others up to table d fit a page beside the given figures.
+pub fn earliest_table(spec: &Spec, figures: Floats, tables: &TableSums, first: usize, d: usize) -> usize {
     let fits = |c: usize| figures.with_tables(spec, tables.between(c, d), c < d).height.tight <= spec.ht_max;
-    (0..d).find(|&c| fits(c)).unwrap_or(d)
+    (first..d).find(|&c| fits(c)).unwrap_or(d)
 }
 
 /// The pages of the floats between two columns and any lines.
@@ -83,15 +87,17 @@ struct Pages {
     floats: Floats,
 }
 
-/// The pages weighed for every place of the column that they end in, but the full one.
-fn sweep(galley: &Galley, work: &mut [u32], lines: &LineSums, queues: &mut Queues, pages: &Pages) {
+/// The pages weighed for every place of the column that they end in from the origin's line on, but the full one.
+fn sweep(galley: &Galley, origin: &Origin, work: &mut [u32], lines: &LineSums, queues: &mut Queues, pages: &Pages) {
     let (spec, &Pages { from, to, floats }) = (&galley.spec, pages);
     let placed = floats_at(galley, to);
     let beside = floats.beside_lines(spec);
     // No spread ends before the line that cites the last figure or table, and single-sided no page does.
-    let citation = citation(galley, placed).max(1);
-    let first = if spec.sides == 1 || to == 0 { citation } else { 0 };
-    let mut window = Window::default();
+    let citation = citation(galley, placed);
+    // No page ends at the origin itself.
+    let after = origin.line() + usize::from(to == origin.column(galley));
+    let first = if spec.sides == 1 { citation.max(after) } else { after };
+    let mut window = Window { low: origin.line(), next: origin.line() };
     let mut cited = Cited::default();
     queues.iter_mut().for_each(Queue::clear);
     for i in first..=galley.m {
@@ -143,7 +149,6 @@ fn weigh(
 }
 
 /// The starting lines from `low` on make no page to the present place too high; those before `next` have been let in.
-#[derive(Default)]
 struct Window {
     low: usize,
     next: usize,

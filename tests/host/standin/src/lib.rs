@@ -36,6 +36,34 @@ macro_rules! making {
 making!(barleychime_make, native::make);
 making!(plain_make, native::make_plain);
 
+/// The same after an opening, under the signature of `barleychime_make_after`.
+macro_rules! making_after {
+    ($name:ident, $make:path) => {
+        /// # Safety
+        /// As `include/barleychime.h` says of `barleychime_make_after`.
+        #[no_mangle]
+        pub unsafe extern "C" fn $name(
+            galley: *const u8,
+            galley_len: usize,
+            opening: *const u32,
+            opening_len: usize,
+            work: *mut u32,
+            work_len: usize,
+            pages: *mut u32,
+            pages_len: usize,
+            answer: *mut u32,
+        ) -> u32 {
+            let (galley, opening) =
+                unsafe { (from_raw_parts(galley, galley_len), from_raw_parts(opening, opening_len)) };
+            let (work, pages) = unsafe { (from_raw_parts_mut(work, work_len), from_raw_parts_mut(pages, pages_len)) };
+            unsafe { put(answer, $make(galley, opening, work, pages)) }
+        }
+    };
+}
+
+making_after!(barleychime_make_after, native::make_after);
+making_after!(plain_make_after, native::make_plain_after);
+
 /// # Safety
 /// As `include/barleychime.h` says.
 #[no_mangle]
