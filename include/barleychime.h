@@ -221,7 +221,7 @@ uint32_t barleychime_make(const uint8_t *galley, size_t galley_len, uint32_t *wo
  * begins so. Of pages weighed only those count that start at or past the opening's end in lines, in figures and in tables.
  * An opening has whole pages, none of which breaks 13 to 17 (20); none counts as the last of a list, so that each has htMin, and
  * 17 is asked of a page that ends its spread alone. Nothing else is asked of its length, but that something is left to place
- * (21). After 20 and 21 pages and work area are as before. Half-way through a galley it takes less than half of the time.
+ * (21). After 20 and 21 pages and work area are as before.
  */
 uint32_t barleychime_make_after(const uint8_t *galley, size_t galley_len, const uint32_t *opening, size_t opening_len,
                                 uint32_t *work, size_t work_len, uint32_t *pages, size_t pages_len,

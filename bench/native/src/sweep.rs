@@ -22,8 +22,8 @@ type Queues = [Queue; 2];
 pub fn fill(galley: &Galley, origin: &Origin, work: &mut [u32]) {
     let (lines, figures, tables) = sums_of(galley);
     let mut queues = [Queue::new(), Queue::new()];
+    // The figure moves on to the earliest after which the others up to figure j fit a page.
     let [line, mut earliest, table] = origin.placed;
-    // As `earliest` moves on: the earliest figure after which the others up to figure j fit a page.
     for to in origin.column(galley)..columns(galley) {
         let (j, d) = floats_at(galley, to);
         if !origin.reaches((j, d)) {
