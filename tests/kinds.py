@@ -17,7 +17,8 @@ OF_REFUSALS = ['14 by a line', '14 by a figure', '16 on an earlier page', '16 on
                '17 by a figure', '17 by a table', '18 for tables alone']
 OF_CHOICES = ['an even last folio decides against an even page count', 'kept figures change the list',
               'kept figures leave no list', 'lastMin changes the list', 'lastMin leaves no list', 'the later figure decides',
-              'the later table decides']
+              'the later table decides', 'white space decides', 'white space decides against an even last folio',
+              'white space decides against the later start', 'equal turns and equal white space']
 OF_WEIGHING = ['pages weighed and no list', 'a stream of which no block fits']
 OF_REFUSED_OPENINGS = ['20 for half a page', *(f'20 by {rule}' for rule in range(13, 18)), '20 on a later page',
                        '20 after everything is placed', '20 before 21', '20 by 16, not as a last page', '21']
@@ -111,12 +112,14 @@ def between(least, count, most):
 
 def of_choice(g, lists, best):
     """Of all valid lists and the best of them: what decides, and what would be another list without a record."""
+    ranks = {words: search.rank(g, words) for words in lists}
+    if best:
+        yield from of_white(ranks, best)
     if g.spec.sides == 2 and g.folio % 2 == 0:
-        turns = [marking.mark(g, words)[4] for words in lists]
-        if len({last_folio(g, words) % 2 for words, t in zip(lists, turns) if t == min(turns)}) == 2:
+        if len({last_folio(g, words) % 2 for words, rank in ranks.items() if rank[:2] == ranks[best][:2]}) == 2:
             yield 'an even last folio decides against an even page count'
     if best and g.tables:
-        yield from of_ties(g, lists, best)
+        yield from of_ties(ranks, best)
     if any(figure.kept for figure in g.figures[:-1]):
         loose = replace(g, streams=(g.lines, tuple(figure._replace(kept=0) for figure in g.figures), *g.streams[2:]))
         if search.best_by_table(loose) != best:
@@ -164,7 +167,7 @@ def of_opening(g, opening, lists, best, ordinary):
     else:
         dearer = search.rank(g, best)[0] > search.rank(g, ordinary)[0]
         yield 'an opening that costs a turn' if dearer else 'an opening that costs nothing and changes the list'
-    if best and sum(marking.mark(g, words)[4] == marking.mark(g, best)[4] for words in lists) > 1:
+    if best and sum(marking.mark(g, words)[4:] == marking.mark(g, best)[4:] for words in lists) > 1:
         yield 'an opening that a tie decides after'
     yield from of_opening_end(g, opening)
 
@@ -188,13 +191,27 @@ def of_opening_end(g, opening):
         yield 'an opening whose last page is below lastMin'
 
 
-def of_ties(g, lists, best):
-    """Which count of a start decides against a list of equal turns and parity, the first that differs from the last page back."""
-    rank = search.rank(g, best)
-    for words in lists:
-        other = search.rank(g, words)
-        if words != best and other[:2] == rank[:2]:
-            one, two = next((one, two) for one, two in zip(rank[2], other[2]) if one != two)
+def of_white(ranks, best):
+    """Whether white space decides among lists of equal turns, and against which of the old ties; or leaves several."""
+    turns, white, *ties = ranks[best]
+    whiter = [rank[2:] for rank in ranks.values() if rank[0] == turns and rank[1] > white]
+    if whiter:
+        yield 'white space decides'
+    if any(odd < ties[0] for odd, _ in whiter):
+        yield 'white space decides against an even last folio'
+    if any(odd == ties[0] and starts < ties[1] for odd, starts in whiter):
+        yield 'white space decides against the later start'
+    if sum(rank[:2] == (turns, white) for rank in ranks.values()) > 1:
+        yield 'equal turns and equal white space'
+
+
+def of_ties(ranks, best):
+    """Which count of a start decides against a list of equal turns, white space and parity, the first that differs from the last
+    page back."""
+    rank = ranks[best]
+    for words, other in ranks.items():
+        if words != best and other[:3] == rank[:3]:
+            one, two = next((one, two) for one, two in zip(rank[3], other[3]) if one != two)
             stream = next(s for s, counts in enumerate(zip(one, two)) if len(set(counts)) == 2)
             if stream:
                 yield f'the later {("figure", "table")[stream - 1]} decides'

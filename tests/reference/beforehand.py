@@ -50,7 +50,7 @@ def ceiling(galley):
 
 def lengths(galley):
     """The words that making needs of the work area and of the page list."""
-    return 8 * prod(size + 1 for size in galley.sizes), len(galley.streams) * sum(galley.sizes)
+    return 10 * prod(size + 1 for size in galley.sizes), len(galley.streams) * sum(galley.sizes)
 
 
 def forecast(read):

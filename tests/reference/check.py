@@ -41,7 +41,8 @@ def by_paper(galley, words):
     # X and Y are what the turns come to when only the one or the other weighs.
     weights = [(1, 0), (0, 1), (galley.spec.alpha, galley.spec.beta)]
     return ('accepted', found[1],
-            *(turn(cases.respec(galley, alpha=alpha, beta=beta), *found) for alpha, beta in weights))
+            *(turn(cases.respec(galley, alpha=alpha, beta=beta), *found) for alpha, beta in weights),
+            marking.white_by_map(galley, *found))
 
 
 def turned_away(tally):
@@ -151,7 +152,7 @@ def searches(tally):
         best = search.first(galley, lists)
         met.update(kinds.of_galley(galley), kinds.of_choice(galley, lists, best))
         met.update(*(kinds.of_list(galley, words) for words in lists))
-        tied += len(ranks) > 1 and ranks[0][0] == ranks[1][0]
+        tied += len(ranks) > 1 and ranks[0][:2] == ranks[1][:2]
         tally.same(f'best of {galley}', search.best_by_table(galley), best)
     tally.same('every kind of galley, list and choice', met, {*kinds.OF_GALLEYS, *kinds.OF_LISTS, *kinds.OF_CHOICES})
     tally.group('table against search of all lists', f' ({solved} galleys have a valid list, {tied} a tie)')

@@ -42,8 +42,13 @@ A = plain(Spec(30, 30, 0, 0, 1, 1, 1), (10, 10, 10), [(20, 1)])
 A_TALL = plain(A.spec, (10, 10, 10), [(31, 1)])
 B = plain(A.spec._replace(htmin=20), (20, 20), [])
 C = plain(A.spec._replace(htmin=10, htmax=20, sides=2), (10, 10, 20, 20), [(20, 4)])
-# Two pages and three both turn one leaf; the even page count decides, then the later start of the last page.
+# Two pages and three both turn one leaf; two leave less white space.
 EVEN = plain(A.spec._replace(htmin=0, htmax=20, sides=2), (10, 10, 10), [])
+# The same where neither leaves any: the last line has no height.
+FILLED = plain(EVEN.spec, (20, 20, 0), [])
+# Three pages of which the first two lack 10 together, wherever page 1 ends; a figure without height beside the line or apart.
+TIED = Galley(A.spec._replace(htmin=0), (tuple(Line(10, 0, 0, int(k in (2, 3, 5, 7))) for k in range(1, 8)), ()))
+FLAT_FIGURE = plain(A.spec._replace(htmin=0, htmax=10, alpha=0, beta=0), (10,), [(0, 1), (10, 1)])
 PAIR = plain(A.spec._replace(htmin=0, alpha=0, beta=0), (10,), [(10, 1), (10, 1)])
 SPACED = Galley(A.spec._replace(htmin=28), (3 * (Line(10, 5, 8, 1),), ()))
 # The figure fills page 1, and its line is too low for any page but the last: page 2 must lie on the same spread.

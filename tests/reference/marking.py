@@ -14,7 +14,7 @@ def leaf(sides, folio, page):
 
 
 def mark(galley, words):
-    """('accepted', p, X, Y, T), or ('refused', number, place) with the first rule of 12 to 18 that the list breaks."""
+    """('accepted', p, X, Y, T, W), or ('refused', number, place) with the first rule of 12 to 18 that the list breaks."""
     width = len(galley.streams)
     if not words or len(words) % width or len(words) > width * sum(galley.sizes):
         return ('refused', 12, 0)
@@ -27,7 +27,7 @@ def mark(galley, words):
         start = end
     if start != galley.sizes:
         return ('refused', 18, len(ends))
-    return ('accepted', len(ends), *turns(galley, ends))
+    return ('accepted', len(ends), *turns(galley, ends), white(galley, ends))
 
 
 def places(galley, words):
@@ -88,6 +88,15 @@ def turns(galley, ends):
     last = galley.folio + len(ends) - 1
     y = last // 2 - galley.folio // 2 if spec.sides == 2 else len(ends) - 1
     return x, y, spec.alpha * x + spec.beta * y
+
+
+def white(galley, ends):
+    """W of a valid list: what its pages but the last lack of htMax, however loose they are (document 02, S-10)."""
+    return sum(white_on(galley, start, end) for start, end in zip([galley.nothing, *ends], ends[:-1]))
+
+
+def white_on(galley, start, end):
+    return max(0, galley.spec.htmax - loosest(galley, start, end))
 
 
 def waiting(galley, place):
@@ -171,6 +180,12 @@ def turn_d(galley, maps, p):
 def turn(galley, maps, p, sides):
     thumbing = sum(galley.spec.alpha * (placed - cited) for cited, placed in citation_leaves(galley, maps, sides))
     return thumbing + galley.spec.beta * (leaf(sides, galley.folio, p) - leaf(sides, galley.folio, 1))
+
+
+def white_by_map(galley, maps, p):
+    """W from the map: of each page but the last the space between its greatest height and htMax (document 02, S-10)."""
+    heights = [page_height(galley, maps, page, 'most', galley.spec.smax) for page in range(1, p)]
+    return sum(galley.spec.htmax - height for height in heights if height < galley.spec.htmax)
 
 
 def words_of_map(maps, p):

@@ -33,12 +33,13 @@ def first(galley, lists):
 
 
 def rank(galley, words):
-    """What making compares: turns, an odd last folio in double-sided work, the starts from the last page backwards."""
-    _, p, _, _, turns = marking.mark(galley, words)
+    """What making compares: turns, white space (S-10), an odd last folio in double-sided work, the starts from the last page
+    backwards."""
+    _, p, _, _, turns, white = marking.mark(galley, words)
     starts = [galley.nothing] + marking.places(galley, words)[:-1]
     # Each list's starts end with the only place of nothing, so neither of two lists' starts can begin the other's.
     odd = (galley.folio + p - 1) % 2 == 1
-    return turns, galley.spec.sides == 2 and odd, [later_first(start) for start in reversed(starts)]
+    return turns, white, galley.spec.sides == 2 and odd, [later_first(start) for start in reversed(starts)]
 
 
 def later_first(place):
@@ -52,25 +53,27 @@ def best_by_table(galley, opening=()):
     """As best, from a table with one entry for each place and side of the page that ends there.
 
     Turning a leaf costs beta and, for each float that is cited but still waiting, alpha; over all turns that makes T. Nothing
-    is turned before page 1. A page's side fixes that of the page before it, so the least cost with the latest start is all
-    there is to keep. What an opening costs is the same for every list that begins with it, so it is left out.
+    is turned before page 1. Every page but the last adds its white space to W, which is compared where turns are equal. A page's
+    side fixes that of the page before it, so the least cost with the latest start is all there is to keep. What an opening costs
+    is the same for every list that begins with it, so it is left out.
     """
     double = galley.spec.sides == 2
     cited = [[sum(block.cite <= i for block in floats) for floats in galley.floats] for i in range(len(galley.lines) + 1)]
     # Before page 1 there is the side of the folio before its own; an opening ends on that of its last page.
     origin, printed = openings.end(galley, opening), len(opening) // len(galley.streams)
-    table = {(origin, OPENS if (galley.folio + printed) % 2 else ENDS): (0, origin)}
+    table = {(origin, OPENS if (galley.folio + printed) % 2 else ENDS): ((0, 0), origin)}
     for start in product(*(range(size + 1) for size in galley.sizes)):
         for side in (OPENS, ENDS):
             if (start, side) not in table:
                 continue
-            cost = table[start, side][0]
+            turns, white = table[start, side][0]
             if side == ENDS and start != galley.nothing:
-                cost += galley.spec.alpha * (sum(cited[start[0]]) - sum(start[1:])) + galley.spec.beta
+                turns += galley.spec.alpha * (sum(cited[start[0]]) - sum(start[1:])) + galley.spec.beta
             next_side = OPENS if double and side == ENDS else ENDS
-            for end in page_ends(galley, start):
+            for end, loose in pages_from(galley, start):
                 if next_side == OPENS or all(j <= known for j, known in zip(end[1:], cited[end[0]])):
-                    entry = (cost, later_first(start))
+                    lacking = 0 if end == galley.sizes else max(0, galley.spec.htmax - loose)
+                    entry = ((turns, white + lacking), later_first(start))
                     table[end, next_side] = min(entry, table.get((end, next_side), entry))
     # Double-sided, even folios open a spread, so OPENS is the even last folio and goes first.
     ends = [(table[galley.sizes, side][0], side) for side in (OPENS, ENDS) if (galley.sizes, side) in table]
@@ -88,6 +91,11 @@ def traced(table, galley, origin, side, double):
 
 def page_ends(galley, start):
     """Where a page that starts at a place can end by its heights and the legal page ends alone."""
+    return (end for end, _ in pages_from(galley, start))
+
+
+def pages_from(galley, start):
+    """The same with the page's loosest height."""
     spec = galley.spec
     runs = [list(enumerate(grown(stream[u:], spec.htmax), u)) for stream, u in zip(galley.streams, start)]
     for blocks in product(*runs):
@@ -96,8 +104,9 @@ def page_ends(galley, start):
         tight, loose = (sum(heights) for heights in zip(*(heights for _, heights in blocks)))
         if kinds == 0 or not marking.may_end(galley, end) or tight + (kinds - 1) * spec.smin > spec.htmax:
             continue
-        if loose + (kinds - 1) * spec.smax >= spec.floor(end == galley.sizes):
-            yield end
+        loose += (kinds - 1) * spec.smax
+        if loose >= spec.floor(end == galley.sizes):
+            yield end, loose
 
 
 def grown(stream, limit):
