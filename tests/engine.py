@@ -10,7 +10,7 @@ from reference.beforehand import lengths
 ROOT = pathlib.Path(__file__).resolve().parents[1]
 WORD, LENGTH = ctypes.c_uint32, ctypes.c_size_t
 HIGHEST = 2**32 - 1
-ANSWER, FORECAST = 8, 6  # words of an answer and of a forecast
+ANSWER, FORECAST = 9, 6  # words of an answer and of a forecast
 
 
 def proved(crate):
@@ -52,22 +52,22 @@ def wide(low, high):
 
 def answered(returned, lent_answer):
     """An answer as the reference gives it, with anything amiss in its numbers told; and the count of pages weighed."""
-    *eight, beyond = lent_answer
-    number, place, *counts, low, high = eight
-    weighed = wide(low, high)
+    *nine, beyond = lent_answer
+    number, place, *turns, low, high, white = nine
+    weighed, counts = wide(low, high), (*turns, white)
     if returned != number:
-        return ('returned', returned, *eight), weighed
+        return ('returned', returned, *nine), weighed
     if beyond != HIGHEST:
-        return ('wrote past the answer', *eight), weighed
+        return ('wrote past the answer', *nine), weighed
     if number == 0:
-        return ('accepted', *counts) if place == 0 else ('accepted with a place', *eight), weighed
-    return ('refused', number, place) if not any(counts) else ('refused with counts', *eight), weighed
+        return ('accepted', *counts) if place == 0 else ('accepted with a place', *nine), weighed
+    return ('refused', number, place) if not any(counts) else ('refused with counts', *nine), weighed
 
 
-def eight(answer, weighed=0):
-    """The eight words of an answer that the reference gives, with this count of pages weighed."""
-    six = (0, 0, *answer[1:]) if answer[0] == 'accepted' else (*answer[1:], 0, 0, 0, 0)
-    return (*six, weighed % 2**32, weighed >> 32)
+def nine(answer, weighed=0):
+    """The nine words of an answer that the reference gives, with this count of pages weighed."""
+    number, place, *turns, white = (0, 0, *answer[1:]) if answer[0] == 'accepted' else (*answer[1:], 0, 0, 0, 0, 0)
+    return (number, place, *turns, weighed % 2**32, weighed >> 32, white)
 
 
 def done(answer, *after):

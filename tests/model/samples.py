@@ -18,7 +18,7 @@ import kinds as kinds_of  # noqa: E402
 from reference import beforehand, marking, sample, search  # noqa: E402
 
 GALLEYS, LEFT, LINES, FIGURES, LISTS, DRAWN, SEED = 120, 12, 5, 2, 5, 40, 20261115
-TABLED = 120, 3, 1, 2  # galleys with tables, and their most lines, figures and tables
+TABLED = 130, 2, 1, 3  # galleys with tables, and their most lines, figures and tables
 SINGLE, ODD, EVEN = 'single-sided', 'double-sided from an odd folio', 'double-sided from an even folio'
 
 
@@ -51,9 +51,11 @@ def made(g):
     if not valid:
         return '(refuses 11 0)', 'made: none (11)'
     best = search.best(g)
-    _, p, x, y, t = marking.mark(g, best)
-    tied = sum(marking.mark(g, words)[4] == t for words in valid) > 1
-    return f'(makes {p} {x} {y} {t} {numbers(best)})', 'made: ' + ('a tie decides' if tied else 'the turns decide')
+    _, p, x, y, t, w = marking.mark(g, best)
+    tied = sum(marking.mark(g, words)[4:] == (t, w) for words in valid) > 1
+    whiter = any(marking.mark(g, words)[4] == t for words in valid if words != best)
+    decides = 'a tie decides' if tied else 'white space decides' if whiter else 'the turns decide'
+    return f'(makes {p} {x} {y} {t} {w} {numbers(best)})', f'made: {decides}'
 
 
 def marked(g, words):
@@ -93,7 +95,8 @@ def binding(g):
 
 def kinds(bound):
     """Every kind of answer that there is; from an even folio page 1 opens a spread, and floats may stand there alone."""
-    yield from ('made: none (11)', 'made: a tie decides', 'made: the turns decide', 'marked: accepted', 'marked: 12')
+    yield from ('made: none (11)', 'made: a tie decides', 'made: white space decides', 'made: the turns decide', 'marked: accepted',
+                'marked: 12')
     for number in range(13, 18):
         yield from (f'marked: {number} on page 1', f'marked: {number} on a later page')[bound == EVEN and number == 17:]
     yield from ('marked: 14 after a kept figure', 'marked: 16 on the last page of its list')

@@ -44,10 +44,10 @@ def inputs():
     yield from (galley.write(g) for g in [*sample.galleys(SEED + 2, 60, 20, 4, 4), *sample.left_galleys(SEED + 3, 20, 2)])
     yield from (sample.broken(rng, galley.write(g)) for g in [*sample.galleys(SEED + 1, 40, 5, 3), *sample.galleys(SEED + 4, 20, 4, 2, 2)])
     # Work areas and page lists at both sides of what the program lends, and input at both sides of what it takes.
-    for lines, figures in ((181, 6), (182, 6), (183, 6), (199, 1), (200, 0), (201, 0), (60, 20), (61, 20)):
+    for lines, figures in ((126, 7), (127, 7), (128, 7), (199, 1), (200, 0), (201, 0), (47, 20), (48, 20)):
         yield galley.write(cases.plain(cases.A.spec._replace(htmin=0), lines * (1,), figures * [(1, 1)]))
-    # With tables: lists of 399 words and of 402, some with a page for each block; work areas of 10,240 words and of 10,296 or more.
-    for lines, figures, tables in ((131, 1, 1), (132, 1, 1), (132, 0, 1), (127, 4, 1), (142, 2, 2), (79, 3, 3), (80, 3, 3)):
+    # With tables: lists of 399 words and of 402, some with a page for each block; work areas of 10,240 words and of 10,260 or more.
+    for lines, figures, tables in ((131, 1, 1), (132, 1, 1), (132, 0, 1), (101, 4, 1), (113, 2, 2), (63, 3, 3), (64, 3, 3)):
         for page in (1, 30):
             spec = cases.A.spec._replace(htmin=0, htmax=page)
             yield galley.write(cases.plain(spec, lines * (1,), figures * [(1, 1)], tables * [(1, lines)]))

@@ -45,6 +45,7 @@ pub struct Answer {
     pub y: u32,
     pub t: u32,
     pub weighed: u64,
+    pub w: u32,
 }
 
 impl Answer {

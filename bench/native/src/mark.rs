@@ -61,7 +61,7 @@ pub fn broken_rule(galley: &Galley, start: Placed, end: Placed, page: usize, las
     0
 }
 
-/// p, X, Y, T of a valid list.
+/// p, X, Y, T, W of a valid list.
 pub fn measure(galley: &Galley, list: &[u32]) -> Answer {
     let words = galley.page_words();
     let pages = list.len() / words;
@@ -69,7 +69,19 @@ pub fn measure(galley: &Galley, list: &[u32]) -> Answer {
         + turns_to(galley, list, 2, galley.k, |k| galley.table(k).last);
     let y = leaf(galley, pages) - leaf(galley, 1);
     let t = galley.spec.alpha * x + galley.spec.beta * y;
-    Answer { p: pages as u32, x, y, t, ..Answer::default() }
+    Answer { p: pages as u32, x, y, t, w: white(galley, list, pages), ..Answer::default() }
+}
+
+/// The white space of all pages but the last.
+fn white(galley: &Galley, list: &[u32], pages: usize) -> u32 {
+    let mut start = [0; 3];
+    let mut white = 0;
+    for page in 1..pages {
+        let end = end_of(list, galley.page_words(), page);
+        white += height_of(galley, start, end).white(&galley.spec);
+        start = end;
+    }
+    white
 }
 
 /// The turns from the lines that cite the floats of a stream to the floats themselves.

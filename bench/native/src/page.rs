@@ -17,6 +17,11 @@ impl Height {
         Height { tight: self.tight + block.height + least, loose: self.loose + block.height + most }
     }
 
+    /// What a page of this height lacks of htMax, however loose it is.
+    pub fn white(self, spec: &Spec) -> u32 {
+        spec.ht_max.saturating_sub(self.loose)
+    }
+
     /// The height with another kind of blocks beside this one, separated if there are both.
     pub fn beside(self, other: Height, both: bool, spec: &Spec) -> Height {
         let (s_min, s_max) = if both { (spec.s_min, spec.s_max) } else { (0, 0) };

@@ -2,10 +2,18 @@
 
 use crate::read::Galley;
 
-/// Words of a place: two sides of a tag, the cost, the starting line and the starting column.
-pub const PLACE: usize = 8;
-const SIDE: usize = 4;
+/// Words of a place: two sides of a tag, the cost in two words, the starting line and the starting column.
+pub const PLACE: usize = 10;
+const SIDE: usize = 5;
 const REACHED: u32 = 1;
+
+/// Turns and white space as one number, which compares turns first: no list has so much white space that it would count as a
+/// turn.
+pub type Cost = u64;
+
+pub fn turns(turns: u32) -> Cost {
+    Cost::from(turns) << 32
+}
 
 /// A page that opens a spread and one that ends it. Single-sided, every page ends its own.
 pub const OPENS: usize = 0;
@@ -37,7 +45,7 @@ pub fn whole(galley: &Galley) -> Place {
 /// The least cost of a page that ends at a place, with all pages before it, and where that page starts.
 #[derive(Clone, Copy)]
 pub struct Least {
-    pub cost: u32,
+    pub cost: Cost,
     pub start: Place,
 }
 
@@ -48,14 +56,17 @@ fn entry(galley: &Galley, (i, column): Place, side: usize) -> usize {
 pub fn least(galley: &Galley, work: &[u32], place: Place, side: usize) -> Option<Least> {
     let at = entry(galley, place, side);
     let words = &work[at..at + SIDE];
-    (words[0] == REACHED).then(|| Least { cost: words[1], start: (words[2] as usize, words[3] as usize) })
+    (words[0] == REACHED).then(|| Least {
+        cost: Cost::from(words[2]) << 32 | Cost::from(words[1]),
+        start: (words[3] as usize, words[4] as usize),
+    })
 }
 
 pub fn store(galley: &Galley, work: &mut [u32], place: Place, side: usize, least: Option<Least>) {
     let at = entry(galley, place, side);
     let words = match least {
         None => [0; SIDE],
-        Some(Least { cost, start: (a, from) }) => [REACHED, cost, a as u32, from as u32],
+        Some(Least { cost, start: (a, from) }) => [REACHED, cost as u32, (cost >> 32) as u32, a as u32, from as u32],
     };
     work[at..at + SIDE].copy_from_slice(&words);
 }
@@ -130,9 +141,9 @@ impl Cited {
 
 /// What a page that ends its spread at a place costs, with these floats cited so far: those of them that wait, and the
 /// turn. The last page costs nothing.
-pub fn price(galley: &Galley, place: Place, (j, d): (usize, usize), cited: Cited) -> u32 {
+pub fn price(galley: &Galley, place: Place, (j, d): (usize, usize), cited: Cited) -> Cost {
     if place == whole(galley) {
         return 0;
     }
-    galley.spec.alpha * (cited.figures + cited.tables - j - d) as u32 + galley.spec.beta
+    turns(galley.spec.alpha * (cited.figures + cited.tables - j - d) as u32 + galley.spec.beta)
 }

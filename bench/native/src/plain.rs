@@ -3,7 +3,7 @@
 use crate::opening::Origin;
 use crate::page::Height;
 use crate::places::{
-    column_of, columns, first_side, floats_at, least, may_end, may_part, price, side_before, store, whole, Cited,
+    column_of, columns, first_side, floats_at, least, may_end, may_part, price, side_before, store, whole, Cited, Cost,
     Least, Place, ENDS, OPENS, ORIGIN,
 };
 use crate::read::Galley;
@@ -77,17 +77,22 @@ pub fn best_starts(galley: &Galley, origin: &Origin, work: &[u32], place: Place)
     best
 }
 
-/// A start of a page to a place against the best so far, for each side: it is chosen where it is less dear.
+/// A start of a page to a place against the best so far, for each side: it is chosen where it is less dear, the page's white
+/// space counted unless it is the last.
 fn weigh(galley: &Galley, work: &[u32], place: Place, start: Place, page: Height, best: &mut [Option<Least>; 2]) {
     let spec = &galley.spec;
-    let ht_min = if place == whole(galley) { spec.last_min } else { spec.ht_min };
+    let (ht_min, white) = match place == whole(galley) {
+        true => (spec.last_min, 0),
+        false => (spec.ht_min, page.white(spec)),
+    };
     if start == place || page.loose < ht_min {
         return;
     }
     for side in first_side(spec.sides)..=ENDS {
         let Some(before) = least(galley, work, start, side_before(spec.sides, side)) else { continue };
-        if best[side].is_none_or(|least| before.cost < least.cost) {
-            best[side] = Some(Least { cost: before.cost, start });
+        let cost = before.cost + Cost::from(white);
+        if best[side].is_none_or(|least| cost < least.cost) {
+            best[side] = Some(Least { cost, start });
         }
     }
 }

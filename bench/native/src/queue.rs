@@ -1,12 +1,13 @@
 //! A queue of the starting lines in a window, the best of them in front.
 
+use crate::places::Cost;
 use crate::read::MOST_LINES;
 
 /// Starts that rise in line and in cost. A start that is left out has a later one in the queue that is no dearer, so
 /// the front is the cheapest of the window and, of equally cheap ones, the latest.
 pub struct Queue {
     lines: [u32; MOST_LINES],
-    costs: [u32; MOST_LINES],
+    costs: [Cost; MOST_LINES],
     front: usize,
     back: usize,
 }
@@ -21,7 +22,7 @@ impl Queue {
     }
 
     /// A later start enters the window: those before it that are no cheaper will never be chosen again.
-    pub fn enter(&mut self, line: usize, cost: u32) {
+    pub fn enter(&mut self, line: usize, cost: Cost) {
         while self.front < self.back && cost <= self.costs[self.back - 1] {
             self.back -= 1;
         }
@@ -38,7 +39,7 @@ impl Queue {
     }
 
     /// The line and the cost of the best start in the window.
-    pub fn best(&self) -> Option<(usize, u32)> {
+    pub fn best(&self) -> Option<(usize, Cost)> {
         (self.front < self.back).then(|| (self.lines[self.front] as usize, self.costs[self.front]))
     }
 }

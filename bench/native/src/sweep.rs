@@ -3,12 +3,16 @@
 //! Column by column, and in a column by the column that the page starts in: the lines a that a page to (i, column) can
 //! start after are then a window. Too early a line makes the page too high, too late a line makes it too low, and as i
 //! grows the page only grows, so neither end of the window ever falls and a queue holds what is worth weighing.
+//!
+//! Two queues hold it, since the white space of a page hangs on its start too. Starts before the split make pages that reach
+//! htMax and leave none; those after it leave htMax less the loosest height, a sum over the start and one over the end, so
+//! that they compare by cost and the first of these sums. The split never falls either.
 
 use crate::opening::Origin;
 use crate::page::Height;
 use crate::places::{
     citation, clear_column, column_of, columns, first_side, floats_at, least, may_end, may_part, price, side_before,
-    store, whole, Cited, Least, ENDS, OPENS, ORIGIN,
+    store, whole, Cited, Cost, Least, ENDS, OPENS, ORIGIN,
 };
 use crate::plain::best_starts;
 use crate::queue::Queue;
@@ -16,12 +20,19 @@ use crate::read::Galley;
 use crate::spec::Spec;
 use crate::sums::{sums_of, LineSums, TableSums};
 
-/// The queue of each side of the page that ends at a place.
-type Queues = [Queue; 2];
+/// The starts in a window whose pages reach htMax, by their cost, and those whose pages leave white space, by their cost and
+/// what the lines up to them take.
+struct Parts {
+    full: Queue,
+    white: Queue,
+}
+
+/// The parts of the window for each side of the page that ends at a place.
+type Queues = [Parts; 2];
 
 pub fn fill(galley: &Galley, origin: &Origin, work: &mut [u32]) {
     let (lines, figures, tables) = sums_of(galley);
-    let mut queues = [Queue::new(), Queue::new()];
+    let mut queues = [0; 2].map(|_| Parts { full: Queue::new(), white: Queue::new() });
     // The figure moves on to the earliest after which the others up to figure j fit a page.
     let [line, mut earliest, table] = origin.placed;
     for to in origin.column(galley)..columns(galley) {
@@ -97,24 +108,41 @@ fn sweep(galley: &Galley, origin: &Origin, work: &mut [u32], lines: &LineSums, q
     // No page ends at the origin itself.
     let after = origin.line() + usize::from(to == origin.column(galley));
     let first = if spec.sides == 1 { citation.max(after) } else { after };
-    let mut window = Window { low: origin.line(), next: origin.line() };
+    let mut window = Window { low: origin.line(), split: origin.line(), next: origin.line() };
     let mut cited = Cited::default();
-    queues.iter_mut().for_each(Queue::clear);
+    for parts in queues.iter_mut() {
+        parts.full.clear();
+        parts.white.clear();
+    }
     for i in first..=galley.m {
         if !may_end(galley, i) || (i, to) == whole(galley) {
             continue;
         }
         window.shut(lines, i, beside.tight, spec.ht_max);
         while window.opens(lines, i, beside.loose, spec.ht_min) {
-            enter(galley, work, queues, (window.next, from));
+            let taken = lines.left[window.next].loose;
+            enter(galley, work, (window.next, from), |side, cost| {
+                queues[side].white.enter(window.next, cost + Cost::from(taken))
+            });
             window.next += 1;
+        }
+        while window.fills(lines, i, beside.loose, spec.ht_max) {
+            enter(galley, work, (window.split, from), |side, cost| queues[side].full.enter(window.split, cost));
+            window.split += 1;
         }
         for side in first_side(spec.sides)..=ENDS {
             if side == ENDS && i < citation {
                 continue;
             }
-            queues[side].leave(window.low);
-            let mut best = weigh(galley, work, queues[side].best(), pages, i, side);
+            let parts = &mut queues[side];
+            parts.full.leave(window.low);
+            parts.white.leave(window.split);
+            // White space is htMax less the loosest height; what the lines up to the start take is in the cost already.
+            let lacking = |(a, cost): (usize, Cost)| {
+                (a, cost + Cost::from(spec.ht_max) - Cost::from(lines.ended[i].loose + beside.loose))
+            };
+            let fronts = [parts.full.best(), parts.white.best().map(lacking)];
+            let mut best = weigh(galley, work, fronts, pages, i, side);
             if from == to && side == ENDS {
                 cited = cited.through(galley, i);
                 let more = price(galley, (i, to), placed, cited);
@@ -125,32 +153,35 @@ fn sweep(galley: &Galley, origin: &Origin, work: &mut [u32], lines: &LineSums, q
     }
 }
 
-/// The best so far of place (i, to) against the best start in the window and against the page of floats alone, which has no
-/// line and no separation from one and so is no part of the window.
+/// The best so far of place (i, to) against the best starts in the parts of the window, with the white space that they leave,
+/// and against the page of floats alone, which has no line and no separation from one and so is no part of the window.
 fn weigh(
     galley: &Galley,
     work: &[u32],
-    front: Option<(usize, u32)>,
+    fronts: [Option<(usize, Cost)>; 2],
     pages: &Pages,
     i: usize,
     side: usize,
 ) -> Option<Least> {
     let &Pages { from, to, floats } = pages;
     let mut best = least(galley, work, (i, to), side);
-    if let Some((a, cost)) = front {
+    for (a, cost) in fronts.into_iter().flatten() {
         best = better(best, Least { cost, start: (a, from) });
     }
     if from < to && floats.height.loose >= galley.spec.ht_min {
         if let Some(Least { cost, .. }) = least(galley, work, (i, from), side_before(galley.spec.sides, side)) {
+            let cost = cost + Cost::from(floats.height.white(&galley.spec));
             best = better(best, Least { cost, start: (i, from) });
         }
     }
     best
 }
 
-/// The starting lines from `low` on make no page to the present place too high; those before `next` have been let in.
+/// The starting lines from `low` on make no page to the present place too high; those before `split` make one that reaches
+/// htMax; those before `next` have been let in.
 struct Window {
     low: usize,
+    split: usize,
     next: usize,
 }
 
@@ -159,7 +190,14 @@ impl Window {
         while self.low < i && lines.ended[i].tight + beside > lines.left[self.low].tight + ht_max {
             self.low += 1;
         }
+        // What is too high reaches htMax, and would have been let in.
+        self.split = self.split.max(self.low);
         self.next = self.next.max(self.low);
+    }
+
+    /// Whether the first starting line after the split makes a page to the present place that reaches htMax.
+    fn fills(&self, lines: &LineSums, i: usize, beside: u32, ht_max: u32) -> bool {
+        self.split < self.next && lines.ended[i].loose + beside >= lines.left[self.split].loose + ht_max
     }
 
     /// Whether the next starting line makes a page to the present place that is high enough.
@@ -168,12 +206,12 @@ impl Window {
     }
 }
 
-/// A start into the queues of the sides that it can be followed by. A place that was never reached is no start.
-fn enter(galley: &Galley, work: &[u32], queues: &mut Queues, start: (usize, usize)) {
+/// A start with its cost for each side that it can be followed by. A place that was never reached is no start.
+fn enter(galley: &Galley, work: &[u32], start: (usize, usize), mut into: impl FnMut(usize, Cost)) {
     let sides = galley.spec.sides;
     for side in first_side(sides)..=ENDS {
         if let Some(Least { cost, .. }) = least(galley, work, start, side_before(sides, side)) {
-            queues[side].enter(start.0, cost);
+            into(side, cost);
         }
     }
 }

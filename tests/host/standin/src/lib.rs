@@ -80,7 +80,7 @@ pub unsafe extern "C" fn barleychime_mark(
 
 unsafe fn put(answer: *mut u32, made: native::Answer) -> u32 {
     let [low, high] = two(made.weighed);
-    let words = [made.number, made.place, made.p, made.x, made.y, made.t, low, high];
+    let words = [made.number, made.place, made.p, made.x, made.y, made.t, low, high, made.w];
     unsafe { from_raw_parts_mut(answer, words.len()) }.copy_from_slice(&words);
     made.number
 }

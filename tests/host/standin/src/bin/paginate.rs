@@ -18,7 +18,7 @@ fn main() -> io::Result<()> {
         println!("R {} {}", answer.number, answer.place);
         return Ok(());
     }
-    println!("{} {} {} {}", answer.p, answer.x, answer.y, answer.t);
+    println!("{} {} {} {} {}", answer.p, answer.x, answer.y, answer.t, answer.w);
     for (page, end) in (1..=answer.p).zip(list.chunks_exact(native::page_words(&input))) {
         let counts: Vec<String> = end.iter().map(u32::to_string).collect();
         println!("{page} {}", counts.join(" "));
