@@ -1,12 +1,12 @@
 /* Barleychime: page make-up and marking for galleys with figures and tables.
  *
- * Making gives the pagination with the fewest page turns that a galley's page specification allows, of all or of those that
- * begin with an opening that is already printed; marking judges a pagination that is handed in. Both work on lent memory alone:
- * they allocate nothing, keep nothing between calls, print nothing, and call nothing but memcpy and memset of the C library.
- * Calls on memory that is not shared may run at the same time.
+ * Making gives the pagination with the fewest page turns that a galley's page specification allows, and of those the one with the
+ * least white space, of all paginations or of those that begin with an opening that is already printed; marking judges a
+ * pagination that is handed in. Both work on lent memory alone: they allocate nothing, keep nothing between calls, print
+ * nothing, and call nothing but memcpy and memset of the C library. Calls on memory that is not shared may run at the same time.
  *
  * What the caller owes, because no call can see it:
- *   - A pointer leads to as many bytes or words as its length says, or to as many as an array parameter has: the 8 words of an
+ *   - A pointer leads to as many bytes or words as its length says, or to as many as an array parameter has: the 9 words of an
  *     answer, the 6 of a forecast, the words of a desk. It is aligned as its type is, and it is not null, not even where the
  *     length is 0 and nothing is read.
  *   - An area that is written overlaps no other area of the call, and nobody else reads or writes it during the call. Nobody
@@ -89,9 +89,9 @@
 #include <stdint.h>
 
 /* Words of work area and of page list that making needs for m lines and n figures without tables, and with k tables, 1 to 50.
- * No galley needs more than the most: 1.3 GB of work area, and without tables 25.7 MB.
+ * No galley needs more than the most: 1.6 GB of work area, and without tables 32.2 MB.
  */
-#define BARLEYCHIME_WORK_WORDS(m, n) ((size_t)8 * ((size_t)(m) + 1) * ((size_t)(n) + 1))
+#define BARLEYCHIME_WORK_WORDS(m, n) ((size_t)10 * ((size_t)(m) + 1) * ((size_t)(n) + 1))
 #define BARLEYCHIME_LIST_WORDS(m, n) ((size_t)2 * ((size_t)(m) + (size_t)(n)))
 #define BARLEYCHIME_TABLES_WORK_WORDS(m, n, k) (BARLEYCHIME_WORK_WORDS(m, n) * ((size_t)(k) + 1))
 #define BARLEYCHIME_TABLES_LIST_WORDS(m, n, k) ((size_t)3 * ((size_t)(m) + (size_t)(n) + (size_t)(k)))
@@ -110,9 +110,9 @@
 #define BARLEYCHIME_MARK_STACK_BYTES ((size_t)1024)
 
 /* Words of an answer, of making and of marking: every caller lends so many. */
-#define BARLEYCHIME_ANSWER_WORDS 8
+#define BARLEYCHIME_ANSWER_WORDS 9
 
-/* What the eight words of an answer are. */
+/* What the nine words of an answer are. */
 enum {
     BARLEYCHIME_NUMBER = 0, /* 0, or the number of the refusal */
     BARLEYCHIME_PLACE = 1,  /* 0, or the refusal's place */
@@ -121,7 +121,8 @@ enum {
     BARLEYCHIME_Y = 4,      /* turns from the first page to the last: pages, or spreads, between them */
     BARLEYCHIME_TURNS = 5,  /* T = alpha * X + beta * Y */
     BARLEYCHIME_WEIGHED_LOW = 6, /* the count of pages weighed, of 64 bits: its low word and its high word; 0 of marking */
-    BARLEYCHIME_WEIGHED_HIGH = 7
+    BARLEYCHIME_WEIGHED_HIGH = 7,
+    BARLEYCHIME_WHITE = 8 /* W: what all pages but the last lack of htMax at their loosest, summed over them */
 };
 
 /* Words of a forecast. */
@@ -198,7 +199,7 @@ extern "C" {
  *   galley      galley_len bytes, only read
  *   work        at least BARLEYCHIME_WORK_WORDS(m, n) words, of any contents; with tables BARLEYCHIME_TABLES_WORK_WORDS(m, n, k)
  *   pages       at least BARLEYCHIME_LIST_WORDS(m, n) words, of any contents; with tables BARLEYCHIME_TABLES_LIST_WORDS(m, n, k)
- *   answer      8 words, always written: number, place, p, X, Y, T, and the count of pages weighed, low word and high word
+ *   answer      9 words, always written: number, place, p, X, Y, T, the count of pages weighed, low word and high word, and W
  * Longer areas are fine. barleychime_forecast tells the lengths beforehand; 9 and 10 tell them too, each with its own.
  *
  * The count is of pages weighed in the plain sense: the pairs of a start and an end, reached or not, with something between
@@ -217,7 +218,7 @@ uint32_t barleychime_make(const uint8_t *galley, size_t galley_len, uint32_t *wo
 /* Makes the pages of a galley after an opening, a page list whose pages are printed and stay: of the valid lists that begin with
  * it the one with the fewest turns. Without words it is barleychime_make, and everything said there holds here.
  *   opening     opening_len words, only read; not null even where there are none
- * The whole list is written, the opening included, and p, X, Y, T are those of the whole list. 11 means that no valid list
+ * The whole list is written, the opening included, and p, X, Y, T, W are those of the whole list. 11 means that no valid list
  * begins so. Of pages weighed only those count that start at or past the opening's end in lines, in figures and in tables.
  * An opening has whole pages, none of which breaks 13 to 17 (20); none counts as the last of a list, so that each has htMin, and
  * 17 is asked of a page that ends its spread alone. Nothing else is asked of its length, but that something is left to place
@@ -228,7 +229,7 @@ uint32_t barleychime_make_after(const uint8_t *galley, size_t galley_len, const 
                                 uint32_t answer[BARLEYCHIME_ANSWER_WORDS]);
 
 /* Marks a page list of pages_len words for a galley. Reads both, writes the answer and nothing else.
- * Returns 0 if the list is a valid pagination, with p, X, Y, T in the answer.
+ * Returns 0 if the list is a valid pagination, with p, X, Y, T, W in the answer.
  */
 uint32_t barleychime_mark(const uint8_t *galley, size_t galley_len, const uint32_t *pages, size_t pages_len,
                           uint32_t answer[BARLEYCHIME_ANSWER_WORDS]);

@@ -254,7 +254,7 @@ pub fn report(galley: &str, lists: &[&str], output: &mut Output) -> Result<Outco
     let (mut marks, mut refused, mut failed) = (Vec::new(), Vec::new(), false);
     for &name in lists {
         match read_list(name, width, Extent::Whole).map(|words| engine::mark(&bytes, &words)) {
-            Ok(Ok(engine::Measure { pages, x, y, turns })) => marks.push(Mark { pages, x, y, turns, engine }),
+            Ok(Ok(engine::Measure { pages, x, y, turns, .. })) => marks.push(Mark { pages, x, y, turns, engine }),
             Ok(Err(refusal)) => {
                 say_why(name, refusal);
                 refused.push(refusal);

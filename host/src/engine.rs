@@ -87,7 +87,7 @@ mod c {
 }
 
 /// Words of an answer, of making and of marking.
-const ANSWER_WORDS: usize = 8;
+const ANSWER_WORDS: usize = 9;
 /// Words of a forecast.
 const FORECAST_WORDS: usize = 6;
 
@@ -98,6 +98,8 @@ pub struct Measure {
     pub x: u32,
     pub y: u32,
     pub turns: u32,
+    /// W: what all pages but the last lack of htMax, however loose they are.
+    pub white: u32,
 }
 
 /// Why work is turned away: document 01's number and place.
@@ -148,7 +150,7 @@ fn wide(low: u32, high: u32) -> u64 {
     u64::from(high) << 32 | u64::from(low)
 }
 
-/// Makes a galley's pages in lent memory, of any contents: for m lines, n figures and k tables 8·(m + 1)·(n + 1)·(k + 1)
+/// Makes a galley's pages in lent memory, of any contents: for m lines, n figures and k tables 10·(m + 1)·(n + 1)·(k + 1)
 /// words of work, and 2·(m + n) words of list, or 3·(m + n + k) where there are tables. [`forecast`] tells them.
 #[allow(unsafe_code)]
 pub fn make_in(galley: &[u8], work: &mut [u32], pages: &mut [u32]) -> Making {
@@ -202,9 +204,9 @@ pub fn mark(galley: &[u8], pages: &[u32]) -> Result<Measure, Refusal> {
     made(answer).answer
 }
 
-fn made([number, place, pages, x, y, turns, low, high]: [u32; ANSWER_WORDS]) -> Making {
+fn made([number, place, pages, x, y, turns, low, high, white]: [u32; ANSWER_WORDS]) -> Making {
     let answer = match number {
-        0 => Ok(Measure { pages, x, y, turns }),
+        0 => Ok(Measure { pages, x, y, turns, white }),
         _ => Err(Refusal { number, place }),
     };
     Making { answer, weighed: wide(low, high) }

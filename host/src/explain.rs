@@ -3,7 +3,7 @@
 use crate::engine::{self, Measure, Memory, Refusal};
 use crate::galley::{Float, Galley};
 use crate::list::spaced;
-use crate::page::{folio, spread, Page, Place};
+use crate::page::{folio, spread, white, Page, Place};
 use crate::record::Record;
 use crate::refusal::{meaning_of, mender, sentence};
 use crate::text::field_at_fault;
@@ -16,15 +16,24 @@ pub fn accepted(galley: &Galley, list: &[u32], measure: Measure) -> String {
         text += &page_in_words(galley, &pages, page);
     }
     let spec = &galley.spec;
-    let Measure { x, y, turns, .. } = measure;
+    let Measure { x, y, turns, white, .. } = measure;
     text += &format!("accepted: {}, X {x}, Y {y}, ", counted(pages.len(), "page"));
-    text + &format!("T = alpha·X + beta·Y = {}·{x} + {}·{y} = {turns}\n", spec.alpha, spec.beta)
+    text + &format!("T = alpha·X + beta·Y = {}·{x} + {}·{y} = {turns}, W {white}\n", spec.alpha, spec.beta)
 }
 
 /// How the list compares with the engine's own.
 pub fn against_best(bytes: &[u8], measure: Measure) -> String {
     match Memory::new().make(bytes) {
-        Ok((best, _)) if best.turns == measure.turns => "no list has fewer turns\n".into(),
+        Ok((best, _)) if best.turns == measure.turns && best.white == measure.white => {
+            "no list has fewer turns, and none with as many has less white space\n".into()
+        }
+        Ok((best, _)) if best.turns == measure.turns => {
+            let more = measure.white.saturating_sub(best.white);
+            format!(
+                "no list has fewer turns; the least W with as many is {}, and this list has {more} more\n",
+                best.white
+            )
+        }
         Ok((best, _)) => {
             let more = measure.turns.saturating_sub(best.turns);
             format!("the fewest turns are {}; this list has {more} more\n", best.turns)
@@ -100,7 +109,7 @@ fn page_in_words(galley: &Galley, pages: &[Page], page: &Page) -> String {
     let spec = &galley.spec;
     text += &format!("\n    height {tight} to {loose}; ");
     text += &match (page.number == pages.len(), spec.last_min) {
-        (false, _) => format!("{} to {} is asked\n", spec.ht_min, spec.ht_max),
+        (false, _) => format!("{} to {} is asked; white space {}\n", spec.ht_min, spec.ht_max, white(galley, loose)),
         (true, None) => format!("at most {} is asked of the last page\n", spec.ht_max),
         (true, Some(last_min)) => format!("{last_min} to {} is asked of the last page\n", spec.ht_max),
     };

@@ -27,9 +27,10 @@ A file called - is standard input. Exit status: 0 success, 1 refused, 2 an error
 pub const MAKE: &str = "\
 barleychime make [--after LIST] [--advise] [--verbose] GALLEY
 
-Prints `p X Y T` (pages, turns to figures and tables, turns from first page to last, weighted turns), then `q i j` for each
-page q: lines and figures placed so far. Where the galley has tables it is `q i j d`, d being the tables placed so far. A
-refusal is printed as `R number place`, and in words on standard error.
+Prints `p X Y T W` (pages, turns to figures and tables, turns from first page to last, weighted turns, white space), then
+`q i j` for each page q: lines and figures placed so far. Where the galley has tables it is `q i j d`, d being the tables
+placed so far. W is what all pages but the last lack of htMax, however loose they are; of the lists with the fewest turns
+the one with the least white space is made. A refusal is printed as `R number place`, and in words on standard error.
 
 With --advise it is also said there, where no pagination exists (11), what would help: the greatest htMin at which one does,
 and under G2 the greatest lastMin; the galley is not changed. Where there is none even at 0, nothing else is tried. Heights
@@ -62,7 +63,7 @@ With --lines each galley is a line `work list ceiling GALLEY`, so that a series 
 pub const MARK: &str = "\
 barleychime mark GALLEY LIST...
 
-Prints `p X Y T` for a valid list, else `R number place`; of several lists a line for each, followed by its name. The
+Prints `p X Y T W` for a valid list, else `R number place`; of several lists a line for each, followed by its name. The
 reason of a refusal is given in words on standard error. A LIST is what `barleychime make` prints, or a line `i j` for
 each page, lines and figures placed so far, and `i j d` with the tables where the galley has any. `#` opens a comment.
 ";
@@ -70,8 +71,8 @@ each page, lines and figures placed so far, and `i j d` with the tables where th
 pub const EXPLAIN: &str = "\
 barleychime explain GALLEY LIST
 
-Says page by page what it holds, its heights and those that are asked, its spread, and the turns that each figure and
-each table costs. For a refused list it says which page breaks which rule, with the numbers. Heights are in hundredths of
+Says page by page what it holds, its heights and those that are asked, its white space, its spread, and the turns that each
+figure and each table costs. For a refused list it says which page breaks which rule, with the numbers. Heights are in hundredths of
 a point. Pages are counted from 1; where the galley opens on another folio, each page is named with its folio too.
 ";
 

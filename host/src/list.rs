@@ -2,7 +2,7 @@
 
 use crate::engine::Measure;
 
-/// What `make` prints for a list: `p X Y T`, then `q i j` for each page, or `q i j d` with three words a page.
+/// What `make` prints for a list: `p X Y T W`, then `q i j` for each page, or `q i j d` with three words a page.
 pub fn print(measure: Measure, list: &[u32], words: usize) -> String {
     let mut text = measure_line(measure) + "\n";
     for (page, counts) in list.chunks_exact(words).enumerate() {
@@ -17,7 +17,8 @@ pub fn spaced<Number: ToString>(numbers: &[Number]) -> String {
 }
 
 pub fn measure_line(measure: Measure) -> String {
-    format!("{} {} {} {}", measure.pages, measure.x, measure.y, measure.turns)
+    let Measure { pages, x, y, turns, white } = measure;
+    spaced(&[pages, x, y, turns, white])
 }
 
 /// How much of a list is handed in: all its pages, or its first pages alone.
@@ -43,8 +44,9 @@ pub fn parse(text: &str, mut words: Option<usize>, extent: Extent) -> Result<Vec
             return Err(wrong("a refusal stands where a page list is wanted".into()));
         }
         let numbers = numbers(&fields).map_err(wrong)?;
-        // What `make` prints opens with its measure, and each page has its number.
-        if pages == 0 && claimed.is_none() && numbers.len() == 4 {
+        // What `make` prints opens with its measure, which had no W before white space was measured, and each page has its
+        // number. No line of plain counts is so long.
+        if pages == 0 && claimed.is_none() && matches!(numbers.len(), 4 | 5) {
             claimed = Some(numbers[0] as usize);
             continue;
         }

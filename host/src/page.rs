@@ -46,6 +46,11 @@ impl Page {
     }
 }
 
+/// What a page of this loosest height lacks of htMax.
+pub fn white(galley: &Galley, loose: u64) -> u64 {
+    u64::from(galley.spec.ht_max).saturating_sub(loose)
+}
+
 /// Space at the edge vanishes, so the last block's is left out.
 fn heights<'a>(blocks: impl Iterator<Item = &'a Block>) -> (u64, u64) {
     let (mut tight, mut loose) = (0, 0);

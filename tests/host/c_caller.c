@@ -2,8 +2,8 @@
  * Then two sections, one of a size that there is none of, and two reports, one with a paper below its engine. At last case A with
  * every record that it can have: double-sided from folio 38, the last page held to lastMin, the figure kept; and a galley with
  * a table, whose lists have three words a page; what each of the two is told to need beforehand, and what making weighed. Case A
- * after openings: one that costs a turn, one of no words, half a page, a page that breaks a rule, one that places everything. Last
- * a desk on case A, and one on the galley with a table. */
+ * after openings: one that costs a turn, one of no words, half a page, a page that breaks a rule, one that places everything; and
+ * a list of it that leaves white space. Last a desk on case A, and one on the galley with a table. */
 #include <barleychime.h>
 #include <stdio.h>
 #include <string.h>
@@ -72,8 +72,8 @@ static void print_answer(const uint32_t answer[BARLEYCHIME_ANSWER_WORDS])
     if (answer[BARLEYCHIME_NUMBER] != 0) {
         printf("R %u %u\n", (unsigned)answer[BARLEYCHIME_NUMBER], (unsigned)answer[BARLEYCHIME_PLACE]);
     } else {
-        printf("%u %u %u %u\n", (unsigned)answer[BARLEYCHIME_PAGES], (unsigned)answer[BARLEYCHIME_X],
-               (unsigned)answer[BARLEYCHIME_Y], (unsigned)answer[BARLEYCHIME_TURNS]);
+        printf("%u %u %u %u %u\n", (unsigned)answer[BARLEYCHIME_PAGES], (unsigned)answer[BARLEYCHIME_X],
+               (unsigned)answer[BARLEYCHIME_Y], (unsigned)answer[BARLEYCHIME_TURNS], (unsigned)answer[BARLEYCHIME_WHITE]);
     }
 }
 
@@ -231,6 +231,7 @@ int main(void)
     static uint32_t work[WORK + 1], pages[LIST + 1];
     const uint32_t too_long[4] = {3, 0, 3, 1}, too_high[4] = {2, 1, 3, 1}, last_mins[3] = {20, 21, 31};
     const uint32_t tabled[6] = {2, 1, 0, 3, 1, 1}, later[3] = {2, 0, 1}, earlier[3] = {1, 1, 0xffffffffu};
+    const uint32_t white[6] = {1, 0, 1, 1, 3, 1};
     struct barleychime_paper papers[2] = {{2, 0, 1, 1, 1}, {2, 1, 1, 0xffffffffu, 1}};
     uint32_t answer[BARLEYCHIME_ANSWER_WORDS + 1];
 
@@ -267,6 +268,8 @@ int main(void)
     print_after(too_high, 2);
     galley[5] = 0; /* htMin */
     print_after(too_long, 4);
+    barleychime_mark(galley, galley_len, white, 6, answer);
+    print_answer(answer);
     galley[5] = 30;
     print_section(8);
     print_section(6);

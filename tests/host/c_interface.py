@@ -3,19 +3,20 @@
 import shutil
 import subprocess
 
-DUE = ('2 0 1 1\n1 1 1\n2 3 1\n'  # made
-       '0 0: 64 8 64, 19 weighed\n'  # told beforehand, and weighed
-       '2 1 1 2\nR 15 1\n'  # marked
-       'R 9 64\nR 10 8\n'  # too little memory lent
+DUE = ('2 0 1 1 0\n1 1 1\n2 3 1\n'  # made
+       '0 0: 80 8 64, 19 weighed\n'  # told beforehand, and weighed
+       '2 1 1 2 0\nR 15 1\n'  # marked
+       'R 9 80\nR 10 8\n'  # too little memory lent
        # after openings
-       '2 1 1 2\n1 3 0\n2 3 1\n0 0: 64 8 64, 1 weighed\n2 0 1 1\n1 1 1\n2 3 1\n0 0: 64 8 64, 19 weighed\n'
-       'R 20 0\n0 0: 64 8 64, 0 weighed\nR 20 1\n0 0: 64 8 64, 0 weighed\nR 21 2\n0 0: 64 8 64, 0 weighed\n'
+       '2 1 1 2 0\n1 3 0\n2 3 1\n0 0: 80 8 64, 1 weighed\n2 0 1 1 0\n1 1 1\n2 3 1\n0 0: 80 8 64, 19 weighed\n'
+       'R 20 0\n0 0: 80 8 64, 0 weighed\nR 20 1\n0 0: 80 8 64, 0 weighed\nR 21 2\n0 0: 80 8 64, 0 weighed\n'
+       '3 1 2 3 30\n'  # white space
        '8 1 2 7 6 3 4 5\nR 33 6\n'  # sections
        '0: 0 0 2 4 1 2 4294967296 1 4294967295 4294967294 2\n32: 32 2 0 0 0 0 0 0 0 0 0\n'  # reported
        # every record, with lastMin as high as the last page is, higher, and out of range
-       '2 0 0 0\n0 0: 64 8 64, 19 weighed\nR 11 0\n0 0: 64 8 64, 19 weighed\nR 3 0\n3 0: 0 0 0, 0 weighed\n'
+       '2 0 0 0 0\n0 0: 80 8 64, 19 weighed\nR 11 0\n0 0: 80 8 64, 19 weighed\nR 3 0\n3 0: 0 0 0, 0 weighed\n'
        # a table: words a page, made, told and weighed, marked, too little memory
-       '2 3\n2 1 1 2\n1 2 1 0\n2 3 1 1\n0 0: 128 15 256, 64 weighed\nR 12 0\nR 9 128\nR 10 15\n'
+       '2 3\n2 1 1 2 0\n1 2 1 0\n2 3 1 1\n0 0: 160 15 256, 64 weighed\nR 12 0\nR 9 160\nR 10 15\n'
        # desks, with the table and on case A: refused, opened and asked, saved, committed; too long a name, one that is not held, back,
        # dropped and dropped again; nothing pending, the last page
        'R 22 0\n0:\n2 1 1 2\n2 1 1 2\n2: 2 1 0 3 1 1\n0 0\n2: 2 0 1 3 1 1\n25 0\n26 0\n2: 2 1 0 3 1 1\n0 0\n26 0\nR 24 0\nR 23 2\n'

@@ -1,7 +1,7 @@
 /* Makes or marks on a thread that has a given number of bytes of stack left at the call.
  *
  *     c_stack                     prints the header's figures, for making and for marking
- *     c_stack BYTES GALLEY        makes the galley: prints the bytes left at the call, those taken, and the eight words
+ *     c_stack BYTES GALLEY        makes the galley: prints the bytes left at the call, those taken, and the nine words
  *     c_stack BYTES GALLEY LIST   marks the list, two or three numbers a page, in the same way
  *     c_stack BYTES GALLEY LIST after   makes the galley after the list, which is an opening
  *

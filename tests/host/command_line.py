@@ -97,13 +97,15 @@ def lists(tally, command, folder):
     galley = file(folder, 'a.galley', write(cases.A))
     for name, data in [('comments', b'# mine\n\n 1\t1 # page 1\n3 1'), ('carriage returns', b'1 1\r\n3 1\r\n'),
                        ('a mark of byte order', b'\xef\xbb\xbf1 1\n3 1\n'),
-                       ('as made', b'2 0 1 1\n1 1 1\n2 3 1\n'), ('as made, with a wrong measure', b'2 9 9 9\n1 1 1\n2 3 1')]:
-        tally.same(f'mark with {name}', command.text('mark', galley, file(folder, 'list', data)), (0, '2 0 1 1\n', ''))
-    for name, data in [('a table', b'2 1 0\n3 1 1\n'), ('a table, as made', b'2 1 1 2\n1 2 1 0\n2 3 1 1\n')]:
-        tally.same(f'mark with {name}', command.text('mark', tabled, file(folder, 'list', data)), (0, '2 1 1 2\n', ''))
+                       ('as made', b'2 0 1 1 0\n1 1 1\n2 3 1\n'), ('as made, with a wrong measure', b'2 9 9 9 9\n1 1 1\n2 3 1'),
+                       ('as made before white space was measured', b'2 0 1 1\n1 1 1\n2 3 1\n')]:
+        tally.same(f'mark with {name}', command.text('mark', galley, file(folder, 'list', data)), (0, '2 0 1 1 0\n', ''))
+    for name, data in [('a table', b'2 1 0\n3 1 1\n'), ('a table, as made', b'2 1 1 2 0\n1 2 1 0\n2 3 1 1\n'),
+                       ('a table, as made before white space was measured', b'2 1 1 2\n1 2 1 0\n2 3 1 1\n')]:
+        tally.same(f'mark with {name}', command.text('mark', tabled, file(folder, 'list', data)), (0, '2 1 1 2 0\n', ''))
     # A galley that is refused says so, whatever its lists have a page.
     cut = file(folder, 'cut.galley', write(cases.K)[:-1])
-    for data in (b'2 1\n3 1\n', b'2 1 0\n3 1 1\n', b'2 1 1 2\n1 2 1 0\n2 3 1 1\n'):
+    for data in (b'2 1\n3 1\n', b'2 1 0\n3 1 1\n', b'2 1 1 2 0\n1 2 1 0\n2 3 1 1\n'):
         status, output, _ = command.text('mark', cut, file(folder, 'list', data))
         tally.same(f'mark with {data} for a galley cut short', (status, output), (1, f'R 1 {len(write(cases.K)) - 2}\n'))
     several(tally, command, folder, galley, best)
@@ -113,12 +115,12 @@ def lists(tally, command, folder):
 def several(tally, command, folder, galley, best):
     longer, high = file(folder, 'longer', b'3 0\n3 1\n'), file(folder, 'high', b'2 1\n3 1\n')
     junk = file(folder, 'junk', b'?')
-    tally.same('two lists', command.text('mark', galley, best, longer), (0, f'2 0 1 1 {best}\n2 1 1 2 {longer}\n', ''))
+    tally.same('two lists', command.text('mark', galley, best, longer), (0, f'2 0 1 1 0 {best}\n2 1 1 2 0 {longer}\n', ''))
     status, output, remarks = command.text('mark', galley, high, best)
-    tally.same('one of two refused', (status, output), (1, f'R 15 1 {high}\n2 0 1 1 {best}\n'))
+    tally.same('one of two refused', (status, output), (1, f'R 15 1 {high}\n2 0 1 1 0 {best}\n'))
     tally.same('why', (str(high) in remarks, 'whoever handed in the list can mend it' in remarks), (True, True))
     status, output, _ = command.text('mark', galley, junk, high, folder / 'nowhere', best)
-    tally.same('junk does not stop the rest', (status, output), (2, f'R 15 1 {high}\n2 0 1 1 {best}\n'))
+    tally.same('junk does not stop the rest', (status, output), (2, f'R 15 1 {high}\n2 0 1 1 0 {best}\n'))
 
 
 def making(tally, command, folder):
@@ -134,7 +136,7 @@ def making(tally, command, folder):
                        (0, ' '.join(map(str, measure)) + '\n', ''))
     dashed = file(folder, '-a', write(cases.A))
     done = subprocess.run([command.program, 'make', '--', dashed.name], cwd=folder, capture_output=True, check=False)
-    tally.same('a name with a dash', (done.returncode, done.stdout), (0, b'2 0 1 1\n1 1 1\n2 3 1\n'))
+    tally.same('a name with a dash', (done.returncode, done.stdout), (0, b'2 0 1 1 0\n1 1 1\n2 3 1\n'))
     tally.group('command: making')
 
 
@@ -154,7 +156,7 @@ def full_size(tally, command, folder):
         tally.same(f'made {what}', (status, remarks, marking.mark(galley, words)), (0, '', ('accepted', *measure)))
         tally.same(f'marked {what}', command.text('mark', path, '-', given=output.encode()), (0, output.split('\n')[0] + '\n', ''))
         status, text, _ = command.text('explain', path, '-', given=output.encode())
-        tally.same(f'explained {what}', (status, text.endswith('no list has fewer turns\n')), (0, True))
+        tally.same(f'explained {what}', (status, text.endswith('no list has fewer turns, and none with as many has less white space\n')), (0, True))
     figured, longest = write(largest)[:-2], write(Galley(spec, (lines, figures, tables), 9_999))[:-2]
     line, figure, table = longest[40:58], figured[-18:], longest[-18:]
     for opened, at, others in [(figured, 75_640, [('figure 201', figure, 'R 4 75640'), ('half of it', b'FG\0', 'R 4 75640')]),

@@ -39,7 +39,7 @@ def asked(galley, last):
     """The heights that are asked of a page, as they are told."""
     spec = galley.spec
     if not last:
-        return f'{spec.htmin} to {spec.htmax} is asked'
+        return f'{spec.htmin} to {spec.htmax} is asked; white space '
     return f'{"at most" if spec.edition == 1 else f"{spec.lastmin} to"} {spec.htmax} is asked of the last page'
 
 
@@ -61,20 +61,22 @@ def accepted(galley, words, text):
     starts = [galley.nothing, *ends[:-1]]
     pages, heights, floats = PAGE.findall(text), HEIGHT.findall(text), FLOAT.findall(text)
     turns = sum(int(each[5] or 0) for each in floats)
-    _, p, x, y, t = marking.mark(galley, words)
+    _, p, x, y, t, w = marking.mark(galley, words)
+    whites = [str(marking.white_on(galley, *page)) for page in zip(starts, ends)]
     return (pages == [heading(galley, q) for q in range(1, len(ends) + 1)]
             and text.startswith(opened(galley) + ';')
             and ('the first folio is' in text) == (galley.folio != 1)
             and [each[4] for each in floats] == [folio(galley, int(each[3])) for each in floats]
             and [each[8] for each in floats] == [each[0] == 'figure' and kept_with(galley, int(each[1])) or '' for each in floats]
-            and heights == [(str(marking.tightest(galley, *page)), str(marking.loosest(galley, *page)), asked(galley, q == p))
-                            for q, page in enumerate(zip(starts, ends), 1)]
+            and heights == [(str(marking.tightest(galley, *page)), str(marking.loosest(galley, *page)),
+                             asked(galley, q == p) + (whites[q - 1] if q < p else '')) for q, page in enumerate(zip(starts, ends), 1)]
+            and sum(map(int, whites[:-1])) == w
             and (f', of the last page {spec.lastmin} to {spec.htmax}, separation' in text) == (spec.edition == 2)
             and all([int(each[1]) for each in floats if each[0] == kind] == list(range(1, size + 1))
                     for kind, size in zip(KINDS[1:], galley.sizes[1:]))
             and [int(each[2]) for each in floats] == [galley.streams[KINDS.index(each[0])][int(each[1]) - 1].cite for each in floats]
             and turns == x and sum(int(each[7] or 0) for each in floats) == spec.alpha * x
-            and f'X {x}, Y {y}, T = alpha·X + beta·Y = {spec.alpha}·{x} + {spec.beta}·{y} = {t}\n' in text)
+            and f'X {x}, Y {y}, T = alpha·X + beta·Y = {spec.alpha}·{x} + {spec.beta}·{y} = {t}, W {w}\n' in text)
 
 
 def refused(galley, words, number, page, text):
@@ -128,14 +130,16 @@ def run(tally, command, folder):
             marked = marking.mark(galley, words)
             met.update([marked[1], *kinds.of_refusal(galley, words, *marked[1:])] if marked[0] == 'refused' else [0])
             if marked[0] == 'accepted':
-                fewest = marking.mark(galley, best)[4]
-                more = ('no list has fewer turns' if fewest == marked[4]
-                        else f'the fewest turns are {fewest}; this list has {marked[4] - fewest} more')
+                fewest, whitest = marking.mark(galley, best)[4:]
+                more = (f'the fewest turns are {fewest}; this list has {marked[4] - fewest} more' if fewest < marked[4]
+                        else 'no list has fewer turns, and none with as many has less white space' if whitest == marked[5]
+                        else f'no list has fewer turns; the least W with as many is {whitest}, and this list has {marked[5] - whitest} more')
+                met.add(('fewest', 'whitest', 'whiter')[(fewest == marked[4]) + (more.startswith('no list has fewer turns;'))])
                 right = accepted(galley, words, text) and text.endswith(f'\n{more}\n')
                 tally.same(f'{words} for {galley}', (status, right, remarks), (0, True, ''))
             else:
                 told = (f'refused, R {marked[1]} {marked[2]}: ' in text and refused(galley, words, *marked[1:], text)
                         and 'whoever handed in the list can mend it' in text)
                 tally.same(f'{words} for {galley}: {text}', (status, told, remarks), (1, True, ''))
-    tally.same('rules explained', met, {0, *range(12, 19), *kinds.OF_REFUSALS})
+    tally.same('rules explained', met, {0, *range(12, 19), *kinds.OF_REFUSALS, 'fewest', 'whitest', 'whiter'})
     tally.group('lists explained')

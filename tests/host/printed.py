@@ -42,7 +42,7 @@ def cases_of(tally, command, folder):
             continue  # no text has half a page
         path, lines = file(folder, 'after.galley', write(galley)), listed(galley, opening)
         due = (0, made(galley, best)) if best else (1, 'R {} {}\n'.format(*told))
-        printed = f'{len(opening) + 9} 0 0 0\n' + ''.join(f'{q} {line}\n' for q, line in enumerate(lines.splitlines(), 1))
+        printed = f'{len(opening) + 9} 0 0 0 0\n' + ''.join(f'{q} {line}\n' for q, line in enumerate(lines.splitlines(), 1))
         for text in (lines, printed):
             list_path = file(folder, 'after.list', text.encode())
             tally.same(f'{name}', command.text('make', '--after', list_path, path)[:2], due)
@@ -114,12 +114,14 @@ def junk(tally, command, folder):
         for name, data, told in some:
             bad = file(folder, 'junk.list', data)
             status, output, said = command.text('make', '--after', bad, path)
-            if 'a page too few' in name:
+            if name == 'a measure alone':
+                tally.same(f'{name} as an opening', (status, output), (0, '2 0 1 1 0\n1 1 1\n2 3 1\n'))
+            elif 'a page too few' in name:
                 tally.same(f'{name} as an opening', (status, said), (0, ''))
             else:
                 tally.same(f'{name} as an opening', (status, output, f'{bad}: ' in said and told in said), (2, '', True))
     path = file(folder, 'junk.galley', write(cases.A))
-    for data in (b'', b'# no page\n', b'9 0 0 0\n'):
+    for data in (b'', b'# no page\n', b'9 0 0 0 0\n'):
         empty = file(folder, 'empty.list', data)
         tally.same(f'{data} as an opening', command.text('make', '--after', empty, path), command.text('make', path))
     nowhere = folder / 'nowhere'

@@ -73,7 +73,7 @@ def lists_of_galleys(tally, command, folder):
             continue
         marked = [marking.mark(galley, words) for words in lists]
         engines = marking.mark(galley, best)[4]
-        marks = [(*answer[1:], engines) for answer in marked if answer[0] == 'accepted']
+        marks = [(*answer[1:5], engines) for answer in marked if answer[0] == 'accepted']
         refused = [answer[1] for answer in marked if answer[0] == 'refused']
         tally.same(f'{galley} reported on', (status, output, remarks.count('\n')),
                    (0, in_words(marks) + refused_lists(refused), len(refused)))
@@ -145,7 +145,7 @@ def many_galleys(tally, command, root, folder):
         for number, words in enumerate(lists):
             file(term / name, f'{number}.list', text_of(galley, words))
             answer = marking.mark(galley, words)
-            marks += [(*answer[1:], engines)] if answer[0] == 'accepted' else []
+            marks += [(*answer[1:5], engines)] if answer[0] == 'accepted' else []
     path = f'{command.program.parent}{os.pathsep}{os.environ["PATH"]}'
     ran = subprocess.run(lines, shell=True, cwd=folder, capture_output=True, text=True, env={**os.environ, 'PATH': path})
     tally.same('a term of many galleys', (ran.returncode, ran.stdout, len(marks)), (0, in_words(marks), 3))

@@ -6,7 +6,8 @@ from reference import marking, search
 from reference.galley import Table, read, streams_of, write
 
 # A galley as text, by what its lists' names begin with.
-CASES = {'a': 'case-a', 'c': 'case-c', 'left': 'left-hand', 'kept': 'kept', 'close': 'full-close', 'tables': 'tables'}
+CASES = {'a': 'case-a', 'c': 'case-c', 'left': 'left-hand', 'kept': 'kept', 'close': 'full-close', 'tables': 'tables',
+         'white': 'white-space'}
 SMALL = 6_000  # bytes of a galley that the reference makes in a moment
 TABLED, EVERY = 'memman-p211', 3  # the chapter that is there with tables too, and which of its figures they are: every third
 

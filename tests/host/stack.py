@@ -8,7 +8,7 @@ import signal
 import subprocess
 
 from c_interface import STRICT
-from engine import eight
+from engine import nine
 from frames import Unknown, needed, symbols
 from reference import beforehand, marking, openings
 from reference.galley import read
@@ -27,30 +27,30 @@ def built(root, library, folder, binding):
 
 
 def called(program, stack, files):
-    """Exit status, bytes left at the call, bytes taken, and the eight words of the answer."""
+    """Exit status, bytes left at the call, bytes taken, and the nine words of the answer."""
     ran = subprocess.run([program, str(stack), *files], capture_output=True, text=True)
     left, taken, *answer = map(int, ran.stdout.split()) if ran.returncode == 0 else (0, 0)
     return ran.returncode, left, taken, tuple(answer)
 
 
 def calls(command, root, folder):
-    """What is called, with the answer that is due: (whether it marks, name, files, eight words)."""
+    """What is called, with the answer that is due: (whether it marks, name, files, nine words)."""
     made, none = root / 'samples/real/mpman-p003.galley', root / 'samples/real/mpman-p081.galley'
     tabled, cut = root / 'samples/real/memman-p211-tables.galley', folder / 'cut.galley'
     cut.write_bytes(made.read_bytes()[:-1])
-    refused, in_vain = eight(('refused', 1, made.stat().st_size - 2)), eight(('refused', 11, 0), weighed(none))
+    refused, in_vain = nine(('refused', 1, made.stat().st_size - 2)), nine(('refused', 11, 0), weighed(none))
     (lists, best), (tabled_lists, tabled_best) = (best_list(command, path, folder) for path in (made, tabled))
     opening = folder / 'printed.list'
     opening.write_text(''.join(lists.read_text().splitlines(keepends=True)[:40]))
-    printed = eight(best, weighed(made, tuple(map(int, opening.read_text().split()))))
+    printed = nine(best, weighed(made, tuple(map(int, opening.read_text().split()))))
     latex = made.with_suffix('.latex')
-    loose = eight(marking.mark(read(made.read_bytes())[1], tuple(map(int, latex.read_text().split()))))
-    return [(False, 'a chapter made', [made], eight(best, weighed(made))), (False, 'no pagination', [none], in_vain),
-            (False, 'a chapter with tables made', [tabled], eight(tabled_best, weighed(tabled))),
+    loose = nine(marking.mark(read(made.read_bytes())[1], tuple(map(int, latex.read_text().split()))))
+    return [(False, 'a chapter made', [made], nine(best, weighed(made))), (False, 'no pagination', [none], in_vain),
+            (False, 'a chapter with tables made', [tabled], nine(tabled_best, weighed(tabled))),
             (False, 'a chapter made after an opening', [made, opening, 'after'], printed),
-            (False, 'a whole list as an opening', [tabled, tabled_lists, 'after'], eight(due_of_opening(tabled, tabled_lists))),
-            (True, 'its list', [tabled, tabled_lists], eight(tabled_best)),
-            (False, 'a galley cut short', [cut], refused), (True, 'the best list', [made, lists], eight(best)),
+            (False, 'a whole list as an opening', [tabled, tabled_lists, 'after'], nine(due_of_opening(tabled, tabled_lists))),
+            (True, 'its list', [tabled, tabled_lists], nine(tabled_best)),
+            (False, 'a galley cut short', [cut], refused), (True, 'the best list', [made, lists], nine(best)),
             (True, "LaTeX's list", [made, latex], loose), (True, 'a list for a galley cut short', [cut, lists], refused)]
 
 

@@ -54,7 +54,7 @@ def latex(command, galley, words):
     found = output.split()
     if found[0] == 'R':
         return f'{counted} (rule {found[1]}, page {found[2]})'
-    assert turns(*found[1:]) == counted, 'the engine and the goal functions differ'
+    assert turns(*found[1:4]) == counted, 'the engine and the goal functions differ'
     return counted
 
 
