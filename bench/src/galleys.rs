@@ -23,7 +23,7 @@ impl Shape {
     /// Words of work area and of page list.
     pub fn words(&self) -> (usize, usize) {
         let [lines, figures, tables] = [self.lines as usize, self.figures as usize, self.tables as usize];
-        (8 * (lines + 1) * (figures + 1) * (tables + 1), self.page_words() * (lines + figures + tables))
+        (10 * (lines + 1) * (figures + 1) * (tables + 1), self.page_words() * (lines + figures + tables))
     }
 
     /// Words a page takes in a list.
@@ -63,7 +63,7 @@ pub const HANDBOOKS: [Shape; 4] = [
     Shape { name: "many figures on a page", figure_height: (2_000, 5_000), ..HANDBOOK },
 ];
 
-/// Tables beside the figures, in a stream of their own. With 50 of them the work area has 1.3 GB.
+/// Tables beside the figures, in a stream of their own. With 50 of them the work area has 1.6 GB.
 pub const TABLED: [Shape; 2] = [
     Shape { name: "handbook with tables", tables: 10, ..HANDBOOK },
     Shape { name: "handbook with tables", tables: 50, plain: false, ..HANDBOOK },

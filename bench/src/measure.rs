@@ -114,7 +114,7 @@ pub fn marking(shape: Shape, runs: u32) -> Marking {
 
 fn made_of(native: native::Answer) -> Made {
     let answer = match native.number {
-        0 => Ok(Measure { pages: native.p, x: native.x, y: native.y, turns: native.t }),
+        0 => Ok(Measure { pages: native.p, x: native.x, y: native.y, turns: native.t, white: native.w }),
         number => Err(Refusal { number, place: native.place }),
     };
     Made { answer, weighed: native.weighed }
