@@ -5,8 +5,8 @@ use crate::galley::{Galley, Line};
 use crate::list::spaced;
 
 /// Steps in a second, from which the time is estimated: the search takes one for each place with each number of figures and
-/// of tables that fit a page. The rows of docs/PERFORMANCE.md come to 45 million and more.
-const STEPS_A_SECOND: u64 = 40_000_000;
+/// of tables that fit a page. The rows of docs/PERFORMANCE.md come to more.
+const STEPS_A_SECOND: u64 = 30_000_000;
 const BYTES_A_WORD: f64 = 4.0;
 
 /// Memory, pages weighed and time, a line each.

@@ -24,6 +24,7 @@ def run(tally, command, root, library, folder):
             for source in blocks(document, language):
                 found[language] += 1
                 example(tally, f'{path.name}, {language}', source, command, root, library, folder, galley)
+    shown(tally, command, root, galley)
     ignored(tally, root)
     tally.same('examples found', {language: count > 0 for language, count in found.items()}, dict.fromkeys(found, True))
     tally.group('examples')
@@ -65,6 +66,16 @@ def series(tally, what, source, command, root, _library, folder, _galley):
     for galley in sorted((folder / 'series').glob('*.galley')):
         made = galley.with_suffix('.list')
         tally.same(f'{what}: {made.name}', made.is_file() and made.read_text(), command.text('make', galley)[1])
+
+
+def shown(tally, command, root, galley):
+    """What README.md shows of the command's output is what it prints; a.galley is case A."""
+    readme = (root / 'README.md').read_text()
+    for arguments in (('make', galley), ('make', '--after', root / 'samples/openings/a-lines-first.list', galley),
+                      ('forecast', root / 'samples/real/mpman-p003.galley'), ('fold', '8')):
+        _, output, _ = command.text(*arguments)
+        block = ''.join(f'    {line}\n' for line in output.splitlines())
+        tally.same(f'{arguments[0]} in README.md', f'\n\n{block}\n' in readme, True)
 
 
 def ignored(tally, root):

@@ -8,7 +8,7 @@ from command_line import file
 from reference import beforehand, cases, refusals, sample
 from reference.galley import write
 
-RATE = 40  # million steps a second, as the command states it
+RATE = 30  # million steps a second, as the command states it
 
 
 def in_words(galley):
