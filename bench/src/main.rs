@@ -3,6 +3,7 @@
 //! All clear the work area themselves, as document 01 has it, and that is part of the time; none gets it cleared
 //! beforehand. Of several runs, by turns, the fastest counts. The answers are compared, so that no speed is bought.
 
+mod before;
 mod clock;
 mod galleys;
 mod measure;
@@ -11,7 +12,7 @@ use galleys::{chains, Shape, HANDBOOKS, TABLED};
 use measure::{after_opening, making, marking, After, Making, Marking};
 use std::time::Duration;
 
-const MAKING: [&str; 13] = [
+const MAKING: [&str; 15] = [
     "making",
     "lines",
     "figures",
@@ -19,6 +20,8 @@ const MAKING: [&str; 13] = [
     "G",
     "T",
     "engine",
+    "engine before",
+    "engine / before",
     "native queue",
     "engine / queue",
     "native plain",
@@ -105,6 +108,8 @@ fn cells(shape: Shape, made: &Making, half: Option<&(Shape, Making)>) -> [String
         made.most_figures.to_string(),
         made.turns.clone(),
         shown(made.engine),
+        made.before.map_or_else(none, shown),
+        made.before.map_or_else(none, |before| format!("{:.2}", ratio(made.engine, before))),
         shown(made.queue),
         format!("{:.2}", ratio(made.engine, made.queue)),
         made.plain.map_or_else(none, shown),

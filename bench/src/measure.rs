@@ -1,5 +1,6 @@
 //! Times: the engine and plain Rust by turns on the same bytes, the fastest run of each, their answers compared.
 
+use crate::before::Before;
 use crate::clock;
 use crate::galleys::{galley, Shape};
 use barleychime::engine::{self, Making as Made, Measure, Refusal};
@@ -17,6 +18,8 @@ pub struct Making {
     pub turns: String,
     pub most_figures: u32,
     pub engine: Duration,
+    /// The engine before a change, if one is named.
+    pub before: Option<Duration>,
     pub queue: Duration,
     pub plain: Option<Duration>,
     /// The pages weighed, their ceiling, and the pass of plain Rust that counts them, which is part of its makings.
@@ -42,7 +45,8 @@ pub struct Marking {
 
 type Make<'a> = &'a dyn Fn(&[u8], &mut [u32], &mut [u32]) -> Made;
 
-/// Making by the engine, by the queues of plain Rust, and by its plain search where that ends in time.
+/// Making by the engine, by the one before a change, by the queues of plain Rust, and by its plain search where that ends in
+/// time.
 pub fn making(shape: Shape, runs: u32) -> Making {
     let makes: [Make; 3] =
         [&engine::make_in, &|bytes, work, list| made_of(native::make(bytes, work, list)), &|bytes, work, list| {
@@ -53,6 +57,7 @@ pub fn making(shape: Shape, runs: u32) -> Making {
     let (work_words, list_words) = shape.words();
     let (mut work, list) = (vec![0; work_words], vec![0; list_words]);
     let (mut times, mut count) = ([Duration::MAX; 3], Duration::MAX);
+    let (earlier, mut before) = (Before::named(), Duration::MAX);
     let mut answers = vec![];
     for run in 0..runs {
         for (make, time) in makes.iter().zip(&mut times) {
@@ -64,6 +69,16 @@ pub fn making(shape: Shape, runs: u32) -> Making {
             answers.push((made, list));
         }
         timed(&mut count, || native::weighed(black_box(&galley.bytes)));
+        if let Some(engine) = earlier.filter(|_| run == 0 || before <= LONG) {
+            let mut list = list.clone();
+            let (number, turns) = timed(&mut before, || engine.make(black_box(&galley.bytes), &mut work, &mut list));
+            let answer = answers[0].0.answer;
+            assert!(
+                answer.map_or_else(|refusal| refusal.number == number, |measure| number == 0 && measure.turns == turns),
+                "{}: other turns before",
+                shape.name
+            );
+        }
     }
     let (Made { answer, weighed }, _) = answers[0];
     assert!(answers.iter().all(|other| *other == answers[0]), "{}: not one answer and one list", shape.name);
@@ -71,7 +86,8 @@ pub fn making(shape: Shape, runs: u32) -> Making {
     let ceiling = engine::forecast(&galley.bytes).map_or(0, |told| told.ceiling);
     assert!(weighed <= ceiling, "{}: more is weighed than was told", shape.name);
     let ([engine, queue, plain], most_figures) = (times, galley.most_figures);
-    Making { turns, most_figures, engine, queue, plain: shape.plain.then_some(plain), weighed, ceiling, count }
+    let (before, plain) = (earlier.map(|_| before), shape.plain.then_some(plain));
+    Making { turns, most_figures, engine, before, queue, plain, weighed, ceiling, count }
 }
 
 /// Making after the first half of the pages, and of the whole, which is the same list.
