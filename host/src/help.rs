@@ -79,18 +79,18 @@ a point. Pages are counted from 1; where the galley opens on another folio, each
 pub const DESK: &str = "\
 barleychime desk GALLEY LIST
 
-Opens a desk on a list that the marking accepts, of at most 64 pages, and prints its `p X Y T`. Then it reads calls from
+Opens a desk on a list that the marking accepts, of at most 64 pages, and prints its `p X Y T W`. Then it reads calls from
 standard input, a line each, and answers each with a line. A line that opens with `#` is a comment.
 
-  ask PAGE I J     `p X Y T` of the list with another end of PAGE, lines and figures placed so far, and the change in turns
+  ask PAGE I J     `p X Y T W` of the list with another end of PAGE, lines and figures placed so far, and the change in turns
                    against the list in force, as +1, +0 or -1; where the galley has tables it is `ask PAGE I J D`. The list in
                    force stays as it is; an altered list that is accepted is pending, and after a refusal none is
-  commit           puts the pending list in force: its `p X Y T`, and the change in turns against the one before
+  commit           puts the pending list in force: its `p X Y T W`, and the change in turns against the one before
   list             the list in force, as `barleychime make` prints a list
   save NAME        keeps the list in force as a layout, in place of what has this name, 1 to 16 bytes; a desk has up to eight
-  back NAME        puts that layout in force: its `p X Y T`, and the change in turns; nothing is pending then
+  back NAME        puts that layout in force: its `p X Y T W`, and the change in turns; nothing is pending then
   drop NAME        frees the name
-  layouts          how many there are, and a line for each: `p X Y T`, the change in turns, and its name
+  layouts          how many there are, and a line for each: `p X Y T W`, the change in turns, and its name
   help             these calls
   quit             ends, and so does the end of the input
 

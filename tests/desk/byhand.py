@@ -7,7 +7,7 @@ from reference.galley import write
 A, CUT = write(cases.A), write(cases.A)[:-1]
 AT_END = len(A) - 2  # where the cut galley stops short
 BEST, LONGER = ((1, 1), (3, 1)), ((3, 0), (3, 1))
-BEST_MARK, LONGER_MARK = ('accepted', 2, 0, 1, 1), ('accepted', 2, 1, 1, 2)
+BEST_MARK, LONGER_MARK = ('accepted', 2, 0, 1, 1, 0), ('accepted', 2, 1, 1, 2, 0)
 
 
 def refused(number, place=0):

@@ -19,8 +19,8 @@ DUE = ('2 0 1 1 0\n1 1 1\n2 3 1\n'  # made
        '2 3\n2 1 1 2 0\n1 2 1 0\n2 3 1 1\n0 0: 160 15 256, 64 weighed\nR 12 0\nR 9 160\nR 10 15\n'
        # desks, with the table and on case A: refused, opened and asked, saved, committed; too long a name, one that is not held, back,
        # dropped and dropped again; nothing pending, the last page
-       'R 22 0\n0:\n2 1 1 2\n2 1 1 2\n2: 2 1 0 3 1 1\n0 0\n2: 2 0 1 3 1 1\n25 0\n26 0\n2: 2 1 0 3 1 1\n0 0\n26 0\nR 24 0\nR 23 2\n'
-       'R 22 0\n0:\n2 1 1 2\n2 0 1 1\n2: 3 0 3 1\n0 0\n2: 1 1 3 1\n25 0\n26 0\n2: 3 0 3 1\n0 0\n26 0\nR 24 0\nR 23 2\n')
+       'R 22 0\n0:\n2 1 1 2 0\n2 1 1 2 0\n2: 2 1 0 3 1 1\n0 0\n2: 2 0 1 3 1 1\n25 0\n26 0\n2: 2 1 0 3 1 1\n0 0\n26 0\nR 24 0\nR 23 2\n'
+       'R 22 0\n0:\n2 1 1 2 0\n2 0 1 1 0\n2: 3 0 3 1\n0 0\n2: 1 1 3 1\n25 0\n26 0\n2: 3 0 3 1\n0 0\n26 0\nR 24 0\nR 23 2\n')
 STRICT = ['-Wall', '-Wextra', '-Werror', '-pedantic']
 
 

@@ -145,7 +145,7 @@ def openings(tally, command, folder):
     status, output, remarks = command.text('desk', galley, high, given=b'list\n')
     told = [f'barleychime: {high}: R 22 0: ' in remarks, f'barleychime: {high}: R 15 1: page 1: ' in remarks]
     tally.same('desk on a refused list', (status, output, told), (1, 'R 22 0\n', [True, True]))
-    for pages, due in ((64, (0, '64 0 63 63000\n', 0)), (65, (1, 'R 22 0\n', 1))):
+    for pages, due in ((64, (0, '64 0 63 63000 63\n', 0)), (65, (1, 'R 22 0\n', 1))):
         lines = cases.plain(cases.LONGEST.spec, pages * (0,), [])
         path = file(folder, 'long.galley', write(lines))
         listing = file(folder, 'long.list', ''.join(f'{page} 0\n' for page in range(1, pages + 1)).encode())
@@ -165,25 +165,25 @@ def lines(tally, command, folder):
         status, output, remarks = command.text('desk', galley, best, given=f'# mine\n{line}\nask 1 3 0\n'.encode())
         plain = all(character.isprintable() or character == '\n' for character in remarks)
         tally.same(f'{line!r}', (status, output, 'line 2: ' in remarks and told in remarks, plain),
-                   (2, '2 0 1 1\n?\n2 1 1 2 +1\n', True, True))
+                   (2, '2 0 1 1 0\n?\n2 1 1 2 0 +1\n', True, True))
     status, output, remarks = command.text('desk', tabled, listing, given=b'ask 1 2 1\nask 1 2 1 1\nask 1 3 0 0\n')
     told = 'four numbers are wanted (ask PAGE I J D), since the galley has tables, not 3' in remarks
     tally.same('three numbers with tables', (status, output.split('\n')[1], told), (2, '?', True))
     status, output, remarks = command.text('desk', galley, best, given=b'\xff\xfe\nask 1 3 0\n')
-    tally.same('a line that is no text', (status, output, 'line 1: not text' in remarks), (2, '2 0 1 1\n?\n2 1 1 2 +1\n', True))
+    tally.same('a line that is no text', (status, output, 'line 1: not text' in remarks), (2, '2 0 1 1 0\n?\n2 1 1 2 0 +1\n', True))
     status, output, remarks = command.text('desk', galley, best, given=b'#' * 100_000 + b'\nask 1 3 0\n')
-    tally.same('a line without end', (status, output, 'line 1: too long' in remarks), (2, '2 0 1 1\n', True))
+    tally.same('a line without end', (status, output, 'line 1: too long' in remarks), (2, '2 0 1 1 0\n', True))
     status, output, remarks = command.text('desk', galley, best, given=b'ask 1 2 1\nask 1 0 0\n')
     tally.same('refused asks in numbers', (status, re.findall(r'\((.*)\)$', remarks, re.M)),
                (1, ['40 is above htMax 30 by 10', 'it ends where it starts, after 0 lines and 0 figures']))
-    tally.same('no calls', command.text('desk', galley, best), (0, '2 0 1 1\n', ''))
-    tally.same('quit', command.text('desk', galley, best, given=b'quit\nmend\n'), (0, '2 0 1 1\n', ''))
+    tally.same('no calls', command.text('desk', galley, best), (0, '2 0 1 1 0\n', ''))
+    tally.same('quit', command.text('desk', galley, best, given=b'quit\nmend\n'), (0, '2 0 1 1 0\n', ''))
     status, output, remarks = command.text('desk', galley, best, given=b'help\n')
     tally.same('help', (status, [line.split()[0] for line in output.splitlines()[1:]], remarks),
                (0, ['ask', 'commit', 'list', 'save', 'back', 'drop', 'layouts', 'quit'], ''))
     shell = f'yes ask 1 3 0 | {command.program} desk {galley} {best} | head -n 2'
     done = subprocess.run(shell, shell=True, capture_output=True, check=False)
-    tally.same('a closed output', (done.stdout, done.stderr), (b'2 0 1 1\n2 1 1 2 +1\n', b''))
+    tally.same('a closed output', (done.stdout, done.stderr), (b'2 0 1 1 0\n2 1 1 2 0 +1\n', b''))
     tally.group('command: lines at the desk')
 
 
@@ -192,10 +192,10 @@ def call_by_call(tally, command, folder):
     galley, best = file(folder, 'a.galley', write(cases.A)), file(folder, 'best.list', b'1 1\n3 1\n')
     with subprocess.Popen([command.program, 'desk', galley, best], stdin=subprocess.PIPE, stdout=subprocess.PIPE,
                           stderr=subprocess.DEVNULL, text=True) as process:
-        tally.same('opened', process.stdout.readline(), '2 0 1 1\n')
-        for call, due in [('ask 1 3 0', '2 1 1 2 +1'), ('mend', '?'), ('ask 2 3 1', 'R 23 2'), ('commit', 'R 24 0'),
-                          ('save as made', '2 0 1 1 +0'), ('ask 1 3 0', '2 1 1 2 +1'), ('commit', '2 1 1 2 +1'), ('ask 1 1 1', '2 0 1 1 -1'),
-                          ('back as made', '2 0 1 1 -1'), ('commit', 'R 24 0'), ('drop as made', '2 0 1 1 +0'), ('back as made', 'R 26 0')]:
+        tally.same('opened', process.stdout.readline(), '2 0 1 1 0\n')
+        for call, due in [('ask 1 3 0', '2 1 1 2 0 +1'), ('mend', '?'), ('ask 2 3 1', 'R 23 2'), ('commit', 'R 24 0'),
+                          ('save as made', '2 0 1 1 0 +0'), ('ask 1 3 0', '2 1 1 2 0 +1'), ('commit', '2 1 1 2 0 +1'), ('ask 1 1 1', '2 0 1 1 0 -1'),
+                          ('back as made', '2 0 1 1 0 -1'), ('commit', 'R 24 0'), ('drop as made', '2 0 1 1 0 +0'), ('back as made', 'R 26 0')]:
             process.stdin.write(f'{call}\n')
             process.stdin.flush()
             tally.same(f'{call}, and then its answer', process.stdout.readline(), f'{due}\n')
@@ -211,9 +211,9 @@ def at_terminal(tally, command, folder):
     with subprocess.Popen([command.program, 'desk', galley, best], stdin=theirs, stdout=theirs, stderr=theirs) as process:
         os.close(theirs)
         tally.same('opened', 'barleychime: the list is in force; `help` names the calls' in seen(ours), True)
-        for call, due in [('ask 1 3 0', '2 1 1 2 +1\r\n'), ('commit', '2 1 1 2 +1\r\n'), ('ask 1 2 1', 'by 10)\r\n'),
+        for call, due in [('ask 1 3 0', '2 1 1 2 0 +1\r\n'), ('commit', '2 1 1 2 0 +1\r\n'), ('ask 1 2 1', 'by 10)\r\n'),
                           ('', ''), ('mend', '?\r\nbarleychime: `mend` is no call'), ('list', '1 3 0\r\n2 3 1\r\n'),
-                          ('save it', '2 1 1 2 +0\r\n'), ('layouts', '1\r\n2 1 1 2 +0 it\r\n'), ('help', 'commit  ')]:
+                          ('save it', '2 1 1 2 0 +0\r\n'), ('layouts', '1\r\n2 1 1 2 0 +0 it\r\n'), ('help', 'commit  ')]:
             os.write(ours, f'{call}\n'.encode())
             tally.same(f'{call} at a terminal', due in seen(ours), True)
         os.write(ours, b'\x04')
