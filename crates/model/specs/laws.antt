@@ -12,3 +12,4 @@ pub mod Best
 pub mod Boxes
 pub mod Together
 pub mod Weighed
+pub mod Loosened

@@ -71,6 +71,16 @@ module _ {A : Type 0} (le : A → A → Bool) (o : Preference le) where
       go none (nothing e) = found (nil e)
       go (some y) (found f) = found (better x y xs f)
 
+  -- Where there is more to choose from there is a first still, and it comes no later.
+  pub firstOf-more : (xs ys : List A) → ((x : A) → x ∈ xs → x ∈ ys) → (x : A) → firstOf le xs ≡ some x
+      → (y : A) × (firstOf le ys ≡ some y) × (le y x ≡ true)
+  firstOf-more xs ys more x e = go (firstOf le xs) (firstOf-found xs) (firstOf le ys) (firstOf-found ys) e
+    where
+      go : (r : Option A) → Found xs r → (s : Option A) → Found ys s → r ≡ some x → (y : A) × (s ≡ some y) × (le y x ≡ true)
+      go none f s f′ e = let z : _≡_ {A = ℕ} 0 1 = cc in absurd (omega arith)
+      go (some w) (found f) none (nothing empty) e = absurd (List·Memᴰ·not-nil (subst (λ l. w ∈ l) empty (more w (f .among))))
+      go (some w) (found f) (some y) (found f′) e = let is : w ≡ x = cc in (y, refl, f′ .ahead x (more x (subst (λ v. v ∈ xs) is (f .among))))
+
 module _ (g : Galley) where
   -- ps is a valid list that no valid list comes before.
   pub record Least (ps : List Place) : Type 0 where
@@ -112,7 +122,11 @@ module _ (g : Galley) where
       go none m = refl
       go (some qs) (makes b) = absurd (empty qs (b .lawful))
 
-  -- No valid list has fewer turns than the best.
-  pub least-turns : (ps qs : List Place) → Least ps → qs ∈ valid g → turns g ps ≤ turns g qs
+  -- A list that comes no later has at most as many turns,
+  pub before-turns : (ps qs : List Place) → before g ps qs ≡ true → turns g ps ≤ turns g qs
   unfolding before thenBy by
-  least-turns ps qs a m = leb-true (turns g ps) (turns g qs) (and-left (leb (turns g ps) (turns g qs)) _ (a .ahead qs m))
+  before-turns ps qs e = leb-true (turns g ps) (turns g qs) (and-left (leb (turns g ps) (turns g qs)) _ e)
+
+  -- so that no valid list has fewer turns than the best.
+  pub least-turns : (ps qs : List Place) → Least ps → qs ∈ valid g → turns g ps ≤ turns g qs
+  least-turns ps qs a m = before-turns ps qs (a .ahead qs m)
