@@ -13,3 +13,4 @@ pub mod Each
 pub mod Blocks
 pub mod RoundTrip
 pub mod Back
+pub mod Alike
