@@ -7,3 +7,4 @@ pub mod Editions
 pub mod Limit
 pub mod Waiting
 pub mod Forecast
+pub mod Loosening
