@@ -10,4 +10,5 @@ pub mod Pagination
 pub mod Order
 pub mod Best
 pub mod Weighed
+pub mod Opening
 pub mod laws
