@@ -1,18 +1,19 @@
--- Loosening the least fill (document 02, S-14): with a lower htMin, and all else alike, no galley loses a list and making turns no more
--- leaves. `make` is proved to answer `makeOf`, and `mark` to answer `markOf`.
+-- Loosening the least fill (document 02, S-14): with a lower htMin, and all else alike, no galley loses a list, and making turns no more
+-- leaves. `make` is proved to answer `makeOf`, `make_after` to answer `makeAfterOf`, and `mark` to answer `markOf`.
 use Prim.Native.Nat.{ℕ, _≤_}
 use native.Mathlib.Omega.{arith}
 use mathlib.Core.Path.{_≡_, refl, sym, _∙_, ap}
 use mathlib.Core.Bool.{Bool, true, false}
-use mathlib.Core.List.{List}
+use mathlib.Core.List.{List, []}
 use lib.Dec.{ltb}
 use borrow.Author.Tests.{le-ltb}
 use Rattle.model.specs.declared.answer.Answer.{Answer}
 use Rattle.model.specs.declared.answer.Answer.the-variants.{Refused}
 use Rattle.model.specs.Gather.{pick}
 use Rattle.model.specs.Answers.{numbersOf, accepted}
-use Rattle.model.specs.Best.{made}
+use Rattle.model.specs.Opening.{madeAfter}
 use Rattle.model.specs.Loosened.{withHtmin}
+use Rattle.model.specs.laws.Opening.{made-after-nothing}
 use Rattle.model.specs.laws.Loosened.{marked-loosened, made-loosened}
 use Rattle.galley.specs.declared.Galley.{Galley}
 use Rattle.galley.specs.declared.Reading.the-variants as reads
@@ -20,8 +21,10 @@ use Rattle.galley.specs.Whole.{galleyOf}
 use Rattle.galley.specs.Model.{modelOf}
 use Rattle.galley.specs.Alike.{Alike}
 use Rattle.galley.specs.laws.Alike.{galleys-alike, models-alike}
+use Rattle.rules.specs.laws.Sane.{reads-sane}
 use Rattle.marking.specs.Mark.{markRead, markOf}
 use Rattle.making.specs.Make.{workNeeded, listNeeded, makeRead, makeOf}
+use Rattle.making.specs.After.{makeAfterRead, makeAfterOf}
 
 -- What is promised of the answers of making with the higher htMin and with the lower.
 pub record Loosens (higher lower : Answer) : Type 0 where
@@ -32,22 +35,28 @@ pub record Loosens (higher lower : Answer) : Type 0 where
 
 module _ (bytes : List ℕ) (g : Galley) (read : galleyOf bytes ≡ reads.Galley g) (work list : ℕ) where
   -- What making answers with enough memory,
-  make-is : workNeeded g ≤ work → listNeeded g ≤ list → makeOf bytes work list ≡ made (modelOf bytes g)
-  unfolding makeOf makeRead
-  make-is enough room = rw read (simp (le-ltb work (workNeeded g) enough, le-ltb list (listNeeded g) room))
+  after-is : (opening : List ℕ) → workNeeded g ≤ work → listNeeded g ≤ list → makeAfterOf bytes opening work list ≡ madeAfter (modelOf bytes g) opening
+  unfolding makeAfterOf makeAfterRead
+  after-is opening enough room = rw read (simp (le-ltb work (workNeeded g) enough, le-ltb list (listNeeded g) room))
 
   -- and wherever it answers with a pagination.
-  made-is : accepted (makeOf bytes work list) ≡ true → makeOf bytes work list ≡ made (modelOf bytes g)
-  unfolding makeOf makeRead
-  made-is a = rw read (go (ltb work (workNeeded g)) (ltb list (listNeeded g)) (rw read at a))
+  after-made : (opening : List ℕ) → accepted (makeAfterOf bytes opening work list) ≡ true
+      → makeAfterOf bytes opening work list ≡ madeAfter (modelOf bytes g) opening
+  unfolding makeAfterOf makeAfterRead
+  after-made opening a = rw read (go (ltb work (workNeeded g)) (ltb list (listNeeded g)) (rw read at a))
     where
       answer : Bool → Bool → Answer
-      answer few short = pick few (Refused 9 (workNeeded g)) (pick short (Refused 10 (listNeeded g)) (made (modelOf bytes g)))
+      answer few short = pick few (Refused 9 (workNeeded g)) (pick short (Refused 10 (listNeeded g)) (madeAfter (modelOf bytes g) opening))
 
-      go : (few short : Bool) → accepted (answer few short) ≡ true → answer few short ≡ made (modelOf bytes g)
+      go : (few short : Bool) → accepted (answer few short) ≡ true → answer few short ≡ madeAfter (modelOf bytes g) opening
       go true short a = let z : _≡_ {A = ℕ} 0 1 = cc in absurd (omega arith)
       go false true a = let z : _≡_ {A = ℕ} 0 1 = cc in absurd (omega arith)
       go false false a = refl
+
+  -- After no page it is what making answers without an opening.
+  after-nothing : makeAfterOf bytes [] work list ≡ makeOf bytes work list
+  unfolding makeAfterOf makeAfterRead makeOf makeRead
+  after-nothing = rw (read, made-after-nothing (modelOf bytes g) (reads-sane bytes g read))
 
 -- Two galleys that are read from bytes alike in all but htMin, which is no higher in the second.
 module _ {bytes bytes′ : List ℕ} (like : Alike bytes bytes′) (g g′ : Galley) (read : galleyOf bytes ≡ reads.Galley g)
@@ -62,21 +71,27 @@ module _ {bytes bytes′ : List ℕ} (like : Alike bytes bytes′) (g g′ : Gal
   pub marking-loosened : (words : List ℕ) → accepted (markOf bytes words) ≡ true → markOf bytes′ words ≡ markOf bytes words
   unfolding markOf markRead
   marking-loosened words a =
-      let m = modelOf bytes g in
-      let e = marked-loosened m (g′ .spec .htmin) (omega arith) words (rw read at a) in
+      let e = marked-loosened (modelOf bytes g) (g′ .spec .htmin) (omega arith) words (rw read at a) in
       rw (read, read′, models-alike like g g′ read read′) e
 
-  -- Making: any memory lent for the higher htMin, and enough for the lower.
-  pub making-loosened : (work list work′ list′ : ℕ) → workNeeded g′ ≤ work′ → listNeeded g′ ≤ list′
-      → Loosens (makeOf bytes work list) (makeOf bytes′ work′ list′)
-  making-loosened work list work′ list′ enough room =
-      let both = made-loosened (modelOf bytes g) (g′ .spec .htmin) (omega arith) in
-      let lower : makeOf bytes′ work′ list′ ≡ made (withHtmin (g′ .spec .htmin) (modelOf bytes g)) =
-      make-is bytes′ g′ read′ work′ list′ enough room ∙ ap made (models-alike like g g′ read read′) in
-      record {
-        finishes = λ a. let e = made-is bytes g read work list a in ap accepted lower ∙ both (sym (ap accepted e) ∙ a) .0;
-        turns = λ a.
-            let e = made-is bytes g read work list a in
-            let few = both (sym (ap accepted e) ∙ a) .1 in
-            rw (lower, e) (omega arith);
-      }
+  module _ (work list work′ list′ : ℕ) (enough : workNeeded g′ ≤ work′) (room : listNeeded g′ ≤ list′) where
+    -- Making after one opening given to both, with any memory lent for the higher htMin and enough for the lower: in particular the opening
+    -- is let through by the lower htMin.
+    pub making-loosened : (opening : List ℕ) → Loosens (makeAfterOf bytes opening work list) (makeAfterOf bytes′ opening work′ list′)
+    making-loosened opening =
+        let both = made-loosened (modelOf bytes g) (g′ .spec .htmin) (omega arith) opening in
+        let lower : makeAfterOf bytes′ opening work′ list′ ≡ madeAfter (withHtmin (g′ .spec .htmin) (modelOf bytes g)) opening =
+        after-is bytes′ g′ read′ work′ list′ opening enough room ∙ ap (λ m. madeAfter m opening) (models-alike like g g′ read read′) in
+        record {
+          finishes = λ a.
+              let e = after-made bytes g read work list opening a in
+              ap accepted lower ∙ both (sym (ap accepted e) ∙ a) .0;
+          turns = λ a.
+              let e = after-made bytes g read work list opening a in
+              let few = both (sym (ap accepted e) ∙ a) .1 in
+              rw (lower, e) (omega arith);
+        }
+
+    -- Making without an opening is the case of the empty one.
+    pub making-loosened-whole : Loosens (makeOf bytes work list) (makeOf bytes′ work′ list′)
+    making-loosened-whole = rw (after-nothing bytes g read work list, after-nothing bytes′ g′ read′ work′ list′) at (making-loosened [])
