@@ -14,3 +14,4 @@ pub mod Blocks
 pub mod RoundTrip
 pub mod Back
 pub mod Alike
+pub mod AlikeWritten

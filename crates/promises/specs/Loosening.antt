@@ -5,16 +5,17 @@ use native.Mathlib.Omega.{arith}
 use mathlib.Core.Path.{_≡_, refl, sym, _∙_, ap}
 use mathlib.Core.Bool.{Bool, true, false}
 use mathlib.Core.List.{List, []}
+use mathlib.Core.Option.{Option, none, some}
 use lib.Dec.{ltb}
 use borrow.Author.Tests.{le-ltb}
 use Rattle.model.specs.declared.answer.Answer.{Answer}
 use Rattle.model.specs.declared.answer.Answer.the-variants.{Refused}
 use Rattle.model.specs.Gather.{pick}
 use Rattle.model.specs.Answers.{numbersOf, accepted}
-use Rattle.model.specs.Opening.{madeAfter}
+use Rattle.model.specs.Opening.{openingTurned, madeAfter}
 use Rattle.model.specs.Loosened.{withHtmin}
 use Rattle.model.specs.laws.Opening.{made-after-nothing}
-use Rattle.model.specs.laws.Loosened.{marked-loosened, made-loosened}
+use Rattle.model.specs.laws.Loosened.{marked-loosened, standing-loosened, made-loosened}
 use Rattle.galley.specs.declared.Galley.{Galley}
 use Rattle.galley.specs.declared.Reading.the-variants as reads
 use Rattle.galley.specs.Whole.{galleyOf}
@@ -24,7 +25,7 @@ use Rattle.galley.specs.laws.Alike.{galleys-alike, models-alike}
 use Rattle.rules.specs.laws.Sane.{reads-sane}
 use Rattle.marking.specs.Mark.{markRead, markOf}
 use Rattle.making.specs.Make.{workNeeded, listNeeded, makeRead, makeOf}
-use Rattle.making.specs.After.{makeAfterRead, makeAfterOf}
+use Rattle.making.specs.After.{stands, makeAfterRead, makeAfterOf}
 
 -- What is promised of the answers of making with the higher htMin and with the lower.
 pub record Loosens (higher lower : Answer) : Type 0 where
@@ -58,6 +59,11 @@ module _ (bytes : List ℕ) (g : Galley) (read : galleyOf bytes ≡ reads.Galley
   unfolding makeAfterOf makeAfterRead makeOf makeRead
   after-nothing = rw (read, made-after-nothing (modelOf bytes g) (reads-sane bytes g read))
 
+-- What is not turned away.
+none-turned : (t : Option Answer) → elim t [ none ↦ true | some refusal ↦ false ] ≡ true → t ≡ none
+none-turned none e = refl
+none-turned (some refusal) e = let z : _≡_ {A = ℕ} 0 1 = cc in absurd (omega arith)
+
 -- Two galleys that are read from bytes alike in all but htMin, which is no higher in the second.
 module _ {bytes bytes′ : List ℕ} (like : Alike bytes bytes′) (g g′ : Galley) (read : galleyOf bytes ≡ reads.Galley g)
     (read′ : galleyOf bytes′ ≡ reads.Galley g′) (low : g′ .spec .htmin ≤ g .spec .htmin) where
@@ -74,9 +80,16 @@ module _ {bytes bytes′ : List ℕ} (like : Alike bytes bytes′) (g g′ : Gal
       let e = marked-loosened (modelOf bytes g) (g′ .spec .htmin) (omega arith) words (rw read at a) in
       rw (read, read′, models-alike like g g′ read read′) e
 
+  -- An opening that 20 and 21 let through for the higher htMin is let through for the lower.
+  pub opening-loosened : (opening : List ℕ) → stands bytes g opening ≡ true → stands bytes′ g′ opening ≡ true
+  unfolding stands
+  opening-loosened opening s =
+      let higher = modelOf bytes g in
+      let e = standing-loosened higher (g′ .spec .htmin) (omega arith) opening (none-turned (openingTurned higher opening) s) in
+      ap (λ (t : Option Answer). elim t [ none ↦ true | some refusal ↦ false ]) (ap (λ m. openingTurned m opening) (models-alike like g g′ read read′) ∙ e)
+
   module _ (work list work′ list′ : ℕ) (enough : workNeeded g′ ≤ work′) (room : listNeeded g′ ≤ list′) where
-    -- Making after one opening given to both, with any memory lent for the higher htMin and enough for the lower: in particular the opening
-    -- is let through by the lower htMin.
+    -- Making after one opening given to both, with any memory lent for the higher htMin and enough for the lower.
     pub making-loosened : (opening : List ℕ) → Loosens (makeAfterOf bytes opening work list) (makeAfterOf bytes′ opening work′ list′)
     making-loosened opening =
         let both = made-loosened (modelOf bytes g) (g′ .spec .htmin) (omega arith) opening in

@@ -63,7 +63,7 @@ module _ {bytes bytes′ : List ℕ} (like : Alike bytes bytes′) where
   word-same : (at : ℕ) → 6 ≤ at → wordAt bytes′ at ≡ wordAt bytes at
   unfolding wordAt
   word-same at far =
-      let a = like .same at (inr far) in
+      let a = like .same at (inr (omega arith)) in
       let b = like .same (at + 1) (inr (omega arith)) in
       let c = like .same (at + 2) (inr (omega arith)) in
       let d = like .same (at + 3) (inr (omega arith)) in
@@ -73,7 +73,7 @@ module _ {bytes bytes′ : List ℕ} (like : Alike bytes bytes′) where
   mark-same : (at : ℕ) → 6 ≤ at → markAt bytes′ at ≡ markAt bytes at
   unfolding markAt
   mark-same at far =
-      let a = like .same at (inr far) in
+      let a = like .same at (inr (omega arith)) in
       let b = like .same (at + 1) (inr (omega arith)) in
       cc
 

@@ -134,9 +134,9 @@ module _ (g : Galley) (h : ℕ) (low : h ≤ g .spec .htmin) where
       go false ok e after = let z : _≡_ {A = ℕ} 0 1 = cc in absurd (omega arith)
 
   -- An opening that nothing turns away by the higher htMin is not turned away by the lower.
-  pub opening-loosened : (ws : List ℕ) → openingTurned g ws ≡ none → openingTurned (withHtmin h g) ws ≡ none
+  pub standing-loosened : (ws : List ℕ) → openingTurned g ws ≡ none → openingTurned (withHtmin h g) ws ≡ none
   unfolding openingTurned zeros streams pagesOf
-  opening-loosened ws = go (eqb (length ws % streams g) 0)
+  standing-loosened ws = go (eqb (length ws % streams g) 0)
     where
       go : (whole : Bool) → pick whole (pagesTurned g 1 (zeros g) (pagesOf g ws)) (some (Refused 20 0)) ≡ none
           → pick whole (pagesTurned (withHtmin h g) 1 (zeros g) (pagesOf g ws)) (some (Refused 20 0)) ≡ none
@@ -166,6 +166,6 @@ module _ (g : Galley) (h : ℕ) (low : h ≤ g .spec .htmin) where
   made-loosened ws a =
       let os = pagesOf g ws in
       let e = after-standing g ws (stood g ws a) in
-      let e′ = after-standing (withHtmin h g) ws (opening-loosened ws (stood g ws a)) in
+      let e′ = after-standing (withHtmin h g) ws (standing-loosened ws (stood g ws a)) in
       let both = best-loosened os (bestAfter g os) (bestAfter (withHtmin h g) os) (after-makes g os) (after-makes (withHtmin h g) os) in
       rw (e, e′) (both (sym (ap accepted e) ∙ a))
