@@ -53,7 +53,7 @@ cited-with : (h : ℕ) (so : Sofar) (cite : ℕ) (next : Sofar) (at : ℕ) → s
 unfolding cited
 cited-with h so cite next at = go (eqb cite 0 || ltb (so .lines) cite) (ltb cite (so .last))
   where
-    go : (a b : Bool) → stepWith h (pick a (refused 6 at) (pick b (refused 7 at) (On next))) ≡ pick a (refused 6 at) (pick b (refused 7 at) (On next))
+    go : (a b : Bool) → (let step = pick a (refused 6 at) (pick b (refused 7 at) (On next)) in stepWith h step ≡ step)
     go true b = refl
     go false true = refl
     go false false = refl
