@@ -8,6 +8,7 @@ use Rattle.model.specs.declared.answer.Answer.{Answer}
 use Rattle.model.specs.declared.answer.Numbers.{Numbers}
 use Rattle.model.specs.Answers.{numbersOf}
 use Rattle.making.specs.Make.{makeOf, weighedOf, workAfter, listAfter}
+use Rattle.making.specs.After.{makeAfterOf, weighedAfterOf, workMadeAfter, listMadeAfter}
 
 -- The low and the high word of a number of 64 bits.
 abbrev pub low : ℕ → ℕ
@@ -32,3 +33,11 @@ pub record Exported (bytes work list : List ℕ) (number : ℕ) (work′ list′
   pub told : words ≡ eightOf (makeOf bytes (length work) (length list)) (weighedOf bytes (length work) (length list))
   pub clean : work′ ≡ workAfter bytes work (length list)
   pub listed : list′ ≡ listAfter bytes (length work) list
+
+-- The same of a call of making after an opening (document 02, S-6).
+pub record ExportedAfter (bytes opening work list : List ℕ) (number : ℕ) (work′ list′ words : List ℕ) : Type 0 where
+  pub returned : number ≡ numberOf (makeAfterOf bytes opening (length work) (length list))
+  pub told : words
+      ≡ eightOf (makeAfterOf bytes opening (length work) (length list)) (weighedAfterOf bytes opening (length work) (length list))
+  pub clean : work′ ≡ workMadeAfter bytes opening work (length list)
+  pub listed : list′ ≡ listMadeAfter bytes opening (length work) list

@@ -1,7 +1,7 @@
 // The C interface: making, marking and reports for programs in other languages. include/barleychime.h documents it.
 ghost use mathlib.Core.Path.{_≡_};
 ghost use Rattle.marking.specs.Mark.{markOf};
-ghost use Rattle.barleychime.specs.Eight.{numberOf, eightOf, Exported};
+ghost use Rattle.barleychime.specs.Eight.{numberOf, eightOf, Exported, ExportedAfter};
 use model::answer::Answer;
 
 pub mod beforehand; // beforehand.rt: what a galley asks for, told beforehand
@@ -40,6 +40,33 @@ pub extern "C" fn barleychime_make(
         ⌝ }
 {
     let made = making::make(galley, work, pages);
+    let found = made.answer;
+    tell(found, made.weighed, answer)
+}
+
+// The best pages of a galley that begin with an opening already printed: the answer of making after it with the count of what is weighed,
+// and what that leaves in the lent memory. The opening is only read.
+#[no_mangle]
+pub extern "C" fn barleychime_make_after(
+    galley: &[u8],
+    opening: &[u32],
+    work: &mut [u32],
+    pages: &mut [u32],
+    answer: &mut [u32; 8],
+) -> u32
+    ensures { λ r. ⌜
+        ExportedAfter
+        (now (galley .entry))
+        (now (opening .entry))
+        (now (work .entry))
+        (now (pages .entry))
+        r
+        (now (work .exit))
+        (now (pages .exit))
+        (now (answer .exit))
+        ⌝ }
+{
+    let made = making::make_after(galley, opening, work, pages);
     let found = made.answer;
     tell(found, made.weighed, answer)
 }

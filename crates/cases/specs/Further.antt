@@ -3,6 +3,7 @@
 use mathlib.Core.Bool.{false}
 use mathlib.Core.List.{List, [], _∷_}
 use Rattle.model.specs.Galley.{single, double}
+use Rattle.model.specs.Loosened.{withHtmin}
 use Rattle.cases.specs.Case.{Case, making, marking, makes, marks, refuses, asks}
 use Rattle.cases.specs.Galleys.{galleyA, galleyB, galleyC, galleyD, galleyE, galleyF, galleyG, galleyH}
 
@@ -28,6 +29,8 @@ makings =
     ∷ asks (galleyF 60) making (makes 3 0 2 6 (1 ∷ 2 ∷ 3 ∷ 4 ∷ 5 ∷ 4 ∷ []))
     -- the space after the last line forbids no page end
     ∷ asks galleyG making (makes 4 1 3 4 (2 ∷ 0 ∷ 4 ∷ 0 ∷ 5 ∷ 1 ∷ 5 ∷ 2 ∷ []))
+    -- C with htMin 20 has the list of C2 alone; with 10, as C1 has it, that list stays and another turns once less (document 02, S-14)
+    ∷ asks (withHtmin 20 (galleyC (double 1))) making (makes 4 1 2 3 (2 ∷ 0 ∷ 3 ∷ 0 ∷ 4 ∷ 0 ∷ 4 ∷ 1 ∷ []))
     ∷ []
 
 -- The height of a page, to the unit.

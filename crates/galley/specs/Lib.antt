@@ -8,5 +8,6 @@ pub mod Block
 pub mod Sound
 pub mod Write
 pub mod Model
+pub mod Alike
 pub mod laws
 mod CaseA

@@ -13,3 +13,5 @@ pub mod Each
 pub mod Blocks
 pub mod RoundTrip
 pub mod Back
+pub mod Alike
+pub mod AlikeWritten

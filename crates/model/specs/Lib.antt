@@ -10,4 +10,6 @@ pub mod Pagination
 pub mod Order
 pub mod Best
 pub mod Weighed
+pub mod Opening
+pub mod Loosened
 pub mod laws

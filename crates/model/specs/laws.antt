@@ -9,6 +9,8 @@ pub mod Lists
 pub mod Valid
 pub mod Order
 pub mod Best
+pub mod Opening
 pub mod Boxes
 pub mod Together
 pub mod Weighed
+pub mod Loosened

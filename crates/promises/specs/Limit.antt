@@ -21,7 +21,7 @@ use Rattle.making.specs.laws.Solved.{reads-limits}
 use Rattle.promises.specs.Answers.{of-marking, of-making}
 
 -- The turns of an answer are at most those of document 02, S-4.
-abbrev Limited : Answer → Type 0
+abbrev pub Limited : Answer → Type 0
 Limited a = numbersOf a .turns ≤ 1066499000
 
 -- What is not accepted has no turns.
@@ -30,7 +30,7 @@ refused-limited (Counted p x y t) e = let z : _≡_ {A = ℕ} 0 1 = cc in absurd
 refused-limited (Refused n at) e = omega arith
 
 module _ (g : model.Galley) (sane : model.Sane g) (limits : Limits g) where
-  marked-limited : (words : List ℕ) → Limited (marked g words)
+  pub marked-limited : (words : List ℕ) → Limited (marked g words)
   unfolding countsOf
   marked-limited words = go (accepted (marked g words)) refl
     where

@@ -56,11 +56,19 @@ leavesTurned g p = leaf (sidesIn g) p - leaf (sidesIn g) 1
 unfoldable pub counts : Galley → ℕ → ℕ → Answer
 counts g p x = let y = leavesTurned g p in Counted p x y (g .spec .alpha * x + g .spec .beta * y)
 
+-- Every block is placed.
+abbrev pub allPlaced : Galley → Counts → Bool
+allPlaced g at =
+    eqb (at .lines) (g .text .count) && (eqb (at .figures) (g .figures .count) && eqb (at .tables) (g .tables .count))
+
 -- The answer once p pages are judged: 18 where the last does not end at the full place, else the counts.
 unfoldable pub finished : Galley → ℕ → Counts → ℕ → Answer
-finished g p at x =
-    pick (eqb (at .lines) (g .text .count) && (eqb (at .figures) (g .figures .count) && eqb (at .tables) (g .tables .count)))
-    (counts g p x) (Refused 18 p)
+finished g p at x = pick (allPlaced g at) (counts g p x) (Refused 18 p)
+
+-- What p printed pages cost, where so many floats waited at the ends of their leaves: there is a page after them, so that every leaf that
+-- one of them ends is turned (document 02, S-6).
+unfoldable pub printedCost : Galley → ℕ → ℕ → ℕ
+printedCost g p x = g .spec .alpha * x + g .spec .beta * leavesTurned g (p + 1)
 
 -- A number of pages, and a first folio, that keep every folio within 32 bits.
 pub record PageLimits (g : Galley) (pages : ℕ) : Type 0 where

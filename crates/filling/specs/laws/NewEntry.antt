@@ -29,7 +29,8 @@ use Rattle.starts.specs.Better.{chosen}
 use Rattle.starts.specs.Search.{Table, before, bestStart, priced, mayStop, begins, newEntry}
 use Rattle.starts.specs.Choice.{Above}
 use Rattle.starts.specs.Beside.{Sought}
-use Rattle.starts.specs.Read.{tableIn, sideOf, searchOf, allPlaced, loadOf}
+use Rattle.rules.specs.Parts.{allPlaced}
+use Rattle.starts.specs.Read.{tableIn, sideOf, searchOf, loadOf}
 use Rattle.starts.specs.Sweep.{LinesStand, LastBest}
 use Rattle.starts.specs.laws.Columns.{placed-at, within-at, sought-in}
 use Rattle.starts.specs.laws.Sweep.{window-best, start-chosen}
@@ -125,7 +126,7 @@ module _ {bytes : List ℕ} {task : Task} {w sums words : List ℕ} {queue : Que
 
   -- and their sum is a word.
   pub cost-low : (x : ℕ) (r : Place) → e ≡ Least x r
-      → x + pageCost (modelOf bytes (task .galley)) (end .side) (full (modelOf bytes (task .galley)) v) v ≤ 2100000000
+      → x + pageCost (modelOf bytes (task .galley)) (end .side) (full (modelOf bytes (task .galley)) v) v ≤ 2140000000
   cost-low x r is =
       let m = modelOf bytes g in
       let sound = next .next .lent .sound in

@@ -39,6 +39,9 @@ spec-kind edition = go (eqb edition 2)
 pub spec-small : (edition : ℕ) → specSize edition ≤ 34
 spec-small edition = pick-has (_≤ 34) (eqb edition 2) 34 30 (λ _. omega arith) (λ _. omega arith)
 
+pub spec-large : (edition : ℕ) → 30 ≤ specSize edition
+spec-large edition = pick-has (30 ≤_) (eqb edition 2) 34 30 (λ _. omega arith) (λ _. omega arith)
+
 -- A kept figure is a figure.
 pub figure-kind : (kept : Bool) → kindOf (figureMark kept) ≡ kindOf FG
 unfolding kindOf

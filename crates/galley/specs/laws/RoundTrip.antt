@@ -7,12 +7,12 @@ use mathlib.Core.List.{List, [], _∷_, _++_, append-assoc}
 use mathlib.Core.Path.{_≡_, refl, sym, ap, _∙_}
 use lib.ListN.{length, length-append}
 use Rattle.galley.specs.Range.{SpecRanged, Edition, FolioRanged, FigureRanged, TableRanged}
-use Rattle.galley.specs.Place.{specMark, spec, folio, line, figure, table, FO, rowOf, kindOf}
+use Rattle.galley.specs.Place.{spec, folio, line, figure, table, FO, rowOf, kindOf}
 use Rattle.galley.specs.Record.{recordAt}
 use Rattle.galley.specs.Whole.{beginning, moved, withFolio, stepFrom, readFrom, galleyOf}
 use Rattle.galley.specs.Write.{specBytes, lineBytes, figureBytes, tableBytes, each, Stated, unstated, stated, folioOf, folioBytes, headBytes, StatedRanged, bytesOf, BlocksInRange, InRange}
 use Rattle.galley.specs.laws.Place.{spec-kind, Fits}
-use Rattle.galley.specs.laws.Stand.{spec-step, folio-step}
+use Rattle.galley.specs.laws.Stand.{folio-step, begun, spec-first}
 use Rattle.galley.specs.laws.Underway.{read-on}
 use Rattle.galley.specs.laws.Reached.{specIn}
 use Rattle.galley.specs.laws.Record.{Found, found-at}
@@ -39,10 +39,7 @@ head-joins g (stated f) rest =
     ap (_++ rest) (sym (spec-joins g (folioBytes (stated f) []))) ∙ append-assoc (specBytes g []) (folioBytes (stated f) []) rest
     ∙ spec-joins g (folioBytes (stated f) rest)
 
--- After the specification, and after a folio.
-abbrev begun : Spec → Sofar
-begun g = withFolio (moved beginning (kindOf (specMark (g .edition)))) 1
-
+-- After a folio.
 abbrev foliated : Spec → ℕ → Sofar
 foliated g f = withFolio (moved (begun g) (kindOf FO)) f
 
@@ -71,10 +68,7 @@ folio-fits so s =
 
 -- A specification is read where nothing was read, and a folio straight after it.
 begins : (bytes rest : List ℕ) (g : Spec) → SpecRanged g → Edition g → bytes ≡ specBytes g rest → stepFrom bytes beginning ≡ On (begun g)
-begins bytes rest g s of e =
-    spec-step bytes beginning g (rw e (spec-after [] rest g s of))
-    (rw (spec-kind (g .edition))
-    (record { soon = omega arith; late = omega arith; timely = λ l. absurd (omega arith); few = λ e. absurd (omega arith) }))
+begins bytes rest g s of e = spec-first bytes g (rw e (spec-after [] rest g s of))
 
 goes-on : (bytes rest : List ℕ) (g : Spec) (f : ℕ) → FolioRanged f → bytes ≡ specBytes g (folioBytes (stated f) rest)
     → stepFrom bytes (begun g) ≡ On (foliated g f)

@@ -8,8 +8,8 @@ use borrow.Author.Tests.{le-ltb, ne-eqb}
 use Rattle.galley.specs.Word.{markAt}
 use Rattle.galley.specs.Place.{specMark, FO, TL, FG, TB, ED, figureMark, kindOf}
 use Rattle.galley.specs.Record.{recordAt}
-use Rattle.galley.specs.Whole.{moved, withFolio, withLine, withFigure, withTable, cited, closed, after, stepFrom}
-use Rattle.galley.specs.laws.Place.{kind-sized, figure-kind, Fits, fits-unfit}
+use Rattle.galley.specs.Whole.{beginning, moved, withFolio, withLine, withFigure, withTable, cited, closed, after, stepFrom}
+use Rattle.galley.specs.laws.Place.{kind-sized, spec-kind, figure-kind, Fits, fits-unfit}
 use Rattle.galley.specs.laws.Record.{Found, found-at}
 use Rattle.galley.specs.laws.Reached.{galleyIn}
 use Rattle.galley.specs.declared.Kind.{Kind}
@@ -82,3 +82,14 @@ module _ (bytes : List ℕ) (so : Sofar) where
   end-step e fits whole =
       let h = rw e at (found-at bytes (so .at)) in
       fit-step ED (h .marked) (h .there) fits ∙ simp (e, le-ltb (so .at + 2) (length bytes) (omega arith))
+
+-- After the specification.
+abbrev pub begun : Spec → Sofar
+begun g = withFolio (moved beginning (kindOf (specMark (g .edition)))) 1
+
+-- A specification is read where nothing was read.
+pub spec-first : (bytes : List ℕ) (g : Spec) → recordAt bytes 0 ≡ found.Spec g → stepFrom bytes beginning ≡ On (begun g)
+spec-first bytes g e =
+    spec-step bytes beginning g e
+    (rw (spec-kind (g .edition))
+    (record { soon = omega arith; late = omega arith; timely = λ l. absurd (omega arith); few = λ e. absurd (omega arith) }))
