@@ -31,7 +31,13 @@ pub fn numbers_of(answer: Answer) -> Numbers
     ensures { λ r. ⌜ r ≡ numbersOf answer ⌝ }
 {
     match answer {
-        Answer::Counted { pages, x, y, turns, white } => Numbers {
+        Answer::Counted {
+            pages,
+            x,
+            y,
+            turns,
+            white,
+        } => Numbers {
             number: 0,
             place: 0,
             pages,
