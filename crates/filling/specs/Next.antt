@@ -20,7 +20,8 @@ use Rattle.window.specs.declared.queue.Queue.{Queue}
 use Rattle.window.specs.Slide.{Open}
 use Rattle.window.specs.Queue.{linesOf, frontOf, queueOf, Held, QueueStands, Advanced}
 use Rattle.starts.specs.Choice.{Starts, Above, Between}
-use Rattle.starts.specs.Read.{tableIn, sideOf, searchOf, columnsIn, countsAt, allPlaced, loadOf}
+use Rattle.rules.specs.Parts.{allPlaced}
+use Rattle.starts.specs.Read.{tableIn, sideOf, searchOf, columnsIn, countsAt, loadOf}
 use Rattle.starts.specs.Sweep.{Lent, Scratch, Summed, Knows, Known}
 use Rattle.filling.specs.declared.side.Task.{Task}
 use Rattle.filling.specs.declared.side.End.{End}

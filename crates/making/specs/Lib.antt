@@ -2,6 +2,7 @@
 
 -- What is computed.
 pub mod Make
+pub mod After
 -- The filled work area as the graph of pages has it, and what the functions ask for.
 pub mod Shown
 pub mod Back

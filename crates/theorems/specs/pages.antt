@@ -6,4 +6,5 @@ pub mod Ways
 pub mod Lists
 pub mod Ties
 pub mod Theorem
+pub mod Opening
 pub mod Best
