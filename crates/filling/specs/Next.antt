@@ -47,7 +47,7 @@ priceOf g last ends waiting = pick last 0 (pick ends (g .spec .alpha * waiting +
 -- The entries before (i, j) are filled, from an origin at which little was paid.
 pub record Next (bytes : List ℕ) (task : Task) (w : List ℕ) (i j : ℕ) : Type 0 where
   pub lent : Lent bytes (task .galley) w j
-  pub cheap : task .origin .cost ≤ 1000000000
+  pub cheap : task .origin .cost ≤ 1066750000
   pub filled : Filled (modelOf bytes (task .galley)) (task .origin) (tableIn (task .galley) w) i j
 
 -- A page ends at a place of the galley, whose counts are known, where so many floats wait, and which says so much of the page.
@@ -159,7 +159,7 @@ pub record LastNext (bytes : List ℕ) (task : Task) (w sums words : List ℕ) (
 -- A galley that was read, an origin at which little was paid, and a work area as long as document 01 asks.
 pub record Fillable (bytes : List ℕ) (g : Galley) (from : Origin) (w : List ℕ) : Type 0 where
   pub sound : Sound bytes g
-  pub cheap : from .cost ≤ 1000000000
+  pub cheap : from .cost ≤ 1066750000
   pub room : wordsNeeded (g .text .count) (columnsIn g) ≤ length w
 
 -- The table comes next: with the sums of the lines, and room for two queues.

@@ -8,3 +8,4 @@ pub mod Ties
 pub mod Theorem
 pub mod Opening
 pub mod Best
+pub mod LeastAfter

@@ -126,7 +126,7 @@ module _ {bytes : List ℕ} {task : Task} {w sums words : List ℕ} {queue : Que
 
   -- and their sum is a word.
   pub cost-low : (x : ℕ) (r : Place) → e ≡ Least x r
-      → x + pageCost (modelOf bytes (task .galley)) (end .side) (full (modelOf bytes (task .galley)) v) v ≤ 2100000000
+      → x + pageCost (modelOf bytes (task .galley)) (end .side) (full (modelOf bytes (task .galley)) v) v ≤ 2140000000
   cost-low x r is =
       let m = modelOf bytes g in
       let sound = next .next .lent .sound in

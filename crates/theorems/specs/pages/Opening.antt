@@ -1,27 +1,30 @@
 -- An opening, pages already printed: the origin that it leads to, and that a list which begins with it is accepted, costs and compares as
 -- what follows does from that origin on.
-use Prim.Native.Nat.{ℕ, suc, _+_, _*_, _≤_, _<_}
-use native.Mathlib.Nat.{suc-mul, mul-le-mul-right}
+use Prim.Native.Nat.{ℕ, suc, _+_, _-_, _*_, _≤_, _<_}
+use native.Mathlib.Nat.{suc-mul, mul-zero, mul-one, mul-add, mul-le-mul-right}
 use native.Mathlib.Omega.{arith}
 use mathlib.Core.Path.{_≡_, refl, sym, _∙_, ap}
 use mathlib.Core.Bool.{Bool, true, false, _&&_}
 use mathlib.Core.List.{List, [], _∷_, _++_}
 use lib.ListN.{length}
+use Rattle.model.specs.Gather.{pick, one}
 use Rattle.model.specs.Galley.{Galley, Place, Sane, streams, zeros, sizes}
+use Rattle.model.specs.Leaf.{leaf, ends}
 use Rattle.model.specs.Answers.{ended}
 use Rattle.model.specs.Turns.{turns}
-use Rattle.model.specs.White.{whiteOn, white}
+use Rattle.model.specs.White.{white}
 use Rattle.model.specs.Order.{thenBy, by, startsOf, before}
 use Rattle.model.specs.Best.{allowed}
 use Rattle.model.specs.Opening.{endOf}
 use Rattle.model.specs.laws.Gather.{and-left, and-right, and-both}
+use Rattle.model.specs.laws.Leaf.{leaf-next, leaf-mono}
 use Rattle.model.specs.laws.Rules.{kept, forward-at, placed, placed-grows}
 use Rattle.model.specs.laws.Judge.{accepts}
 use Rattle.model.specs.laws.Words.{Shaped}
 use Rattle.model.specs.laws.Lists.{Inside}
 use Rattle.model.specs.laws.Valid.{page-inside, Accepted}
 use Rattle.model.specs.laws.White.{pageWhite, whites-next, white-le}
-use Rattle.theorems.specs.turns.Waiting.{pageSum, pageCost, costs}
+use Rattle.theorems.specs.turns.Waiting.{waiting, pageSum, atEnd, pageCost, costs}
 use Rattle.theorems.specs.turns.Rank.{rank, ranked, rank-order}
 use Rattle.theorems.specs.turns.Bounds.{heaviest, weight-le, Narrow}
 use Rattle.theorems.specs.turns.Costs.{turns-are-costs}
@@ -51,6 +54,11 @@ passes g o (v ∷ vs) = allowed g (suc (o .pages)) false (o .place) v && passes 
 -- The origin after an opening of the galley.
 abbrev pub after : Galley → List Place → Origin
 after g os = onto g (beginning g) os
+
+-- The white of the pages of an opening that starts at u: each counts, for none is the last (document 02, S-10).
+unfoldable pub openWhite : Galley → Place → List Place → ℕ
+openWhite g u [] = 0
+openWhite g u (v ∷ vs) = pageWhite g false u v + openWhite g v vs
 
 -- An opening that neither 20 nor 21 turns away: its pages pass, and a block is left.
 pub record Opening (g : Galley) (os : List Place) : Type 0 where
@@ -156,6 +164,28 @@ module _ (g : Galley) where
       dear-onto (printed g o v) vs
       (and-right (allowed g (suc (o .pages)) false (o .place) v) (passes g (printed g o v) vs) h) (omega arith)
 
+  -- which is by α what waited at the ends of its leaves, and by β the leaves turned to the page after it, with its white,
+  cost-onto : (o : Origin) (os : List Place)
+      → onto g o os .cost + rank (g .spec .beta * leaf (g .spec .sides) (suc (o .pages))) 0
+      ≡ o .cost
+      + rank (g .spec .alpha * pageSum (atEnd (g .spec .sides) (waiting g)) (suc (o .pages)) os
+      + g .spec .beta * leaf (g .spec .sides) (suc (onto g o os .pages))) (openWhite g (o .place) os)
+  unfolding onto pageSum pageCost atEnd openWhite
+  cost-onto o [] = let z = mul-zero (g .spec .alpha) in omega arith
+  cost-onto o (v ∷ vs) =
+      let next = leaf-next (g .spec .sides) (suc (o .pages)) in
+      let turned = ap (λ n. g .spec .beta * n) next ∙ mul-add (g .spec .beta) (leaf (g .spec .sides) (suc (o .pages))) (one (ends (g .spec .sides) (suc (o .pages)))) in
+      let later = pageSum (atEnd (g .spec .sides) (waiting g)) (suc (suc (o .pages))) vs in
+      let sum = mul-add (g .spec .alpha) (atEnd (g .spec .sides) (waiting g) (suc (o .pages)) (ended vs) v) later in
+      let here = page (ends (g .spec .sides) (suc (o .pages))) in
+      let after = cost-onto (printed g o v) vs in
+      omega arith
+    where
+      page : (b : Bool)
+          → pick b (g .spec .alpha * waiting g v + g .spec .beta) 0 ≡ g .spec .alpha * pick b (waiting g v) 0 + g .spec .beta * one b
+      page true = let z = mul-one (g .spec .beta) in omega arith
+      page false = let y = mul-zero (g .spec .alpha) in let z = mul-zero (g .spec .beta) in omega arith
+
   -- and each of its pages places a block.
   few-onto : (o : Origin) (os : List Place) → passes g o os ≡ true → o .pages ≤ placed g (o .place)
       → onto g o os .pages ≤ placed g (onto g o os .place)
@@ -173,6 +203,18 @@ module _ (g : Galley) where
 
     pub end-dear : after g os .cost ≤ placed g (after g os .place) * heaviest g
     end-dear = dear-onto (beginning g) os (opening .passed) (omega arith)
+
+    pub end-cost : after g os .cost
+        ≡ rank (g .spec .alpha * pageSum (atEnd (g .spec .sides) (waiting g)) 1 os
+        + g .spec .beta * (leaf (g .spec .sides) (suc (after g os .pages)) - leaf (g .spec .sides) 1)) (openWhite g (zeros g) os)
+    end-cost =
+        let first = leaf (g .spec .sides) 1 in
+        let past = leaf (g .spec .sides) (suc (after g os .pages)) in
+        let up = leaf-mono (g .spec .sides) 1 (suc (after g os .pages)) (omega arith) in
+        let split : past ≡ first + (past - first) = omega arith in
+        let all = ap (λ n. g .spec .beta * n) split ∙ mul-add (g .spec .beta) first (past - first) in
+        let cost = cost-onto (beginning g) os in
+        omega arith
 
     pub end-few : after g os .pages ≤ placed g (after g os .place)
     end-few = few-onto (beginning g) os (opening .passed) (omega arith)
