@@ -27,12 +27,16 @@ use Rattle.making.specs.Make.{workNeeded, listNeeded, makeRead, makeOf, listRea
 pub record ThirdDemand (bytes : List ℕ) (g : Galley) (answer : Answer) (list′ : List ℕ) : Type 0 where
   -- making returns a list, or 11
   pub outcome : (answer ≡ Refused 11 0) ⊎ (accepted answer ≡ true)
-  -- the list that it returns, the first p pages of the page list, is accepted by marking the same bytes with the same p, X, Y, T; a
+  -- the list that it returns, the first p pages of the page list, is accepted by marking the same bytes with the same p, X, Y, T, W; a
   -- page has a word for each stream
   pub same : accepted answer ≡ true → markOf bytes (take (streams (modelOf bytes g) * numbersOf answer .pages) list′) ≡ answer
   -- every list that marking accepts has at least as many turns
   pub least : accepted answer ≡ true → (words : List ℕ) → accepted (markOf bytes words) ≡ true
       → numbersOf answer .turns ≤ numbersOf (markOf bytes words) .turns
+  -- and of those that have no more turns at least as much white (document 02, S-10)
+  pub whitest : accepted answer ≡ true → (words : List ℕ) → accepted (markOf bytes words) ≡ true
+      → numbersOf (markOf bytes words) .turns ≤ numbersOf answer .turns
+      → numbersOf answer .white ≤ numbersOf (markOf bytes words) .white
   -- 11 comes back exactly where marking accepts no list at all
   pub none : (answer ≡ Refused 11 0) ↔ ((words : List ℕ) → accepted (markOf bytes words) ≡ false)
 
@@ -58,16 +62,19 @@ module _ {bytes work list : List ℕ} {answer : Answer} {count : ℕ} {work′ l
         outcome = inl (makes ∙ e);
         same = λ a. refused (sym a ∙ ap accepted (makes ∙ e));
         least = λ a. refused (sym a ∙ ap accepted (makes ∙ e));
+        whitest = λ a. refused (sym a ∙ ap accepted (makes ∙ e));
         none = (λ _ words. ap accepted (marks words) ∙ none words, λ _. makes ∙ e);
       }
     where
       refused : {A : Type 0} → true ≡ false → A
       refused z = let q : _≡_ {A = ℕ} 0 1 = cc in absurd (omega arith)
-  from-making (Counted p x y t) ws (best-list m long best) e f =
+  from-making (Counted p x y t w) ws (best-list m long best whiter) e f =
       record {
         outcome = inr (ap accepted (makes ∙ e));
         same = λ a. rw (makes ∙ e) (marks _ ∙ ap (marked (modelOf bytes g)) first ∙ m);
         least = λ a words b. rw (makes ∙ e) (rw (marks words) (best words (sym (ap accepted (marks words)) ∙ b)));
+        whitest = λ a words b k.
+            rw (makes ∙ e) (rw (marks words) (whiter words (sym (ap accepted (marks words)) ∙ b) (rw (makes ∙ e, marks words) at k)));
         none = (λ r. refused (sym (ap accepted (makes ∙ e)) ∙ ap accepted r), λ h. refused (sym (ap accepted m) ∙ sym (ap accepted (marks ws)) ∙ h ws));
       }
     where
