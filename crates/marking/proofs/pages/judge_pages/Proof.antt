@@ -1,6 +1,6 @@
 -- `judge_pages` meets its contract. The outer invariant is the run over the pages so far (laws/Run), the inner one the page under
 -- way with the blocks that it has so far (laws/Page); each way of leaving a page is one law of laws/Page.
-use Prim.Native.Nat.{ℕ, _+_, _-_, _/_, _≤_, _<_}
+use Prim.Native.Nat.{ℕ, _-_, _/_, _≤_, _<_}
 use borrow.Author.Needs.{needs}
 use denote.Ref.{now}
 use lib.ListN.{length}
