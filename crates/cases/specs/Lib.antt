@@ -6,5 +6,6 @@ pub mod Further
 pub mod Requests
 pub mod Tables
 pub mod Weighings
+pub mod Whites
 pub mod Table
 pub mod Agrees

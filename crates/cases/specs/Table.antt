@@ -6,6 +6,7 @@ use Rattle.cases.specs.Further.{makings, heights, refusals}
 use Rattle.cases.specs.Requests.{folios, keepings, closings}
 use Rattle.cases.specs.Tables.{tablesMade, tablesHigh, tablesRefused}
 use Rattle.cases.specs.Weighings.{weighings}
+use Rattle.cases.specs.Whites.{whitesLeft}
 
 unfoldable pub table : List Case
-table = starred ++ makings ++ heights ++ refusals ++ folios ++ keepings ++ closings ++ tablesMade ++ tablesHigh ++ tablesRefused ++ weighings
+table = starred ++ makings ++ heights ++ refusals ++ folios ++ keepings ++ closings ++ tablesMade ++ tablesHigh ++ tablesRefused ++ weighings ++ whitesLeft

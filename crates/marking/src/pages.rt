@@ -12,6 +12,7 @@ use blocks::Counts;
 use galley::Galley;
 use model::answer::Answer;
 use model::page::Page;
+use rules::counts::Sums;
 use rules::waiting::Waiting;
 
 // The place where a page ends whose words stand from number `from` on. Without tables a page has no third word.
@@ -53,10 +54,10 @@ fn judge_pages(s: &[u8], g: Galley, list: &[u32]) -> Answer
         figures: 0,
         tables: 0,
     };
-    let mut x: u32 = 0;
+    let mut sums = Sums { x: 0, white: 0 };
     let answer = 'pages: loop {
         if done == pages {
-            break 'pages rules::counts::finish(g, pages as u32, at, x);
+            break 'pages rules::counts::finish(g, pages as u32, at, sums);
         }
         let number = (done + 1) as u32;
         let v = page_at(g, list, words * done);
@@ -89,7 +90,7 @@ fn judge_pages(s: &[u8], g: Galley, list: &[u32]) -> Answer
             };
         }
         waiting = rules::waiting::waiting_on(s, g, at, v, waiting);
-        x += rules::waiting::waiting_at(g, Page(number), waiting.figures + waiting.tables);
+        sums = rules::counts::with_page(g, Page(number), last, laid.heights.loose, waiting, sums);
         done += 1;
         at = v;
     };

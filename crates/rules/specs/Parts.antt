@@ -13,6 +13,7 @@ use Rattle.galley.specs.declared.Galley.{Galley}
 use Rattle.galley.specs.Range.{SpecRanged}
 use Rattle.galley.specs.Model.{floatsOf, sidesIn}
 use Rattle.blocks.specs.declared.Counts.{Counts}
+use Rattle.rules.specs.declared.counts.Sums.{Sums}
 use Rattle.blocks.specs.Counts.{Within}
 
 -- The kinds on a page from u to v: how many streams it has a block of (document 02, S-4).
@@ -52,15 +53,16 @@ startFault g u v = faultFrom 13 (forward g u v) (closes g v)
 unfoldable pub leavesTurned : Galley → ℕ → ℕ
 leavesTurned g p = leaf (sidesIn g) p - leaf (sidesIn g) 1
 
--- The counts of p pages with X known.
-unfoldable pub counts : Galley → ℕ → ℕ → Answer
-counts g p x = let y = leavesTurned g p in Counted p x y (g .spec .alpha * x + g .spec .beta * y)
+-- The counts of p pages with X and W known.
+unfoldable pub counts : Galley → ℕ → Sums → Answer
+counts g p sums =
+    let y = leavesTurned g p in Counted p (sums .x) y (g .spec .alpha * sums .x + g .spec .beta * y) (sums .white)
 
 -- The answer once p pages are judged: 18 where the last does not end at the full place, else the counts.
-unfoldable pub finished : Galley → ℕ → Counts → ℕ → Answer
-finished g p at x =
+unfoldable pub finished : Galley → ℕ → Counts → Sums → Answer
+finished g p at sums =
     pick (eqb (at .lines) (g .text .count) && (eqb (at .figures) (g .figures .count) && eqb (at .tables) (g .tables .count)))
-    (counts g p x) (Refused 18 p)
+    (counts g p sums) (Refused 18 p)
 
 -- A number of pages, and a first folio, that keep every folio within 32 bits.
 pub record PageLimits (g : Galley) (pages : ℕ) : Type 0 where

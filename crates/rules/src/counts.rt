@@ -1,11 +1,40 @@
 // The counts of a list whose pages were judged.
 ghost use mathlib.Core.Path.{_≡_};
-ghost use Prim.Native.Nat.{_*_};
+ghost use Prim.Native.Nat.{_*_, _≤_};
 ghost use Rattle.rules.specs.Parts.{leavesTurned, PageLimits, CountLimits, finished};
+ghost use Rattle.rules.specs.Sums.{whiteAt, Addable, withPage};
 use blocks::Counts;
 use galley::Galley;
 use model::answer::Answer;
 use model::page::Page;
+use crate::waiting::Waiting;
+
+// What is added up page by page: X and W so far.
+pub struct Sums {
+    pub x: u32,
+    pub white: u32,
+}
+
+// What a page of this loosest height adds to W: what it lacks of htMax, and nothing where it is the last.
+pub fn white_at(g: Galley, last: bool, loose: u32) -> u32
+    ensures { λ r. ⌜ (r ≡ whiteAt g last loose) × (r ≤ g .spec .htmax) ⌝ }
+{
+    if last | (g.spec.htmax <= loose) {
+        return 0;
+    }
+    g.spec.htmax - loose
+}
+
+// The sums with one page more: so many floats wait at its end, and this is its loosest height.
+pub fn with_page(g: Galley, page: Page, last: bool, loose: u32, waiting: Waiting, sums: Sums) -> Sums
+    requires { ⌜ Addable g waiting sums ⌝ }
+    ensures { λ r. ⌜ r ≡ withPage g (page .0) last loose waiting sums ⌝ }
+{
+    Sums {
+        x: sums.x + crate::waiting::waiting_at(g, page, waiting.figures + waiting.tables),
+        white: sums.white + white_at(g, last, loose),
+    }
+}
 
 // Y: the leaves turned from the first of so many pages to the last.
 fn leaves_turned(g: Galley, pages: u32) -> u32
@@ -17,10 +46,10 @@ fn leaves_turned(g: Galley, pages: u32) -> u32
     last.0 - first.0
 }
 
-// 18 where the last page does not end at the full place, else p, X, Y, T.
-pub fn finish(g: Galley, pages: u32, at: Counts, x: u32) -> Answer
-    requires { ⌜ CountLimits g pages x ⌝ }
-    ensures { λ r. ⌜ r ≡ finished g pages at x ⌝ }
+// 18 where the last page does not end at the full place, else p, X, Y, T, W.
+pub fn finish(g: Galley, pages: u32, at: Counts, sums: Sums) -> Answer
+    requires { ⌜ CountLimits g pages (sums .x) ⌝ }
+    ensures { λ r. ⌜ r ≡ finished g pages at sums ⌝ }
 {
     if (at.lines == g.text.count)
         & ((at.figures == g.figures.count) & (at.tables == g.tables.count))
@@ -28,9 +57,10 @@ pub fn finish(g: Galley, pages: u32, at: Counts, x: u32) -> Answer
         let y = leaves_turned(g, pages);
         return Answer::Counted {
             pages,
-            x,
+            x: sums.x,
             y,
-            turns: g.spec.alpha * x + g.spec.beta * y,
+            turns: g.spec.alpha * sums.x + g.spec.beta * y,
+            white: sums.white,
         };
     }
     Answer::Refused {

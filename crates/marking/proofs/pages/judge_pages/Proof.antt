@@ -7,24 +7,23 @@ use lib.ListN.{length}
 use mathlib.Core.Path.{sym, _∙_}
 use native.Mathlib.Omega.{arith}
 use Rattle.blocks.specs.laws.Counts.{words-least}
-use Rattle.rules.specs.laws.Walked.{waiting-few, waiting-at-few}
 use Rattle.marking.specs.laws.Next.{left}
-use Rattle.marking.specs.laws.Page.{Begun, page-left, page-there, page-few, begins, begun-proper, begun-refused, begun-ahead, run-limits, run-finished, Underway, underway-bare, underway-open, underway-more, underway-less, underway-over, underway-ended, underway-next, underway-walking}
+use Rattle.marking.specs.laws.Page.{Begun, page-left, page-there, page-few, begins, begun-proper, begun-refused, begun-ahead, run-limits, run-finished, Underway, underway-bare, underway-open, underway-more, underway-less, underway-over, underway-ended, underway-next, underway-walking, underway-addable}
 use Rattle.marking.specs.laws.Run.{Run, run-start}
 use Rattle.marking.proofs.pages.judge_pages.Statement.{statement}
 use Rattle.marking.proofs.pages.judge_pages.Tie as tie
 
 abbrev Inv-loop : tie.InvT-loop
-Inv-loop s g list words pages done at waiting x number v start laid₀ laid = Underway s g list done at waiting x v start laid
+Inv-loop s g list words pages done at waiting sums number v start laid₀ laid = Underway s g list done at waiting sums v start laid
 
 abbrev μ-loop : tie.MeasureT-loop
-μ-loop s g list words pages done at waiting x number v start laid₀ laid = left (laid .on) v
+μ-loop s g list words pages done at waiting sums number v start laid₀ laid = left (laid .on) v
 
 abbrev Inv-pages : tie.InvT-pages
-Inv-pages s g list words pages done₀ at₀ waiting₀ x₀ done at waiting x = Run s g list done at waiting x
+Inv-pages s g list words pages done₀ at₀ waiting₀ sums₀ done at waiting sums = Run s g list done at waiting sums
 
 abbrev μ-pages : tie.MeasureT-pages
-μ-pages s g list words pages done₀ at₀ waiting₀ x₀ done at waiting x = pages - done
+μ-pages s g list words pages done₀ at₀ waiting₀ sums₀ done at waiting sums = pages - done
 
 pages-holds : tie.Need-pages-holds Inv-loop μ-loop Inv-pages μ-pages
 pages-holds c =
@@ -71,7 +70,7 @@ start-fault-requires c κs =
 page : (c : tie.After-start-fault Inv-loop μ-loop Inv-pages μ-pages)
     → (let st = c .before .before .before .before .before .before .before in
     let l = c .before .before .before .pages in
-    Begun (now (st .args .s)) (st .args .g) (now (st .args .list)) (l .done) (l .at) (l .waiting) (l .x) (c .before .page-at .result)
+    Begun (now (st .args .s)) (st .args .g) (now (st .args .list)) (l .done) (l .at) (l .waiting) (l .sums) (c .before .page-at .result)
     (c .start-fault .result))
 page c =
     let st = c .before .before .before .before .before .before .before in
@@ -102,35 +101,22 @@ end-fault-requires c κs = (c .before .before .before .before .before .before .b
 waiting-on-requires : tie.Need-waiting-on-requires Inv-loop μ-loop Inv-pages μ-pages
 waiting-on-requires c κs = underway-walking (c .before .before .before .before .before .before .before .loop .inv)
 
--- No more floats wait than there are.
-few : (c : tie.After-waiting-on Inv-loop μ-loop Inv-pages μ-pages)
-    → c .waiting-on .result .figures + c .waiting-on .result .tables ≤ 250
-few c = rw (c .waiting-on .ensures) (waiting-few (c .before .before .before .before .before .before .before .before .before .before .before .before .before .before .before .before .before .before .pre .sound) _)
-
-add-waiting-at : tie.Need-add-waiting-at Inv-loop μ-loop Inv-pages μ-pages
-add-waiting-at c = omega (arith, few (c .before))
-
-waiting-at-requires : tie.Need-waiting-at-requires Inv-loop μ-loop Inv-pages μ-pages
-waiting-at-requires c κs = (c .before .before .before .before .before .before .before .before .before .before .before .before .before .before .before .before .before .before .before .pre .sound .someFolio, few (c .before))
-
-add-x : tie.Need-add-x Inv-loop μ-loop Inv-pages μ-pages
-add-x c =
-    let found = c .before .before .waiting-on .result in
-    let counted = waiting-at-few (c .before .before .before .before .before .before .before .before .before .before .before .before .before .before .before .before .before .before .before .before .args .g) (c .before .before .before .before .before .before .before .before .before .before .before .before .before .before .before .before .pages .done + 1) (found .figures + found .tables) in
-    omega (arith, counted, c .waiting-at .ensures, few (c .before .before), c .before .before .before .before .before .before .before .before .before .before .before .before .before .before .before .before .pages .inv .most, low (c .before .before .before .before .before .before .before .before .before .before .before .before .before .before .before))
+with-page-requires : tie.Need-with-page-requires Inv-loop μ-loop Inv-pages μ-pages
+with-page-requires c κs =
+    underway-addable (c .before .before .before .before .before .before .before .before .loop .inv) (c .waiting-on .result) (c .waiting-on .ensures)
 
 add-done : tie.Need-add-done Inv-loop μ-loop Inv-pages μ-pages
-add-done c = omega (arith, low (c .before .before .before .before .before .before .before .before .before .before .before .before .before .before .before))
+add-done c = omega (arith, low (c .before .before .before .before .before .before .before .before .before .before .before .before .before .before))
 
 pages-less : tie.Need-pages-less Inv-loop μ-loop Inv-pages μ-pages
-pages-less c = omega (arith, more (c .before .before .before .before .before .before .before .before .before .before .before .before .before .before .before))
+pages-less c = omega (arith, more (c .before .before .before .before .before .before .before .before .before .before .before .before .before .before))
 
 pages-again : tie.Need-pages-again Inv-loop μ-loop Inv-pages μ-pages
 pages-again c =
-    let end = c .before .before .before .before .end-fault in
-    rw (c .waiting-at .ensures)
-    (underway-next (c .before .before .before .before .before .before .before .before .before .before .loop .inv) (c .before .before .before .before .before .before .before .if3 .left) (sym (c .before .before .before .before .before .before .is-laid .ensures) ∙ c .before .before .before .before .before .if4 .taken) (c .before .before .before .before .before .before .before .before .before .before .before .before .before .before .before .before .before .page-words .ensures .1) (end .result)
-    (end .ensures) (c .before .before .before .if5 .left) (c .before .before .waiting-on .result) (c .before .before .waiting-on .ensures))
+    let end = c .before .before .before .end-fault in
+    rw (c .with-page .ensures)
+    (underway-next (c .before .before .before .before .before .before .before .before .before .loop .inv) (c .before .before .before .before .before .before .if3 .left) (sym (c .before .before .before .before .before .is-laid .ensures) ∙ c .before .before .before .before .if4 .taken) (c .before .before .before .before .before .before .before .before .before .before .before .before .before .before .before .before .page-words .ensures .1) (end .result)
+    (end .ensures) (c .before .before .if5 .left) (c .before .waiting-on .result) (c .before .waiting-on .ensures))
 
 returns : tie.Need-returns Inv-loop μ-loop Inv-pages μ-pages
 returns c =
@@ -178,9 +164,7 @@ judge-pages-spec =
     add-last
     end-fault-requires
     waiting-on-requires
-    add-waiting-at
-    waiting-at-requires
-    add-x
+    with-page-requires
     add-done
     pages-less
     pages-again
