@@ -18,6 +18,10 @@ pub record Paid (e : Entry) (p x : ℕ) : Type 0 where
   pub entry : e ≡ Least own start
   pub whole : x ≡ own + p
 
+-- Its cost is small enough for white, or the height up to a line, to be added to it in 64 bits.
+abbrev pub Affordable : Entry → Type 0
+Affordable e = (x : ℕ) (r : Place) → e ≡ Least x r → x ≤ 5000000000000000000
+
 -- The entry is ahead of the start (a, b) at cost y, or is that start.
 unfoldable pub Leads : Entry → ℕ → ℕ → ℕ → Type 0
 Leads Unreached a b y = ⊥

@@ -3,11 +3,11 @@ ghost use mathlib.Core.Path.{_≡_};
 ghost use Prim.Native.Nat.{_*_, _≤_};
 ghost use Rattle.rules.specs.Parts.{leavesTurned, PageLimits, CountLimits, finished};
 ghost use Rattle.rules.specs.Sums.{whiteAt, Addable, withPage};
+use crate::waiting::Waiting;
 use blocks::Counts;
 use galley::Galley;
 use model::answer::Answer;
 use model::page::Page;
-use crate::waiting::Waiting;
 
 // What is added up page by page: X and W so far.
 pub struct Sums {
@@ -26,7 +26,14 @@ pub fn white_at(g: Galley, last: bool, loose: u32) -> u32
 }
 
 // The sums with one page more: so many floats wait at its end, and this is its loosest height.
-pub fn with_page(g: Galley, page: Page, last: bool, loose: u32, waiting: Waiting, sums: Sums) -> Sums
+pub fn with_page(
+    g: Galley,
+    page: Page,
+    last: bool,
+    loose: u32,
+    waiting: Waiting,
+    sums: Sums,
+) -> Sums
     requires { ⌜ Addable g waiting sums ⌝ }
     ensures { λ r. ⌜ r ≡ withPage g (page .0) last loose waiting sums ⌝ }
 {

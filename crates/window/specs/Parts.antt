@@ -25,6 +25,14 @@ partsOf ends c =
       rest = record { base = 8000 * c + 4000; head = getD ends (4 * c + 2) 0; tail = getD ends (4 * c + 3) 0; lacks = true };
     }
 
+-- Queues of no line.
+abbrev pub noParts : Parts
+noParts =
+    record {
+      full = record { base = 0; head = 0; tail = 0; lacks = false };
+      rest = record { base = 4000; head = 4000; tail = 4000; lacks = true };
+    }
+
 -- The later of two lines.
 unfoldable pub later : ℕ → ℕ → ℕ
 later a b = pick (ltb a b) b a

@@ -8,11 +8,10 @@ use lib.ListN.{length, getD}
 use lib.Seq.{sets}
 use lib.Dec.{ltb}
 use Rattle.model.specs.Gather.{pick}
-use Rattle.places.specs.declared.Place.{Place}
 use Rattle.places.specs.declared.Entry.{Entry}
 use Rattle.places.specs.declared.Entry.the-variants.{Unreached, Least}
 use Rattle.places.specs.Entry.{lowOf, highOf, joined}
-use Rattle.places.specs.Best.{Paid}
+use Rattle.places.specs.Best.{Paid, Affordable}
 use Rattle.places.specs.Address.{Stands}
 use Rattle.places.specs.Table.{tableOf}
 use Rattle.window.specs.First.{First}
@@ -96,9 +95,9 @@ pub record Dropped (words : List ℕ) (head tail x r : ℕ) : Type 0 where
 abbrev pub Passed : List ℕ → ℕ → ℕ → ℕ → ℕ → Type 0
 Passed words head tail low r = First (lineAt words) low head tail r
 
--- The costs of the first n lines are small enough for others to be added to them in 64 bits.
+-- The costs of the first n lines are small enough for what they add.
 abbrev pub Payable : (ℕ → Entry) → ℕ → Type 0
-Payable col n = (a x : ℕ) (r : Place) → a < n → col a ≡ Least x r → x ≤ 5000000000000000000
+Payable col n = (a : ℕ) → a < n → Affordable (col a)
 
 -- The lines of the source before `to` stand in the work area and have their sums, and the queue has room for all of them.
 pub record Feedable (work sums words : List ℕ) (source : Source) (queue : Queue) (from to : ℕ) : Type 0 where

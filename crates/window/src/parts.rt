@@ -3,7 +3,7 @@
 ghost use mathlib.Core.Path.{_≡_};
 ghost use Prim.Native.Nat.{_+_, _*_, _≤_};
 ghost use lib.ListN.{length};
-ghost use Rattle.window.specs.Parts.{partsOf, later, Movable, Moved, whitenedOf, Whitenable};
+ghost use Rattle.window.specs.Parts.{partsOf, noParts, later, Movable, Moved, whitenedOf, Whitenable};
 use crate::queue::Queue;
 use crate::queue::Source;
 use crate::slide::Window;
@@ -31,6 +31,25 @@ pub fn parts_of(ends: &[u32], c: usize) -> Parts
         base: 8000 * c + 4000,
         head: galley::word::size(ends[at + 2]),
         tail: galley::word::size(ends[at + 3]),
+        lacks: true,
+    };
+    Parts { full, rest }
+}
+
+// Both queues before the first line, from the first entry on.
+pub fn no_parts() -> Parts
+    ensures { λ r. ⌜ r ≡ noParts ⌝ }
+{
+    let full = Queue {
+        base: 0,
+        head: 0,
+        tail: 0,
+        lacks: false,
+    };
+    let rest = Queue {
+        base: 4000,
+        head: 4000,
+        tail: 4000,
         lacks: true,
     };
     Parts { full, rest }

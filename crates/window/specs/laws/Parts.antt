@@ -1,21 +1,22 @@
--- The two parts of a window: where the second starts, and that their queues stay apart.
-use Prim.Native.Nat.{ℕ, _+_, _≤_}
+-- The two parts of a window: where the second starts, and what their queues hold when something else is stored.
+use Prim.Native.Nat.{ℕ, _+_, _≤_, _<_}
 use native.Mathlib.Nat.{le-refl}
 use native.Mathlib.Omega.{arith}
 use mathlib.Core.Path.{_≡_, refl, subst, _∙_}
-use mathlib.Core.Logic.{inl, inr}
+use mathlib.Core.Logic.{_⊎_, inl, inr}
 use mathlib.Core.Bool.{Bool, true, false}
 use mathlib.Core.List.{List}
 use lib.Dec.{ltb}
 use borrow.Author.Tests.{ltb-true, ltb-false}
 use Rattle.model.specs.Gather.{pick}
+use Rattle.places.specs.declared.Entry.{Entry}
 use Rattle.window.specs.declared.slide.Window.{Window}
 use Rattle.window.specs.declared.parts.Parts.{Parts}
 use Rattle.window.specs.declared.queue.Source.{Source}
 use Rattle.window.specs.declared.queue.Queue.{Queue}
-use Rattle.window.specs.Queue.{addedOf, linesIn, Held, Advanced}
-use Rattle.window.specs.Parts.{later, restFrom, Movable, Moved}
-use Rattle.window.specs.laws.Held.{beside-line, beside-both, held-beside}
+use Rattle.window.specs.Queue.{addedOf, linesIn, Held, Beside, Advanced}
+use Rattle.window.specs.Parts.{later, restFrom, Both, Movable, Moved}
+use Rattle.window.specs.laws.Held.{held-none, held-same, beside-line, beside-both, held-beside}
 
 -- The later of two lines is no earlier than either, and no later than what is no earlier than both.
 pub later-left : (a b : ℕ) → a ≤ later a b
@@ -94,3 +95,64 @@ module _ (work sums w₀ w₁ w₂ : List ℕ) (source : Source) (parts : Parts)
         };
         beside = beside-both (one .beside) (two .beside) (omega arith, omega arith) (omega arith, omega arith);
       }
+
+-- Before the first line queues of no line hold all.
+pub both-none : (col : ℕ → Entry) (sums words : List ℕ) (base : ℕ)
+    → Both col sums words base
+    (record {
+      full = record { base = base; head = base; tail = base; lacks = false };
+      rest = record { base = base + 4000; head = base + 4000; tail = base + 4000; lacks = true };
+    })
+    (record { low = 0; split = 0; high = 0 })
+unfolding later
+both-none col sums words base =
+    record {
+      first = refl;
+      second = refl;
+      bare = refl;
+      keyed = refl;
+      full = held-none col (addedOf sums false) words base false;
+      rest = held-none col (addedOf sums true) words (base + 4000) true;
+    }
+
+-- They hold the same of a column that is the same before the ends of both parts,
+pub both-same : {col col′ : ℕ → Entry} {sums words : List ℕ} {base : ℕ} {parts : Parts} {window : Window} (top : ℕ)
+    → window .split ≤ top → window .high ≤ top → ((a : ℕ) → a < top → col′ a ≡ col a) → Both col sums words base parts window
+    → Both col′ sums words base parts window
+both-same {col} {col′} {sums} {words} {base} {parts} {window} top l m same h =
+    record {
+      first = h .first;
+      second = h .second;
+      bare = h .bare;
+      keyed = h .keyed;
+      full =
+          held-same col col′ (addedOf sums false) words (parts .full) (window .low) (window .split)
+          (λ a n. same a (omega arith)) (h .full);
+      rest =
+          held-same col col′ (addedOf sums true) words (parts .rest) (restFrom window) (window .high)
+          (λ a n. same a (omega arith)) (h .rest);
+    }
+
+-- and of words that are the same where they lie.
+pub both-beside : {col : ℕ → Entry} {sums old new : List ℕ} {base from to : ℕ} {parts : Parts} {window : Window} → window .split ≤ 4000
+    → window .high ≤ 4000 → Beside old new from to → (base + 8000 ≤ from) ⊎ (to ≤ base) → Both col sums old base parts window
+    → Both col sums new base parts window
+both-beside {col} {sums} {old} {new} {base} {from} {to} {parts} {window} l m beside apart h =
+    record {
+      first = h .first;
+      second = h .second;
+      bare = h .bare;
+      keyed = h .keyed;
+      full =
+          held-beside col (addedOf sums false) old new (parts .full) (window .low) (window .split) from to beside (out apart) (h .full);
+      rest =
+          held-beside col (addedOf sums true) old new (parts .rest) (restFrom window) (window .high) from to beside (out′ apart) (h .rest);
+    }
+  where
+    out : (base + 8000 ≤ from) ⊎ (to ≤ base) → (parts .full .base + window .split ≤ from) ⊎ (to ≤ parts .full .base)
+    out (inl p) = inl (omega (arith, h .first))
+    out (inr p) = inr (omega (arith, h .first))
+
+    out′ : (base + 8000 ≤ from) ⊎ (to ≤ base) → (parts .rest .base + window .high ≤ from) ⊎ (to ≤ parts .rest .base)
+    out′ (inl p) = inl (omega (arith, h .second))
+    out′ (inr p) = inr (omega (arith, h .second))

@@ -136,7 +136,7 @@ module _ (st : Stream) (load : Load) (window : Window) (i : ℕ) (opened : Open 
         record {
           small = λ x r e.
               let (l, n, p, c) = rest-front .may x r e in
-              omega (arith, c .whole, costs (r .line) (c .own) (c .start) n (c .entry), small (r .line) n);
+              omega (arith, c .whole, costs (r .line) n (c .own) (c .start) (c .entry), small (r .line) n);
           enough = enough;
         }
 

@@ -12,7 +12,7 @@ advance-requires c κs =
     let pre = c .before .before .before .before .before .before .before .pre in
     record {
       stands = λ a l. pre .stands a (omega (arith, pre .split));
-      costs = λ a x r l. pre .costs a x r (omega (arith, pre .split));
+      costs = λ a l. pre .costs a (omega (arith, pre .split));
       summed = omega (arith, pre .split, pre .summed);
       based = pre .held .full .based;
       order = pre .held .full .order;
@@ -26,7 +26,7 @@ advance-requires-2 c κs =
     let pre = c .before .before .before .before .before .before .before .before .before .before .before .pre in
     record {
       stands = λ a l. pre .stands a (omega (arith, pre .high));
-      costs = λ a x r l. pre .costs a x r (omega (arith, pre .high));
+      costs = λ a l. pre .costs a (omega (arith, pre .high));
       summed = omega (arith, pre .high, pre .summed);
       based = pre .held .rest .based;
       order = pre .held .rest .order;

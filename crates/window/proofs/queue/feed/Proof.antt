@@ -73,7 +73,7 @@ add-cost : tie.Need-add-cost Inv-loop μ-loop
 add-cost c =
     let start = c .before .before .before .before .before .before .before .before .before .before .before in
     let st = c .before .before .before .before .before .before .before .loop in
-    let small = start .pre .costs (st .a) _ _ (c .before .before .before .before .before .before .loop-test .taken) (read (c .before .before .before .before) ∙ c .before .entry .given .1) in
+    let small = start .pre .costs (st .a) (c .before .before .before .before .before .before .loop-test .taken) _ _ (read (c .before .before .before .before) ∙ c .before .entry .given .1) in
     omega (arith, small)
 
 add-tail : tie.Need-add-tail Inv-loop μ-loop
