@@ -3,6 +3,7 @@ pub mod Entered
 pub mod Fill
 pub mod Over
 pub mod Price
+pub mod Costs
 pub mod Queues
 pub mod Own
 pub mod NewEntry

@@ -29,8 +29,12 @@ fn last_sweep(s: &[u8], task: Task, work: &mut [u32], sums: &[u32], words: &mut 
         figures: 0,
         tables: 0,
     };
-    let mut span = Window { low: 0, high: 0 };
-    let mut ends = [0, 0, 4000, 4000];
+    let mut span = Window {
+        low: 0,
+        split: 0,
+        high: 0,
+    };
+    let mut ends = [0, 0, 4000, 4000, 8000, 8000, 12000, 12000];
     let mut i = 0;
     while i <= g.text.count {
         let at = Counts {
@@ -83,9 +87,9 @@ pub fn fill(s: &[u8], g: Galley, origin: Origin, work: &mut [u32])
     requires { ⌜ Fillable (now s) g origin (now work) ⌝ }
     ensures { λ _. ⌜ now (work .exit) ≡ filled (modelOf (now (s .entry)) g) origin (now (work .entry)) ⌝ }
 {
-    // For 4,000 lines: four sums to a line, and two words to a line for each side's queue, or for one queue and the windows.
+    // For 4,000 lines: four sums to a line, and three words to a line for each side's two queues, or for two queues and the windows.
     let mut sums = [0u32; 16004];
-    let mut words = [0u32; 16002];
+    let mut words = [0u32; 48000];
     window::sums::gather(s, g.text, &mut sums);
     fill_columns(s, Task { galley: g, origin }, work, &sums, &mut words);
 }

@@ -7,10 +7,6 @@ use Rattle.places.specs.declared.Entry.{Entry}
 use Rattle.places.specs.declared.Entry.the-variants.{Unreached, Least}
 use Rattle.places.specs.Order.{NoLater}
 
--- The entry is reached at cost x.
-abbrev pub Reached : Entry → ℕ → Type 0
-Reached e x = (r : Place) × (e ≡ Least x r)
-
 -- The entry is reached at a cost that with p more is x.
 pub record Paid (e : Entry) (p x : ℕ) : Type 0 where
   pub own : ℕ
@@ -20,7 +16,7 @@ pub record Paid (e : Entry) (p x : ℕ) : Type 0 where
 
 -- Its cost is small enough for white, or the height up to a line, to be added to it in 64 bits.
 abbrev pub Affordable : Entry → Type 0
-Affordable e = (x : ℕ) (r : Place) → e ≡ Least x r → x ≤ 5000000000000000000
+Affordable e = (x : ℕ) (r : Place) → e ≡ Least x r → x ≤ 10000000000000000000
 
 -- The entry is ahead of the start (a, b) at cost y, or is that start.
 unfoldable pub Leads : Entry → ℕ → ℕ → ℕ → Type 0

@@ -85,7 +85,7 @@ pub record Ended (g : Galley) (w : List ℕ) (i c : ℕ) (pass : Pass) : Type 0 
 -- The lines of a column stand in the work area with small costs, and their window can be found from the first line on.
 pub record LinesStand (g : Galley) (w sums : List ℕ) (load : Load) (column side : ℕ) : Type 0 where
   pub stands : (a : ℕ) → a ≤ g .text .count → Stands w (g .text .count + 1) (record { line = a; column = column }) side
-  pub costs : Payable (linesOf w (g .text .count + 1) column side) (g .text .count + 1)
+  pub costs : Payable (linesOf w (g .text .count + 1) column side) (g .text .count)
   pub slides : Slidable sums load (record { low = 0; split = 0; high = 0 }) (g .text .count)
 
 -- The entry is the best of the lines of a column in the window of the last line.

@@ -13,7 +13,6 @@ use Rattle.places.specs.declared.Entry.the-variants.{Unreached, Least}
 use Rattle.places.specs.Address.{Stands}
 use Rattle.window.specs.declared.slide.Window.{Window}
 use Rattle.window.specs.declared.queue.Source.{Source}
-use Rattle.window.specs.declared.queue.Queue.{Queue}
 use Rattle.window.specs.declared.parts.Parts.{Parts}
 use Rattle.window.specs.Queue.{lineAt, addedOf, linesIn, Held, Payable, Beside}
 
@@ -89,5 +88,5 @@ whitenedOf (Least x r) top reached = Least ((x + top) - reached) r
 
 -- The cost is small, and the page lacks something.
 pub record Whitenable (e : Entry) (top reached : ℕ) : Type 0 where
-  pub small : (x : ℕ) (r : Place) → e ≡ Least x r → x ≤ 6000000000000000000
+  pub small : (x : ℕ) (r : Place) → e ≡ Least x r → x ≤ 11000000000000000000
   pub enough : (x : ℕ) (r : Place) → e ≡ Least x r → reached ≤ x + top

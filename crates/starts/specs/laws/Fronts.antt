@@ -1,29 +1,25 @@
 -- The queues of a window's two parts: their fronts can be read, and the better of them is the best line of the window.
-use Prim.Native.Nat.{ℕ, _+_, _*_, _≤_, _<_}
+use Prim.Native.Nat.{ℕ, _≤_, _<_}
 use native.Mathlib.Nat.{le-refl}
 use native.Mathlib.Decide.{decLt}
 use native.Mathlib.Omega.{arith}
-use mathlib.Core.Path.{_≡_}
 use mathlib.Core.Logic.{_⊎_, inl, inr}
 use mathlib.Core.Bool.{true}
 use mathlib.Core.List.{List}
-use lib.ListN.{length}
 use Rattle.galley.specs.declared.Galley.{Galley}
 use Rattle.galley.specs.Model.{textOf}
-use Rattle.blocks.specs.declared.heights.Heights.{Heights}
 use Rattle.places.specs.declared.Entry.{Entry}
 use Rattle.places.specs.Best.{Best}
 use Rattle.window.specs.declared.slide.Load.{Load}
 use Rattle.window.specs.declared.slide.Window.{Window}
 use Rattle.window.specs.declared.parts.Parts.{Parts}
-use Rattle.window.specs.Slide.{whiteOf, Reachable, Slidable, Open}
-use Rattle.window.specs.Queue.{addedOf, frontOf, Lines, Payable}
-use Rattle.window.specs.Parts.{restFrom, whitenedOf, Both, Fresh}
+use Rattle.window.specs.Slide.{whiteOf, Slidable, Open}
+use Rattle.window.specs.Queue.{addedOf, Lines, Payable}
+use Rattle.window.specs.Parts.{restFrom, Both, Fresh}
 use Rattle.window.specs.laws.Sums.{sums-small}
 use Rattle.window.specs.laws.Slide.{reaches-readable}
 use Rattle.window.specs.laws.Parts.{later-left, later-least}
 use Rattle.window.specs.laws.White.{split-within, full-best, rest-best, rest-whitenable}
-use Rattle.starts.specs.Better.{chosen}
 use Rattle.starts.specs.Fronts.{bestFront, Fronted}
 use Rattle.starts.specs.Read.{columnsIn}
 use Rattle.starts.specs.Sweep.{Lent, Scratch, Summed}
@@ -45,9 +41,6 @@ module _ {bytes : List ℕ} {g : Galley} {w : List ℕ} {j : ℕ} (lent : Lent b
       (rest-best (textOf bytes (g .text)) load window i opened order (g .text .count) sums (summed .rows) line col words base b parts held
       fresh)
     where
-      white : ℕ → ℕ
-      white = whiteOf (textOf bytes (g .text)) load i
-
       within : window .split ≤ window .high
       within = split-within (textOf bytes (g .text)) load window i opened order (g .text .count) sums (summed .rows) line
 

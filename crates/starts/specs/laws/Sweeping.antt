@@ -2,7 +2,7 @@
 use Prim.Native.Nat.{ℕ, _+_, _≤_, _<_}
 use native.Mathlib.Nat.{le-refl}
 use native.Mathlib.Omega.{arith}
-use mathlib.Core.Path.{_≡_, refl, sym, ap, _∙_}
+use mathlib.Core.Path.{_≡_, refl, _∙_}
 use mathlib.Core.Bool.{true}
 use mathlib.Core.List.{List}
 use lib.ListN.{length}
@@ -55,7 +55,7 @@ module _ {bytes : List ℕ} {g : Galley} {w sums : List ℕ} {c : ℕ} {pass : P
           stands = λ a l.
               can-stand (asked .lent) a (pass .from) (sideOf g c) l (omega (arith, asked .passing .before, asked .lent .column))
               (side-either g c);
-          costs = asked .lent .costs (pass .from) c (asked .passing .before) (asked .occurs);
+          costs = λ a l. asked .lent .costs (pass .from) c (asked .passing .before) (asked .occurs) a (omega arith);
           slides =
               can-slide (asked .lent) (asked .summed) 1 (pass .heights) (le-refl 1) (asked .passing .low) (g .spec .lastmin)
               (least-low bytes g (asked .lent .sound) true) (record { low = 0; split = 0; high = 0 }) (g .text .count) (le-refl _) (omega arith)

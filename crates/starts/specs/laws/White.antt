@@ -1,6 +1,6 @@
 -- The white of a page by line and column: of one with lines it is what a window's lines tell, and of floats alone what their height does.
 use Prim.Native.Nat.{ℕ, _-_, _<_}
-use mathlib.Core.Path.{_≡_, sym, ap, _∙_}
+use mathlib.Core.Path.{_≡_, sym, _∙_}
 use mathlib.Core.Bool.{Bool}
 use Rattle.model.specs.Gather.{pick}
 use Rattle.model.specs.Height.{loosest}

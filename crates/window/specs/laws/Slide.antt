@@ -10,7 +10,7 @@ use Rattle.model.specs.laws.Height.{stacked-grows}
 use Rattle.window.specs.declared.slide.Load.{Load}
 use Rattle.window.specs.declared.slide.Window.{Window}
 use Rattle.window.specs.Sums.{Pair, Sums}
-use Rattle.window.specs.Slide.{reachedOf, Readable, Reachable, FirstBelow, Reaches, Ends, Open}
+use Rattle.window.specs.Slide.{Readable, Reachable, FirstBelow, Reaches, Ends, Open}
 use Rattle.window.specs.laws.Sums.{reach-stacked, reach-grows}
 
 -- Where nothing is passed all ends are at 0, whatever the line.

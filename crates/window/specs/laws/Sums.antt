@@ -3,7 +3,7 @@ use Prim.Native.Nat.{ℕ, zero, suc, pred, _+_, _*_, _≤_, _<_}
 use native.Mathlib.Decide.{decLe}
 use native.Mathlib.Omega.{arith}
 use mathlib.Core.Path.{_≡_, refl, sym, ap, subst, _∙_}
-use mathlib.Core.Logic.{inl}
+use mathlib.Core.Logic.{_⊎_, inl}
 use mathlib.Core.List.{List, [], _∷_}
 use lib.ListN.{length, getD}
 use lib.Seq.{length-sets}
@@ -16,7 +16,7 @@ use Rattle.places.specs.laws.Stored.{sets-out, sets-in}
 use Rattle.galley.specs.declared.Stream as galley
 use Rattle.galley.specs.Model.{textOf}
 use Rattle.galley.specs.Sound.{SoundStream}
-use Rattle.window.specs.Sums.{reach, rowPut, spacedAt, bareAt, SmallPair, Pair, Row, Sums}
+use Rattle.window.specs.Sums.{reach, rowPut, SmallPair, Pair, Row, Sums}
 use Rattle.window.specs.Run.{SumsRun}
 
 -- The lines up to i are those up to a with the space after it, and the rest.
@@ -68,15 +68,15 @@ high-next st gap k =
     let spaces = between-sum 0 k gap (omega arith) in
     rw (← e) (omega arith)
 
--- A row that is written has what was written, and every row before it is as it was.
+-- A row that is written has what was written, and every other is as it was.
 module _ (rows : List ℕ) (k first second third fourth : ℕ) where
   pub row-length : length (rowPut rows k first second third fourth) ≡ length rows
   unfolding rowPut
   row-length = length-sets rows (4 * k) (first ∷ second ∷ third ∷ fourth ∷ [])
 
-  row-other : (n : ℕ) → n < 4 * k → getD (rowPut rows k first second third fourth) n 0 ≡ getD rows n 0
+  pub row-other : (n : ℕ) → (n < 4 * k) ⊎ (4 * k + 4 ≤ n) → getD (rowPut rows k first second third fourth) n 0 ≡ getD rows n 0
   unfolding rowPut
-  row-other n h = sets-out (first ∷ second ∷ third ∷ fourth ∷ []) rows (4 * k) n (inl h)
+  row-other n h = sets-out (first ∷ second ∷ third ∷ fourth ∷ []) rows (4 * k) n h
 
   pub row-word : (d n : ℕ) → d < 4 → n ≡ 4 * k + d → 4 * k + 4 ≤ length rows
       → getD (rowPut rows k first second third fourth) n 0 ≡ getD (first ∷ second ∷ third ∷ fourth ∷ []) d 0
@@ -89,12 +89,12 @@ module _ (st : Stream) (sums : List ℕ) (k tight high loose wide : ℕ) where
   row-before q h r =
       record {
         tight = record {
-          spaced = row-other sums k tight high loose wide (2 * (2 * q + 0)) (omega arith) ∙ r .tight .spaced;
-          bare = row-other sums k tight high loose wide (2 * (2 * q + 0) + 1) (omega arith) ∙ r .tight .bare;
+          spaced = row-other sums k tight high loose wide (2 * (2 * q + 0)) (inl (omega arith)) ∙ r .tight .spaced;
+          bare = row-other sums k tight high loose wide (2 * (2 * q + 0) + 1) (inl (omega arith)) ∙ r .tight .bare;
         };
         loose = record {
-          spaced = row-other sums k tight high loose wide (2 * (2 * q + 1)) (omega arith) ∙ r .loose .spaced;
-          bare = row-other sums k tight high loose wide (2 * (2 * q + 1) + 1) (omega arith) ∙ r .loose .bare;
+          spaced = row-other sums k tight high loose wide (2 * (2 * q + 1)) (inl (omega arith)) ∙ r .loose .spaced;
+          bare = row-other sums k tight high loose wide (2 * (2 * q + 1) + 1) (inl (omega arith)) ∙ r .loose .bare;
         };
       }
 

@@ -1,10 +1,10 @@
 -- The white of a window's pages: nothing before the split, and after it what the page lacks, which differs from line to line by the height
 -- up to the line. So the front of each queue, the second with its page's white in place of that height, is the best start of its part.
-use Prim.Native.Nat.{ℕ, suc, _+_, _-_, _*_, _≤_, _<_}
+use Prim.Native.Nat.{ℕ, _+_, _-_, _≤_, _<_}
 use native.Mathlib.Nat.{le-refl}
 use native.Mathlib.Decide.{decLe}
 use native.Mathlib.Omega.{arith}
-use mathlib.Core.Path.{_≡_, refl, sym, _∙_}
+use mathlib.Core.Path.{_≡_, refl, sym}
 use mathlib.Core.Bool.{true, false}
 use mathlib.Core.List.{List}
 use Rattle.model.specs.Galley.{Stream}
@@ -12,13 +12,13 @@ use Rattle.model.specs.Height.{stacked}
 use Rattle.places.specs.declared.Place.{Place}
 use Rattle.places.specs.declared.Entry.{Entry}
 use Rattle.places.specs.declared.Entry.the-variants.{Unreached, Least}
-use Rattle.places.specs.Best.{Paid, Leads, Best}
+use Rattle.places.specs.Best.{Leads, Best}
 use Rattle.places.specs.laws.Best.{no-reach, best-none, best-least}
 use Rattle.window.specs.declared.slide.Load.{Load}
 use Rattle.window.specs.declared.slide.Window.{Window}
 use Rattle.window.specs.declared.parts.Parts.{Parts}
 use Rattle.window.specs.Sums.{Sums}
-use Rattle.window.specs.Slide.{reachedOf, whiteOf, Full, Open}
+use Rattle.window.specs.Slide.{reachedOf, whiteOf, Open}
 use Rattle.window.specs.Queue.{addedOf, frontOf, Lines, Payable}
 use Rattle.window.specs.Parts.{restFrom, whitenedOf, Whitenable, Both, Fresh}
 use Rattle.window.specs.laws.Sums.{reach-stacked}

@@ -1,9 +1,7 @@
 -- `sweep_side` meets its contract. The loop's invariant is `SideRun`: the lines above line i know the starts of the pass too.
-use Prim.Native.Nat.{_-_, _+_}
+use Prim.Native.Nat.{_-_}
 use native.Mathlib.Nat.{le-refl}
 use native.Mathlib.Omega.{arith}
-use mathlib.Core.Path.{_≡_}
-use Rattle.starts.specs.Read.{sideOf}
 use Rattle.starts.specs.Swept.{SideRun}
 use Rattle.starts.specs.laws.Lending.{lent-wide, floats-separable}
 use Rattle.starts.specs.laws.Pass.{end-inner}

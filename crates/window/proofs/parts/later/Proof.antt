@@ -1,7 +1,6 @@
 -- `later` meets its contract: by which of the lines is first, each arm is that of the definition.
 use borrow.Author.Tests.{lt-ltb, le-ltb}
 use Rattle.window.specs.Parts.{later}
-use borrow.Author.Needs.{needs}
 use Rattle.window.proofs.parts.later.Statement.{statement}
 use Rattle.window.proofs.parts.later.Tie as tie
 

@@ -1,7 +1,6 @@
 -- `move_on` meets its contract: each queue is moved on to its part, and the law of both says that what is stored for one leaves the
 -- other.
 use native.Mathlib.Omega.{arith}
-use mathlib.Core.Path.{_≡_}
 use Rattle.window.specs.laws.Parts.{parts-moved}
 use borrow.Author.Needs.{needs}
 use Rattle.window.proofs.parts.move_on.Statement.{statement}
