@@ -31,7 +31,7 @@ refused-limited (Counted p x y t w) e = let z : _≡_ {A = ℕ} 0 1 = cc in absu
 refused-limited (Refused n at) e = (omega arith, omega arith)
 
 module _ (g : model.Galley) (sane : model.Sane g) (limits : Limits g) where
-  marked-limited : (words : List ℕ) → Limited (marked g words)
+  pub marked-limited : (words : List ℕ) → Limited (marked g words)
   unfolding countsOf
   marked-limited words = go (accepted (marked g words)) refl
     where
