@@ -50,7 +50,7 @@ pub data Question : Type 0 where
   making-after : List ℕ → Question
   weighing-after : List ℕ → Question
 
--- What is answered: document 01's six numbers, the words of the list that is made, and where that is asked the pages weighed and their
+-- What is answered: the numbers of an answer, the words of the list that is made, and where that is asked the pages weighed and their
 -- ceiling.
 pub record Reply : Type 0 where
   pub numbers : Numbers
@@ -62,17 +62,19 @@ pub record Case : Type 0 where
   pub question : Question
   pub reply : Reply
 
--- A making that succeeds, with p, X, Y, T and the words of its list.
-unfoldable pub makes : ℕ → ℕ → ℕ → ℕ → List ℕ → Reply
-makes p x y t ws = record { numbers = record { number = 0; place = 0; pages = p; x = x; y = y; turns = t }; list = ws; counted = [] }
+-- A making that succeeds, with p, X, Y, T, W and the words of its list.
+unfoldable pub makes : ℕ → ℕ → ℕ → ℕ → ℕ → List ℕ → Reply
+makes p x y t w ws =
+    record { numbers = record { number = 0; place = 0; pages = p; x = x; y = y; turns = t; white = w }; list = ws; counted = [] }
 
--- A marking that accepts, with p, X, Y, T.
-unfoldable pub marks : ℕ → ℕ → ℕ → ℕ → Reply
-marks p x y t = makes p x y t []
+-- A marking that accepts, with p, X, Y, T, W.
+unfoldable pub marks : ℕ → ℕ → ℕ → ℕ → ℕ → Reply
+marks p x y t w = makes p x y t w []
 
 -- A refusal with its number and place.
 unfoldable pub refuses : ℕ → ℕ → Reply
-refuses n at = record { numbers = record { number = n; place = at; pages = 0; x = 0; y = 0; turns = 0 }; list = []; counted = [] }
+refuses n at =
+    record { numbers = record { number = n; place = at; pages = 0; x = 0; y = 0; turns = 0; white = 0 }; list = []; counted = [] }
 
 -- Nothing but the pages weighed and their ceiling.
 unfoldable pub counts : ℕ → ℕ → Reply

@@ -72,11 +72,11 @@ galleyG =
     (line 10 false ∷ line 10 true ∷ line 10 false ∷ line 10 true ∷ line 10 false ∷ [])
     (figure 10 5 ∷ figure 30 5 ∷ [])
 
--- Galley H: 301 lines of 1, 300 to a page, where a page may end after lines 255 and 300 alone.
+-- Galley H: 301 lines of 1, 300 to a page, where a page may end after lines 255 and 300 alone, and 255 lines can stretch to 300.
 unfoldable pub galleyH : Galley
 galleyH =
     galleyOf (spec 0 300 0 0 single 1 1)
-    (replicate 254 (line 1 false) ++ line 1 true ∷ replicate 44 (line 1 false) ++ line 1 true ∷ line 1 true ∷ [])
+    (replicate 254 (spaced 0 1 (line 1 false)) ++ line 1 true ∷ replicate 44 (line 1 false) ++ line 1 true ∷ line 1 true ∷ [])
     []
 
 -- Galley I: a line that cites a figure of 25 and one of 10, which do not fit on one page, double-sided from a folio on.
@@ -126,6 +126,22 @@ galleyN folio =
 -- Galley O: lines of 20, 10 and 10 on pages of up to 20, no figure.
 unfoldable pub galleyO : Galley
 galleyO = galleyOf (spec 0 20 0 0 single 1 1) (line 20 true ∷ line 10 true ∷ line 10 true ∷ []) []
+
+-- Galley P: five lines of 5 on pages of up to 20, no figure, with the sidedness and the weight of Y left open. Two lines and more
+-- stretch to 20, so that only a page of one line has white.
+unfoldable pub galleyP : Sides → ℕ → Galley
+galleyP sides β = galleyOf (spec 0 20 0 0 sides 1 β) (replicate 5 (spaced 0 20 (line 5 true))) []
+
+-- Galley Q: two lines of 5 that stretch to a page of 15, and two figures of 5 that line 1 cites, with X left out of the turns.
+unfoldable pub galleyQ : Galley
+galleyQ =
+    galleyOf (spec 0 15 0 0 single 0 1) (spaced 0 20 (line 5 true) ∷ line 5 true ∷ []) (figure 5 1 ∷ figure 5 1 ∷ [])
+
+-- Galley R: three lines of 9 and a figure that line 1 cites, on pages of up to 30, with the figure's height and both weights left
+-- open.
+unfoldable pub galleyR : ℕ → ℕ → Galley
+galleyR tall weight =
+    galleyOf (spec 0 30 0 0 single weight weight) (line 9 true ∷ line 9 true ∷ line 9 true ∷ []) (figure tall 1 ∷ [])
 
 -- A galley in which figure k is kept with the one after it.
 unfoldable pub keeping : ℕ → Galley → Galley

@@ -7,5 +7,6 @@ pub mod Requests
 pub mod Tables
 pub mod Weighings
 pub mod Openings
+pub mod Whites
 pub mod Table
 pub mod Agrees

@@ -9,16 +9,16 @@ use Rattle.cases.specs.Galleys.{galleyA, galleyB, galleyC, galleyD, gall
 unfoldable pub openingsMade : List Case
 openingsMade =
     -- nothing printed gives the ordinary answer
-    asks (galleyA 0 20 1 1) (making-after []) (makes 2 0 1 1 (1 ∷ 1 ∷ 3 ∷ 1 ∷ []))
+    asks (galleyA 0 20 1 1) (making-after []) (makes 2 0 1 1 0 (1 ∷ 1 ∷ 3 ∷ 1 ∷ []))
     -- an opening of the best list leaves it, and one that puts the figure off costs a turn
-    ∷ asks (galleyA 0 20 1 1) (making-after (1 ∷ 1 ∷ [])) (makes 2 0 1 1 (1 ∷ 1 ∷ 3 ∷ 1 ∷ []))
-    ∷ asks (galleyA 0 20 1 1) (making-after (3 ∷ 0 ∷ [])) (makes 2 1 1 2 (3 ∷ 0 ∷ 3 ∷ 1 ∷ []))
+    ∷ asks (galleyA 0 20 1 1) (making-after (1 ∷ 1 ∷ [])) (makes 2 0 1 1 0 (1 ∷ 1 ∷ 3 ∷ 1 ∷ []))
+    ∷ asks (galleyA 0 20 1 1) (making-after (3 ∷ 0 ∷ [])) (makes 2 1 1 2 0 (3 ∷ 0 ∷ 3 ∷ 1 ∷ []))
     -- two lines on the first page put every later page on the other side
-    ∷ asks (galleyC (double 1)) (making-after (2 ∷ 0 ∷ [])) (makes 4 1 2 3 (2 ∷ 0 ∷ 3 ∷ 0 ∷ 4 ∷ 0 ∷ 4 ∷ 1 ∷ []))
-    ∷ asks (galleyC (double 2)) (making-after (1 ∷ 0 ∷ [])) (makes 5 1 2 3 (1 ∷ 0 ∷ 2 ∷ 0 ∷ 3 ∷ 0 ∷ 4 ∷ 0 ∷ 4 ∷ 1 ∷ []))
+    ∷ asks (galleyC (double 1)) (making-after (2 ∷ 0 ∷ [])) (makes 4 1 2 3 0 (2 ∷ 0 ∷ 3 ∷ 0 ∷ 4 ∷ 0 ∷ 4 ∷ 1 ∷ []))
+    ∷ asks (galleyC (double 2)) (making-after (1 ∷ 0 ∷ [])) (makes 5 1 2 3 20 (1 ∷ 0 ∷ 2 ∷ 0 ∷ 3 ∷ 0 ∷ 4 ∷ 0 ∷ 4 ∷ 1 ∷ []))
     -- of what follows the latest starts, as ever
-    ∷ asks (galleyD (double 1) 1) (making-after (1 ∷ 0 ∷ [])) (makes 2 0 1 1 (1 ∷ 0 ∷ 3 ∷ 0 ∷ []))
-    ∷ asks (galleyD (double 1) 1) (making-after (1 ∷ 0 ∷ 2 ∷ 0 ∷ [])) (makes 3 0 1 1 (1 ∷ 0 ∷ 2 ∷ 0 ∷ 3 ∷ 0 ∷ []))
+    ∷ asks (galleyD (double 1) 1) (making-after (1 ∷ 0 ∷ [])) (makes 2 0 1 1 10 (1 ∷ 0 ∷ 3 ∷ 0 ∷ []))
+    ∷ asks (galleyD (double 1) 1) (making-after (1 ∷ 0 ∷ 2 ∷ 0 ∷ [])) (makes 3 0 1 1 20 (1 ∷ 0 ∷ 2 ∷ 0 ∷ 3 ∷ 0 ∷ []))
     -- the figure on page 2 is too soon for page 3, which ends its spread; a page in the middle may have it
     ∷ asks (galleyC (double 1)) (making-after (1 ∷ 0 ∷ 1 ∷ 1 ∷ [])) (refuses 11 0)
     ∷ asks galleyG (making-after (2 ∷ 0 ∷ 5 ∷ 0 ∷ [])) (refuses 11 0)

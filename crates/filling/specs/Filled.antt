@@ -3,6 +3,7 @@ use Prim.Native.Nat.{ℕ, _+_, _*_, _≤_, _<_}
 use mathlib.Core.Path.{_≡_}
 use lib.ListN.{length}
 use Rattle.model.specs.Galley.{Sides, Galley}
+use Rattle.theorems.specs.turns.Bounds.{dearest}
 use Rattle.theorems.specs.pages.Graph.{side}
 use Rattle.model.specs.laws.Rules.{placed}
 use Rattle.model.specs.laws.Lists.{Inside}
@@ -27,13 +28,18 @@ Side sides c = side sides c ≡ c
 abbrev pub placedAt : Galley → ℕ → ℕ → ℕ
 placedAt g a b = placed g (placeAt g a b)
 
--- The start of a page that ends at (a, b) lies before it, unless the search begins there; its cost is no more than α·(n + k) + β, at
--- most 251,000, for each block placed, beside what was paid at the origin; and no count is below the origin's.
+-- What a page costs is small: at most α·(n + k) + β, and no more white than htMax.
+pub record Light (g : Galley) : Type 0 where
+  pub dear : dearest g ≤ 251000
+  pub low : g .spec .htmax ≤ 100000
+
+-- The start of a page that ends at (a, b) lies before it, unless the search begins there; its cost is no more than 251,000 · 2³² + 100,000
+-- for each block placed, beside what was paid at the origin; and no count is below the origin's.
 pub record Entered (g : Galley) (from : Origin) (a b x : ℕ) (s : Place) : Type 0 where
   pub line : s .line ≤ a
   pub column : s .column ≤ b
   pub less : ((a ≡ from .place .line) × (b ≡ from .place .column) → ⊥) → placedAt g (s .line) (s .column) < placedAt g a b
-  pub dear : x ≤ from .cost + placedAt g a b * 251000
+  pub dear : x ≤ from .cost + placedAt g a b * 1078036791396000
   pub past : Inside (placeAt g a b) (placeAt g (from .place .line) (from .place .column))
 
 -- Every entry filled before place (i, q), column by column, is such a one.

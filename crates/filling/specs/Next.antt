@@ -16,9 +16,12 @@ use Rattle.places.specs.Address.{wordsNeeded}
 use Rattle.places.specs.Best.{Best}
 use Rattle.window.specs.declared.slide.Load.{Load}
 use Rattle.window.specs.declared.slide.Window.{Window}
-use Rattle.window.specs.declared.queue.Queue.{Queue}
+use Rattle.window.specs.declared.queue.Source.{Source}
+use Rattle.window.specs.declared.parts.Parts.{Parts}
 use Rattle.window.specs.Slide.{Open}
-use Rattle.window.specs.Queue.{linesOf, frontOf, queueOf, Held, QueueStands, Advanced}
+use Rattle.window.specs.Queue.{linesOf, Payable}
+use Rattle.window.specs.Parts.{partsOf, Both, Rises, Moved}
+use Rattle.starts.specs.Fronts.{bestFront, Fronted}
 use Rattle.starts.specs.Choice.{Starts, Above, Between}
 use Rattle.rules.specs.Parts.{allPlaced}
 use Rattle.starts.specs.Read.{tableIn, sideOf, searchOf, columnsIn, countsAt, loadOf}
@@ -44,10 +47,11 @@ pub record Priceable (g : Galley) (waiting : ℕ) : Type 0 where
 abbrev pub priceOf : Galley → Bool → Bool → ℕ → ℕ
 priceOf g last ends waiting = pick last 0 (pick ends (g .spec .alpha * waiting + g .spec .beta) 0)
 
--- The entries before (i, j) are filled, from an origin at which little was paid.
+-- The entries before (i, j) are filled, from an origin of the galley at which little was paid.
 pub record Next (bytes : List ℕ) (task : Task) (w : List ℕ) (i j : ℕ) : Type 0 where
   pub lent : Lent bytes (task .galley) w j
-  pub cheap : task .origin .cost ≤ 1066750000
+  pub cheap : task .origin .cost ≤ 4600000000000000000
+  pub origin : task .origin .place .column < columnsIn (task .galley)
   pub filled : Filled (modelOf bytes (task .galley)) (task .origin) (tableIn (task .galley) w) i j
 
 -- A page ends at a place of the galley, whose counts are known, where so many floats wait, and which says so much of the page.
@@ -65,35 +69,36 @@ plain g = loadOf g 0 noHeights (g .spec .htmin)
 abbrev pub StartsFor : List ℕ → Galley → List ℕ → End → (ℕ → ℕ → Type 0) → ℕ → ℕ → ℕ → Type 0
 StartsFor bytes g w end P = Starts (searchOf bytes g w (end .at .lines) (end .column) (sideOf g (end .side))) P
 
--- The lines above in the column can be weighed, and the first of the queue is the best of them but for the last page.
-pub record LinesAbove (bytes : List ℕ) (g : Galley) (w sums words : List ℕ) (queue : Queue) (end : End) : Type 0 where
+-- The lines above in the column can be weighed, and the better of the queues' fronts is the best of them but for the last page.
+pub record LinesAbove (bytes : List ℕ) (g : Galley) (w sums words : List ℕ) (parts : Parts) (end : End) : Type 0 where
   pub lent : Lent bytes g w (end .column)
   pub line : end .at .lines ≤ g .text .count
   pub counts : end .at ≡ countsAt g (end .at .lines) (end .column)
   pub full : end .stop .full ≡ allPlaced g (end .at)
   pub side : end .side ≤ 1
   pub summed : Summed bytes g sums
-  pub front : QueueStands words queue (end .column)
+  pub costs : Payable (linesOf w (g .text .count + 1) (end .column) (sideOf g (end .side))) (end .at .lines)
+  pub front : Fronted sums words parts (end .column) (plain g) (end .at .lines)
   pub best : allPlaced g (end .at) ≡ false
-      → Best (StartsFor bytes g w end (Above (end .column) (end .at .lines))) (frontOf words queue (end .column))
+      → Best (StartsFor bytes g w end (Above (end .column) (end .at .lines)))
+      (bestFront sums words parts (end .column) (plain g) (end .at .lines))
 
 -- The entry of a place on a side comes next.
-pub record EntryNext (bytes : List ℕ) (task : Task) (w sums words : List ℕ) (queue : Queue) (end : End) : Type 0 where
+pub record EntryNext (bytes : List ℕ) (task : Task) (w sums words : List ℕ) (parts : Parts) (end : End) : Type 0 where
   pub next : Next bytes task w (end .at .lines) (end .column)
   pub ending : Ending bytes (task .galley) end
   pub turns : end .turns ≡ turnsOn (task .galley) (end .side)
   pub side : Side (modelOf bytes (task .galley) .spec .sides) (end .side)
-  pub above : LinesAbove bytes (task .galley) w sums words queue end
+  pub above : LinesAbove bytes (task .galley) w sums words parts end
   pub known : Knows bytes (task .galley) w (end .at .lines) (end .column) (end .side) (Between 0 (end .column))
 
 -- The windows of line i, for pages of lines alone.
 pub record Slides (bytes : List ℕ) (g : Galley) (windows : Windows) (i : ℕ) : Type 0 where
-  pub low : windows .from .low ≤ windows .to .low
-  pub high : windows .from .high ≤ windows .to .high
+  pub rises : Rises (windows .from) (windows .to)
   pub opened : Open (textOf bytes (g .text)) (plain g) (windows .to) i
 
--- One side of a place comes next: its words hold the best start in an earlier column, and its queue the starts above.
-pub record SideNext (bytes : List ℕ) (task : Task) (w sums words : List ℕ) (queue : Queue) (windows : Windows) (end : End)
+-- One side of a place comes next: its words hold the best start in an earlier column, and its queues the starts above.
+pub record SideNext (bytes : List ℕ) (task : Task) (w sums words : List ℕ) (parts : Parts) (windows : Windows) (end : End)
     : Type 0 where
   pub next : Next bytes task w (end .at .lines) (end .column)
   pub ending : Ending bytes (task .galley) end
@@ -102,28 +107,30 @@ pub record SideNext (bytes : List ℕ) (task : Task) (w sums words : List ℕ) (
   pub slides : Slides bytes (task .galley) windows (end .at .lines)
   pub occurs : end .side < task .galley .spec .sides
   pub turns : end .turns ≡ turnsOn (task .galley) (end .side)
-  pub based : queue .base ≤ 4000
-  pub held : Held (linesOf w (task .galley .text .count + 1) (end .column) (sideOf (task .galley) (end .side))) words queue
-      (windows .from .low) (windows .from .high)
+  pub held : Both (linesOf w (task .galley .text .count + 1) (end .column) (sideOf (task .galley) (end .side))) sums words
+      (8000 * end .side) parts (windows .from)
   pub known : Knows bytes (task .galley) w (end .at .lines) (end .column) (end .side) (Between 0 (end .column))
 
--- It is filled, and its queue has moved on.
-pub record SideFilled (bytes : List ℕ) (task : Task) (w v words words′ : List ℕ) (queue : Queue) (windows : Windows) (end : End)
-    (r : Queue) : Type 0 where
-  pub filled : v ≡ fillSide (modelOf bytes (task .galley)) (task .origin) (end .at .lines) (end .column) (end .side) w
-  pub advanced : Advanced w (task .galley .text .count + 1) (end .column) (sideOf (task .galley) (end .side)) words queue
-      (windows .from .high) (windows .to) r words′
+-- The lines of the column where the page ends, on the side before.
+abbrev pub ownLines : Galley → End → Source
+ownLines g end = record { tall = g .text .count + 1; column = end .column; side = sideOf g (end .side) }
 
--- The queue of side c holds the lines of column b in a window.
-abbrev pub Holds : Galley → List ℕ → List ℕ → List ℕ → ℕ → Window → ℕ → Type 0
-Holds g w words ends b window c =
-    Held (linesOf w (g .text .count + 1) b (sideOf g c)) words (queueOf ends c) (window .low) (window .high)
+-- It is filled, and its queues have moved on.
+pub record SideFilled (bytes : List ℕ) (task : Task) (w v sums words words′ : List ℕ) (parts : Parts) (windows : Windows) (end : End)
+    (r : Parts) : Type 0 where
+  pub filled : v ≡ fillSide (modelOf bytes (task .galley)) (task .origin) (end .at .lines) (end .column) (end .side) w
+  pub moved : Moved w sums words (ownLines (task .galley) end) parts (windows .to) r words′
+
+-- The queues of side c hold the lines of column b in a window.
+abbrev pub Holds : Galley → List ℕ → List ℕ → List ℕ → List ℕ → ℕ → Window → ℕ → Type 0
+Holds g w sums words ends b window c =
+    Both (linesOf w (g .text .count + 1) b (sideOf g c)) sums words (8000 * c) (partsOf ends c) window
 
 -- The queues of the sides before n are those of the window `new`, the others those of `old`.
-pub record Queues (g : Galley) (w words ends : List ℕ) (b : ℕ) (old new : Window) (n : ℕ) : Type 0 where
-  pub pair : length ends ≡ 4
-  pub moved : (c : ℕ) → c < n → c < g .spec .sides → Holds g w words ends b new c
-  pub still : (c : ℕ) → n ≤ c → c < g .spec .sides → Holds g w words ends b old c
+pub record Queues (g : Galley) (w sums words ends : List ℕ) (b : ℕ) (old new : Window) (n : ℕ) : Type 0 where
+  pub rows : length ends ≡ 8
+  pub moved : (c : ℕ) → c < n → c < g .spec .sides → Holds g w sums words ends b new c
+  pub still : (c : ℕ) → n ≤ c → c < g .spec .sides → Holds g w sums words ends b old c
 
 -- The places of column j come line by line and side by side: those from number n on hold their best starts in earlier columns.
 abbrev pub Waits : List ℕ → Galley → List ℕ → ℕ → ℕ → Type 0
@@ -136,13 +143,13 @@ pub record PlaceNext (bytes : List ℕ) (task : Task) (w sums words ends : List 
   pub summed : Summed bytes (task .galley) sums
   pub scratch : Scratch words
   pub slides : Slides bytes (task .galley) windows (end .at .lines)
-  pub queued : Queues (task .galley) w words ends (end .column) (windows .from) (windows .to) 0
+  pub queued : Queues (task .galley) w sums words ends (end .column) (windows .from) (windows .to) 0
   pub waits : Waits bytes (task .galley) w (end .column) (2 * end .at .lines)
 
 -- All are filled.
-pub record PlaceFilled (bytes : List ℕ) (task : Task) (w v words ends : List ℕ) (windows : Windows) (end : End) : Type 0 where
+pub record PlaceFilled (bytes : List ℕ) (task : Task) (w v sums words ends : List ℕ) (windows : Windows) (end : End) : Type 0 where
   pub filled : v ≡ fillPlace (modelOf bytes (task .galley)) (task .origin) (end .at .lines) (end .column) w
-  pub queued : Queues (task .galley) v words ends (end .column) (windows .to) (windows .to) 0
+  pub queued : Queues (task .galley) v sums words ends (end .column) (windows .to) (windows .to) 0
   pub waits : Waits bytes (task .galley) v (end .column) (2 * end .at .lines + 2)
 
 -- Column j comes next.
@@ -156,13 +163,14 @@ pub record LastNext (bytes : List ℕ) (task : Task) (w sums words : List ℕ) (
   pub column : ColumnNext bytes task w sums words j
   pub known : Known bytes (task .galley) w j 0
 
--- A galley that was read, an origin at which little was paid, and a work area as long as document 01 asks.
+-- A galley that was read, an origin in one of its columns at which little was paid, and a work area as long as document 01 asks.
 pub record Fillable (bytes : List ℕ) (g : Galley) (from : Origin) (w : List ℕ) : Type 0 where
   pub sound : Sound bytes g
-  pub cheap : from .cost ≤ 1066750000
+  pub cheap : from .cost ≤ 4600000000000000000
+  pub origin : from .place .column < columnsIn g
   pub room : wordsNeeded (g .text .count) (columnsIn g) ≤ length w
 
--- The table comes next: with the sums of the lines, and room for two queues.
+-- The table comes next: with the sums of the lines, and room for four queues.
 pub record TableNext (bytes : List ℕ) (task : Task) (w sums words : List ℕ) : Type 0 where
   pub fillable : Fillable bytes (task .galley) (task .origin) w
   pub summed : Summed bytes (task .galley) sums

@@ -17,7 +17,7 @@ use Rattle.filling.specs.Filled.{Filled}
 use Rattle.filling.specs.Next.{plain, Queues, Waits}
 
 -- The sides before c of a place are filled.
-pub record SidesRun (bytes : List ℕ) (task : Task) (w₀ w words₀ words ends₀ ends : List ℕ) (windows : Windows) (end : End) (c : ℕ)
+pub record SidesRun (bytes : List ℕ) (task : Task) (w₀ w sums words₀ words ends₀ ends : List ℕ) (windows : Windows) (end : End) (c : ℕ)
     : Type 0 where
   pub within : c ≤ task .galley .spec .sides
   pub sized : length w ≡ length w₀
@@ -25,12 +25,12 @@ pub record SidesRun (bytes : List ℕ) (task : Task) (w₀ w words₀ words ends
   pub endsSized : length ends ≡ length ends₀
   pub filled : w ≡ fillSides (modelOf bytes (task .galley)) (task .origin) (end .at .lines) (end .column) c w₀
   pub entries : Filled (modelOf bytes (task .galley)) (task .origin) (tableIn (task .galley) w) (end .at .lines) (end .column)
-  pub queued : Queues (task .galley) w words ends (end .column) (windows .from) (windows .to) c
+  pub queued : Queues (task .galley) w sums words ends (end .column) (windows .from) (windows .to) c
   pub waits : Waits bytes (task .galley) w (end .column) (2 * end .at .lines + c)
 
 -- Column j is filled above line i, and the queues are those of the window of the line above: the words are now w, and what is left of
 -- the column makes them what the whole makes of w₀.
-pub record LastRun (bytes : List ℕ) (task : Task) (w₀ w words₀ words : List ℕ) (j : ℕ) (waiting : Waiting) (window : Window)
+pub record LastRun (bytes : List ℕ) (task : Task) (w₀ w sums words₀ words : List ℕ) (j : ℕ) (waiting : Waiting) (window : Window)
     (ends : List ℕ) (i : ℕ) : Type 0 where
   pub within : i ≤ suc (task .galley .text .count)
   pub sized : length w ≡ length w₀
@@ -40,7 +40,7 @@ pub record LastRun (bytes : List ℕ) (task : Task) (w₀ w words₀ words : Lis
   pub run : fillColumn (modelOf bytes (task .galley)) (task .origin) j (suc (task .galley .text .count) - i) i w
       ≡ fillColumn (modelOf bytes (task .galley)) (task .origin) j (suc (task .galley .text .count)) 0 w₀
   pub slid : Ends (textOf bytes (task .galley .text)) (plain (task .galley)) window i
-  pub queued : Queues (task .galley) w words ends j window window 0
+  pub queued : Queues (task .galley) w sums words ends j window window 0
   pub waits : Waits bytes (task .galley) w j (2 * i)
 
 -- The columns before j are filled.

@@ -3,8 +3,10 @@ pub mod Entered
 pub mod Fill
 pub mod Over
 pub mod Price
+pub mod Costs
 pub mod Queues
 pub mod Own
 pub mod NewEntry
 pub mod Sides
+pub mod Skip
 pub mod Column

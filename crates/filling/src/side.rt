@@ -12,7 +12,8 @@ use blocks::heights::Heights;
 use galley::Galley;
 use places::Entry;
 use places::Origin;
-use window::queue::Queue;
+use window::parts::Parts;
+use window::queue::Source;
 use window::slide::Window;
 
 // What is to be filled: the table of a galley, from an origin on.
@@ -39,24 +40,24 @@ pub struct End {
 }
 
 // The best of the lines above in the column itself, as starts of a page that ends at a place. The last page may be short, and the
-// queue holds only the starts of full pages.
+// queues hold only the starts of pages that are high enough.
 fn lines_above(
     s: &[u8],
     g: Galley,
     work: &[u32],
     sums: &[u32],
     words: &[u32],
-    queue: Queue,
+    parts: Parts,
     end: End,
 ) -> Entry
-    requires { ⌜ LinesAbove (now s) g (now work) (now sums) (now words) queue end ⌝ }
+    requires { ⌜ LinesAbove (now s) g (now work) (now sums) (now words) parts end ⌝ }
     ensures { λ r. ⌜ Best (Starts (searchOf (now (s .entry)) g (now (work .entry)) (end .at .lines) (end .column) (sideOf g (end .side))) (Above (end .column) (end .at .lines))) r ⌝ }
 {
-    if !end.stop.full {
-        return window::queue::front(words, queue, end.column);
-    }
-    let least = rules::rules::floor_of(g, true);
+    let least = rules::rules::floor_of(g, end.stop.full);
     let load = starts::read::load_of(g, 0, Heights { tight: 0, loose: 0 }, least);
+    if !end.stop.full {
+        return starts::fronts::best_front(sums, words, parts, end.column, load, end.at.lines);
+    }
     let side = starts::read::side_before(g, end.side);
     starts::last::last_lines(g, work, sums, load, end.column, side)
 }
@@ -68,10 +69,10 @@ fn new_entry(
     work: &[u32],
     sums: &[u32],
     words: &[u32],
-    queue: Queue,
+    parts: Parts,
     end: End,
 ) -> Entry
-    requires { ⌜ EntryNext (now s) task (now work) (now sums) (now words) queue end ⌝ }
+    requires { ⌜ EntryNext (now s) task (now work) (now sums) (now words) parts end ⌝ }
     ensures { λ r. ⌜ r ≡ newEntry (modelOf (now (s .entry)) (task .galley)) (task .origin) (tableIn (task .galley) (now (work .entry))) (end .at .lines) (end .column) (end .side) ⌝ }
 {
     let g = task.galley;
@@ -85,48 +86,45 @@ fn new_entry(
     }
     let place = places::place_of(end.at.lines, end.column);
     let held = places::entry_of(work, g.text.count + 1, place, end.side);
-    let lines = lines_above(s, g, work, sums, words, queue, end);
+    let lines = lines_above(s, g, work, sums, words, parts, end);
     let start = starts::choice::choose(held, lines);
     let Entry::Least(x, from) = start else {
         return Entry::Unreached;
     };
     let price = crate::price::price(g, end.stop.full, end.turns, end.waiting);
-    Entry::Least(x + price, from)
+    Entry::Least(x + places::joined(0, price), from)
 }
 
-// One side of a place: the queue moved on to the window of its line, and the entry stored.
+// One side of a place: the queues moved on to the window of its line, and the entry stored.
 fn fill_side(
     s: &[u8],
     task: Task,
     work: &mut [u32],
     sums: &[u32],
     words: &mut [u32],
-    queue: Queue,
+    parts: Parts,
     windows: Windows,
     end: End,
-) -> Queue
-    requires { ⌜ SideNext (now s) task (now work) (now sums) (now words) queue windows end ⌝ }
-    ensures { λ r. ⌜ SideFilled (now (s .entry)) task (now (work .entry)) (now (work .exit)) (now (words .entry)) (now (words .exit)) queue windows end r ⌝ }
+) -> Parts
+    requires { ⌜ SideNext (now s) task (now work) (now sums) (now words) parts windows end ⌝ }
+    ensures { λ r. ⌜ SideFilled (now (s .entry)) task (now (work .entry)) (now (work .exit)) (now (sums .entry)) (now (words .entry)) (now (words .exit)) parts windows end r ⌝ }
 {
     let tall = task.galley.text.count + 1;
-    let side = starts::read::side_before(task.galley, end.side);
-    let moved = window::queue::advance(
-        work,
+    let source = Source {
         tall,
-        end.column,
-        side,
-        words,
-        queue,
-        windows.from.high,
-        windows.to,
-    );
+        column: end.column,
+        side: starts::read::side_before(task.galley, end.side),
+    };
+    let from = windows.from;
+    let to = windows.to;
+    let moved = window::parts::move_on(work, sums, words, source, parts, from, to);
     let entry = new_entry(s, task, work, sums, words, moved, end);
     let place = places::place_of(end.at.lines, end.column);
     places::store(work, tall, place, end.side, entry);
     moved
 }
 
-// Every side that occurs, from side 0 on, each with its queue, whose head and tail stand in `ends`.
+// Every side that occurs, from side 0 on, each with its two queues, whose heads and tails stand in `ends`.
 pub fn fill_place(
     s: &[u8],
     task: Task,
@@ -138,7 +136,7 @@ pub fn fill_place(
     end: End,
 )
     requires { ⌜ PlaceNext (now s) task (now work) (now sums) (now words) (now ends) windows end ⌝ }
-    ensures { λ _. ⌜ PlaceFilled (now (s .entry)) task (now (work .entry)) (now (work .exit)) (now (words .exit)) (now (ends .exit)) windows end ⌝ }
+    ensures { λ _. ⌜ PlaceFilled (now (s .entry)) task (now (work .entry)) (now (work .exit)) (now (sums .entry)) (now (words .exit)) (now (ends .exit)) windows end ⌝ }
 {
     let ending = crate::price::ending_side(task.galley);
     let mut c = 0;
@@ -153,9 +151,18 @@ pub fn fill_place(
             waiting: end.waiting,
             stop,
         };
-        let queue = window::queue::queue_of(ends, c);
-        let moved = fill_side(s, task, work, sums, words, queue, windows, here);
-        window::queue::push(ends, c, moved.head as u32, moved.tail as u32);
+        let parts = window::parts::parts_of(ends, c);
+        let moved = fill_side(s, task, work, sums, words, parts, windows, here);
+        let full = moved.full;
+        let rest = moved.rest;
+        window::sums::put_row(
+            ends,
+            c,
+            full.head as u32,
+            full.tail as u32,
+            rest.head as u32,
+            rest.tail as u32,
+        );
         c += 1;
     }
 }

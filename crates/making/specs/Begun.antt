@@ -13,6 +13,7 @@ use Rattle.galley.specs.declared.Galley.{Galley}
 use Rattle.galley.specs.Model.{modelOf}
 use Rattle.blocks.specs.declared.Counts.{Counts}
 use Rattle.blocks.specs.Counts.{Within}
+use Rattle.rules.specs.declared.counts.Sums.{Sums}
 use Rattle.rules.specs.Parts.{CountLimits, printedCost}
 use Rattle.places.specs.declared.Origin.{Origin}
 use Rattle.starts.specs.Read.{FewFloats}
@@ -20,21 +21,22 @@ use Rattle.making.specs.declared.opening.Begun.{Begun}
 use Rattle.making.specs.declared.opening.Begun.the-variants as begun
 use Rattle.making.specs.Shown.{originOf, Proper}
 
--- The origin after so many pages, which end with these counts, where so many floats waited at the ends of leaves.
-abbrev pub originAfter : Galley → ℕ → Counts → ℕ → Origin
-originAfter g pages at x =
+-- The origin after so many pages, which end with these counts, where so many floats waited at the ends of leaves and so much white was
+-- left.
+abbrev pub originAfter : Galley → ℕ → Counts → Sums → Origin
+originAfter g pages at sums =
     record {
       place = record { line = at .lines; column = at .figures * (g .tables .count + 1) + at .tables };
       pages = pages;
-      cost = printedCost g pages x;
+      cost = printedCost g pages sums;
     }
 
 -- Pages that end within a galley that keeps to the limits, after which one more has room.
-pub record Ending (g : Galley) (pages : ℕ) (at : Counts) (x : ℕ) : Type 0 where
+pub record Ending (g : Galley) (pages : ℕ) (at : Counts) (sums : Sums) : Type 0 where
   pub lines : g .text .count ≤ 4000
   pub floats : FewFloats g
   pub placed : Within g at
-  pub limits : CountLimits g (pages + 1) x
+  pub limits : CountLimits g (pages + 1) (sums .x)
 
 -- The words name an opening that nothing turns away, and making begins at the origin that it leads to.
 pub record Opened (bytes : List ℕ) (g : Galley) (ws : List ℕ) (from : Origin) : Type 0 where
@@ -42,7 +44,7 @@ pub record Opened (bytes : List ℕ) (g : Galley) (ws : List ℕ) (from : Origin
   pub whole : Whole (modelOf bytes g) ws
   pub is : originOf (modelOf bytes g) from ≡ after (modelOf bytes g) (pagesOf (modelOf bytes g) ws)
   pub proper : Proper (modelOf bytes g) (from .place)
-  pub cheap : from .cost ≤ 1066750000
+  pub cheap : from .cost ≤ 4600000000000000000
 
 -- What turns the opening away.
 abbrev pub told : Begun → Option Answer

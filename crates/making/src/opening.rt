@@ -9,6 +9,7 @@ use blocks::Counts;
 use galley::Galley;
 use marking::opening::Opening;
 use places::Origin;
+use rules::counts::Sums;
 
 // Where making begins, or what turns the opening away.
 pub enum Begun {
@@ -16,16 +17,17 @@ pub enum Begun {
     From(Origin),
 }
 
-// The origin after so many pages, which end with these counts, where so many floats waited at the ends of leaves.
-fn origin_after(g: Galley, pages: u32, at: Counts, x: u32) -> Origin
-    requires { ⌜ Ending g pages at x ⌝ }
-    ensures { λ r. ⌜ r ≡ originAfter g pages at x ⌝ }
+// The origin after so many pages, which end with these counts, where so many floats waited at the ends of leaves and so much white was
+// left.
+fn origin_after(g: Galley, pages: u32, at: Counts, sums: Sums) -> Origin
+    requires { ⌜ Ending g pages at sums ⌝ }
+    ensures { λ r. ⌜ r ≡ originAfter g pages at sums ⌝ }
 {
     let column = at.figures * (g.tables.count + 1) + at.tables;
     Origin {
         place: places::place_of(at.lines, column),
         pages,
-        cost: rules::counts::printed_cost(g, pages, x),
+        cost: rules::counts::printed_cost(g, pages, sums),
     }
 }
 
@@ -37,7 +39,7 @@ pub fn begin_after(s: &[u8], g: Galley, opening: &[u32]) -> Begun
     let judged = marking::opening::judge_opening(s, g, opening);
     match judged {
         Opening::Refused { number, place } => Begun::Refused { number, place },
-        Opening::Ends { pages, at, x } => Begun::From(origin_after(g, pages, at, x)),
+        Opening::Ends { pages, at, sums } => Begun::From(origin_after(g, pages, at, sums)),
     }
 }
 

@@ -11,11 +11,13 @@ use Rattle.model.specs.Galley as model
 use Rattle.model.specs.Rules.{broken}
 use Rattle.model.specs.Answers.{pagesOf}
 use Rattle.model.specs.Opening.{endOf, openingTurned}
+use Rattle.model.specs.laws.White.{pageWhite}
 use Rattle.theorems.specs.turns.Waiting.{waiting, pageSum, atEnd}
 use Rattle.galley.specs.declared.Galley.{Galley}
 use Rattle.galley.specs.Model.{modelOf}
 use Rattle.blocks.specs.declared.Counts.{Counts}
 use Rattle.blocks.specs.Counts.{placeOf, Within}
+use Rattle.rules.specs.declared.counts.Sums.{Sums}
 use Rattle.rules.specs.Parts.{allPlaced}
 use Rattle.marking.specs.declared.pages.Judged.{Judged}
 use Rattle.marking.specs.declared.pages.Judged.the-variants.{Broken, Kept}
@@ -42,34 +44,45 @@ firstFault bytes g ws last = faultIn (modelOf bytes g) last 1 (model.zeros (mode
 unfoldable pub waited : List ℕ → Galley → ℕ → List model.Place → ℕ
 waited bytes g = pageSum (atEnd (modelOf bytes g .spec .sides) (waiting (modelOf bytes g)))
 
--- Every page places a block at least: the last ends at these counts, and so many floats waited.
-pub record KeptPages (bytes : List ℕ) (g : Galley) (ws : List ℕ) (at : Counts) (x : ℕ) : Type 0 where
+-- The white of pages numbered from q that start at place u, summed; page `last` alone adds none (document 02, S-10).
+unfoldable pub lacked : model.Galley → ℕ → ℕ → model.Place → List model.Place → ℕ
+lacked g last q u [] = 0
+lacked g last q u (v ∷ vs) = pageWhite g (eqb q last) u v + lacked g last (suc q) v vs
+
+-- That of all pages of a list of words.
+abbrev pub allLacked : List ℕ → Galley → List ℕ → ℕ → ℕ
+allLacked bytes g ws last = lacked (modelOf bytes g) last 1 (model.zeros (modelOf bytes g)) (pagesOf (modelOf bytes g) ws)
+
+-- Every page places a block at least: the last ends at these counts, so many floats waited, and so much white was left.
+pub record KeptPages (bytes : List ℕ) (g : Galley) (ws : List ℕ) (last : ℕ) (at : Counts) (sums : Sums) : Type 0 where
   pub placed : Within g at
   pub ends : placeOf g at ≡ endOf (model.zeros (modelOf bytes g)) (pagesOf (modelOf bytes g) ws)
-  pub waits : x ≡ waited bytes g 1 (pagesOf (modelOf bytes g) ws)
+  pub waits : sums .x ≡ waited bytes g 1 (pagesOf (modelOf bytes g) ws)
   pub few : pagesIn g ws ≤ at .lines + at .figures + at .tables
-  pub most : x ≤ 250 * pagesIn g ws
+  pub most : sums .x ≤ 250 * pagesIn g ws
+  pub whitens : sums .white ≡ allLacked bytes g ws last
 
 -- The refusal that was found.
 abbrev pub told : Judged → Option Answer
 told (Broken n q) = some (Refused n q)
-told (Kept at x) = none
+told (Kept at sums) = none
 
 -- The pages of a list are judged, of which page `last` counts as the last.
 pub record JudgedPages (bytes : List ℕ) (g : Galley) (ws : List ℕ) (last : ℕ) (r : Judged) : Type 0 where
   pub fault : told r ≡ firstFault bytes g ws last
-  pub kept : (at : Counts) (x : ℕ) → r ≡ Kept at x → KeptPages bytes g ws at x
+  pub kept : (at : Counts) (sums : Sums) → r ≡ Kept at sums → KeptPages bytes g ws last at sums
 
 -- What turns an opening away.
 abbrev pub turned : Opening → Option Answer
 turned (opening.Refused n at) = some (Refused n at)
-turned (opening.Ends pages at x) = none
+turned (opening.Ends pages at sums) = none
 
 -- 21 where everything is placed, else the end of an opening of so many pages.
-abbrev pub Ended : Galley → ℕ → Counts → ℕ → Opening → Type 0
-Ended g pages at x r = r ≡ pick (allPlaced g at) (opening.Refused 21 pages) (opening.Ends pages at x)
+abbrev pub Ended : Galley → ℕ → Counts → Sums → Opening → Type 0
+Ended g pages at sums r = r ≡ pick (allPlaced g at) (opening.Refused 21 pages) (opening.Ends pages at sums)
 
 -- The words of an opening are judged.
 pub record OpeningJudged (bytes : List ℕ) (g : Galley) (ws : List ℕ) (r : Opening) : Type 0 where
   pub told : turned r ≡ openingTurned (modelOf bytes g) ws
-  pub kept : (pages : ℕ) (at : Counts) (x : ℕ) → r ≡ opening.Ends pages at x → (pages ≡ pagesIn g ws) × KeptPages bytes g ws at x
+  pub kept : (pages : ℕ) (at : Counts) (sums : Sums) → r ≡ opening.Ends pages at sums
+      → (pages ≡ pagesIn g ws) × KeptPages bytes g ws 0 at sums

@@ -12,6 +12,7 @@ use blocks::Counts;
 use galley::Galley;
 use model::answer::Answer;
 use model::page::Page;
+use rules::counts::Sums;
 use rules::waiting::Waiting;
 
 // The place where a page ends whose words stand from number `from` on. Without tables a page has no third word.
@@ -37,10 +38,10 @@ fn page_at(g: Galley, list: &[u32], from: usize) -> Counts
 }
 
 // How pages are judged: the first page that breaks a rule, and there the first of 13 to 17; or where the last page ends, and the floats
-// that wait at the ends of leaves, summed.
+// that wait at the ends of leaves and the white of the pages, summed.
 pub enum Judged {
     Broken { number: u32, page: u32 },
-    Kept { at: Counts, x: u32 },
+    Kept { at: Counts, sums: Sums },
 }
 
 // The pages of a list judged, of which page number `last` counts as the last of its list: none does where that is 0.
@@ -60,10 +61,10 @@ pub fn judge_pages(s: &[u8], g: Galley, list: &[u32], last: usize) -> Judged
         figures: 0,
         tables: 0,
     };
-    let mut x: u32 = 0;
+    let mut sums = Sums { x: 0, white: 0 };
     let judged = 'pages: loop {
         if done == pages {
-            break 'pages Judged::Kept { at, x };
+            break 'pages Judged::Kept { at, sums };
         }
         let number = (done + 1) as u32;
         let v = page_at(g, list, words * done);
@@ -96,7 +97,14 @@ pub fn judge_pages(s: &[u8], g: Galley, list: &[u32], last: usize) -> Judged
             };
         }
         waiting = rules::waiting::waiting_on(s, g, at, v, waiting);
-        x += rules::waiting::waiting_at(g, Page(number), waiting.figures + waiting.tables);
+        sums = rules::counts::with_page(
+            g,
+            Page(number),
+            closing,
+            laid.heights.loose,
+            waiting,
+            sums,
+        );
         done += 1;
         at = v;
     };
@@ -114,7 +122,7 @@ fn judge_list(s: &[u8], g: Galley, list: &[u32], pages: usize) -> Answer
             number,
             place: page,
         },
-        Judged::Kept { at, x } => rules::counts::finish(g, pages as u32, at, x),
+        Judged::Kept { at, sums } => rules::counts::finish(g, pages as u32, at, sums),
     }
 }
 

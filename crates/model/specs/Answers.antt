@@ -1,5 +1,5 @@
--- The marking of a list of words, and the six numbers that an answer stands for (document 01, "Marking"). The types `Answer`
--- and `Numbers` are those of src/answer.rt.
+-- The marking of a list of words, and the seven numbers that an answer stands for (document 01, "Marking"; document 02, S-10). The
+-- types `Answer` and `Numbers` are those of src/answer.rt.
 use Prim.Native.Nat.{ℕ, zero, suc, pred, _*_, _/_, _%_}
 use mathlib.Core.Bool.{Bool, true, false, _&&_}
 use mathlib.Core.List.{List, [], _∷_, _++_}
@@ -12,15 +12,16 @@ use Rattle.model.specs.Gather.{pick}
 use Rattle.model.specs.Galley.{Galley, Place, streams, zeros, sizes, blocks}
 use Rattle.model.specs.Rules.{broken}
 use Rattle.model.specs.Turns.{xOf, yOf, turns}
+use Rattle.model.specs.White.{white}
 
--- Number, place, p, X, Y, T of each case of an answer (document 01, "Numbers that turn work away").
+-- Number, place, p, X, Y, T, W of each case of an answer (document 01, "Numbers that turn work away"; document 02, S-10).
 abbrev pub numbersOf : Answer → Numbers
-numbersOf (Counted p x y t) = record { number = 0; place = 0; pages = p; x = x; y = y; turns = t }
-numbersOf (Refused n at) = record { number = n; place = at; pages = 0; x = 0; y = 0; turns = 0 }
+numbersOf (Counted p x y t w) = record { number = 0; place = 0; pages = p; x = x; y = y; turns = t; white = w }
+numbersOf (Refused n at) = record { number = n; place = at; pages = 0; x = 0; y = 0; turns = 0; white = 0 }
 
 -- The answer is that of a list that is accepted, and no refusal (document 01, "Marking").
 abbrev pub accepted : Answer → Bool
-accepted (Counted p x y t) = true
+accepted (Counted p x y t w) = true
 accepted (Refused n at) = false
 
 -- A page list's words, k of them a page, as p places (document 01, "One page").
@@ -64,9 +65,9 @@ unfoldable pub judge : Galley → Answer → ℕ → Place → List Place → An
 judge g good q u [] = pick (same u (sizes g)) good (Refused 18 (pred q))
 judge g good q u (v ∷ vs) = refuse (broken g q (ended vs) u v) q (judge g good (suc q) v vs)
 
--- Page count and turns of a list of pages: p, X, Y, T (document 01, "Marking").
+-- Page count, turns and white of a list of pages: p, X, Y, T (document 01, "Marking") and W (document 02, S-10).
 unfoldable pub countsOf : Galley → List Place → Answer
-countsOf g ps = Counted (length ps) (xOf g ps) (yOf g ps) (turns g ps)
+countsOf g ps = Counted (length ps) (xOf g ps) (yOf g ps) (turns g ps) (white g ps)
 
 -- The answer of marking a list of words for a galley that reads without refusal: 12 before any page, then the pages, then 18
 -- (document 01, "Marking").

@@ -59,7 +59,8 @@ unfoldable pub firstOf : {A : Type 0} → (A → A → Bool) → List A → Opti
 firstOf le [] = none
 firstOf le (x ∷ xs) = elim (firstOf le xs) [ none ↦ some x | some y ↦ some (pick (le x y) x y) ]
 
--- The best list: of all valid lists the first by turns and then by the tie order (document 01, "Making").
+-- The best list: of all valid lists the first by turns, then by white, then by the tie order (document 01, "Making"; document 02,
+-- S-10).
 unfoldable pub best : Galley → Option (List Place)
 best g = firstOf (before g) (valid g)
 

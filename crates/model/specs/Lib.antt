@@ -5,6 +5,7 @@ pub mod Height
 pub mod Leaf
 pub mod Rules
 pub mod Turns
+pub mod White
 pub mod Answers
 pub mod Pagination
 pub mod Order

@@ -1,5 +1,5 @@
--- The order in which valid lists are preferred: least turns, then document 01's ties ("Making"). Orders are tests that hold
--- where the first comes no later than the second.
+-- The order in which valid lists are preferred: least turns, then least white (document 02, S-10), then document 01's ties
+-- ("Making"). Orders are tests that hold where the first comes no later than the second.
 use Prim.Native.Nat.{ℕ, _%_}
 use mathlib.Core.Bool.{Bool, true, false, _&&_}
 use mathlib.Core.List.{List, [], _∷_}
@@ -9,6 +9,7 @@ use Rattle.model.specs.Gather.{implies}
 use Rattle.model.specs.Galley.{Sides, single, double, Galley, Place, zeros}
 use Rattle.model.specs.Leaf.{folioOf}
 use Rattle.model.specs.Turns.{turns}
+use Rattle.model.specs.White.{white}
 
 -- By the first order, and where that takes two as equal by the second (document 01, "Making": one tie after another).
 unfoldable pub thenBy : {A : Type 0} → (A → A → Bool) → (A → A → Bool) → A → A → Bool
@@ -39,10 +40,11 @@ unfoldable pub startsOf : Place → List Place → List Place → List Place
 startsOf u [] after = after
 startsOf u (v ∷ vs) after = startsOf v vs (u ∷ after)
 
--- The first list is preferred to the second, or is as good: by turns; in double-sided work by evenness of the last folio; then
--- by the starts of the pages, the last page's first, each by its line and then its float of each stream (document 01,
--- "Making").
+-- The first list is preferred to the second, or is as good: by turns; by white (document 02, S-10); in double-sided work by
+-- evenness of the last folio; then by the starts of the pages, the last page's first, each by its line and then its float of
+-- each stream (document 01, "Making").
 unfoldable pub before : Galley → List Place → List Place → Bool
 before g =
     thenBy (by (turns g) leb)
-    (thenBy (by (λ ps. oddly (g .spec .sides) (length ps)) leb) (by (λ ps. startsOf (zeros g) ps []) (lex (lex geb))))
+    (thenBy (by (white g) leb)
+    (thenBy (by (λ ps. oddly (g .spec .sides) (length ps)) leb) (by (λ ps. startsOf (zeros g) ps []) (lex (lex geb)))))

@@ -66,3 +66,7 @@ xOn g P =
 -- Turn.S in single-sided work and Turn.D in double-sided work, of a pagination on p pages: section 3.
 unfoldable pub turnsOn : Galley → ℕ → Map → ℕ
 turnsOn g p P = g .spec .alpha * xOn g P + g .spec .beta * (leaf (g .spec .sides) p - leaf (g .spec .sides) 1)
+
+-- W of a pagination on p pages: what each page but the last lacks of htMax at its loosest (document 02, S-10).
+unfoldable pub whiteOver : Galley → ℕ → Map → ℕ
+whiteOver g p P = sum (pred p) (λ q. g .spec .htmax - heightOn g (λ st. st .most) (g .spec .smax) P q)

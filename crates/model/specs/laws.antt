@@ -7,6 +7,7 @@ pub mod Judge
 pub mod Words
 pub mod Lists
 pub mod Valid
+pub mod White
 pub mod Order
 pub mod Best
 pub mod Opening

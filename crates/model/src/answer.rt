@@ -8,6 +8,7 @@ pub enum Answer {
         x: u32,
         y: u32,
         turns: u32,
+        white: u32,
     },
     Refused {
         number: u32,
@@ -15,7 +16,7 @@ pub enum Answer {
     },
 }
 
-// An answer as the six numbers of document 01: in a refusal the counts are 0, in a success number and place are.
+// An answer as the six numbers of document 01 and its white: in a refusal the counts are 0, in a success number and place are.
 pub struct Numbers {
     pub number: u32,
     pub place: u32,
@@ -23,19 +24,27 @@ pub struct Numbers {
     pub x: u32,
     pub y: u32,
     pub turns: u32,
+    pub white: u32,
 }
 
-pub fn six_numbers(answer: Answer) -> Numbers
+pub fn numbers_of(answer: Answer) -> Numbers
     ensures { λ r. ⌜ r ≡ numbersOf answer ⌝ }
 {
     match answer {
-        Answer::Counted { pages, x, y, turns } => Numbers {
+        Answer::Counted {
+            pages,
+            x,
+            y,
+            turns,
+            white,
+        } => Numbers {
             number: 0,
             place: 0,
             pages,
             x,
             y,
             turns,
+            white,
         },
         Answer::Refused { number, place } => Numbers {
             number,
@@ -44,6 +53,7 @@ pub fn six_numbers(answer: Answer) -> Numbers
             x: 0,
             y: 0,
             turns: 0,
+            white: 0,
         },
     }
 }

@@ -1,13 +1,13 @@
 // The work area of lent memory, in which each place's least cost is kept: document 01, "Making".
 //
-// A place has eight words, four for each side of the page that ends there: the tag, which is 1 where the place is reached,
-// the cost, and the line and column that the page starts at. Places stand column by column.
+// A place has ten words, five for each side of the page that ends there: the tag, which is 1 where the place is reached, the cost
+// in two words, the low one first, and the line and column that the page starts at. Places stand column by column.
 ghost use mathlib.Core.Path.{_≡_};
 ghost use Prim.Native.Nat.{_+_, _≤_};
 ghost use mathlib.Core.List.{[], _∷_};
 ghost use lib.ListN.{length};
 ghost use lib.Seq.{sets};
-ghost use Rattle.places.specs.Entry.{less, entryAt, stored, cleared};
+ghost use Rattle.places.specs.Entry.{less, lowOf, highOf, joined, entryAt, stored, cleared};
 ghost use Rattle.places.specs.Address.{address, wordsNeeded, Inside, Small, Limited, Stands};
 ghost use Rattle.places.specs.Table.{tableOf};
 
@@ -19,17 +19,17 @@ pub struct Place {
 }
 
 // A place, with the side of the page ending there, is either unreached or has a least cost; with the cost goes the start of
-// that page.
+// that page. A cost is one number: turns by 2³², and white, so that turns decide and then white.
 pub enum Entry {
     Unreached,
-    Least(u32, Place),
+    Least(u64, Place),
 }
 
 // Where a search begins: the place, the pages before it, and what they cost.
 pub struct Origin {
     pub place: Place,
     pub pages: u32,
-    pub cost: u32,
+    pub cost: u64,
 }
 
 // The place of so many lines and a column.
@@ -44,31 +44,52 @@ pub fn place_of(line: usize, column: usize) -> Place
 }
 
 // Whether the cost x is less than y.
-pub fn less(x: u32, y: u32) -> bool
+pub fn less(x: u64, y: u64) -> bool
     ensures { λ r. ⌜ r ≡ less x y ⌝ }
 {
     x < y
 }
 
-// Where the four words start of a place on a side, in columns of `tall` places.
+// The low word of a cost.
+pub fn low_of(cost: u64) -> u32
+    ensures { λ r. ⌜ r ≡ lowOf cost ⌝ }
+{
+    (cost % 4294967296) as u32
+}
+
+// Its high word.
+pub fn high_of(cost: u64) -> u32
+    ensures { λ r. ⌜ r ≡ highOf cost ⌝ }
+{
+    (cost / 4294967296) as u32
+}
+
+// The cost of these two words.
+pub fn joined(low: u32, high: u32) -> u64
+    ensures { λ r. ⌜ r ≡ joined low high ⌝ }
+{
+    high as u64 * 4294967296 + low as u64
+}
+
+// Where the five words start of a place on a side, in columns of `tall` places.
 fn address_of(tall: usize, place: Place, side: usize) -> usize
     requires { ⌜ Inside tall place side ⌝ }
     ensures { λ r. ⌜ r ≡ address tall (place .line) (place .column) side ⌝ }
 {
-    (place.column as usize * tall + place.line as usize) * 8 + side * 4
+    (place.column as usize * tall + place.line as usize) * 10 + side * 5
 }
 
-// The entry whose four words start at `at`.
+// The entry whose five words start at `at`.
 fn entry_at(work: &[u32], at: usize) -> Entry
-    requires { ⌜ at + 4 ≤ length (now work) ⌝ }
+    requires { ⌜ at + 5 ≤ length (now work) ⌝ }
     ensures { λ r. ⌜ r ≡ entryAt (now (work .entry)) at ⌝ }
 {
     if work[at] == 1 {
         let start = Place {
-            line: work[at + 2],
-            column: work[at + 3],
+            line: work[at + 3],
+            column: work[at + 4],
         };
-        Entry::Least(work[at + 1], start)
+        Entry::Least(joined(work[at + 1], work[at + 2]), start)
     } else {
         Entry::Unreached
     }
@@ -82,15 +103,16 @@ pub fn entry_of(work: &[u32], tall: usize, place: Place, side: usize) -> Entry
     entry_at(work, address_of(tall, place, side))
 }
 
-// Four words written from `at` on.
-fn put(work: &mut [u32], at: usize, tag: u32, cost: u32, start: Place)
-    requires { ⌜ at + 4 ≤ length (now work) ⌝ }
-    ensures { λ _. ⌜ now (work .exit) ≡ sets (now (work .entry)) at (tag ∷ cost ∷ start .line ∷ start .column ∷ []) ⌝ }
+// Five words written from `at` on.
+fn put(work: &mut [u32], at: usize, tag: u32, cost: u64, start: Place)
+    requires { ⌜ at + 5 ≤ length (now work) ⌝ }
+    ensures { λ _. ⌜ now (work .exit) ≡ sets (now (work .entry)) at (tag ∷ lowOf cost ∷ highOf cost ∷ start .line ∷ start .column ∷ []) ⌝ }
 {
     work[at] = tag;
-    work[at + 1] = cost;
-    work[at + 2] = start.line;
-    work[at + 3] = start.column;
+    work[at + 1] = low_of(cost);
+    work[at + 2] = high_of(cost);
+    work[at + 3] = start.line;
+    work[at + 4] = start.column;
 }
 
 // The entry of a place on a side stored.
@@ -122,5 +144,5 @@ pub fn words_needed(lines: usize, columns: usize) -> usize
     requires { ⌜ Limited lines columns ⌝ }
     ensures { λ r. ⌜ r ≡ wordsNeeded lines columns ⌝ }
 {
-    8 * ((lines + 1) * columns)
+    10 * ((lines + 1) * columns)
 }

@@ -1,4 +1,4 @@
--- The first demand, the count and the limit of turns for making after an opening (document 02, S-6). `make_after` is proved to do what
+-- The first demand, the count and the limits of turns and white for making after an opening (document 02, S-6). `make_after` is proved to do what
 -- `MadeAfter` says, of any bytes, any words of an opening and any lent memory: it has no `requires`.
 use Prim.Native.Nat.{ℕ, _≤_}
 use native.Mathlib.Nat.{le-trans}
@@ -33,7 +33,7 @@ use Rattle.making.specs.laws.Solved.{reads-limits}
 use Rattle.forecast.specs.Forecast.{forecastRead, forecastOf}
 use Rattle.promises.specs.Answers.{ByMaking, picked}
 use Rattle.promises.specs.FirstDemand.{Answered, finished, refused}
-use Rattle.promises.specs.Limit.{marked-limited}
+use Rattle.promises.specs.Limit.{Limited, marked-limited}
 use Rattle.promises.specs.Forecast.{Sought}
 
 -- The numbers with which making after an opening may refuse: those of making, and 20 and 21.
@@ -65,14 +65,14 @@ module _ (g : model.Galley) (ows : List ℕ) where
   after-ends : {a : Answer} {ws : List ℕ} → MakingAfter g ows a ws → Answered ByMakingAfter (numbersOf a)
   after-ends (turned-away {a} t h) = turned-number a h
   after-ends (no-list s empty) = refused {n = 11} (inl (omega arith, omega arith))
-  after-ends (best-list rest s m long best) = finished
+  after-ends (best-list rest s m long best whiter) = finished
 
   -- A refusal writes nothing, and where it is not 11 the opening does not stand.
   after-refused : {a : Answer} {ws : List ℕ} → MakingAfter g ows a ws → (n at : ℕ) → a ≡ Refused n at
       → (ws ≡ []) × (¬ (n ≡ 11) → (r : Answer) × (openingTurned g ows ≡ some r))
   after-refused (turned-away {a} t h) n at e = (refl, λ o. (a, t))
   after-refused (no-list s empty) n at e = (refl, λ o. absurd (o (cc)))
-  after-refused (best-list rest s m long best) n at e = let z : _≡_ {A = ℕ} 0 1 = cc in absurd (omega arith)
+  after-refused (best-list rest s m long best whiter) n at e = let z : _≡_ {A = ℕ} 0 1 = cc in absurd (omega arith)
 
 -- What is promised of making after an opening.
 module _ {bytes opening work list : List ℕ} {answer : Answer} {count : ℕ} {work′ list′ : List ℕ}
@@ -158,21 +158,21 @@ module _ {bytes opening work list : List ℕ} {answer : Answer} {count : ℕ} {w
           (le-trans (weighed-from-le (modelOf bytes g) (endOf (model.zeros (modelOf bytes g)) (pagesOf (modelOf bytes g) opening))) (weighed-ceiling (modelOf bytes g)))
       go (reads.Refused n at) = omega arith
 
-  -- It reports at most 1,066,499,000 turns.
-  pub after-limit : numbersOf answer .turns ≤ 1066499000
+  -- It reports at most 1,066,499,000 turns and 424,900,000 of white.
+  pub after-limit : Limited answer
   after-limit =
-      subst (λ a. numbersOf a .turns ≤ 1066499000) (sym (m .answers))
-      (of-making-after (λ a. numbersOf a .turns ≤ 1066499000) bytes opening (length work) (length list) (λ n at h. omega arith)
+      subst (λ a. Limited a) (sym (m .answers))
+      (of-making-after (λ a. Limited a) bytes opening (length work) (length list) (λ n at h. (omega arith, omega arith))
       (λ g e. limited g e (making-after (modelOf bytes g) opening)))
     where
-      turned : {a : Answer} → ByOpening a → numbersOf a .turns ≤ 1066499000
-      turned (at, inl h) = subst (λ a. numbersOf a .turns ≤ 1066499000) (sym h) (omega arith)
-      turned (at, inr h) = subst (λ a. numbersOf a .turns ≤ 1066499000) (sym h) (omega arith)
+      turned : {a : Answer} → ByOpening a → Limited a
+      turned (at, inl h) = subst (λ a. Limited a) (sym h) (omega arith, omega arith)
+      turned (at, inr h) = subst (λ a. Limited a) (sym h) (omega arith, omega arith)
 
       limited : (g : Galley) → galleyOf bytes ≡ reads.Galley g → {a : Answer} {ws : List ℕ} → MakingAfter (modelOf bytes g) opening a ws
-          → numbersOf a .turns ≤ 1066499000
+          → Limited a
       limited g e (turned-away t h) = turned h
-      limited g e (no-list s empty) = omega arith
-      limited g e (best-list rest s m long best) =
-          subst (λ a. numbersOf a .turns ≤ 1066499000) m
+      limited g e (no-list s empty) = (omega arith, omega arith)
+      limited g e (best-list rest s m long best whiter) =
+          subst (λ a. Limited a) m
           (marked-limited (modelOf bytes g) (reads-sane bytes g e) (reads-limits bytes g e) (opening ++ rest))

@@ -27,12 +27,16 @@ use Rattle.promises.specs.ThirdDemandAfter.{made-demand}
 pub record ThirdDemand (bytes : List ℕ) (g : Galley) (answer : Answer) (list′ : List ℕ) : Type 0 where
   -- making returns a list, or 11
   pub outcome : (answer ≡ Refused 11 0) ⊎ (accepted answer ≡ true)
-  -- the list that it returns, the first p pages of the page list, is accepted by marking the same bytes with the same p, X, Y, T; a
+  -- the list that it returns, the first p pages of the page list, is accepted by marking the same bytes with the same p, X, Y, T, W; a
   -- page has a word for each stream
   pub same : accepted answer ≡ true → markOf bytes (take (streams (modelOf bytes g) * numbersOf answer .pages) list′) ≡ answer
   -- every list that marking accepts has at least as many turns
   pub least : accepted answer ≡ true → (words : List ℕ) → accepted (markOf bytes words) ≡ true
       → numbersOf answer .turns ≤ numbersOf (markOf bytes words) .turns
+  -- and of those that have no more turns at least as much white (document 02, S-10)
+  pub whitest : accepted answer ≡ true → (words : List ℕ) → accepted (markOf bytes words) ≡ true
+      → numbersOf (markOf bytes words) .turns ≤ numbersOf answer .turns
+      → numbersOf answer .white ≤ numbersOf (markOf bytes words) .white
   -- 11 comes back exactly where marking accepts no list at all
   pub none : (answer ≡ Refused 11 0) ↔ ((words : List ℕ) → accepted (markOf bytes words) ≡ false)
 
@@ -58,4 +62,4 @@ module _ {bytes work list : List ℕ} {answer : Answer} {count : ℕ} {work′ l
   third-demand =
       let sane = reads-sane bytes g read in
       let d = made-demand bytes g read [] list (nothing-turned (modelOf bytes g) sane) answer list′ makes lists in
-      record { outcome = d .outcome; same = d .same; least = d .least; none = d .none }
+      record { outcome = d .outcome; same = d .same; least = d .least; whitest = d .whitest; none = d .none }

@@ -32,11 +32,15 @@ pub record ThirdDemandAfter (bytes : List ℕ) (g : Galley) (opening : List ℕ)
   -- the list that it returns, the first p pages of the page list, begins with the opening,
   pub begins : accepted answer ≡ true
       → (rest : List ℕ) × (take (streams (modelOf bytes g) * numbersOf answer .pages) list′ ≡ opening ++ rest)
-  -- and is accepted by marking the same bytes with the same p, X, Y, T
+  -- and is accepted by marking the same bytes with the same p, X, Y, T, W
   pub same : accepted answer ≡ true → markOf bytes (take (streams (modelOf bytes g) * numbersOf answer .pages) list′) ≡ answer
   -- every list that begins with the opening and that marking accepts has at least as many turns
   pub least : accepted answer ≡ true → (words : List ℕ) → accepted (markOf bytes (opening ++ words)) ≡ true
       → numbersOf answer .turns ≤ numbersOf (markOf bytes (opening ++ words)) .turns
+  -- and of those that have no more turns at least as much white (document 02, S-10)
+  pub whitest : accepted answer ≡ true → (words : List ℕ) → accepted (markOf bytes (opening ++ words)) ≡ true
+      → numbersOf (markOf bytes (opening ++ words)) .turns ≤ numbersOf answer .turns
+      → numbersOf answer .white ≤ numbersOf (markOf bytes (opening ++ words)) .white
   -- 11 comes back exactly where marking accepts no list that begins so
   pub none : (answer ≡ Refused 11 0) ↔ ((words : List ℕ) → accepted (markOf bytes (opening ++ words)) ≡ false)
 
@@ -64,15 +68,19 @@ module _ (bytes : List ℕ) (g : Galley) (read : galleyOf bytes ≡ reads.Galley
         begins = λ a. impossible (sym a ∙ ap accepted (makes ∙ e));
         same = λ a. impossible (sym a ∙ ap accepted (makes ∙ e));
         least = λ a. impossible (sym a ∙ ap accepted (makes ∙ e));
+        whitest = λ a. impossible (sym a ∙ ap accepted (makes ∙ e));
         none = (λ _ words. ap accepted (marks (opening ++ words)) ∙ empty words, λ _. makes ∙ e);
       }
-  from-making (best-list {p} rest s m long best) e f =
+  from-making (best-list {p} rest s m long best whiter) e f =
       record {
         outcome = inr (ap accepted (makes ∙ e));
         begins = λ a. (rest, rw (makes ∙ e) first);
         same = λ a. rw (makes ∙ e) (marks _ ∙ ap (marked (modelOf bytes g)) first ∙ m);
         least = λ a words b.
             rw (makes ∙ e) (rw (marks (opening ++ words)) (best words (sym (ap accepted (marks (opening ++ words))) ∙ b)));
+        whitest = λ a words b k.
+            rw (makes ∙ e) (rw (marks (opening ++ words))
+            (whiter words (sym (ap accepted (marks (opening ++ words))) ∙ b) (rw (makes ∙ e, marks (opening ++ words)) at k)));
         none = (
           λ r. impossible (sym (ap accepted (makes ∙ e)) ∙ ap accepted r),
           λ h. impossible (sym (ap accepted m) ∙ sym (ap accepted (marks (opening ++ rest))) ∙ h rest),

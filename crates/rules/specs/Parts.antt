@@ -9,10 +9,12 @@ use Rattle.model.specs.Rules.{forward, closes}
 use Rattle.model.specs.Leaf.{leaf}
 use Rattle.model.specs.declared.answer.Answer.{Answer}
 use Rattle.model.specs.declared.answer.Answer.the-variants.{Counted, Refused}
+use Rattle.theorems.specs.turns.Rank.{rank}
 use Rattle.galley.specs.declared.Galley.{Galley}
 use Rattle.galley.specs.Range.{SpecRanged}
 use Rattle.galley.specs.Model.{floatsOf, sidesIn}
 use Rattle.blocks.specs.declared.Counts.{Counts}
+use Rattle.rules.specs.declared.counts.Sums.{Sums}
 use Rattle.blocks.specs.Counts.{Within}
 
 -- The kinds on a page from u to v: how many streams it has a block of (document 02, S-4).
@@ -52,9 +54,10 @@ startFault g u v = faultFrom 13 (forward g u v) (closes g v)
 unfoldable pub leavesTurned : Galley → ℕ → ℕ
 leavesTurned g p = leaf (sidesIn g) p - leaf (sidesIn g) 1
 
--- The counts of p pages with X known.
-unfoldable pub counts : Galley → ℕ → ℕ → Answer
-counts g p x = let y = leavesTurned g p in Counted p x y (g .spec .alpha * x + g .spec .beta * y)
+-- The counts of p pages with X and W known.
+unfoldable pub counts : Galley → ℕ → Sums → Answer
+counts g p sums =
+    let y = leavesTurned g p in Counted p (sums .x) y (g .spec .alpha * sums .x + g .spec .beta * y) (sums .white)
 
 -- Every block is placed.
 abbrev pub allPlaced : Galley → Counts → Bool
@@ -62,13 +65,13 @@ allPlaced g at =
     eqb (at .lines) (g .text .count) && (eqb (at .figures) (g .figures .count) && eqb (at .tables) (g .tables .count))
 
 -- The answer once p pages are judged: 18 where the last does not end at the full place, else the counts.
-unfoldable pub finished : Galley → ℕ → Counts → ℕ → Answer
-finished g p at x = pick (allPlaced g at) (counts g p x) (Refused 18 p)
+unfoldable pub finished : Galley → ℕ → Counts → Sums → Answer
+finished g p at sums = pick (allPlaced g at) (counts g p sums) (Refused 18 p)
 
--- What p printed pages cost, where so many floats waited at the ends of their leaves: there is a page after them, so that every leaf that
--- one of them ends is turned (document 02, S-6).
-unfoldable pub printedCost : Galley → ℕ → ℕ → ℕ
-printedCost g p x = g .spec .alpha * x + g .spec .beta * leavesTurned g (p + 1)
+-- What p printed pages cost with their white, where so many floats waited at the ends of their leaves: there is a page after them, so
+-- that every leaf that one of them ends is turned (document 02, S-6 and S-10).
+unfoldable pub printedCost : Galley → ℕ → Sums → ℕ
+printedCost g p sums = rank (g .spec .alpha * sums .x + g .spec .beta * leavesTurned g (p + 1)) (sums .white)
 
 -- A number of pages, and a first folio, that keep every folio within 32 bits.
 pub record PageLimits (g : Galley) (pages : ℕ) : Type 0 where

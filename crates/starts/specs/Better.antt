@@ -1,5 +1,5 @@
 -- Which of two starts of a page is better: the less dear, then the later line, then the later column (document 01, "Making").
-use Prim.Native.Nat.{ℕ}
+use Prim.Native.Nat.{ℕ, _+_}
 use mathlib.Core.Bool.{Bool, true, not, _&&_, _||_}
 use mathlib.Core.List.{List}
 use lib.Dec.{eqb, leb, ltb}
@@ -27,10 +27,10 @@ unfoldable pub chosen : Entry → Entry → Entry
 chosen e Unreached = e
 chosen e (Least y r) = pick (wins y r e) (Least y r) e
 
--- The entry of place (a, b) as a start there.
-unfoldable pub startAt : Entry → ℕ → ℕ → Entry
-startAt Unreached a b = Unreached
-startAt (Least x s) a b = Least x (record { line = a; column = b })
+-- The entry of place (a, b) as a start there, with the white of the page in its cost.
+unfoldable pub startAt : Entry → ℕ → ℕ → ℕ → Entry
+startAt Unreached white a b = Unreached
+startAt (Least x s) white a b = Least (x + white) (record { line = a; column = b })
 
 -- The work area with the entry at `at` replaced where another is better.
 unfoldable pub taken : List ℕ → ℕ → Entry → List ℕ

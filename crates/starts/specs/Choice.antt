@@ -2,15 +2,15 @@
 use Prim.Native.Nat.{ℕ, _≤_, _<_}
 use mathlib.Core.Path.{_≡_}
 use mathlib.Core.Bool.{true}
-use Rattle.places.specs.Best.{Reached}
-use Rattle.starts.specs.Search.{Search, goes}
+use Rattle.places.specs.Best.{Paid}
+use Rattle.starts.specs.Search.{Search, goes, whiteFrom}
 
--- A page may go from (a, b) to the place that is searched for, rules 14 and 17 left aside, and all before it costs x.
+-- A page may go from (a, b) to the place that is searched for, rules 14 and 17 left aside, and all before it costs, with the page's white, x.
 pub record Candidate (s : Search) (a b x : ℕ) : Type 0 where
   pub line : a ≤ s .line
   pub column : b ≤ s .column
   pub page : goes s a b ≡ true
-  pub reached : Reached (s .table a b (s .side)) x
+  pub reached : Paid (s .table a b (s .side)) (whiteFrom s a b) x
 
 -- The candidates of P.
 abbrev pub Starts : Search → (ℕ → ℕ → Type 0) → ℕ → ℕ → ℕ → Type 0

@@ -3,6 +3,7 @@
 -- What is computed, for any number of float streams.
 pub mod Better
 pub mod Search
+pub mod Fronts
 -- What the best of several starts is, and what a page has beside its lines.
 pub mod Choice
 pub mod Beside

@@ -6,7 +6,9 @@ use Rattle.model.specs.Gather.{pick}
 use Rattle.model.specs.Galley.{Sides, single, double, Galley}
 use Rattle.theorems.specs.pages.Graph.{side, full}
 use Rattle.model.specs.Rules.{forward, closes, fits, fills, cited}
+use Rattle.model.specs.laws.White.{pageWhite}
 use Rattle.theorems.specs.turns.Waiting.{pageCost}
+use Rattle.theorems.specs.turns.Rank.{rank}
 use Rattle.places.specs.declared.Origin.{Origin}
 use Rattle.places.specs.declared.Entry.{Entry}
 use Rattle.places.specs.declared.Entry.the-variants.{Unreached, Least}
@@ -38,9 +40,16 @@ goes s a b =
     let v = placeAt g (s .line) (s .column) in
     forward g u v && (fits g u v && fills g (full g v) u v)
 
--- The start (a, b), where a page goes from it.
+-- The white of the page from (a, b): nothing where it is the last (document 02, S-10).
+unfoldable pub whiteFrom : Search → ℕ → ℕ → ℕ
+whiteFrom s a b =
+    let g = s .galley in
+    let v = placeAt g (s .line) (s .column) in
+    pageWhite g (full g v) (placeAt g a b) v
+
+-- The start (a, b), where a page goes from it, with the page's white in its cost.
 unfoldable pub startFrom : Search → ℕ → ℕ → Entry
-startFrom s a b = pick (goes s a b) (startAt (s .table a b (s .side)) a b) Unreached
+startFrom s a b = pick (goes s a b) (startAt (s .table a b (s .side)) (whiteFrom s a b) a b) Unreached
 
 -- The best of the first a lines of column b.
 unfoldable pub onLines : Search → ℕ → ℕ → Entry
@@ -56,7 +65,7 @@ inColumns s (suc b) = chosen (inColumns s b) (onLines s b (suc (s .line)))
 unfoldable pub bestStart : Search → Entry
 bestStart s = inColumns s (suc (s .column))
 
--- An entry with the price of the page added.
+-- An entry with the rest of the page's price added.
 unfoldable pub priced : ℕ → Entry → Entry
 priced p Unreached = Unreached
 priced p (Least x s) = Least (x + p) s
@@ -70,11 +79,11 @@ unfoldable pub begins : Sides → Origin → ℕ → ℕ → ℕ → Bool
 begins sides from i q c = eqb i (from .place .line) && (eqb q (from .place .column) && eqb c (side sides (from .pages)))
 
 -- The entry that a place gets on side c, from the entries of the places before it: where the search begins, what was paid there;
--- else the best start with the price of the page.
+-- else the best start, which has the page's white, with its turns.
 unfoldable pub newEntry : Galley → Origin → Table → ℕ → ℕ → ℕ → Entry
 newEntry g from t i q c =
     pick (begins (g .spec .sides) from i q c) (Least (from .cost) (from .place))
     (pick (mayStop g i q c)
-    (priced (pageCost g c (full g (placeAt g i q)) (placeAt g i q))
+    (priced (rank (pageCost g c (full g (placeAt g i q)) (placeAt g i q)) 0)
     (bestStart (record { galley = g; table = t; line = i; column = q; side = before (g .spec .sides) c })))
     Unreached)

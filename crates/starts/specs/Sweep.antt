@@ -18,12 +18,12 @@ use Rattle.places.specs.declared.Entry.{Entry}
 use Rattle.places.specs.declared.Entry.the-variants.{Unreached}
 use Rattle.places.specs.Address.{wordsNeeded, address, Stands}
 use Rattle.places.specs.Entry.{stored}
-use Rattle.places.specs.Best.{Best}
+use Rattle.places.specs.Best.{Affordable, Best}
 use Rattle.window.specs.declared.slide.Load.{Load}
 use Rattle.window.specs.declared.slide.Window.{Window}
 use Rattle.window.specs.Sums.{Sums}
 use Rattle.window.specs.Slide.{Slidable, Open}
-use Rattle.window.specs.Queue.{linesOf, Lines}
+use Rattle.window.specs.Queue.{linesOf, Lines, Payable}
 use Rattle.starts.specs.declared.sweep.Pass.{Pass}
 use Rattle.starts.specs.declared.sweep.Row.{Row}
 use Rattle.starts.specs.Better.{chosen, startAt, taken}
@@ -31,15 +31,20 @@ use Rattle.starts.specs.Choice.{Starts, Between}
 use Rattle.starts.specs.Beside.{Under, alone}
 use Rattle.starts.specs.Read.{tableIn, sideOf, searchOf, columnsIn, FewFloats, lastColumn, loadOf}
 
--- A column of a galley that was read, in a work area that is long enough.
+-- What the lines of column b cost, on the side before side c, is small.
+abbrev pub Costs : Galley → List ℕ → ℕ → ℕ → Type 0
+Costs g w b c = Payable (linesOf w (g .text .count + 1) b (sideOf g c)) (g .text .count + 1)
+
+-- A column of a galley that was read, in a work area that is long enough and has small costs in the columns before it.
 pub record Lent (bytes : List ℕ) (g : Galley) (w : List ℕ) (j : ℕ) : Type 0 where
   pub sound : Sound bytes g
   pub column : j < columnsIn g
   pub room : wordsNeeded (g .text .count) (columnsIn g) ≤ length w
+  pub costs : (b c : ℕ) → b < j → c < g .spec .sides → Costs g w b c
 
--- Room for two queues, or for one and the windows.
+-- Room for four queues, or for two and the windows.
 abbrev pub Scratch : List ℕ → Type 0
-Scratch words = 16002 ≤ length words
+Scratch words = 48000 ≤ length words
 
 -- The sums of all lines.
 pub record Summed (bytes : List ℕ) (g : Galley) (sums : List ℕ) : Type 0 where
@@ -63,29 +68,31 @@ pub record Passing (bytes : List ℕ) (g : Galley) (pass : Pass) : Type 0 where
 -- The page of floats alone that starts after line i.
 abbrev pub aloneOf : Galley → List ℕ → ℕ → ℕ → Pass → Entry
 aloneOf g w i side pass =
-    pick (ltb (pass .heights .loose) (pass .least)) Unreached (startAt (tableIn g w i (pass .from) side) i (pass .from))
+    pick (ltb (pass .heights .loose) (pass .least)) Unreached (startAt (tableIn g w i (pass .from) side) (pass .white) i (pass .from))
 
 -- The work area with the starts of a pass weighed at line i on side c: the best of the lines before it, and floats alone.
 abbrev pub weighed : Galley → List ℕ → Entry → ℕ → ℕ → Pass → List ℕ
 weighed g w lines i c pass =
     taken w (address (g .text .count + 1) i (pass .to) c) (chosen lines (aloneOf g w i (sideOf g c) pass))
 
--- The start and the end of a page of the pass stand in the work area.
+-- The start and the end of a page of the pass stand in the work area, and the start's cost is small.
 pub record Ended (g : Galley) (w : List ℕ) (i c : ℕ) (pass : Pass) : Type 0 where
   pub start : Stands w (g .text .count + 1) (record { line = i; column = pass .from }) (sideOf g c)
+  pub cost : Affordable (tableIn g w i (pass .from) (sideOf g c))
   pub end : Stands w (g .text .count + 1) (record { line = i; column = pass .to }) c
   pub side : c ≤ 1
 
--- The lines of a column stand in the work area, and their window can be found from the first line on.
+-- The lines of a column stand in the work area with small costs, and their window can be found from the first line on.
 pub record LinesStand (g : Galley) (w sums : List ℕ) (load : Load) (column side : ℕ) : Type 0 where
   pub stands : (a : ℕ) → a ≤ g .text .count → Stands w (g .text .count + 1) (record { line = a; column = column }) side
-  pub slides : Slidable sums load (record { low = 0; high = 0 }) (g .text .count)
+  pub costs : Payable (linesOf w (g .text .count + 1) column side) (g .text .count)
+  pub slides : Slidable sums load (record { low = 0; split = 0; high = 0 }) (g .text .count)
 
 -- The entry is the best of the lines of a column in the window of the last line.
 pub record LastBest (g : Galley) (w sums : List ℕ) (load : Load) (column side : ℕ) (e : Entry) : Type 0 where
   pub window : Window
   pub opens : (st : Stream) → Sums st (g .text .count) sums → Open st load window (g .text .count)
-  pub best : Best (Lines (linesOf w (g .text .count + 1) column side) (window .low) (window .high) column) e
+  pub best : Best (Lines (linesOf w (g .text .count + 1) column side) (λ a. 0) (window .low) (window .high) column) e
 
 -- The words of place (k, j) on side c hold the best of the starts of P for a page that ends there.
 abbrev pub Knows : List ℕ → Galley → List ℕ → ℕ → ℕ → ℕ → (ℕ → ℕ → Type 0) → Type 0

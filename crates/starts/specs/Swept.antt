@@ -8,12 +8,14 @@ use lib.ListN.{length}
 use Rattle.model.specs.Rules.{floor}
 use Rattle.galley.specs.declared.Galley.{Galley}
 use Rattle.galley.specs.Model.{textOf, floatsOf, modelOf}
+use Rattle.rules.specs.Sums.{whiteAt}
 use Rattle.blocks.specs.declared.heights.Heights.{Heights}
 use Rattle.blocks.specs.Heights.{Stacked}
 use Rattle.window.specs.declared.slide.Window.{Window}
-use Rattle.window.specs.declared.queue.Queue.{Queue}
+use Rattle.window.specs.declared.parts.Parts.{Parts}
 use Rattle.window.specs.Slide.{Ends}
-use Rattle.window.specs.Queue.{linesOf, Held}
+use Rattle.window.specs.Queue.{linesOf}
+use Rattle.window.specs.Parts.{Both}
 use Rattle.window.specs.Windows.{Kept}
 use Rattle.starts.specs.declared.sweep.Pass.{Pass}
 use Rattle.starts.specs.declared.sweep.Row.{Row}
@@ -76,6 +78,7 @@ pub record Sweep (bytes : List ℕ) (g : Galley) (w sums words : List ℕ) (pass
   pub scratch : Scratch words
   pub passing : Passing bytes g pass
   pub least : pass .least ≡ floor (modelOf bytes g) false
+  pub white : pass .white ≡ whiteAt g false (pass .heights .loose)
   pub known : Known bytes g w (pass .to) (suc (pass .from))
 
 -- The windows of the pass are kept for the lines of P.
@@ -107,20 +110,20 @@ pub record SideSweep (bytes : List ℕ) (g : Galley) (w sums words : List ℕ) (
   pub scratch : Scratch words
   pub passing : Passing bytes g pass
   pub least : pass .least ≡ floor (modelOf bytes g) false
+  pub white : pass .white ≡ whiteAt g false (pass .heights .loose)
   pub occurs : c < g .spec .sides
   pub windows : 0 < c → Windowed bytes g words pass (Taken g pass)
   pub swept : Swept bytes g w (pass .to) (pass .from) (number c 0)
 
 -- Side c has come to line i.
-pub record SideRun (bytes : List ℕ) (g : Galley) (w₀ w words₀ words : List ℕ) (c : ℕ) (pass : Pass) (queue : Queue)
+pub record SideRun (bytes : List ℕ) (g : Galley) (w₀ w sums words₀ words : List ℕ) (c : ℕ) (pass : Pass) (parts : Parts)
     (window : Window) (i : ℕ) : Type 0 where
   pub within : i ≤ sweepEnd g pass
   pub sized : length w ≡ length w₀
   pub wordsSized : length words ≡ length words₀
   pub ends : Ends (textOf bytes (g .text)) (passLoad g pass) window i
   pub windows : Windowed bytes g words pass (λ k. Taken g pass k × ((0 < c) ⊎ (k < i)))
-  pub based : queue .base ≡ 0
-  pub held : Held (linesOf w (g .text .count + 1) (pass .from) (sideOf g c)) words queue (window .low) (window .high)
+  pub held : Both (linesOf w (g .text .count + 1) (pass .from) (sideOf g c)) sums words 0 parts window
   pub swept : Swept bytes g w (pass .to) (pass .from) (number c i)
   pub kept : Scratched g (pass .to) w₀ w
 

@@ -1,6 +1,7 @@
 // The better of two starts of a page: the less dear, then the later line, then the later column. Document 01, "Making".
 ghost use mathlib.Core.Path.{_≡_};
 ghost use Rattle.places.specs.Address.{address, Stands};
+ghost use Rattle.places.specs.Best.{Affordable};
 ghost use Rattle.starts.specs.Better.{noLater, beats, wins, chosen, startAt, taken};
 use places::Entry;
 use places::Place;
@@ -13,14 +14,14 @@ fn no_later(r: Place, s: Place) -> bool
 }
 
 // Whether r at cost y is better than s at cost x, or is s.
-fn beats(y: u32, r: Place, x: u32, s: Place) -> bool
+fn beats(y: u64, r: Place, x: u64, s: Place) -> bool
     ensures { λ t. ⌜ t ≡ beats y r x s ⌝ }
 {
     places::less(y, x) | (!places::less(x, y) & no_later(r, s))
 }
 
 // Whether the start r at cost y is better than an entry, or is its start.
-fn wins(y: u32, r: Place, held: Entry) -> bool
+fn wins(y: u64, r: Place, held: Entry) -> bool
     ensures { λ t. ⌜ t ≡ wins y r held ⌝ }
 {
     match held {
@@ -42,14 +43,16 @@ pub fn choose(held: Entry, other: Entry) -> Entry
     held
 }
 
-// The entry of a place as a start there. A place that was never reached offers no start for a page.
-pub fn start_at(entry: Entry, place: Place) -> Entry
-    ensures { λ r. ⌜ r ≡ startAt entry (place .line) (place .column) ⌝ }
+// The entry of a place as a start there, with the white of the page in its cost. A place that was never reached offers no start for
+// a page.
+pub fn start_at(entry: Entry, place: Place, white: u32) -> Entry
+    requires { ⌜ Affordable entry ⌝ }
+    ensures { λ r. ⌜ r ≡ startAt entry white (place .line) (place .column) ⌝ }
 {
     let Entry::Least(x, _start) = entry else {
         return Entry::Unreached;
     };
-    Entry::Least(x, place)
+    Entry::Least(x + white as u64, place)
 }
 
 // An entry of the work area replaced where another is better.

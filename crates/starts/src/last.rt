@@ -1,9 +1,9 @@
-// The last page may be short, so that it may start at any line from which it is not too tall. A queue holds only the starts of full
-// pages; for this one page the lines of a column are weighed one by one.
+// The last page may be short, so that it may start at any line from which it is not too tall, and its white does not count. The queues
+// hold only the starts of pages that are high enough; for this one page the lines of a column are weighed one by one.
 ghost use Prim.Native.Nat.{ℕ, _<_};
 ghost use Rattle.places.specs.Address.{Stands};
 ghost use Rattle.places.specs.Best.{Best};
-ghost use Rattle.window.specs.Queue.{linesOf, Lines};
+ghost use Rattle.window.specs.Queue.{linesOf, Lines, Payable};
 ghost use Rattle.starts.specs.Sweep.{LinesStand, LastBest};
 use galley::Galley;
 use places::Entry;
@@ -12,15 +12,15 @@ use window::slide::Window;
 
 // The best of the lines of a column in a window.
 fn best_line(work: &[u32], tall: usize, column: usize, side: usize, window: Window) -> Entry
-    requires { ⌜ ((a : ℕ) → a < window .high → Stands (now work) tall (record { line = a; column = column }) side) ⌝ }
-    ensures { λ r. ⌜ Best (Lines (linesOf (now (work .entry)) tall column side) (window .low) (window .high) column) r ⌝ }
+    requires { ⌜ ((a : ℕ) → a < window .high → Stands (now work) tall (record { line = a; column = column }) side) × Payable (linesOf (now work) tall column side) (window .high) ⌝ }
+    ensures { λ r. ⌜ Best (Lines (linesOf (now (work .entry)) tall column side) (λ a. 0) (window .low) (window .high) column) r ⌝ }
 {
     let mut best = Entry::Unreached;
     let mut a = window.low;
     while a < window.high {
         let place = places::place_of(a, column);
         let entry = places::entry_of(work, tall, place, side);
-        best = crate::choice::choose(best, crate::choice::start_at(entry, place));
+        best = crate::choice::choose(best, crate::choice::start_at(entry, place, 0));
         a += 1;
     }
     best
@@ -38,6 +38,11 @@ pub fn last_lines(
     requires { ⌜ LinesStand g (now work) (now sums) load column side ⌝ }
     ensures { λ r. ⌜ LastBest g (now (work .entry)) (now (sums .entry)) load column side r ⌝ }
 {
-    let window = window::slide::slide(sums, load, Window { low: 0, high: 0 }, g.text.count);
+    let first = Window {
+        low: 0,
+        split: 0,
+        high: 0,
+    };
+    let window = window::slide::slide(sums, load, first, g.text.count);
     best_line(work, g.text.count + 1, column, side, window)
 }

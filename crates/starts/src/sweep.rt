@@ -1,26 +1,29 @@
 // The best starts of pages that end in a column and start in an earlier one, for all places of the column at once: for each earlier
-// column one sweep down the lines on each side that occurs, with a queue of starting lines. The best start so far of a place stands
+// column one sweep down the lines on each side that occurs, with queues of starting lines. The best start so far of a place stands
 // in the place's own words. Columns are taken back in their order, row by row: a row has as many figures throughout, and its columns
 // differ in tables.
 ghost use mathlib.Core.Path.{_≡_};
 ghost use Prim.Native.Nat.{_+_, _≤_, _<_};
 ghost use Rattle.places.specs.Address.{Stands};
+ghost use Rattle.places.specs.Best.{Affordable};
+ghost use Rattle.starts.specs.Read.{tableIn};
 ghost use Rattle.starts.specs.Sweep.{aloneOf, weighed, Ended, Wide, sweepEnd, number, ColumnRoom, Cleared, Layable, floatsAlone, rowTop};
 ghost use Rattle.starts.specs.Swept.{ColumnSweep, ColumnSwept, RowSweep, RowSwept, Sweep, SweepDone, SideSweep, SideDone, LastLine, LineDone};
 use blocks::Counts;
 use blocks::heights::Heights;
 use galley::Galley;
 use places::Entry;
-use window::queue::Queue;
+use window::queue::Source;
 use window::slide::Window;
 
 // One sweep: starts in column `from`, for pages that end in column `to` and are no lower than `least`. A page of the floats between
-// alone has these heights, the separation of figures and tables with them; beside lines they have one more.
+// alone has these heights, the separation of figures and tables with them, and this white; beside lines they have one separation more.
 pub struct Pass {
     pub from: usize,
     pub to: usize,
     pub heights: Heights,
     pub least: u32,
+    pub white: u32,
 }
 
 // The columns with so many figures, for pages that end in column `to`, where so much is placed: the figures between have these
@@ -35,14 +38,15 @@ pub struct Row {
 
 // The page of floats alone that starts after line i.
 fn alone(g: Galley, work: &[u32], i: usize, side: usize, pass: Pass) -> Entry
-    requires { ⌜ Stands (now work) (g .text .count + 1) (record { line = i; column = pass .from }) side ⌝ }
+    requires { ⌜ Stands (now work) (g .text .count + 1) (record { line = i; column = pass .from }) side × Affordable (tableIn g (now work) i (pass .from) side) ⌝ }
     ensures { λ r. ⌜ r ≡ aloneOf g (now (work .entry)) i side pass ⌝ }
 {
     if pass.heights.loose < pass.least {
         return Entry::Unreached;
     }
     let place = places::place_of(i, pass.from);
-    crate::choice::start_at(places::entry_of(work, g.text.count + 1, place, side), place)
+    let entry = places::entry_of(work, g.text.count + 1, place, side);
+    crate::choice::start_at(entry, place, pass.white)
 }
 
 // The best start known for line i of the column on side c, with the starts of the pass weighed too: the best of the lines before it,
@@ -84,27 +88,23 @@ fn sweep_side(
     let load = crate::read::load_of(g, 1, pass.heights, pass.least);
     let side = crate::read::side_before(g, c);
     let end = sweep_end(g, pass);
-    let mut queue = Queue {
-        base: 0,
-        head: 0,
-        tail: 0,
+    let source = Source {
+        tall: g.text.count + 1,
+        column: pass.from,
+        side,
     };
-    let mut starts = Window { low: 0, high: 0 };
+    let mut parts = window::parts::no_parts();
+    let mut starts = Window {
+        low: 0,
+        split: 0,
+        high: 0,
+    };
     let mut i = 0;
     while i < end {
-        let from = starts.high;
-        starts = window::windows::window_of(sums, load, words, starts, i, c);
-        queue = window::queue::advance(
-            work,
-            g.text.count + 1,
-            pass.from,
-            side,
-            words,
-            queue,
-            from,
-            starts,
-        );
-        let lines = window::queue::front(words, queue, pass.from);
+        let before = starts;
+        starts = window::windows::window_of(sums, load, words, before, i, c);
+        parts = window::parts::move_on(work, sums, words, source, parts, before, starts);
+        let lines = crate::fronts::best_front(sums, words, parts, pass.from, load, i);
         improve(g, work, lines, i, c, pass);
         i += 1;
     }
@@ -124,6 +124,7 @@ fn last_line(s: &[u8], g: Galley, work: &mut [u32], sums: &[u32], c: usize, pass
         to: pass.to,
         heights,
         least: rules::rules::floor_of(g, true),
+        white: 0,
     };
     let load = crate::read::load_of(g, 1, heights, last.least);
     let side = crate::read::side_before(g, c);
@@ -217,6 +218,7 @@ fn sweep_row(s: &[u8], g: Galley, work: &mut [u32], sums: &[u32], words: &mut [u
             to: row.to,
             heights: floats,
             least: row.least,
+            white: rules::counts::white_at(g, false, floats.loose),
         };
         sweep(s, g, work, sums, words, pass);
     }

@@ -8,4 +8,5 @@ pub mod Places
 pub mod OfMap
 pub mod Accepted
 pub mod Numbers
+pub mod White
 pub mod Theorem

@@ -5,5 +5,6 @@ pub mod Leaves
 pub mod LeafEnds
 pub mod Full
 pub mod Costs
+pub mod Rank
 pub mod Bounds
 pub mod LeastTurns

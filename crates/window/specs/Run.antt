@@ -5,9 +5,10 @@ use mathlib.Core.List.{List}
 use lib.ListN.{length}
 use Rattle.galley.specs.declared.Stream.{Stream}
 use Rattle.galley.specs.Model.{textOf}
+use Rattle.window.specs.declared.queue.Source.{Source}
 use Rattle.window.specs.declared.queue.Queue.{Queue}
 use Rattle.window.specs.Sums.{reach, Row}
-use Rattle.window.specs.Queue.{costAt, linesOf, tailed, Held, Beside}
+use Rattle.window.specs.Queue.{costAt, addedOf, linesIn, tailed, Held, Beside}
 
 -- From t on every entry costs x or more.
 pub record DearerRun (words : List ℕ) (head tail x t : ℕ) : Type 0 where
@@ -24,12 +25,12 @@ pub record SumsRun (bytes : List ℕ) (text : Stream) (sums₀ sums : List ℕ) 
   pub rows : (q : ℕ) → q ≤ k → Row (textOf bytes text) sums q
 
 -- What was held of the lines before `from` is held of those before a.
-pub record FeedRun (work : List ℕ) (tall b side : ℕ) (words₀ words : List ℕ) (queue : Queue) (from to tail a : ℕ) : Type 0 where
+pub record FeedRun (work sums words₀ words : List ℕ) (source : Source) (queue : Queue) (from to tail a : ℕ) : Type 0 where
   pub start : from ≤ a
   pub within : a ≤ to
   pub order : queue .head ≤ tail
   pub short : tail ≤ queue .base + a
   pub beside : Beside words₀ words (queue .base) (queue .base + to)
   pub sized : length words ≡ length words₀
-  pub held : (low : ℕ) → Held (linesOf work tall b side) words₀ queue low from
-      → Held (linesOf work tall b side) words (tailed queue tail) low a
+  pub held : (low : ℕ) → Held (linesIn work source) (addedOf sums (queue .lacks)) words₀ queue low from
+      → Held (linesIn work source) (addedOf sums (queue .lacks)) words (tailed queue tail) low a

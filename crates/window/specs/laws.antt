@@ -7,3 +7,5 @@ pub mod Held
 pub mod Pushed
 pub mod Windows
 pub mod Front
+pub mod Parts
+pub mod White

@@ -1,44 +1,53 @@
-// The lines of a window that may still be the best start, two words each: the line, and the cost of all before the page. They
-// rise in line and in cost, since a line that is earlier and no cheaper is never chosen again.
+// The lines of a part of a window that may still be the best start, three words each: the line, and in two words the cost of all
+// before the page with what the line adds. They rise in line and in cost, since a line that is earlier and no cheaper is never chosen
+// again.
 ghost use mathlib.Core.Path.{_≡_};
 ghost use Prim.Native.Nat.{_+_, _*_, _≤_};
 ghost use lib.ListN.{length};
-ghost use Rattle.window.specs.Queue.{pushed, frontOf, queueOf, Entries, Dropped, Passed, Feedable, Fed, Advanceable, Advanced, QueueStands};
-use crate::slide::Window;
+ghost use Rattle.window.specs.Queue.{addedOf, pushed, frontOf, Entries, Dropped, Passed, Feedable, Fed, Advanceable, Advanced, QueueStands};
+use crate::sums::LOOSE;
 use places::Entry;
 use places::Place;
 
-// The entries of a queue: those from `head` on and before `tail`. Several queues share a slice, each from its base on.
+// The starts that a queue takes: the lines of a column of `tall` places, on a side.
+pub struct Source {
+    pub tall: usize,
+    pub column: usize,
+    pub side: usize,
+}
+
+// The entries of a queue: those from `head` on and before `tail`. Several queues share a slice, each from its base on. Where its pages
+// lack something of htMax, what a line adds to its cost is the height up to it, by which a later start lacks more.
 pub struct Queue {
     pub base: usize,
     pub head: usize,
     pub tail: usize,
+    pub lacks: bool,
 }
 
-// The queue of side c, which has the room of 4,000 entries: its head and tail stand as entry c of `ends`.
-pub fn queue_of(ends: &[u32], c: usize) -> Queue
-    requires { ⌜ 2 * c + 2 ≤ length (now ends) × (c ≤ 1) ⌝ }
-    ensures { λ r. ⌜ r ≡ queueOf (now (ends .entry)) c ⌝ }
+// What line a adds to its cost.
+fn added(sums: &[u32], lacks: bool, a: usize) -> u32
+    requires { ⌜ 4 * a + 4 ≤ length (now sums) ⌝ }
+    ensures { λ r. ⌜ r ≡ addedOf (now (sums .entry)) lacks a ⌝ }
 {
-    let at = 2 * c;
-    Queue {
-        base: 4000 * c,
-        head: galley::word::size(ends[at]),
-        tail: galley::word::size(ends[at + 1]),
+    if lacks {
+        return sums[2 * (2 * a + LOOSE)];
     }
+    0
 }
 
 // The tail after entries that cost x or more are dropped from the back: of equal costs the later line is kept.
-fn drop_dearer(words: &[u32], head: usize, tail: usize, x: u32) -> usize
+fn drop_dearer(words: &[u32], head: usize, tail: usize, x: u64) -> usize
     requires { ⌜ Entries (now words) head tail ⌝ }
     ensures { λ r. ⌜ Dropped (now (words .entry)) head tail x r ⌝ }
 {
     let mut t = tail;
     while head < t {
-        if places::less(words[2 * t - 1], x) {
+        let last = t - 1;
+        if places::less(places::joined(words[3 * last + 1], words[3 * last + 2]), x) {
             return t;
         }
-        t -= 1;
+        t = last;
     }
     t
 }
@@ -50,7 +59,7 @@ fn drop_passed(words: &[u32], head: usize, tail: usize, low: usize) -> usize
 {
     let mut h = head;
     while h < tail {
-        if low <= words[2 * h] as usize {
+        if low <= words[3 * h] as usize {
             return h;
         }
         h += 1;
@@ -58,80 +67,90 @@ fn drop_passed(words: &[u32], head: usize, tail: usize, low: usize) -> usize
     h
 }
 
-// A line and its cost, the two ends of a window or of a queue, or two sums of a line, written as entry `at`.
-pub fn push(words: &mut [u32], at: usize, line: u32, cost: u32)
-    requires { ⌜ 2 * at + 2 ≤ length (now words) ⌝ }
-    ensures { λ _. ⌜ now (words .exit) ≡ pushed (now (words .entry)) at line cost ⌝ }
+// A line and the two words of its cost, or the ends of a window, written as entry `at`.
+pub fn push(words: &mut [u32], at: usize, first: u32, second: u32, third: u32)
+    requires { ⌜ 3 * at + 3 ≤ length (now words) ⌝ }
+    ensures { λ _. ⌜ now (words .exit) ≡ pushed (now (words .entry)) at first second third ⌝ }
 {
-    words[2 * at] = line;
-    words[2 * at + 1] = cost;
+    let k = 3 * at;
+    words[k] = first;
+    words[k + 1] = second;
+    words[k + 2] = third;
 }
 
-// The tail after the lines from `from` on and before `to` of a column are offered as starts.
+// The tail after the lines of the source from `from` on and before `to` are offered as starts.
 fn feed(
     work: &[u32],
-    tall: usize,
-    column: usize,
-    side: usize,
+    sums: &[u32],
     words: &mut [u32],
+    source: Source,
     queue: Queue,
     from: usize,
     to: usize,
 ) -> usize
-    requires { ⌜ Feedable (now work) tall column side (now words) queue from to ⌝ }
-    ensures { λ r. ⌜ Fed (now (work .entry)) tall column side (now (words .entry)) queue from to r (now (words .exit)) ⌝ }
+    requires { ⌜ Feedable (now work) (now sums) (now words) source queue from to ⌝ }
+    ensures { λ r. ⌜ Fed (now (work .entry)) (now (sums .entry)) (now (words .entry)) source queue from to r (now (words .exit)) ⌝ }
 {
     let mut tail = queue.tail;
     let mut a = from;
     while a < to {
-        let place = places::place_of(a, column);
-        let entry = places::entry_of(work, tall, place, side);
+        let place = places::place_of(a, source.column);
+        let entry = places::entry_of(work, source.tall, place, source.side);
+        let more = added(sums, queue.lacks, a);
         a += 1;
         let Entry::Least(x, _start) = entry else {
             continue;
         };
-        tail = drop_dearer(words, queue.head, tail, x);
-        push(words, tail, place.line, x);
+        let cost = x + more as u64;
+        tail = drop_dearer(words, queue.head, tail, cost);
+        push(
+            words,
+            tail,
+            place.line,
+            places::low_of(cost),
+            places::high_of(cost),
+        );
         tail += 1;
     }
     tail
 }
 
-// The queue of a window, from that of the window before it, whose end was `from`.
+// The queue of a part from line `low` on and before `high`, from that of the part before it, whose end was `from`.
 pub fn advance(
     work: &[u32],
-    tall: usize,
-    column: usize,
-    side: usize,
+    sums: &[u32],
     words: &mut [u32],
+    source: Source,
     queue: Queue,
     from: usize,
-    window: Window,
+    low: usize,
+    high: usize,
 ) -> Queue
-    requires { ⌜ Advanceable (now work) tall column side (now words) queue from window ⌝ }
-    ensures { λ r. ⌜ Advanced (now (work .entry)) tall column side (now (words .entry)) queue from window r (now (words .exit)) ⌝ }
+    requires { ⌜ Advanceable (now work) (now sums) (now words) source queue from high ⌝ }
+    ensures { λ r. ⌜ Advanced (now (work .entry)) (now (sums .entry)) (now (words .entry)) source queue from low high r (now (words .exit)) ⌝ }
 {
-    let tail = feed(work, tall, column, side, words, queue, from, window.high);
-    let head = drop_passed(words, queue.head, tail, window.low);
+    let tail = feed(work, sums, words, source, queue, from, high);
+    let head = drop_passed(words, queue.head, tail, low);
     Queue {
         base: queue.base,
         head,
         tail,
+        lacks: queue.lacks,
     }
 }
 
-// The best start that a queue of a column's lines holds.
+// The best start that a queue of a column's lines holds, with what the line adds in its cost.
 pub fn front(words: &[u32], queue: Queue, column: usize) -> Entry
     requires { ⌜ QueueStands (now words) queue column ⌝ }
     ensures { λ r. ⌜ r ≡ frontOf (now (words .entry)) queue column ⌝ }
 {
-    let at = 2 * queue.head;
+    let at = 3 * queue.head;
     if queue.head < queue.tail {
         let start = Place {
             line: words[at],
             column: column as u32,
         };
-        return Entry::Least(words[at + 1], start);
+        return Entry::Least(places::joined(words[at + 1], words[at + 2]), start);
     }
     Entry::Unreached
 }

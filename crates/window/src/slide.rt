@@ -1,6 +1,7 @@
-// The two ends of a window of starting lines, moved on as the page's last line moves on. Heights are compared as sums, never
-// as differences.
-ghost use Rattle.window.specs.Slide.{Reachable, Slidable, FirstBelow, Slid};
+// The ends of a window of starting lines, moved on as the page's last line moves on. Heights are compared as sums, never as
+// differences.
+ghost use mathlib.Core.Path.{_≡_};
+ghost use Rattle.window.specs.Slide.{reachedOf, Readable, Reachable, Slidable, FirstBelow, Slid};
 use crate::sums::LOOSE;
 use crate::sums::TIGHT;
 
@@ -12,14 +13,24 @@ pub struct Load {
     pub htmax: u32,
 }
 
-// A window of starting lines: from `low` on pages are not too tall, and before `high` they are full enough.
+// A window of starting lines: from `low` on pages are not too tall, before `split` they reach htMax at their loosest and have no
+// white, and before `high` they are full enough.
 pub struct Window {
     pub low: usize,
+    pub split: usize,
     pub high: usize,
 }
 
-// The first line from `from` on whose page to line i stays below `limit` with `beside` added to its lines; i where there is
-// none. `space` says which sums are taken, TIGHT or LOOSE.
+// How far a page to line i reaches from the first line on, with `beside` added to its lines. `space` says which sums are taken, TIGHT
+// or LOOSE.
+pub fn reached(sums: &[u32], space: usize, beside: u32, i: usize) -> u32
+    requires { ⌜ Readable (now sums) space beside i ⌝ }
+    ensures { λ r. ⌜ r ≡ reachedOf (now (sums .entry)) space beside i ⌝ }
+{
+    sums[2 * (2 * i + space) + 1] + beside
+}
+
+// The first line from `from` on whose page to line i stays below `limit` with `beside` added to its lines; i where there is none.
 pub fn first_below(
     sums: &[u32],
     space: usize,
@@ -31,10 +42,10 @@ pub fn first_below(
     requires { ⌜ Reachable (now sums) space beside limit from i ⌝ }
     ensures { λ r. ⌜ FirstBelow (now (sums .entry)) space beside limit from i r ⌝ }
 {
-    let reached = sums[2 * (2 * i + space) + 1] + beside;
+    let far = reached(sums, space, beside, i);
     let mut a = from;
     while a < i {
-        if reached < limit + sums[2 * (2 * a + space)] {
+        if far < limit + sums[2 * (2 * a + space)] {
             return a;
         }
         a += 1;
@@ -49,6 +60,7 @@ pub fn slide(sums: &[u32], load: Load, window: Window, i: usize) -> Window
 {
     Window {
         low: first_below(sums, TIGHT, load.tight, load.htmax + 1, window.low, i),
+        split: first_below(sums, LOOSE, load.loose, load.htmax, window.split, i),
         high: first_below(sums, LOOSE, load.loose, load.htmin, window.high, i),
     }
 }

@@ -11,16 +11,20 @@ pub const TIGHT: usize = 0;
 
 pub const LOOSE: usize = 1;
 
-// Two pairs of sums to a line, as entries: up to and with the space after the line, and up to the line itself.
-fn put_row(sums: &mut [u32], k: usize, tight: u32, high: u32, loose: u32, wide: u32)
-    requires { ⌜ 4 * k + 4 ≤ length (now sums) ⌝ }
-    ensures { λ _. ⌜ now (sums .exit) ≡ rowPut (now (sums .entry)) k tight high loose wide ⌝ }
+// Four words written as row k: the sums of a line, or the ends of a side's two queues.
+pub fn put_row(rows: &mut [u32], k: usize, first: u32, second: u32, third: u32, fourth: u32)
+    requires { ⌜ 4 * k + 4 ≤ length (now rows) ⌝ }
+    ensures { λ _. ⌜ now (rows .exit) ≡ rowPut (now (rows .entry)) k first second third fourth ⌝ }
 {
-    crate::queue::push(sums, 2 * k + TIGHT, tight, high);
-    crate::queue::push(sums, 2 * k + LOOSE, loose, wide);
+    let at = 4 * k;
+    rows[at] = first;
+    rows[at + 1] = second;
+    rows[at + 2] = third;
+    rows[at + 3] = fourth;
 }
 
-// The sums of every line of the text, and zeros for the place before the first.
+// The sums of every line of the text, and zeros for the place before the first. Two pairs to a line: up to and with the space after
+// the line, and up to the line itself.
 pub fn gather(s: &[u8], text: Stream, sums: &mut [u32])
     requires { ⌜ SumsRoom (now s) text (now sums) ⌝ }
     ensures { λ _. ⌜ Sums (textOf (now (s .entry)) text) (text .count) (now (sums .exit)) ⌝ }

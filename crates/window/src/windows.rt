@@ -3,8 +3,8 @@ ghost use Rattle.window.specs.Windows.{Windowable, WindowFound};
 use crate::slide::Load;
 use crate::slide::Window;
 
-// The window of line i, from that of the line before. On side 0 it is found, and kept as entry 4,000 + i, behind the queue's
-// room; on a further side it is what was kept.
+// The window of line i, from that of the line before. On side 0 it is found, and kept as entry 8,000 + i, behind the room of two
+// queues; on a further side it is what was kept.
 pub fn window_of(
     sums: &[u32],
     load: Load,
@@ -17,13 +17,20 @@ pub fn window_of(
     ensures { λ r. ⌜ WindowFound (now (sums .entry)) load (now (words .entry)) before i c r (now (words .exit)) ⌝ }
 {
     if 0 < c {
-        let at = 2 * (i + 4000);
+        let at = 3 * (i + 8000);
         return Window {
             low: galley::word::size(words[at]),
-            high: galley::word::size(words[at + 1]),
+            split: galley::word::size(words[at + 1]),
+            high: galley::word::size(words[at + 2]),
         };
     }
     let window = crate::slide::slide(sums, load, before, i);
-    crate::queue::push(words, i + 4000, window.low as u32, window.high as u32);
+    crate::queue::push(
+        words,
+        i + 8000,
+        window.low as u32,
+        window.split as u32,
+        window.high as u32,
+    );
     window
 }

@@ -2,7 +2,7 @@
 -- that leaves it.
 use borrow.Author.Needs.{needs}
 use mathlib.Core.Path.{ap, ap₂, _∙_}
-use Rattle.barleychime.specs.Eight.{numberOf, eightOf}
+use Rattle.barleychime.specs.Words.{numberOf, answerWords}
 use Rattle.barleychime.proofs.barleychime_make_after.Statement.{statement}
 use Rattle.barleychime.proofs.barleychime_make_after.Tie as tie
 
@@ -11,7 +11,7 @@ returns c =
     let made = c .before .before .before .before .before .before .make-after .ensures in
     record {
       returned = c .tell .ensures .0 ∙ ap numberOf (made .answers);
-      told = c .tell .ensures .1 ∙ ap₂ eightOf (made .answers) (made .counts);
+      told = c .tell .ensures .1 ∙ ap₂ answerWords (made .answers) (made .counts);
       clean = made .clean;
       listed = made .listed;
     }

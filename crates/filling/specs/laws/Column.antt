@@ -24,21 +24,21 @@ use Rattle.starts.specs.Sweep.{Lent, Scratched, fresh, more}
 use Rattle.starts.specs.Swept.{ColumnSwept}
 use Rattle.starts.specs.laws.Columns.{columns-in, within-at}
 use Rattle.starts.specs.laws.Pass.{least-low}
-use Rattle.starts.specs.laws.Cells.{scratched-length}
-use Rattle.starts.specs.laws.Lending.{lent-sized}
+use Rattle.starts.specs.laws.Cells.{scratched-length, scratched-others, lent-kept}
 use Rattle.filling.specs.declared.price.Stop.{Stop}
 use Rattle.filling.specs.declared.side.Task.{Task}
 use Rattle.filling.specs.Fill.{tall, fillColumn, fillColumns, filled}
 use Rattle.filling.specs.Stop.{stopAt}
 use Rattle.filling.specs.Next.{Next, plain, PlaceNext, PlaceFilled, ColumnNext, LastNext, TableNext}
 use Rattle.filling.specs.Run.{LastRun, ColumnsRun}
-use Rattle.filling.specs.laws.Entered.{side-low}
+use Rattle.filling.specs.laws.Entered.{side-low, sides-count}
+use Rattle.filling.specs.laws.Costs.{lent-filled}
 use Rattle.filling.specs.laws.Fill.{length-place, length-column, room-kept, filled-start, filled-next, filled-place, filled-to}
 use Rattle.filling.specs.laws.Over.{column-over}
 use Rattle.filling.specs.laws.Price.{dearest-light}
 use Rattle.filling.specs.laws.Own.{lines-slide, walking-down}
 use Rattle.filling.specs.laws.Queues.{queues-none}
-use Rattle.filling.specs.laws.Sides.{sides-count, lent-roomy, lent-wide}
+use Rattle.filling.specs.laws.Sides.{lent-roomy, lent-wide}
 
 -- Stores in a column before it is filled change nothing of it,
 pub scratched-same : {bytes : List ℕ} {task : Task} {w : List ℕ} {j : ℕ} → Next bytes task w 0 j → (v : List ℕ)
@@ -56,15 +56,6 @@ scratched-same {bytes} {task} {w} {j} next v (more x y i c e s l m p) =
     (suc (g .text .count)) 0 x (room-kept (scratched-length g j w x s) (lent-roomy (next .lent))) (omega arith) (omega arith)
     ∙ scratched-same next x s
 
--- and leave the columns before.
-scratched-other : (g : Galley) (j : ℕ) → g .spec .sides ≤ 2 → (w v : List ℕ) → Scratched g j w v → (a b d : ℕ) → a ≤ g .text .count
-    → b < j → d ≤ 1 → tableIn g v a b d ≡ tableIn g w a b d
-scratched-other g j two w v fresh a b d l h k = refl
-scratched-other g j two w v (more x y i c e s p m q) a b d l h k =
-    ap (λ u. tableIn g u a b d) q
-    ∙ table-other (g .text .count + 1) i j c a b d x e (omega arith) (omega arith) (omega (arith, two)) k (λ r. omega (arith, r .1))
-    ∙ scratched-other g j two w x s a b d l h k
-
 -- So with the starts in earlier columns known the column can be filled.
 pub column-last : {bytes : List ℕ} {task : Task} {w sums words : List ℕ} {j : ℕ} → ColumnNext bytes task w sums words j
     → (v words′ : List ℕ) → length words′ ≡ length words → ColumnSwept bytes (task .galley) w v j
@@ -75,15 +66,16 @@ column-last {task = task} {w} {j = j} column v words′ sized done =
           record {
             next =
                 record {
-                  lent = lent-sized v (scratched-length (task .galley) j w v (done .kept)) (column .next .lent);
+                  lent = lent-kept (done .kept) (column .next .lent);
                   cheap = column .next .cheap;
+                  origin = column .next .origin;
                   filled =
                       record {
                         entered = λ a b c x s l h k e.
                             column .next .filled .entered a b c x s l h k
                             (sym
-                            (scratched-other (task .galley) j (column .next .lent .sound .specRanged .sidesTwo) w v (done .kept) a b c h
-                            (before a b l) (side-low (sidesIn (task .galley)) c k))
+                            (scratched-others (task .galley) j w v (column .next .lent .sound .specRanged .sidesTwo) (done .kept) a b c h
+                            (side-low (sidesIn (task .galley)) c k) (λ q. omega (arith, before a b l)))
                             ∙ e);
                       };
                 };
@@ -103,8 +95,8 @@ module _ {bytes : List ℕ} {task : Task} {w₀ sums words₀ : List ℕ} {j : �
   lent-first = last .column .next .lent
 
   -- Before the first line the queues are empty.
-  pub last-first : LastRun bytes task w₀ w₀ words₀ words₀ j (record { figures = 0; tables = 0 }) (record { low = 0; high = 0 })
-      (0 ∷ 0 ∷ 4000 ∷ 4000 ∷ []) 0
+  pub last-first : LastRun bytes task w₀ w₀ sums words₀ words₀ j (record { figures = 0; tables = 0 }) (record { low = 0; split = 0; high = 0 })
+      (0 ∷ 0 ∷ 4000 ∷ 4000 ∷ 8000 ∷ 8000 ∷ 12000 ∷ 12000 ∷ []) 0
   last-first =
       record {
         within = omega arith;
@@ -114,13 +106,13 @@ module _ {bytes : List ℕ} {task : Task} {w₀ sums words₀ : List ℕ} {j : �
         entries = last .column .next .filled;
         run = let e : suc (task .galley .text .count) - 0 ≡ suc (task .galley .text .count) = omega arith in rw e;
         slid = ends-first (textOf bytes (task .galley .text)) (plain (task .galley)) 0;
-        queued = queues-none (task .galley) w₀ words₀ j (lent-first .sound .specRanged .sidesTwo);
+        queued = queues-none (task .galley) w₀ sums words₀ j (lent-first .sound .specRanged .sidesTwo);
         waits = λ k c l m n. last .known k c l m;
       }
 
   -- After the last line the column is filled.
   pub last-done : {w words ends : List ℕ} {waiting : Waiting} {window : Window} {i : ℕ}
-      → LastRun bytes task w₀ w words₀ words j waiting window ends i → task .galley .text .count < i
+      → LastRun bytes task w₀ w sums words₀ words j waiting window ends i → task .galley .text .count < i
       → w ≡ fillColumn (modelOf bytes (task .galley)) (task .origin) j (suc (task .galley .text .count)) 0 w₀
   unfolding fillColumn
   last-done {i = i} run l =
@@ -128,15 +120,18 @@ module _ {bytes : List ℕ} {task : Task} {w₀ sums words₀ : List ℕ} {j : �
       rw n at (run .run)
 
   module _ {w words ends : List ℕ} {waiting : Waiting} {window : Window} {i : ℕ}
-      (run : LastRun bytes task w₀ w words₀ words j waiting window ends i) (at : i ≤ task .galley .text .count) where
+      (run : LastRun bytes task w₀ w sums words₀ words j waiting window ends i) (at : i ≤ task .galley .text .count) where
     lent : Lent bytes (task .galley) w j
-    lent = lent-sized w (run .sized) lent-first
+    lent =
+        lent-filled w (lent-first .sound) (last .column .next .cheap) (run .entries) (lent-first .column)
+        (omega (arith, lent-first .room, run .sized))
 
     -- The window can be moved on to line i,
     pub last-slides : Slidable sums (plain (task .galley)) window i
     last-slides =
         lines-slide lent (last .column .summed) (floor (modelOf bytes (task .galley)) false)
-        (least-low bytes (task .galley) (lent .sound) false) window i at (run .slid .low) (run .slid .high)
+        (least-low bytes (task .galley) (lent .sound) false) window i at (run .slid .low) (run .slid .split)
+        (run .slid .high)
 
     module _ (waiting′ : Waiting) (found : waiting′ ≡ waitingOf bytes (task .galley) (countsAt (task .galley) i j)) (new : Window)
         (slid : Slid sums (plain (task .galley)) window i new) (stop : Stop)
@@ -149,21 +144,21 @@ module _ {bytes : List ℕ} {task : Task} {w₀ sums words₀ : List ℕ} {j : �
           (record { at = countsAt (task .galley) i j; column = j; side = 0; turns = false; waiting = waiting′ .figures + waiting′ .tables; stop = stop })
       last-place =
           record {
-            next = record { lent = lent; cheap = last .column .next .cheap; filled = run .entries };
+            next = record { lent = lent; cheap = last .column .next .cheap; origin = last .column .next .origin; filled = run .entries };
             ending = record { line = at; counts = refl; found = ap (λ (k : Waiting). k .figures + k .tables) found; stop = says };
             summed = last .column .summed;
             scratch = omega (arith, last .column .scratch, run .wordsSized);
-            slides = record { low = slid .low; high = slid .high; opened = opened };
+            slides = record { rises = record { low = slid .low; split = slid .split; high = slid .high }; opened = opened };
             queued =
-                record { pair = run .queued .pair; moved = λ c l. absurd (omega arith); still = run .queued .still };
+                record { rows = run .queued .rows; moved = λ c l. absurd (omega arith); still = run .queued .still };
             waits = run .waits;
           }
 
       -- and is.
       pub last-next : (v words′ : List ℕ) → length words′ ≡ length words → (next : List ℕ)
-          → PlaceFilled bytes task w v words′ next (record { from = window; to = new })
+          → PlaceFilled bytes task w v sums words′ next (record { from = window; to = new })
           (record { at = countsAt (task .galley) i j; column = j; side = 0; turns = false; waiting = waiting′ .figures + waiting′ .tables; stop = stop })
-          → LastRun bytes task w₀ v words₀ words′ j waiting′ new next (i + 1)
+          → LastRun bytes task w₀ v sums words₀ words′ j waiting′ new next (i + 1)
       unfolding fillColumn tall
       last-next v words′ sized next done =
           let m = modelOf bytes (task .galley) in
@@ -220,8 +215,10 @@ module _ {bytes : List ℕ} {task : Task} {w₀ sums words₀ : List ℕ} (table
             next =
                 record {
                   lent =
-                      record { sound = table .fillable .sound; column = some; room = omega (arith, table .fillable .room, run .sized) };
+                      lent-filled w (table .fillable .sound) (table .fillable .cheap) (run .entries) some
+                      (omega (arith, table .fillable .room, run .sized));
                   cheap = table .fillable .cheap;
+                  origin = table .fillable .origin;
                   filled = run .entries;
                 };
             summed = table .summed;

@@ -1,5 +1,5 @@
 -- Starts lie before their ends and costs stay small: what every entry keeps, whatever the work area held before.
-use Prim.Native.Nat.{ℕ, _+_, _*_, _≤_, _<_}
+use Prim.Native.Nat.{ℕ, zero, suc, _+_, _*_, _≤_, _<_}
 use native.Mathlib.Nat.{le-refl, le-trans, mul-le-mul-right, suc-mul}
 use native.Mathlib.Omega.{arith}
 use mathlib.Core.Path.{_≡_, refl, _∙_}
@@ -9,11 +9,14 @@ use borrow.Author.Tests.{eqb-true}
 use Rattle.model.specs.Gather.{pick}
 use Rattle.model.specs.Galley.{Sides, single, double, Galley}
 use Rattle.model.specs.Galley as model
+use Rattle.model.specs.Leaf.{sidesOf}
 use Rattle.model.specs.laws.Gather.{and-left, and-right}
 use Rattle.model.specs.laws.Rules.{placed-grows}
 use Rattle.model.specs.laws.Lists.{Inside}
 use Rattle.theorems.specs.turns.Waiting.{pageCost}
-use Rattle.theorems.specs.turns.Bounds.{dearest, cost-le}
+use Rattle.model.specs.laws.White.{page-white-le}
+use Rattle.theorems.specs.turns.Rank.{rank}
+use Rattle.theorems.specs.turns.Bounds.{cost-le}
 use Rattle.theorems.specs.pages.Graph.{side, full}
 use Rattle.places.specs.declared.Place.{Place}
 use Rattle.places.specs.declared.Origin.{Origin}
@@ -22,12 +25,12 @@ use Rattle.places.specs.declared.Entry.the-variants.{Unreached, Least}
 use Rattle.places.specs.Columns.{columns, floatSizes, placeAt}
 use Rattle.places.specs.laws.Best.{no-reach}
 use Rattle.places.specs.laws.Places.{place-inside, forward-inside}
-use Rattle.starts.specs.Search.{Table, before, Search, bestStart, priced, mayStop, begins, newEntry}
+use Rattle.starts.specs.Search.{Table, before, Search, whiteFrom, bestStart, priced, mayStop, begins, newEntry}
 use Rattle.starts.specs.Beside.{Sought}
 use Rattle.starts.specs.laws.Found.{best-start}
 use Rattle.starts.specs.laws.Pages.{candidate-forward, candidate-earlier}
 use Rattle.filling.specs.Fill.{sideCount}
-use Rattle.filling.specs.Filled.{Side, placedAt, Entered, Filled}
+use Rattle.filling.specs.Filled.{Side, placedAt, Light, Entered, Filled}
 
 -- Sides that occur are 0 and 1, and those below their number; the side before one that occurs occurs.
 pub side-low : (sides : Sides) (c : ℕ) → Side sides c → c ≤ 1
@@ -44,6 +47,14 @@ pub below-side : (sides : Sides) (c : ℕ) → c < sideCount sides → Side side
 unfolding side sideCount
 below-side single c h = omega arith
 below-side (double f) c h = omega arith
+
+-- They are as many as the field says.
+pub sides-count : (n f : ℕ) → 1 ≤ n → n ≤ 2 → sideCount (sidesOf n f) ≡ n
+unfolding sidesOf sideCount
+sides-count zero f some two = absurd (omega arith)
+sides-count (suc zero) f some two = refl
+sides-count (suc (suc zero)) f some two = refl
+sides-count (suc (suc (suc n))) f some two = absurd (omega arith)
 
 pub count-low : (sides : Sides) → sideCount sides ≤ 2
 unfolding sideCount
@@ -65,13 +76,18 @@ side-before (double f) c h = omega arith
 inside-trans : {u v w : model.Place} → Inside v w → Inside u v → Inside u w
 inside-trans h k = record { long = h .long ∙ k .long; under = λ s. le-trans (h .under s) (k .under s) }
 
--- A start found for (i, q): it lies before, its own cost is small, and it is past the origin.
+-- A start found for (i, q): it lies before, its cost with the page's white is small, and it is past the origin.
 pub record Found (g : Galley) (from : Origin) (i q x : ℕ) (r : Place) : Type 0 where
   pub line : r .line ≤ i
   pub column : r .column ≤ q
   pub less : placedAt g (r .line) (r .column) < placedAt g i q
-  pub dear : x ≤ from .cost + placedAt g (r .line) (r .column) * 251000
+  pub dear : x ≤ from .cost + placedAt g (r .line) (r .column) * 1078036791396000 + g .spec .htmax
   pub past : Inside (placeAt g i q) (placeAt g (from .place .line) (from .place .column))
+
+-- No page has more white than htMax.
+white-low : (s : Search) (a b : ℕ) → whiteFrom s a b ≤ s .galley .spec .htmax
+unfolding whiteFrom
+white-low s a b = page-white-le (s .galley) _ _ _
 
 -- So is the best start, if there is one.
 pub best-entered : (s : Search) (from : Origin) → Sought s → Filled (s .galley) from (s .table) (s .line) (s .column)
@@ -85,43 +101,43 @@ best-entered s from sought fill side x r e =
     let left = c .column in
     let f = candidate-forward s sought (r .line) (r .column) x c in
     let before =
-    fill .entered (r .line) (r .column) (s .side) x (c .reached .0) (candidate-earlier s sought (r .line) (r .column) x c) (omega arith)
-    side (c .reached .1) in
+    fill .entered (r .line) (r .column) (s .side) (c .reached .own) (c .reached .start) (candidate-earlier s sought (r .line) (r .column) x c) (omega arith)
+    side (c .reached .entry) in
     let u = placeAt (s .galley) (r .line) (r .column) in
     let v = placeAt (s .galley) (s .line) (s .column) in
     record {
       line = low;
       column = left;
       less = placed-grows (s .galley) u v f;
-      dear = before .dear;
+      dear = omega (arith, before .dear, c .reached .whole, white-low s (r .line) (r .column));
       past =
           inside-trans (before .past)
           (forward-inside (s .galley) u v (place-inside (s .galley) (r .line) (r .column) (omega arith) (omega arith))
           (place-inside (s .galley) (s .line) (s .column) h wide) f);
     }
 
-module _ (g : Galley) (light : dearest g ≤ 251000) (from : Origin) (t : Table) (i q c : ℕ) (high : i ≤ g .stream 0 .size)
+module _ (g : Galley) (light : Light g) (from : Origin) (t : Table) (i q c : ℕ) (high : i ≤ g .stream 0 .size)
     (wide : q < columns (floatSizes g)) (fill : Filled g from t i q) (occurs : Side (g .spec .sides) c) where
   search : Search
   search = record { galley = g; table = t; line = i; column = q; side = before (g .spec .sides) c }
 
   priced-entered : (e : Entry) → bestStart search ≡ e → (x : ℕ) (r : Place)
-      → priced (pageCost g c (full g (placeAt g i q)) (placeAt g i q)) e ≡ Least x r → Entered g from i q x r
+      → priced (rank (pageCost g c (full g (placeAt g i q)) (placeAt g i q)) 0) e ≡ Least x r → Entered g from i q x r
   unfolding priced search
   priced-entered Unreached b x r e = absurd (no-reach e)
   priced-entered (Least y s) b x r e =
       let same : s ≡ r = cc in
-      let sum : y + pageCost g c (full g (placeAt g i q)) (placeAt g i q) ≡ x = cc in
+      let sum : y + rank (pageCost g c (full g (placeAt g i q)) (placeAt g i q)) 0 ≡ x = cc in
       let found =
       best-entered search from (record { high = high; wide = wide }) fill (side-before (g .spec .sides) c occurs) y r (b ∙ (cc)) in
       let cost = cost-le g c (full g (placeAt g i q)) (placeAt g i q) in
-      let most = mul-le-mul-right 251000 (found .less) in
-      let s = suc-mul (placedAt g (r .line) (r .column)) 251000 in
+      let most = mul-le-mul-right 1078036791396000 (found .less) in
+      let s = suc-mul (placedAt g (r .line) (r .column)) 1078036791396000 in
       record {
         line = found .line;
         column = found .column;
         less = λ _. found .less;
-        dear = omega (arith, found .dear);
+        dear = omega (arith, found .dear, light .dear, light .low);
         past = found .past;
       }
 
@@ -153,7 +169,7 @@ module _ (g : Galley) (light : dearest g ≤ 251000) (from : Origin) (t : Table)
 
       go : (a : Bool) → begins (g .spec .sides) from i q c ≡ a → (b : Bool)
           → pick a (Least (from .cost) (from .place))
-          (pick b (priced (pageCost g c (full g (placeAt g i q)) (placeAt g i q)) (bestStart search)) Unreached)
+          (pick b (priced (rank (pageCost g c (full g (placeAt g i q)) (placeAt g i q)) 0) (bestStart search)) Unreached)
           ≡ Least x r → Entered g from i q x r
       go true a b e = first (here a) x r e
       go false a true e = priced-entered (bestStart search) refl x r e

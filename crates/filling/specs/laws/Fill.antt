@@ -6,7 +6,6 @@ use mathlib.Core.Path.{_≡_, refl, sym, _∙_}
 use mathlib.Core.Logic.{_⊎_, inl, inr}
 use lib.ListN.{length}
 use Rattle.model.specs.Galley.{Galley}
-use Rattle.theorems.specs.turns.Bounds.{dearest}
 use Rattle.places.specs.declared.Place.{Place}
 use Rattle.places.specs.declared.Origin.{Origin}
 use Rattle.places.specs.declared.Entry.the-variants.{Least}
@@ -18,7 +17,7 @@ use Rattle.places.specs.laws.Stored.{stored-length}
 use Rattle.places.specs.laws.Table.{table-same, table-other}
 use Rattle.starts.specs.Search.{Table, newEntry}
 use Rattle.filling.specs.Fill.{Words, tall, held, fillSide, fillSides, sideCount, fillPlace, fillColumn, fillColumns, filled}
-use Rattle.filling.specs.Filled.{Roomy, Side, Entered, Filled}
+use Rattle.filling.specs.Filled.{Light, Roomy, Side, Entered, Filled}
 use Rattle.filling.specs.laws.Entered.{side-low, side-below, below-side, count-low, entry-entered}
 
 -- Filling keeps the length, and so the room.
@@ -56,7 +55,7 @@ room-kept e room = record { words = omega (arith, room .words) }
 
 -- The four words of a place are there.
 pub in-room : {g : Galley} {w : Words} → Roomy g w → (i q c : ℕ) → i ≤ g .stream 0 .size → q < columns (floatSizes g) → c ≤ 1
-    → address (tall g) i q c + 4 ≤ length w
+    → address (tall g) i q c + 5 ≤ length w
 unfolding tall
 in-room {g} room i q c high wide side =
     omega (arith, room .words, address-in (g .stream 0 .size + 1) i q c (columns (floatSizes g)) (omega arith) wide side)
@@ -98,7 +97,7 @@ earlier-column a b m q h (inl l) = go (decLt b q)
     go (no k) = inr (omega arith, omega arith)
 earlier-column a b m q h (inr (e, l)) = absurd (omega arith)
 
-module _ (g : Galley) (light : dearest g ≤ 251000) (from : Origin) where
+module _ (g : Galley) (light : Light g) (from : Origin) where
   pub filled-start : (t : Table) → Filled g from t 0 0
   filled-start t = record { entered = λ a b c x s l. absurd (none a b l) }
     where

@@ -10,6 +10,7 @@ use lib.Dec.{eqb}
 use Rattle.model.specs.Galley as model
 use Rattle.model.specs.laws.Gather.{and-left}
 use Rattle.theorems.specs.turns.Waiting.{pageCost}
+use Rattle.theorems.specs.turns.Rank.{rank}
 use Rattle.theorems.specs.turns.Bounds.{cost-le}
 use Rattle.theorems.specs.pages.Graph.{full}
 use Rattle.model.specs.Rules.{floor}
@@ -24,7 +25,7 @@ use Rattle.places.specs.declared.Entry.{Entry}
 use Rattle.places.specs.declared.Entry.the-variants.{Unreached, Least}
 use Rattle.places.specs.Columns.{placeAt}
 use Rattle.places.specs.Best.{Best}
-use Rattle.window.specs.declared.queue.Queue.{Queue}
+use Rattle.window.specs.declared.parts.Parts.{Parts}
 use Rattle.starts.specs.Better.{chosen}
 use Rattle.starts.specs.Search.{Table, before, bestStart, priced, mayStop, begins, newEntry}
 use Rattle.starts.specs.Choice.{Above}
@@ -33,6 +34,7 @@ use Rattle.rules.specs.Parts.{allPlaced}
 use Rattle.starts.specs.Read.{tableIn, sideOf, searchOf, loadOf}
 use Rattle.starts.specs.Sweep.{LinesStand, LastBest}
 use Rattle.starts.specs.laws.Columns.{placed-at, within-at, sought-in}
+use Rattle.starts.specs.laws.White.{white-lines}
 use Rattle.starts.specs.laws.Sweep.{window-best, start-chosen}
 use Rattle.starts.specs.laws.Pass.{least-low}
 use Rattle.starts.specs.laws.Lending.{side-either, lent-placed, can-stand}
@@ -41,7 +43,7 @@ use Rattle.filling.specs.declared.side.End.{End}
 use Rattle.filling.specs.Next.{StartsFor, LinesAbove, EntryNext}
 use Rattle.filling.specs.laws.Entered.{side-before, best-entered}
 use Rattle.filling.specs.laws.Price.{dearest-light}
-use Rattle.filling.specs.laws.Own.{under-own, lines-slide, end-within, end-bears}
+use Rattle.filling.specs.laws.Own.{under-own, lines-slide, end-within, end-full, end-bears}
 
 module _ (g : model.Galley) (from : Origin) (t : Table) (i q c : ℕ) where
   -- Where the search begins, the entry is what was paid there.
@@ -58,44 +60,50 @@ module _ (g : model.Galley) (from : Origin) (t : Table) (i q c : ℕ) where
     -- Else it costs what its best start does and the price of the page.
     pub entry-priced : mayStop g i q c ≡ true → (e : Entry)
         → bestStart (record { galley = g; table = t; line = i; column = q; side = before (g .spec .sides) c }) ≡ e
-        → newEntry g from t i q c ≡ priced (pageCost g c (full g (placeAt g i q)) (placeAt g i q)) e
+        → newEntry g from t i q c ≡ priced (rank (pageCost g c (full g (placeAt g i q)) (placeAt g i q)) 0) e
     unfolding newEntry
     entry-priced m e b = rw (later, m, b)
 
 -- The lines above in the column, for the last page.
-module _ {bytes : List ℕ} {g : Galley} {w sums words : List ℕ} {queue : Queue} {end : End}
-    (above : LinesAbove bytes g w sums words queue end) where
+module _ {bytes : List ℕ} {g : Galley} {w sums words : List ℕ} {parts : Parts} {end : End}
+    (above : LinesAbove bytes g w sums words parts end) (full : allPlaced g (end .at) ≡ true) where
+  last : end .at .lines ≡ g .text .count
+  last = eqb-true (end .at .lines) (g .text .count) (and-left (eqb (end .at .lines) (g .text .count)) _ full)
+
   pub above-stand : LinesStand g w sums (loadOf g 0 noHeights (floor (modelOf bytes g) true)) (end .column) (sideOf g (end .side))
   above-stand =
       record {
         stands = λ a l. can-stand (above .lent) a (end .column) (sideOf g (end .side)) l (above .lent .column) (side-either g (end .side));
+        costs = λ a l. above .costs a (omega (arith, last));
         slides =
             lines-slide (above .lent) (above .summed) (floor (modelOf bytes g) true) (least-low bytes g (above .lent .sound) true)
-            (record { low = 0; high = 0 }) (g .text .count) (le-refl _) (omega arith) (omega arith);
+            (record { low = 0; split = 0; high = 0 }) (g .text .count) (le-refl _) (omega arith) (omega arith) (omega arith);
       }
 
-  pub above-last : allPlaced g (end .at) ≡ true → (lines : Entry)
+  pub above-last : (lines : Entry)
       → LastBest g w sums (loadOf g 0 noHeights (floor (modelOf bytes g) true)) (end .column) (sideOf g (end .side)) lines
       → Best (StartsFor bytes g w end (Above (end .column) (end .at .lines))) lines
-  above-last full lines found =
-      let last : end .at .lines ≡ g .text .count =
-      eqb-true (end .at .lines) (g .text .count) (and-left (eqb (end .at .lines) (g .text .count)) _ full) in
+  above-last lines found =
+      let bears = end-bears bytes g end (above .counts) w (sideOf g (end .side)) true full in
+      let proper = within-proper g (end-within bytes g end (above .counts) (above .line) (above .lent .column)) in
       window-best (searchOf bytes g w (end .at .lines) (end .column) (sideOf g (end .side)))
       (sought-in bytes g w (end .at .lines) (end .column) (sideOf g (end .side)) (lent-placed (above .lent) (end .at .lines) (above .line)))
       (end .column) (le-refl _) (under-own (modelOf bytes g) (end .column)) (loadOf g 0 noHeights (floor (modelOf bytes g) true))
-      (end-bears bytes g end (above .counts) w (sideOf g (end .side)) true full) (found .window)
-      (rw last (found .opens (textOf bytes (g .text)) (above .summed .rows))) lines (found .best)
+      bears (found .window) (rw last (found .opens (textOf bytes (g .text)) (above .summed .rows))) (λ a. 0)
+      (white-lines (searchOf bytes g w (end .at .lines) (end .column) (sideOf g (end .side))) (end .column) true
+      (end-full bytes g end (above .counts) true proper full) (loadOf g 0 noHeights (floor (modelOf bytes g) true)) bears)
+      lines (found .best)
 
 -- No table is placed where it ends if there are none.
-pub entry-proper : {bytes : List ℕ} {task : Task} {w sums words : List ℕ} {queue : Queue} {end : End}
-    → EntryNext bytes task w sums words queue end → Proper (task .galley) (end .at)
+pub entry-proper : {bytes : List ℕ} {task : Task} {w sums words : List ℕ} {parts : Parts} {end : End}
+    → EntryNext bytes task w sums words parts end → Proper (task .galley) (end .at)
 entry-proper {bytes} {task} {end = end} next =
     within-proper (task .galley)
     (end-within bytes (task .galley) end (next .ending .counts) (next .ending .line) (next .next .lent .column))
 
 -- The entry from what is known of its starts: of those in earlier columns, and of the lines above.
-module _ {bytes : List ℕ} {task : Task} {w sums words : List ℕ} {queue : Queue} {end : End}
-    (next : EntryNext bytes task w sums words queue end) (lines : Entry)
+module _ {bytes : List ℕ} {task : Task} {w sums words : List ℕ} {parts : Parts} {end : End}
+    (next : EntryNext bytes task w sums words parts end) (lines : Entry)
     (best : Best (StartsFor bytes (task .galley) w end (Above (end .column) (end .at .lines))) lines) (e : Entry)
     (told : e ≡ chosen (tableIn (task .galley) w (end .at .lines) (end .column) (end .side)) lines) where
   abbrev g : Galley
@@ -120,13 +128,13 @@ module _ {bytes : List ℕ} {task : Task} {w sums words : List ℕ} {queue : Que
   pub entry-told : begins (sidesIn (task .galley)) (task .origin) (end .at .lines) (end .column) (end .side) ≡ false
       → mayStop (modelOf bytes (task .galley)) (end .at .lines) (end .column) (end .side) ≡ true
       → newEntry (modelOf bytes (task .galley)) (task .origin) (tableIn (task .galley) w) (end .at .lines) (end .column) (end .side)
-      ≡ priced (pageCost (modelOf bytes (task .galley)) (end .side) (full (modelOf bytes (task .galley)) v) v) e
+      ≡ priced (rank (pageCost (modelOf bytes (task .galley)) (end .side) (full (modelOf bytes (task .galley)) v) v) 0) e
   entry-told later may =
       entry-priced (modelOf bytes g) (task .origin) (tableIn g w) (end .at .lines) (end .column) (end .side) later may e start-told
 
-  -- and their sum is a word.
+  -- and their sum is a number of 64 bits.
   pub cost-low : (x : ℕ) (r : Place) → e ≡ Least x r
-      → x + pageCost (modelOf bytes (task .galley)) (end .side) (full (modelOf bytes (task .galley)) v) v ≤ 2140000000
+      → x + rank (pageCost (modelOf bytes (task .galley)) (end .side) (full (modelOf bytes (task .galley)) v) v) 0 ≤ 10000000000000000000
   cost-low x r is =
       let m = modelOf bytes g in
       let sound = next .next .lent .sound in
@@ -138,7 +146,8 @@ module _ {bytes : List ℕ} {task : Task} {w sums words : List ℕ} {queue : Que
         start .less,
         start .dear,
         cost-le m (end .side) (full m v) v,
-        dearest-light bytes g sound,
+        dearest-light bytes g sound .dear,
+        dearest-light bytes g sound .low,
         placed-at bytes g (end .at .lines) (end .column),
         within-at g (end .at .lines) (end .column) (next .ending .line) (next .next .lent .column),
         next .next .cheap,

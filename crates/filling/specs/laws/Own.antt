@@ -11,7 +11,7 @@ use Rattle.theorems.specs.turns.Waiting.{pageCost}
 use Rattle.theorems.specs.pages.Graph.{full}
 use Rattle.galley.specs.declared.Galley.{Galley}
 use Rattle.galley.specs.Model.{modelOf}
-use Rattle.blocks.specs.Counts.{placeOf, Within}
+use Rattle.blocks.specs.Counts.{placeOf, Within, Proper}
 use Rattle.blocks.specs.Heights.{noHeights}
 use Rattle.rules.specs.declared.waiting.Waiting.{Waiting}
 use Rattle.rules.specs.Waiting.{Walking}
@@ -25,7 +25,7 @@ use Rattle.starts.specs.Beside.{Under, Bears}
 use Rattle.rules.specs.Parts.{allPlaced}
 use Rattle.starts.specs.Read.{searchOf, columnsIn, countsAt, loadOf}
 use Rattle.starts.specs.Sweep.{Lent, Summed}
-use Rattle.starts.specs.laws.Columns.{place-at, within-at}
+use Rattle.starts.specs.laws.Columns.{place-at, within-at, full-of}
 use Rattle.starts.specs.laws.Floats.{bears-own}
 use Rattle.starts.specs.laws.Lending.{can-slide}
 use Rattle.filling.specs.declared.side.End.{End}
@@ -37,10 +37,11 @@ under-own g q = inside-all (floatsAt (floatSizes g) q)
 
 -- The window of lines alone can be moved on to line i.
 pub lines-slide : {bytes : List ℕ} {g : Galley} {w : List ℕ} {j : ℕ} {sums : List ℕ} → Lent bytes g w j → Summed bytes g sums
-    → (least : ℕ) → least ≤ g .spec .htmax → (window : Window) (i : ℕ) → i ≤ g .text .count → window .low ≤ i → window .high ≤ i
+    → (least : ℕ) → least ≤ g .spec .htmax → (window : Window) (i : ℕ) → i ≤ g .text .count → window .low ≤ i → window .split ≤ i
+    → window .high ≤ i
     → Slidable sums (loadOf g 0 noHeights least) window i
-lines-slide lent summed least under window i h low high =
-    can-slide lent summed 0 noHeights (omega arith) (record { tight = omega arith; loose = omega arith }) least under window i h low high
+lines-slide lent summed least under window i h low split high =
+    can-slide lent summed 0 noHeights (omega arith) (record { tight = omega arith; loose = omega arith }) least under window i h low split high
 
 -- What waits at a line of a column waits one line further down.
 pub walking-down : {bytes : List ℕ} (g : Galley) (i j : ℕ) (known : Waiting) → Within g (countsAt g i j)
@@ -71,6 +72,11 @@ module _ (bytes : List ℕ) (g : Galley) (end : End) (counts : end .at ≡ count
   -- No more is placed there than there is.
   pub end-within : end .at .lines ≤ g .text .count → end .column < columnsIn g → Within g (end .at)
   end-within line column = rw counts (within-at g (end .at .lines) (end .column) line column)
+
+  -- Whether it is the last page's is told by the counts.
+  pub end-full : (last : Bool) → Proper g (end .at) → allPlaced g (end .at) ≡ last
+      → full (modelOf bytes g) (placeAt (modelOf bytes g) (end .at .lines) (end .column)) ≡ last
+  end-full last proper e = ap (full (modelOf bytes g)) end-place ∙ full-of bytes g (end .at) proper ∙ e
 
   -- Pages within its column have nothing beside their lines, and are no lower than the last page must be where all is placed.
   pub end-bears : (w : List ℕ) (side : ℕ) (last : Bool) → allPlaced g (end .at) ≡ last

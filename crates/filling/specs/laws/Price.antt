@@ -13,7 +13,7 @@ use Rattle.model.specs.Leaf.{ends, sidesOf}
 use Rattle.model.specs.laws.Leaf.{ends-folio}
 use Rattle.theorems.specs.turns.Waiting.{pageCost}
 use Rattle.theorems.specs.pages.Graph.{full}
-use Rattle.theorems.specs.turns.Bounds.{allFloats, dearest, Limits, rate-limit}
+use Rattle.theorems.specs.turns.Bounds.{allFloats, Limits, rate-limit}
 use Rattle.galley.specs.declared.Galley.{Galley}
 use Rattle.galley.specs.Model.{modelOf, sidesIn}
 use Rattle.galley.specs.Sound.{Sound}
@@ -25,6 +25,7 @@ use Rattle.rules.specs.laws.Walked.{waiting-of}
 use Rattle.rules.specs.Parts.{allPlaced}
 use Rattle.starts.specs.laws.Columns.{full-of}
 use Rattle.filling.specs.Stop.{stopAt, stopsAt, endingSide}
+use Rattle.filling.specs.Filled.{Light}
 use Rattle.filling.specs.Next.{waitsAt, priceOf}
 
 -- A page ends its leaf on the one side whose pages do.
@@ -78,11 +79,13 @@ sound-limits bytes g sound =
       floats = omega arith;
       alpha = sound .specRanged .alphas;
       beta = sound .specRanged .betas;
+      highest = sound .specRanged .htmaxs;
     }
 
--- No price passes the limit of α·(n + k) + β.
-pub dearest-light : (bytes : List ℕ) (g : Galley) → Sound bytes g → dearest (modelOf bytes g) ≤ 251000
-dearest-light bytes g sound = rate-limit (modelOf bytes g) (sound-limits bytes g sound) .0
+-- No price passes the limit of α·(n + k) + β, and no white the greatest height.
+pub dearest-light : (bytes : List ℕ) (g : Galley) → Sound bytes g → Light (modelOf bytes g)
+dearest-light bytes g sound =
+    record { dear = rate-limit (modelOf bytes g) (sound-limits bytes g sound) .0; low = sound .specRanged .htmaxs }
 
 -- The product in a price is small.
 pub price-small : (alpha n : ℕ) → alpha ≤ 1000 → n ≤ 250 → alpha * n ≤ 250000

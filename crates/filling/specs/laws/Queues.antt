@@ -2,97 +2,117 @@
 use Prim.Native.Nat.{ℕ, zero, suc, _+_, _*_, _≤_, _<_}
 use native.Mathlib.Decide.{decLt, ℕ-discrete}
 use native.Mathlib.Omega.{arith}
-use mathlib.Core.Path.{_≡_, refl, sym, _∙_}
+use mathlib.Core.Path.{_≡_, refl, sym, ap, subst, _∙_}
 use mathlib.Core.Logic.{_⊎_, inl, inr}
 use mathlib.Core.List.{List, [], _∷_}
-use lib.ListN.{length}
+use lib.ListN.{length, getD}
 use Rattle.galley.specs.declared.Galley.{Galley}
 use Rattle.window.specs.declared.slide.Window.{Window}
-use Rattle.window.specs.declared.queue.Queue.{Queue}
-use Rattle.window.specs.Queue.{linesOf, queueOf, pushed, Advanced}
-use Rattle.window.specs.laws.Held.{held-none, held-same, held-beside}
-use Rattle.window.specs.laws.Pushed.{pushed-length, pushed-own-line, pushed-own-cost, other-line, other-cost}
+use Rattle.window.specs.declared.queue.Source.{Source}
+use Rattle.window.specs.declared.parts.Parts.{Parts}
+use Rattle.window.specs.Sums.{rowPut}
+use Rattle.window.specs.Queue.{linesOf}
+use Rattle.window.specs.Parts.{partsOf, Both, Moved}
+use Rattle.window.specs.laws.Sums.{row-length, row-other, row-word}
+use Rattle.window.specs.laws.Parts.{both-none, both-same, both-beside}
 use Rattle.starts.specs.Read.{sideOf}
 use Rattle.filling.specs.Next.{Holds, Queues}
 
 abbrev nothing : Window
-nothing = record { low = 0; high = 0 }
+nothing = record { low = 0; split = 0; high = 0 }
+
+-- The ends of empty queues.
+abbrev pub noEnds : List ℕ
+noEnds = 0 ∷ 0 ∷ 4000 ∷ 4000 ∷ 8000 ∷ 8000 ∷ 12000 ∷ 12000 ∷ []
 
 -- Before the first line all queues are empty.
-pub queues-none : (g : Galley) (w words : List ℕ) (b : ℕ) → g .spec .sides ≤ 2
-    → Queues g w words (0 ∷ 0 ∷ 4000 ∷ 4000 ∷ []) b nothing nothing 0
-queues-none g w words b two =
-    record { pair = refl; moved = λ c l m. absurd (omega arith); still = λ c l m. still c m }
+pub queues-none : (g : Galley) (w sums words : List ℕ) (b : ℕ) → g .spec .sides ≤ 2
+    → Queues g w sums words (0 ∷ 0 ∷ 4000 ∷ 4000 ∷ 8000 ∷ 8000 ∷ 12000 ∷ 12000 ∷ []) b nothing nothing 0
+queues-none g w sums words b two =
+    record { rows = refl; moved = λ c l m. absurd (omega arith); still = λ c l m. still c m }
   where
-    still : (c : ℕ) → c < g .spec .sides → Holds g w words (0 ∷ 0 ∷ 4000 ∷ 4000 ∷ []) b nothing c
-    still zero m = held-none (linesOf w (g .text .count + 1) b (sideOf g 0)) words 0
-    still (suc zero) m = held-none (linesOf w (g .text .count + 1) b (sideOf g 1)) words 4000
+    still : (c : ℕ) → c < g .spec .sides → Holds g w sums words noEnds b nothing c
+    still zero m = both-none (linesOf w (g .text .count + 1) b (sideOf g 0)) sums words 0
+    still (suc zero) m = both-none (linesOf w (g .text .count + 1) b (sideOf g 1)) sums words 8000
     still (suc (suc c)) m = absurd (omega arith)
 
--- The rooms of two queues are apart.
-rooms-apart : (c d k m : ℕ) → ¬ (d ≡ c) → k ≤ 4000 → m ≤ 4000 → (4000 * d + k ≤ 4000 * c) ⊎ (4000 * c + m ≤ 4000 * d)
-rooms-apart c d k m n p q = go (decLt d c)
+-- The rooms of two sides are apart.
+rooms-apart : (c d : ℕ) → ¬ (d ≡ c) → (8000 * d + 8000 ≤ 8000 * c) ⊎ (8000 * c + 8000 ≤ 8000 * d)
+rooms-apart c d n = go (decLt d c)
   where
-    go : Dec (d < c) → (4000 * d + k ≤ 4000 * c) ⊎ (4000 * c + m ≤ 4000 * d)
+    go : Dec (d < c) → (8000 * d + 8000 ≤ 8000 * c) ⊎ (8000 * c + 8000 ≤ 8000 * d)
     go (yes l) = inl (omega arith)
     go (no l) = inr (omega arith)
 
-module _ {g : Galley} {w words ends : List ℕ} {b : ℕ} {old new : Window} {n : ℕ} (q : Queues g w words ends b old new n) where
+-- The ends of a side's queues as they are stored.
+abbrev pub endsPut : List ℕ → ℕ → Parts → List ℕ
+endsPut ends c parts = rowPut ends c (parts .full .head) (parts .full .tail) (parts .rest .head) (parts .rest .tail)
+
+module _ {g : Galley} {w sums words ends : List ℕ} {b : ℕ} {old new : Window} {n : ℕ} (q : Queues g w sums words ends b old new n) where
   -- When all have moved, the turn is over.
-  pub queues-round : g .spec .sides ≤ n → Queues g w words ends b new new 0
+  pub queues-round : g .spec .sides ≤ n → Queues g w sums words ends b new new 0
   queues-round l =
-      record { pair = q .pair; moved = λ c m. absurd (omega arith); still = λ c m h. q .moved c (omega arith) h }
+      record { rows = q .rows; moved = λ c m. absurd (omega arith); still = λ c m h. q .moved c (omega arith) h }
 
   -- They hold the same of columns that are the same above the line where both windows end.
-  pub queues-same : (v : List ℕ) (i : ℕ) → old .high ≤ i → new .high ≤ i
+  pub queues-same : (v : List ℕ) (i : ℕ) → old .split ≤ i → old .high ≤ i → new .split ≤ i → new .high ≤ i
       → ((a c : ℕ) → a < i → linesOf v (g .text .count + 1) b (sideOf g c) a ≡ linesOf w (g .text .count + 1) b (sideOf g c) a)
-      → Queues g v words ends b old new n
-  queues-same v i k m same =
+      → Queues g v sums words ends b old new n
+  queues-same v i k k′ m m′ same =
       record {
-        pair = q .pair;
-        moved = λ c l h. kept c new m (q .moved c l h);
-        still = λ c l h. kept c old k (q .still c l h);
+        rows = q .rows;
+        moved = λ c l h. both-same i m m′ (λ a. same a c) (q .moved c l h);
+        still = λ c l h. both-same i k k′ (λ a. same a c) (q .still c l h);
       }
-    where
-      kept : (c : ℕ) (window : Window) → window .high ≤ i → Holds g w words ends b window c → Holds g v words ends b window c
-      kept c window l h =
-          held-same (linesOf w (g .text .count + 1) b (sideOf g c)) (linesOf v (g .text .count + 1) b (sideOf g c)) words (queueOf ends
-          c) (window .low) (window .high) (λ a p. same a c (omega arith)) h
 
-  -- The queue of the next side moved on.
-  pub queues-next : g .text .count ≤ 4000 → g .spec .sides ≤ 2 → n < g .spec .sides → old .low ≤ new .low → old .high ≤ g .text .count
-      → new .high ≤ g .text .count → (words′ : List ℕ) (r : Queue)
-      → Advanced w (g .text .count + 1) b (sideOf g n) words (queueOf ends n) (old .high) new r words′
-      → Queues g w words′ (pushed ends n (r .head) (r .tail)) b old new (n + 1)
-  queues-next few two more low h h′ words′ r advanced =
+  -- The queues of the next side moved on.
+  pub queues-next : g .spec .sides ≤ 2 → n < g .spec .sides → old .split ≤ 4000 → old .high ≤ 4000 → new .split ≤ 4000 → new .high ≤ 4000
+      → (words′ : List ℕ) (r : Parts)
+      → Moved w sums words (record { tall = g .text .count + 1; column = b; side = sideOf g n }) (partsOf ends n) new r words′
+      → Queues g w sums words′ (endsPut ends n r) b old new (n + 1)
+  queues-next two more s h s′ h′ words′ r done =
       record {
-        pair = pushed-length ends n (r .head) (r .tail) ∙ q .pair;
+        rows = row-length ends n _ _ _ _ ∙ q .rows;
         moved = λ d l m. moved d l m (ℕ-discrete d n);
-        still = λ d l m. rw (other d (omega arith)) (kept d old (omega arith) h (q .still d (omega arith) m));
+        still = λ d l m. rw (other d m (omega arith)) (kept d old (omega arith) s h (q .still d (omega arith) m));
       }
     where
-      own : queueOf (pushed ends n (r .head) (r .tail)) n ≡ r
+      room : 4 * n + 4 ≤ length ends
+      room = omega (arith, q .rows)
+
+      own : partsOf (endsPut ends n r) n ≡ r
       own =
-          let room : 2 * n + 2 ≤ length ends = omega (arith, q .pair) in
-          let line = pushed-own-line ends n (r .head) (r .tail) room in
-          let cost = pushed-own-cost ends n (r .head) (r .tail) room in
-          let base = sym (advanced .base) in
-          rw (line, cost, base)
+          let zero-th : 4 * n ≡ 4 * n + 0 = omega arith in
+          let a = row-word ends n (r .full .head) (r .full .tail) (r .rest .head) (r .rest .tail) 0 (4 * n) (omega arith) zero-th room in
+          let b = row-word ends n (r .full .head) (r .full .tail) (r .rest .head) (r .rest .tail) 1 (4 * n + 1) (omega arith) refl room in
+          let c = row-word ends n (r .full .head) (r .full .tail) (r .rest .head) (r .rest .tail) 2 (4 * n + 2) (omega arith) refl room in
+          let d = row-word ends n (r .full .head) (r .full .tail) (r .rest .head) (r .rest .tail) 3 (4 * n + 3) (omega arith) refl room in
+          let first = sym (done .held .first) in
+          let second = sym (done .held .second) in
+          let bare = sym (done .held .bare) in
+          let keyed = sym (done .held .keyed) in
+          rw (a, b, c, d, second, first, bare, keyed)
 
-      other : (d : ℕ) → ¬ (d ≡ n) → queueOf (pushed ends n (r .head) (r .tail)) d ≡ queueOf ends d
-      other d m =
-          let line = other-line ends n (r .head) (r .tail) d m in
-          let cost = other-cost ends n (r .head) (r .tail) d m in
-          rw (line, cost)
+      other : (d : ℕ) → d < g .spec .sides → ¬ (d ≡ n) → partsOf (endsPut ends n r) d ≡ partsOf ends d
+      other d m e =
+          let z : 4 * d ≡ 4 * d + 0 = omega arith in
+          let a = at 0 (4 * d) z (omega arith) in
+          let b = at 1 (4 * d + 1) refl (omega arith) in
+          let c = at 2 (4 * d + 2) refl (omega arith) in
+          let f = at 3 (4 * d + 3) refl (omega arith) in
+          rw (a, b, c, f)
+        where
+          at : (k x : ℕ) → x ≡ 4 * d + k → k < 4 → getD (endsPut ends n r) x 0 ≡ getD ends x 0
+          at k x y l = row-other ends n _ _ _ _ x (go (decLt d n))
+            where
+              go : Dec (d < n) → (x < 4 * n) ⊎ (4 * n + 4 ≤ x)
+              go (yes p) = inl (omega arith)
+              go (no p) = inr (omega arith)
 
-      kept : (d : ℕ) (window : Window) → ¬ (d ≡ n) → window .high ≤ g .text .count → Holds g w words ends b window d
-          → Holds g w words′ ends b window d
-      kept d window e k h =
-          held-beside (linesOf w (g .text .count + 1) b (sideOf g d)) words words′ (queueOf ends d) (window .low) (window .high)
-          (4000 * n) (4000 * n + new .high) (advanced .beside) (rooms-apart n d (window .high) (new .high) e (omega arith)
-          (omega arith)) h
+      kept : (d : ℕ) (window : Window) → ¬ (d ≡ n) → window .split ≤ 4000 → window .high ≤ 4000 → Holds g w sums words ends b window d
+          → Holds g w sums words′ ends b window d
+      kept d window e k k′ = both-beside k k′ (done .beside) (rooms-apart n d e)
 
-      moved : (d : ℕ) → d < n + 1 → d < g .spec .sides → Dec (d ≡ n)
-          → Holds g w words′ (pushed ends n (r .head) (r .tail)) b new d
-      moved d l m (yes e) = let o = own in rw (e, o) (advanced .held (old .low) low (q .still n (omega arith) more))
-      moved d l m (no e) = rw (other d e) (kept d new e h′ (q .moved d (omega arith) m))
+      moved : (d : ℕ) → d < n + 1 → d < g .spec .sides → Dec (d ≡ n) → Holds g w sums words′ (endsPut ends n r) b new d
+      moved d l m (yes e) = let o = own in rw (e, o) (done .held)
+      moved d l m (no e) = rw (other d m e) (kept d new e s′ h′ (q .moved d (omega arith) m))

@@ -2,26 +2,33 @@
 use Prim.Native.Nat.{ℕ, zero, suc, _+_, _*_, _≤_, _<_}
 use native.Mathlib.Nat.{le-refl}
 use native.Mathlib.Omega.{arith}
-use mathlib.Core.Path.{_≡_, refl, _∙_, ap}
+use mathlib.Core.Path.{_≡_, refl, subst, _∙_, ap}
 use mathlib.Core.Bool.{Bool, false}
 use mathlib.Core.List.{List}
 use lib.ListN.{length}
-use Rattle.model.specs.Leaf.{sidesOf}
 use Rattle.galley.specs.declared.Galley.{Galley}
-use Rattle.galley.specs.Model.{modelOf, sidesIn}
+use Rattle.galley.specs.Model.{textOf, modelOf, sidesIn}
+use Rattle.blocks.specs.Counts.{Proper}
+use Rattle.blocks.specs.laws.Counts.{within-proper}
 use Rattle.places.specs.Columns.{columns, floatSizes}
 use Rattle.places.specs.laws.Address.{area-needed}
-use Rattle.window.specs.declared.queue.Queue.{Queue}
-use Rattle.window.specs.Queue.{linesOf, frontOf, queueOf, pushed, Feedable, Advanced}
-use Rattle.window.specs.laws.Front.{front-best}
-use Rattle.window.specs.laws.Pushed.{pushed-length}
+use Rattle.rules.specs.Parts.{allPlaced}
+use Rattle.window.specs.declared.parts.Parts.{Parts}
+use Rattle.window.specs.Slide.{whiteOf}
+use Rattle.window.specs.Queue.{linesOf, Payable}
+use Rattle.window.specs.Parts.{partsOf, Both, Movable, Moved}
+use Rattle.window.specs.laws.Sums.{row-length}
 use Rattle.starts.specs.Search.{newEntry}
+use Rattle.starts.specs.Beside.{Bears}
+use Rattle.starts.specs.Fronts.{bestFront}
 use Rattle.starts.specs.Read.{tableIn, sideOf, searchOf, columnsIn}
-use Rattle.starts.specs.Sweep.{Lent, Changed}
+use Rattle.starts.specs.Sweep.{Lent, Scratch, Changed}
 use Rattle.starts.specs.laws.Columns.{columns-in, sought-in}
+use Rattle.starts.specs.laws.White.{white-lines}
 use Rattle.starts.specs.laws.Sweep.{window-best}
 use Rattle.starts.specs.laws.Cells.{stored-changes, knows-other}
-use Rattle.starts.specs.laws.Lending.{side-either, lent-sized, lent-placed, can-feed, can-front}
+use Rattle.starts.specs.laws.Lending.{side-either, lent-placed, can-move}
+use Rattle.starts.specs.laws.Fronts.{fronts-best, can-front}
 use Rattle.filling.specs.declared.price.Stop.{Stop}
 use Rattle.filling.specs.declared.side.Task.{Task}
 use Rattle.filling.specs.declared.side.End.{End}
@@ -29,21 +36,14 @@ use Rattle.filling.specs.declared.side.Windows.{Windows}
 use Rattle.filling.specs.Fill.{tall, fillSide, fillSides, sideCount, fillPlace}
 use Rattle.filling.specs.Filled.{Roomy}
 use Rattle.filling.specs.Stop.{turnsOn}
-use Rattle.filling.specs.Next.{plain, EntryNext, SideNext, SideFilled, PlaceNext, PlaceFilled}
+use Rattle.filling.specs.Next.{plain, ownLines, EntryNext, SideNext, SideFilled, PlaceNext, PlaceFilled}
 use Rattle.filling.specs.Run.{SidesRun}
-use Rattle.filling.specs.laws.Entered.{below-side}
+use Rattle.filling.specs.laws.Entered.{below-side, sides-count}
+use Rattle.filling.specs.laws.Costs.{own-costs, lent-filled}
 use Rattle.filling.specs.laws.Fill.{length-side, filled-keeps}
 use Rattle.filling.specs.laws.Price.{dearest-light}
-use Rattle.filling.specs.laws.Own.{under-own, end-bears}
-use Rattle.filling.specs.laws.Queues.{queues-round, queues-same, queues-next}
-
--- The sides that occur are as many as the field says.
-pub sides-count : (n f : ℕ) → 1 ≤ n → n ≤ 2 → sideCount (sidesOf n f) ≡ n
-unfolding sidesOf sideCount
-sides-count zero f some two = absurd (omega arith)
-sides-count (suc zero) f some two = refl
-sides-count (suc (suc zero)) f some two = refl
-sides-count (suc (suc (suc n))) f some two = absurd (omega arith)
+use Rattle.filling.specs.laws.Own.{under-own, lines-slide, end-within, end-full, end-bears}
+use Rattle.filling.specs.laws.Queues.{endsPut, queues-round, queues-same, queues-next}
 
 -- What is lent for a column has the words of every place.
 pub lent-roomy : {bytes : List ℕ} {g : Galley} {w : List ℕ} {j : ℕ} → Lent bytes g w j → Roomy (modelOf bytes g) w
@@ -56,28 +56,31 @@ pub lent-wide : {bytes : List ℕ} {g : Galley} {w : List ℕ} {j : ℕ} → Len
 lent-wide {bytes} {g} lent = omega (arith, columns-in bytes g, lent .column)
 
 -- One side.
-module _ {bytes : List ℕ} {task : Task} {w sums words : List ℕ} {queue : Queue} {windows : Windows} {end : End}
-    (next : SideNext bytes task w sums words queue windows end) where
+module _ {bytes : List ℕ} {task : Task} {w sums words : List ℕ} {parts : Parts} {windows : Windows} {end : End}
+    (next : SideNext bytes task w sums words parts windows end) where
   abbrev g : Galley
   g = task .galley
 
   pub side-either-here : end .side ≤ 1
   side-either-here = omega (arith, next .occurs, next .next .lent .sound .specRanged .sidesTwo)
 
-  -- The queue of the column can be moved on.
-  pub side-feeds : Feedable w (task .galley .text .count + 1) (end .column) (sideOf (task .galley) (end .side)) words queue
-      (windows .from .high) (windows .to .high)
-  side-feeds =
-      can-feed (next .next .lent) (next .scratch) (end .column) (next .next .lent .column) queue (end .side) (windows .from .high)
-      (windows .to .high) (end .at .lines) (next .ending .line) (next .slides .high) (next .slides .opened .ends .high) (next .based)
-      (next .held .based) (next .held .order) (next .held .short)
+  -- What is offered costs little.
+  costs : Payable (linesOf w (task .galley .text .count + 1) (end .column) (sideOf (task .galley) (end .side))) (end .at .lines)
+  costs =
+      own-costs w (next .next .lent .sound) (next .next .cheap) (next .next .filled) (end .side) (next .ending .line) (next .next .lent .column)
+      (next .occurs)
+
+  -- The queues of the column can be moved on.
+  pub side-moves : Movable w sums words (ownLines (task .galley) end) parts (windows .from) (windows .to)
+  side-moves =
+      can-move (next .next .lent) (next .summed) (next .scratch) (end .column) (end .side) (next .next .lent .column) parts (windows .from)
+      (windows .to) (end .at .lines) (next .ending .line) costs (next .slides .opened .ends .split) (next .slides .opened .ends .high)
+      (next .slides .rises) (8000 * end .side) (omega (arith, side-either-here)) (next .held)
 
   -- All starts of the page that ends there are known.
-  pub side-entry : (words′ : List ℕ) → length words′ ≡ length words → (moved : Queue)
-      → Advanced w (task .galley .text .count + 1) (end .column) (sideOf (task .galley) (end .side)) words queue (windows .from .high)
-      (windows .to) moved words′
-      → EntryNext bytes task w sums words′ moved end
-  side-entry words′ sized moved advanced =
+  pub side-entry : (words′ : List ℕ) → length words′ ≡ length words → (moved : Parts)
+      → Moved w sums words (ownLines (task .galley) end) parts (windows .to) moved words′ → EntryNext bytes task w sums words′ moved end
+  side-entry words′ sized moved done =
       record {
         next = next .next;
         ending = next .ending;
@@ -91,24 +94,48 @@ module _ {bytes : List ℕ} {task : Task} {w sums words : List ℕ} {queue : Que
               full = ap (λ (stop : Stop). stop .full) (next .ending .stop);
               side = side-either-here;
               summed = next .summed;
+              costs = costs;
               front =
-                  can-front lent (omega (arith, next .scratch, sized)) (end .column) (lent .column) moved (windows .to .high)
-                  (omega (arith, next .slides .opened .ends .high, next .ending .line))
-                  (omega (arith, advanced .base, next .based)) (advanced .order) (advanced .short);
+                  can-front lent (next .summed) scratch (plain g) order (end .at .lines) (next .ending .line) (windows .to)
+                  (next .slides .opened) (linesOf w (g .text .count + 1) (end .column) (sideOf g (end .side))) (8000 * end .side) (end .column) moved held (done .fresh) (lent .column)
+                  (omega (arith, side-either-here)) costs
+                  (lines-slide lent (next .summed) (g .spec .htmin) order (windows .to) (end .at .lines) (next .ending .line)
+                  (next .slides .opened .ends .low) (next .slides .opened .ends .split) (next .slides .opened .ends .high));
               best = λ inner.
                   window-best (searchOf bytes g w (end .at .lines) (end .column) (sideOf g (end .side)))
                   (sought-in bytes g w (end .at .lines) (end .column) (sideOf g (end .side)) (lent-placed lent (end .at .lines) (next .ending .line)))
-                  (end .column) (le-refl _) (under-own (modelOf bytes g) (end .column)) (plain g)
-                  (end-bears bytes g end (next .ending .counts) w (sideOf g (end .side)) false inner)
-                  (windows .to) (next .slides .opened) (frontOf words′ moved (end .column))
-                  (front-best (linesOf w (g .text .count + 1) (end .column) (sideOf g (end .side))) words′ moved (windows .to .low)
-                  (windows .to .high) (end .column) (advanced .held (windows .from .low) (next .slides .low) (next .held)) (advanced .fresh));
+                  (end .column) (le-refl _) (under-own (modelOf bytes g) (end .column)) (plain g) (bears inner) (windows .to)
+                  (next .slides .opened) (whiteOf (textOf bytes (g .text)) (plain g) (end .at .lines))
+                  (white-lines (searchOf bytes g w (end .at .lines) (end .column) (sideOf g (end .side))) (end .column) false (end-full bytes g end (next .ending .counts) false proper inner) (plain g)
+                  (bears inner))
+                  (bestFront sums words′ moved (end .column) (plain g) (end .at .lines))
+                  (fronts-best lent (next .summed) scratch (plain g) order (end .at .lines) (next .ending .line) (windows .to)
+                  (next .slides .opened) (linesOf w (g .text .count + 1) (end .column) (sideOf g (end .side))) (8000 * end .side) (end .column) moved held (done .fresh));
             };
         known = next .known;
       }
     where
       lent : Lent bytes g w (end .column)
       lent = next .next .lent
+
+      scratch : Scratch words′
+      scratch = omega (arith, next .scratch, sized)
+
+      order : g .spec .htmin ≤ g .spec .htmax
+      order = lent .sound .specRanged .htmins
+
+      held : Both (linesOf w (g .text .count + 1) (end .column) (sideOf g (end .side))) sums words′ (8000 * end .side) moved (windows .to)
+      held =
+          subst
+          (λ n. Both (linesOf w (g .text .count + 1) (end .column) (sideOf g (end .side))) sums words′ n moved (windows .to))
+          (next .held .first) (done .held)
+
+      proper : Proper g (end .at)
+      proper = within-proper g (end-within bytes g end (next .ending .counts) (next .ending .line) (lent .column))
+
+      bears : allPlaced g (end .at) ≡ false
+          → Bears (searchOf bytes g w (end .at .lines) (end .column) (sideOf g (end .side))) (end .column) (plain g)
+      bears inner = end-bears bytes g end (next .ending .counts) w (sideOf g (end .side)) false inner
 
       sides : sideCount (sidesIn g) ≡ g .spec .sides
       sides = sides-count (g .spec .sides) (g .folio) (lent .sound .specRanged .sidesSome) (lent .sound .specRanged .sidesTwo)
@@ -119,10 +146,10 @@ module _ {bytes : List ℕ} {task : Task} {w₀ sums words₀ ends₀ : List ℕ
   two : task .galley .spec .sides ≤ 2
   two = next .next .lent .sound .specRanged .sidesTwo
 
-  inside : windows .to .high ≤ end .at .lines
-  inside = next .slides .opened .ends .high
+  few : end .at .lines ≤ 4000
+  few = omega (arith, next .ending .line, next .next .lent .sound .fewLines)
 
-  pub sides-first : SidesRun bytes task w₀ w₀ words₀ words₀ ends₀ ends₀ windows end 0
+  pub sides-first : SidesRun bytes task w₀ w₀ sums words₀ words₀ ends₀ ends₀ windows end 0
   unfolding fillSides
   sides-first =
       let z : 2 * end .at .lines + 0 ≡ 2 * end .at .lines = omega arith in
@@ -137,9 +164,9 @@ module _ {bytes : List ℕ} {task : Task} {w₀ sums words₀ ends₀ : List ℕ
         waits = rw z (next .waits);
       }
 
-  module _ {w words ends : List ℕ} {c : ℕ} (run : SidesRun bytes task w₀ w words₀ words ends₀ ends windows end c) where
+  module _ {w words ends : List ℕ} {c : ℕ} (run : SidesRun bytes task w₀ w sums words₀ words ends₀ ends windows end c) where
     -- The place is filled once all sides are.
-    pub sides-last : task .galley .spec .sides ≤ c → PlaceFilled bytes task w₀ w words ends windows end
+    pub sides-last : task .galley .spec .sides ≤ c → PlaceFilled bytes task w₀ w sums words ends windows end
     unfolding fillPlace
     sides-last l =
         let sides =
@@ -156,53 +183,63 @@ module _ {bytes : List ℕ} {task : Task} {w₀ sums words₀ ends₀ : List ℕ
       low = omega (arith, two)
 
       lent : Lent bytes (task .galley) w (end .column)
-      lent = lent-sized w (run .sized) (next .next .lent)
+      lent =
+          lent-filled w (next .next .lent .sound) (next .next .cheap) (run .entries) (next .next .lent .column)
+          (omega (arith, next .next .lent .room, run .sized))
 
       -- The next side can be filled.
-      pub sides-side : SideNext bytes task w sums words (queueOf ends c) windows
+      pub sides-side : SideNext bytes task w sums words (partsOf ends c) windows
           (record { at = end .at; column = end .column; side = c; turns = turns; waiting = end .waiting; stop = end .stop })
       sides-side =
           record {
-            next = record { lent = lent; cheap = next .next .cheap; filled = run .entries };
+            next = record { lent = lent; cheap = next .next .cheap; origin = next .next .origin; filled = run .entries };
             ending = record { line = next .ending .line; counts = next .ending .counts; found = next .ending .found; stop = next .ending .stop };
             summed = next .summed;
             scratch = omega (arith, next .scratch, run .wordsSized);
             slides = next .slides;
             occurs = occurs;
             turns = told;
-            based = omega (arith, low);
             held = run .queued .still c (le-refl c) occurs;
             known = run .waits (end .at .lines) c (next .ending .line) occurs (le-refl (2 * end .at .lines + c));
           }
 
-      -- The ends of its queue are words.
-      pub sides-small : (words′ : List ℕ) (r : Queue)
-          → Advanced w (task .galley .text .count + 1) (end .column) (sideOf (task .galley) c) words (queueOf ends c) (windows .from .high)
-          (windows .to) r words′
-          → (r .head ≤ 8000) × (r .tail ≤ 8000)
-      sides-small words′ r advanced =
-          let few = next .next .lent .sound .fewLines in
-          let i = inside in
-          let l = next .ending .line in (
-            omega (arith, advanced .order, advanced .short, advanced .base, low),
-            omega (arith, advanced .short, advanced .base, low),
+      -- The ends of its queues are words.
+      pub sides-small : (words′ : List ℕ) (r : Parts)
+          → Moved w sums words (record { tall = task .galley .text .count + 1; column = end .column; side = sideOf (task .galley) c })
+          (partsOf ends c) (windows .to) r words′
+          → (r .full .head ≤ 16000) × (r .full .tail ≤ 16000) × (r .rest .head ≤ 16000) × (r .rest .tail ≤ 16000)
+      sides-small words′ r done =
+          let full = done .held .full in
+          let rest = done .held .rest in
+          let split = next .slides .opened .ends .split in
+          let high = next .slides .opened .ends .high in
+          let first = done .held .first in
+          let second = done .held .second in
+          let all = few in
+          let side = low in (
+            omega (arith, full .order, full .short),
+            omega (arith, full .short),
+            omega (arith, rest .order, rest .short),
+            omega (arith, rest .short),
           )
 
       -- With it filled, one side more is.
-      pub sides-next : (v words′ : List ℕ) → length words′ ≡ length words → (r : Queue)
-          → SideFilled bytes task w v words words′ (queueOf ends c) windows
+      pub sides-next : (v words′ : List ℕ) → length words′ ≡ length words → (r : Parts)
+          → SideFilled bytes task w v sums words words′ (partsOf ends c) windows
           (record { at = end .at; column = end .column; side = c; turns = turns; waiting = end .waiting; stop = end .stop }) r
-          → SidesRun bytes task w₀ v words₀ words′ ends₀ (pushed ends c (r .head) (r .tail)) windows end (c + 1)
+          → SidesRun bytes task w₀ v sums words₀ words′ ends₀ (endsPut ends c r) windows end (c + 1)
       unfolding fillSides fillSide tall
       sides-next v words′ sized r done =
           let n : c + 1 ≡ suc c = omega arith in
           let m = modelOf bytes (task .galley) in
+          let rises = next .slides .rises in
+          let opened = next .slides .opened .ends in
           let long = ap length (done .filled) ∙ length-side m (task .origin) (end .at .lines) (end .column) c w in
           record {
             within = omega arith;
             sized = long ∙ run .sized;
             wordsSized = sized ∙ run .wordsSized;
-            endsSized = pushed-length ends c (r .head) (r .tail) ∙ run .endsSized;
+            endsSized = row-length ends c _ _ _ _ ∙ run .endsSized;
             filled = rw n (done .filled ∙ ap (fillSide m (task .origin) (end .at .lines) (end .column) c) (run .filled));
             entries =
                 rw (done .filled)
@@ -210,13 +247,9 @@ module _ {bytes : List ℕ} {task : Task} {w₀ sums words₀ ends₀ : List ℕ
                 (lent-wide lent) c w (lent-roomy lent) low (run .entries));
             queued =
                 queues-same
-                (queues-next (run .queued) (lent .sound .fewLines) two occurs (next .slides .low) (omega (
-                  arith,
-                  inside,
-                  next .ending .line,
-                  next .slides .high,
-                )) (omega (arith, inside, next .ending .line)) words′ r (done .advanced)) v (end .at .lines)
-                (omega (arith, inside, next .slides .high)) inside
+                (queues-next (run .queued) two occurs (omega (arith, rises .split, opened .split, few)) (omega (arith, rises .high, opened .high, few))
+                (omega (arith, opened .split, few)) (omega (arith, opened .high, few)) words′ r (done .moved)) v (end .at .lines)
+                (omega (arith, rises .split, opened .split)) (omega (arith, rises .high, opened .high)) (opened .split) (opened .high)
                 (λ a d l.
                 changed .others a (end .column) (sideOf (task .galley) d) (omega (arith, next .ending .line)) (side-either (task .galley) d)
                 (λ q. omega (arith, q .0)));

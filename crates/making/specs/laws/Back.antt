@@ -17,6 +17,7 @@ use Rattle.model.specs.laws.Rules.{placed}
 use Rattle.model.specs.laws.Valid.{placed-sizes}
 use Rattle.theorems.specs.optimality.Cell.{Right, Trace}
 use Rattle.theorems.specs.optimality.Theorem.{step-back, trace-length}
+use Rattle.theorems.specs.turns.Bounds.{Narrow}
 use Rattle.theorems.specs.pages.Graph.{State, stop, end, Origin as Begin, Within, pageGraph, pagesTo, pagesOn}
 use Rattle.theorems.specs.pages.Laws.{page-laws, page-domain, blocksAt}
 use Rattle.theorems.specs.pages.Opening.{after, Opening}
@@ -163,8 +164,8 @@ module _ (g : Galley) (from : Origin) (origin : Proper g (from .place)) (t : Tab
       }
 
 -- The graph from where an opening ends, and what it tells of the best list that begins with the opening.
-module _ (g : Galley) (sane : Sane g) (os : List Place) (opening : Opening g os) (from : Origin) (begins : originOf g from ≡ after g os)
-    (origin : Proper g (from .place)) (t : Table) (right : AllRight g from t) (fill : Filled g from t 0 (columns (floatSizes g))) where
+module _ (g : Galley) (sane : Sane g) (narrow : Narrow g) (os : List Place) (opening : Opening g os) (from : Origin)
+    (begins : originOf g from ≡ after g os) (origin : Proper g (from .place)) (t : Table) (right : AllRight g from t) (fill : Filled g from t 0 (columns (floatSizes g))) where
   right-after : Right (pageGraph g (after g os)) (tableAt g t) (Within g (after g os))
   right-after = subst (λ (o : Begin). Right (pageGraph g o) (tableAt g t) (Within g o)) begins right
 
@@ -172,14 +173,14 @@ module _ (g : Galley) (sane : Sane g) (os : List Place) (opening : Opening g os)
   pub back-none : entryOf t (lastOf g t) ≡ Unreached → bestAfter g os ≡ none
   unfolding tableAt finished
   back-none e =
-      table-none g sane os opening (tableAt g t) right-after (ap (finished (stateOf g (lastOf g t))) e)
+      table-none g sane narrow os opening (tableAt g t) right-after (ap (finished (stateOf g (lastOf g t))) e)
 
   -- Where it is reached, the walk back from the better side counts and writes what follows in the best list.
   pub back-best : (most : ℕ) → blocks g ≤ most → (x : ℕ) (s : Start) → entryOf t (lastOf g t) ≡ Least x s
       → (ps : List Place) × Found g os from t most (lastOf g t) ps
   unfolding tableAt finished Trace pagesTo blocksAt
   back-best most enough x s e =
-      let (us, r, is, cost) = table-best g sane os opening (tableAt g t) right-after x (stateOf g (lastOf g t))
+      let (us, r, is, cost) = table-best g sane narrow os opening (tableAt g t) right-after x (stateOf g (lastOf g t))
       (ap (finished (stateOf g (lastOf g t))) e) in
       go us (subst (λ (o : Begin). Trace (pageGraph g o) (tableAt g t) us end) (sym begins) r) is
     where

@@ -21,7 +21,8 @@ use Rattle.model.specs.laws.Gather.{and-both}
 use Rattle.model.specs.laws.Words.{length-pages}
 use Rattle.model.specs.laws.Rules.{placed}
 use Rattle.theorems.specs.turns.Waiting.{waiting, pageSum, atEnd}
-use Rattle.theorems.specs.turns.Bounds.{dearest}
+use Rattle.theorems.specs.turns.Rank.{rank}
+use Rattle.theorems.specs.turns.Bounds.{heaviest, weight-limit}
 use Rattle.theorems.specs.pages.Graph.{Origin as Begin, beginning, full}
 use Rattle.theorems.specs.pages.Opening.{after, Opening, pages-onto, end-onto, end-cost, end-dear, end-few}
 use Rattle.theorems.specs.pages.LeastAfter.{ByOpening, Whole, opening-or}
@@ -31,15 +32,17 @@ use Rattle.galley.specs.Sound.{Sound}
 use Rattle.blocks.specs.declared.Counts.{Counts}
 use Rattle.blocks.specs.Counts.{placeOf, Within}
 use Rattle.blocks.specs.laws.Counts.{streams-of, same-of, within-proper}
+use Rattle.rules.specs.declared.counts.Sums.{Sums}
 use Rattle.rules.specs.Parts.{leavesTurned, allPlaced, CountLimits, printedCost}
 use Rattle.marking.specs.declared.opening.Opening.the-variants as opening
 use Rattle.marking.specs.Parts.{pagesIn}
 use Rattle.marking.specs.Judged.{waited, KeptPages, OpeningJudged}
+use Rattle.marking.specs.laws.Judged.{lacked-open}
 use Rattle.places.specs.declared.Origin.{Origin}
 use Rattle.places.specs.Columns.{columns, floatSizes, placeAt}
 use Rattle.starts.specs.Read.{columnsIn, countsAt, rowOf, FewFloats}
 use Rattle.starts.specs.laws.Columns.{few-floats, columns-in, row-figures, row-tables, place-at, placed-at}
-use Rattle.filling.specs.laws.Price.{dearest-light}
+use Rattle.filling.specs.laws.Price.{sound-limits}
 use Rattle.making.specs.Shown.{originOf}
 use Rattle.making.specs.Begun.{originAfter, Ending, Opened}
 
@@ -62,10 +65,10 @@ module _ (g : Galley) (at : Counts) (inside : Within g at) where
       let rows = ap (λ n. n * wide) (add-one (g .figures .count)) ∙ suc-mul (g .figures .count) wide in
       omega (arith, inside .tables)
 
-module _ {bytes : List ℕ} {g : Galley} (so : Sound bytes g) {ws : List ℕ} {pages : ℕ} {at : Counts} {x : ℕ}
-    (judged : OpeningJudged bytes g ws (opening.Ends pages at x)) where
-  known : (pages ≡ pagesIn g ws) × KeptPages bytes g ws at x
-  known = judged .kept pages at x refl
+module _ {bytes : List ℕ} {g : Galley} (so : Sound bytes g) {ws : List ℕ} {pages : ℕ} {at : Counts} {sums : Sums}
+    (judged : OpeningJudged bytes g ws (opening.Ends pages at sums)) where
+  known : (pages ≡ pagesIn g ws) × KeptPages bytes g ws 0 at sums
+  known = judged .kept pages at sums refl
 
   stands : openingTurned (modelOf bytes g) ws ≡ none
   stands = sym (judged .told)
@@ -93,14 +96,17 @@ module _ {bytes : List ℕ} {g : Galley} (so : Sound bytes g) {ws : List ℕ} {p
       ∙ known .1 .ends
       ∙ sym (end-onto (modelOf bytes g) (beginning (modelOf bytes g)) (pagesOf (modelOf bytes g) ws))
 
-  cost-is : printedCost g pages x ≡ after (modelOf bytes g) (pagesOf (modelOf bytes g) ws) .cost
+  cost-is : printedCost g pages sums ≡ after (modelOf bytes g) (pagesOf (modelOf bytes g) ws) .cost
   unfolding printedCost leavesTurned waited
   cost-is =
-      let os = pagesOf (modelOf bytes g) ws in
-      let p : pages + 1 ≡ suc (after (modelOf bytes g) os .pages) = omega (arith, pages-are) in
-      ap (λ y. g .spec .alpha * y + g .spec .beta * (leaf (sidesIn g) (pages + 1) - leaf (sidesIn g) 1)) (known .1 .waits)
-      ∙ ap (λ q. g .spec .alpha * pageSum (atEnd (sidesIn g) (waiting (modelOf bytes g))) 1 os + g .spec .beta * (leaf (sidesIn g) q - leaf (sidesIn g) 1)) p
-      ∙ sym (end-cost (modelOf bytes g) os (whole .printed))
+      let M = modelOf bytes g in
+      let os = pagesOf M ws in
+      let p : pages + 1 ≡ suc (after M os .pages) = omega (arith, pages-are) in
+      let turned = ap (λ q. g .spec .beta * (leaf (sidesIn g) q - leaf (sidesIn g) 1)) p in
+      let waited-by = ap (λ y. g .spec .alpha * y) (known .1 .waits) in
+      let white = known .1 .whitens ∙ lacked-open M 0 (zeros M) os in
+      let cost = end-cost M os (whole .printed) in
+      omega arith
 
   -- The blocks placed where it ends, of which each page places one: not all are.
   placed-is : placed (modelOf bytes g) (after (modelOf bytes g) (pagesOf (modelOf bytes g) ws) .place) ≡ at .lines + at .figures + at .tables
@@ -110,7 +116,7 @@ module _ {bytes : List ℕ} {g : Galley} (so : Sound bytes g) {ws : List ℕ} {p
       ∙ ap (λ (c : Counts). c .lines + c .figures + c .tables) (column-back g at (known .1 .placed))
 
   -- One page more is within the limits.
-  pub ends-limits : Ending g pages at x
+  pub ends-limits : Ending g pages at sums
   ends-limits =
       let inside = known .1 .placed in
       record {
@@ -151,22 +157,24 @@ module _ {bytes : List ℕ} {g : Galley} (so : Sound bytes g) {ws : List ℕ} {p
               absurd (omega arith)
 
   -- So making begins at the origin that the opening leads to.
-  pub ends-opened : (from : Origin) → from ≡ originAfter g pages at x → Opened bytes g ws from
+  pub ends-opened : (from : Origin) → from ≡ originAfter g pages at sums → Opened bytes g ws from
   ends-opened from e =
       let os = pagesOf (modelOf bytes g) ws in
       let inside = known .1 .placed in
       let dear = end-dear (modelOf bytes g) os (whole .printed) in
       let low : at .lines + at .figures + at .tables ≤ 4250 =
       omega (arith, inside .lines, inside .figures, inside .tables, so .fewLines, so .figures .few, so .tables .few) in
-      let most = mul-le-mul {n₁ = at .lines + at .figures + at .tables} {m₁ = dearest (modelOf bytes g)} {n₂ = 4250} {m₂ = 251000} low (dearest-light bytes g so) in
+      let most =
+      mul-le-mul {n₁ = at .lines + at .figures + at .tables} {m₁ = heaviest (modelOf bytes g)} {n₂ = 4250} {m₂ = rank 251000 100000} low
+      (weight-limit (modelOf bytes g) (sound-limits bytes g so)) in
       rw e
       (record {
         stands = stands;
         whole = whole;
         is =
-            ap (λ (v : Place). record { place = v; pages = pages; cost = printedCost g pages x }) place-is
-            ∙ ap (λ (n : ℕ). record { place = after (modelOf bytes g) os .place; pages = n; cost = printedCost g pages x }) pages-are
+            ap (λ (v : Place). record { place = v; pages = pages; cost = printedCost g pages sums }) place-is
+            ∙ ap (λ (n : ℕ). record { place = after (modelOf bytes g) os .place; pages = n; cost = printedCost g pages sums }) pages-are
             ∙ ap (λ (n : ℕ). record { place = after (modelOf bytes g) os .place; pages = after (modelOf bytes g) os .pages; cost = n }) cost-is;
         proper = record { line = inside .lines; column = omega (arith, column-low g at inside, columns-in bytes g) };
-        cheap = omega (arith, cost-is, ap (λ n. n * dearest (modelOf bytes g)) placed-is);
+        cheap = omega (arith, cost-is, ap (λ n. n * heaviest (modelOf bytes g)) placed-is);
       })

@@ -61,7 +61,7 @@ module _ {bytes : List ℕ} {g : Galley} (asked : Readable bytes g) where
   needed-is wide n e is = is ∙ ap (wordsNeeded (g .text .count)) e
 
   -- and fit 32 bits.
-  pub needed-small : workNeeded g ≤ 328114008
+  pub needed-small : workNeeded g ≤ 410142510
   unfolding wordsNeeded columnsIn
   needed-small = let h = words-small (g .text .count) (columnsIn g) read-small in omega arith
 
@@ -129,7 +129,12 @@ module _ {bytes : List ℕ} {g : Galley} {opening : List ℕ} {from : Origin} {n
   pub soluble-fillable : Fillable bytes g from work
   unfolding columnsIn
   soluble-fillable =
-      record { sound = sound bytes g (asked .reads); cheap = asked .opened .cheap; room = omega (arith, asked .enough) }
+      record {
+        sound = sound bytes g (asked .reads);
+        cheap = asked .opened .cheap;
+        origin = omega (arith, asked .opened .proper .column, columns-in bytes g);
+        room = omega (arith, asked .enough);
+      }
 
   pub soluble-solved : (work′ : List ℕ) → work′ ≡ filled (modelOf bytes g) from work → Solved bytes g opening from work′ list
   soluble-solved work′ e =

@@ -19,7 +19,7 @@ use Rattle.model.specs.laws.Lists.{_∈_}
 use Rattle.model.specs.laws.Words.{Shaped, length-words}
 use Rattle.model.specs.laws.Valid.{few-pages, valid-accepted}
 use Rattle.theorems.specs.turns.LeastTurns.{valid-counts}
-use Rattle.theorems.specs.turns.Bounds.{dearest, Limits}
+use Rattle.theorems.specs.turns.Bounds.{Limits, Narrow, narrow-limit}
 use Rattle.theorems.specs.pages.Opening.{accepted-follows}
 use Rattle.theorems.specs.pages.LeastAfter.{words-append}
 use Rattle.galley.specs.declared.Galley.{Galley}
@@ -40,7 +40,7 @@ use Rattle.places.specs.laws.Address.{area-needed}
 use Rattle.starts.specs.Read.{tableIn, columnsIn}
 use Rattle.starts.specs.laws.Columns.{few-floats, columns-in}
 use Rattle.filling.specs.Fill.{tall}
-use Rattle.filling.specs.Filled.{Roomy, Filled}
+use Rattle.filling.specs.Filled.{Roomy, Light, Filled}
 use Rattle.filling.specs.laws.Fill.{length-filled, filled-all}
 use Rattle.filling.specs.laws.Price.{sound-limits, dearest-light}
 use Rattle.walk.specs.laws.Walk.{columns-in-some}
@@ -70,8 +70,11 @@ words-few g = omega (arith, streams-of g [], floats-few g)
 
 module _ {bytes : List ℕ} {g : Galley} {opening : List ℕ} {from : Origin} {work list : List ℕ}
     (solved : Solved bytes g opening from work list) where
-  light : dearest (modelOf bytes g) ≤ 251000
+  light : Light (modelOf bytes g)
   light = dearest-light bytes g (sound bytes g (solved .reads))
+
+  narrow : Narrow (modelOf bytes g)
+  narrow = narrow-limit (modelOf bytes g) (reads-limits bytes g (solved .reads))
 
   room : Roomy (modelOf bytes g) (solved .before)
   unfolding tall columnsIn
@@ -142,7 +145,7 @@ module _ {bytes : List ℕ} {g : Galley} {opening : List ℕ} {from : Origin} {w
           go : (y : Entry) → entryOf (tableIn g work) last ≡ y → isReached y ≡ false → Written bytes g opening list (Refused 11 0) list
           go Unreached q h =
               let b =
-              back-none (modelOf bytes g) (reads-sane bytes g (solved .reads)) printed (solved .opened .whole .printed) from (solved .opened .is) proper
+              back-none (modelOf bytes g) (reads-sane bytes g (solved .reads)) narrow printed (solved .opened .whole .printed) from (solved .opened .is) proper
               (tableIn g work) right fill (ap (entryOf (tableIn g work)) (sym at-last) ∙ q) in
               let (a, w) = made-none (modelOf bytes g) opening (solved .opened .stands) b in
               record { answers = a; listed = sym (ap (λ l. l ++ drop (length l) list) w) }
@@ -160,7 +163,7 @@ module _ {bytes : List ℕ} {g : Galley} {opening : List ℕ} {from : Origin} {w
               subst
               (λ (at : Stop). (ps : List Place) × Found (modelOf bytes g) printed from (tableIn g work) (blocksIn g) at ps)
               (sym at-last)
-              (back-best (modelOf bytes g) (reads-sane bytes g (solved .reads)) printed (solved .opened .whole .printed) from (solved .opened .is) proper
+              (back-best (modelOf bytes g) (reads-sane bytes g (solved .reads)) narrow printed (solved .opened .whole .printed) from (solved .opened .is) proper
               (tableIn g work) right fill (blocksIn g) (omega arith) x s (ap (entryOf (tableIn g work)) (sym at-last) ∙ q))
 
       module _ (p : ℕ) (pages : p ≡ pagesBack g work from last) (e : r ≡ true) where

@@ -212,13 +212,18 @@ module _ (bytes : List ℕ) (g : Galley) (u v : Counts) where
               height-of (λ st. st .least) (g .spec .smin) pu pv,
             ))
 
-        -- and are what rule 16 judges.
-        pub page-fills : (last : Bool)
-            → fills (modelOf bytes g) last (placeOf g u) (placeOf g v) ≡ leb (floor (modelOf bytes g) last) (laid .heights .loose)
-        unfolding fills loosest
-        page-fills last =
+        -- and the loosest is the model's,
+        pub page-loose : loosest (modelOf bytes g) (placeOf g u) (placeOf g v) ≡ laid .heights .loose
+        unfolding loosest
+        page-loose =
             rw (
               p .loose,
               height-all (λ st. st .most) (g .spec .smax) (laid .on) (p .to) (all-laid (laid .on) v all),
               height-of (λ st. st .most) (g .spec .smax) pu pv,
             )
+
+        -- which rule 16 judges.
+        pub page-fills : (last : Bool)
+            → fills (modelOf bytes g) last (placeOf g u) (placeOf g v) ≡ leb (floor (modelOf bytes g) last) (laid .heights .loose)
+        unfolding fills
+        page-fills last = ap (leb (floor (modelOf bytes g) last)) page-loose

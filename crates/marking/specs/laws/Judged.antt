@@ -16,7 +16,10 @@ use Rattle.model.specs.Rules.{broken}
 use Rattle.model.specs.Answers.{numbersOf, same, ended, refuse, judge}
 use Rattle.model.specs.Best.{allowed}
 use Rattle.model.specs.Opening.{endOf, pagesTurned}
-use Rattle.marking.specs.Judged.{refusal, faultIn}
+use Rattle.model.specs.White.{whites}
+use Rattle.model.specs.laws.White.{pageWhite, whites-next}
+use Rattle.theorems.specs.pages.Opening.{openWhite}
+use Rattle.marking.specs.Judged.{refusal, faultIn, lacked}
 
 -- The refusal if there is one, else the answer.
 abbrev pub orElse : Option Answer → Answer → Answer
@@ -71,3 +74,22 @@ module _ (g : Galley) where
           ≡ asOpening (refusal n (suc r) (faultIn g 0 (suc (suc r)) v vs)) end
       go zero below = ap (λ b. pick b further (some (Refused 20 (suc r)))) (eq-eqb 0 0 refl) ∙ below
       go (suc n) below = ap (λ b. pick b further (some (Refused 20 (suc r)))) (eqb·suc-zero n)
+
+  -- The white of a list's pages is W, where the last is the last,
+  pub lacked-list : (r last : ℕ) (u : Place) (ps : List Place) → last ≡ r + length ps → lacked g last (suc r) u ps ≡ whites g u ps
+  unfolding lacked whites
+  lacked-list r last u [] h = refl
+  lacked-list r last u (v ∷ vs) h =
+      let here = ap (λ b. pageWhite g b u v) (last-ended r last vs h) in
+      let after = lacked-list (suc r) last v vs (omega arith) in
+      let next = whites-next g u v vs in
+      omega arith
+
+  -- and that of an opening's, of which none is, has every page.
+  pub lacked-open : (r : ℕ) (u : Place) (ps : List Place) → lacked g 0 (suc r) u ps ≡ openWhite g u ps
+  unfolding lacked openWhite
+  lacked-open r u [] = refl
+  lacked-open r u (v ∷ vs) =
+      let here = ap (λ b. pageWhite g b u v) (eqb·suc-zero r) in
+      let after = lacked-open (suc r) v vs in
+      omega arith

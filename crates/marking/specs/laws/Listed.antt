@@ -15,6 +15,7 @@ use Rattle.model.specs.Gather.{pick}
 use Rattle.model.specs.Galley as model
 use Rattle.model.specs.Galley.{streams, zeros, sizes, blocks}
 use Rattle.model.specs.Turns.{xOf, yOf, turns}
+use Rattle.model.specs.White.{white}
 use Rattle.model.specs.Answers.{accepted, same, judge, counted, countsOf, pagesOf, marked}
 use Rattle.model.specs.Best.{allowed}
 use Rattle.model.specs.Opening.{endOf, openingTurned}
@@ -30,6 +31,7 @@ use Rattle.galley.specs.Model.{modelOf}
 use Rattle.blocks.specs.declared.Counts.{Counts}
 use Rattle.blocks.specs.Counts.{pageWords}
 use Rattle.blocks.specs.laws.Counts.{streams-of, blocks-of, same-of, within-proper, words-least}
+use Rattle.rules.specs.declared.counts.Sums.{Sums}
 use Rattle.rules.specs.Parts.{leavesTurned, allPlaced, counts, CountLimits, finished}
 use Rattle.rules.specs.laws.Sane.{sound-sane}
 use Rattle.marking.specs.declared.pages.Judged.{Judged}
@@ -38,7 +40,7 @@ use Rattle.marking.specs.declared.opening.Opening.{Opening}
 use Rattle.marking.specs.declared.opening.Opening.the-variants as opening
 use Rattle.marking.specs.Parts.{pagesIn, WholePages, CountedPages}
 use Rattle.marking.specs.Judged.{firstFault, waited, KeptPages, JudgedPages, turned, Ended, OpeningJudged}
-use Rattle.marking.specs.laws.Judged.{orElse, asOpening, judge-fault, turned-fault}
+use Rattle.marking.specs.laws.Judged.{orElse, asOpening, judge-fault, turned-fault, lacked-list}
 
 -- The words that rule 12 lets pass are whole pages, and no more than there are blocks.
 pub counted-listed : (bytes : List ℕ) (g : Galley) → Sound bytes g → (ws : List ℕ) → counted (modelOf bytes g) ws ≡ true
@@ -68,7 +70,7 @@ pages-in : (bytes : List ℕ) (g : Galley) (ws : List ℕ) → pagesIn g ws ≡ 
 pages-in bytes g ws = omega (arith, length-pages (modelOf bytes g) ws, ap (λ k. length ws / k) (streams-of g bytes))
 
 -- What is said of the place where pages end, by its counts.
-ended-of : {bytes : List ℕ} {g : Galley} {ws : List ℕ} {at : Counts} {x : ℕ} → KeptPages bytes g ws at x
+ended-of : {bytes : List ℕ} {g : Galley} {ws : List ℕ} {last : ℕ} {at : Counts} {sums : Sums} → KeptPages bytes g ws last at sums
     → same (endOf (zeros (modelOf bytes g)) (pagesOf (modelOf bytes g) ws)) (sizes (modelOf bytes g)) ≡ allPlaced g at
 ended-of {bytes} {g} {at = at} k =
     ap (λ v. same v (sizes (modelOf bytes g))) (sym (k .ends)) ∙ same-of g bytes at (within-proper g (k .placed))
@@ -94,12 +96,12 @@ module _ {bytes : List ℕ} {g : Galley} {ws : List ℕ} {pages : ℕ} (asked : 
       let full = same (endOf (zeros (modelOf bytes g)) (pagesOf (modelOf bytes g) ws)) (sizes (modelOf bytes g)) in
       sym (marked-by ∙ ap (λ f. orElse f (ended full)) (sym (r .fault)))
 
-  module _ (at : Counts) (x : ℕ) (r : JudgedPages bytes g ws pages (Kept at x)) where
-    kept-pages : KeptPages bytes g ws at x
-    kept-pages = r .kept at x refl
+  module _ (at : Counts) (sums : Sums) (r : JudgedPages bytes g ws pages (Kept at sums)) where
+    kept-pages : KeptPages bytes g ws pages at sums
+    kept-pages = r .kept at sums refl
 
     -- No count passes 32 bits.
-    pub list-limits : CountLimits g pages x
+    pub list-limits : CountLimits g pages (sums .x)
     list-limits =
         record {
           numbered =
@@ -115,7 +117,7 @@ module _ {bytes : List ℕ} {g : Galley} {ws : List ℕ} {pages : ℕ} (asked : 
 
     -- X of an accepted list is what waited at the ends of its leaves.
     x-is : marked (modelOf bytes g) ws ≡ countsOf (modelOf bytes g) (pagesOf (modelOf bytes g) ws)
-        → x ≡ xOf (modelOf bytes g) (pagesOf (modelOf bytes g) ws)
+        → sums .x ≡ xOf (modelOf bytes g) (pagesOf (modelOf bytes g) ws)
     unfolding countsOf waited marked
     x-is good =
         let M = modelOf bytes g in
@@ -129,18 +131,25 @@ module _ {bytes : List ℕ} {g : Galley} {ws : List ℕ} {pages : ℕ} (asked : 
         (zeros M) pages (accepts-along (allowed M) (sizes M) 1 (zeros M) pages taken) in
         kept-pages .waits ∙ sym (x-by-ends M (zeros M) pages fine)
 
+    -- W of any list is what its pages but the last lack.
+    white-is : sums .white ≡ white (modelOf bytes g) (pagesOf (modelOf bytes g) ws)
+    unfolding white
+    white-is =
+        let M = modelOf bytes g in
+        kept-pages .whitens ∙ lacked-list M 0 pages (zeros M) (pagesOf M ws) (asked .is ∙ pages-in bytes g ws)
+
     counts-are : marked (modelOf bytes g) ws ≡ countsOf (modelOf bytes g) (pagesOf (modelOf bytes g) ws)
-        → counts g pages x ≡ countsOf (modelOf bytes g) (pagesOf (modelOf bytes g) ws)
+        → counts g pages sums ≡ countsOf (modelOf bytes g) (pagesOf (modelOf bytes g) ws)
     unfolding counts leavesTurned countsOf yOf turns
     counts-are good =
         let p : length (pagesOf (modelOf bytes g) ws) ≡ pages = omega (arith, pages-in bytes g ws, asked .is) in
-        rw (p, ← x-is good)
+        rw (p, ← x-is good, ← white-is)
 
-    pub list-kept : finished g pages at x ≡ marked (modelOf bytes g) ws
+    pub list-kept : finished g pages at sums ≡ marked (modelOf bytes g) ws
     unfolding finished
     list-kept = go (allPlaced g at) marked-kept
       where
-        go : (b : Bool) → marked (modelOf bytes g) ws ≡ ended b → pick b (counts g pages x) (Refused 18 pages) ≡ marked (modelOf bytes g) ws
+        go : (b : Bool) → marked (modelOf bytes g) ws ≡ ended b → pick b (counts g pages sums) (Refused 18 pages) ≡ marked (modelOf bytes g) ws
         go true e = counts-are e ∙ sym e
         go false e = sym e
 
@@ -183,15 +192,15 @@ module _ (bytes : List ℕ) (g : Galley) (so : Sound bytes g) (ws : List ℕ) {w
         let full = same (endOf (zeros (modelOf bytes g)) (pagesOf (modelOf bytes g) ws)) (sizes (modelOf bytes g)) in
         sym (turned-by ∙ ap (λ f. asOpening f (complete full)) (sym (r .fault)))
 
-    module _ (at : Counts) (x : ℕ) (r : JudgedPages bytes g ws 0 (Kept at x)) where
+    module _ (at : Counts) (sums : Sums) (r : JudgedPages bytes g ws 0 (Kept at sums)) where
       -- Its pages are no more than there are blocks.
       pub opening-few : length ws / words ≤ 4250
       opening-few =
-          let k = r .kept at x refl in
+          let k = r .kept at sums refl in
           let e : pagesIn g ws ≡ length ws / words = ap (λ k. length ws / k) (sym is) in
           omega (arith, k .few, k .placed .lines, k .placed .figures, k .placed .tables, so .fewLines, so .figures .few, so .tables .few)
 
-      pub opening-kept : (o : Opening) → Ended g (length ws / words) at x o → OpeningJudged bytes g ws o
+      pub opening-kept : (o : Opening) → Ended g (length ws / words) at sums o → OpeningJudged bytes g ws o
       opening-kept o e =
           record {
             told =
@@ -203,23 +212,23 @@ module _ (bytes : List ℕ) (g : Galley) (so : Sound bytes g) (ws : List ℕ) {w
           full : Bool
           full = same (endOf (zeros (modelOf bytes g)) (pagesOf (modelOf bytes g) ws)) (sizes (modelOf bytes g))
 
-          known : KeptPages bytes g ws at x
-          known = r .kept at x refl
+          known : KeptPages bytes g ws 0 at sums
+          known = r .kept at sums refl
 
           same-pages : length ws / words ≡ pagesIn g ws
           same-pages = ap (λ k. length ws / k) is
 
-          picks : (b : Bool) → turned (pick b (opening.Refused 21 (length ws / words)) (opening.Ends (length ws / words) at x))
+          picks : (b : Bool) → turned (pick b (opening.Refused 21 (length ws / words)) (opening.Ends (length ws / words) at sums))
               ≡ complete b
           picks true = ap (λ p. some (Refused 21 p)) same-pages
           picks false = refl
 
-          go : (b : Bool) (p : ℕ) (a : Counts) (y : ℕ)
-              → pick b (opening.Refused 21 (length ws / words)) (opening.Ends (length ws / words) at x) ≡ opening.Ends p a y
-              → (p ≡ pagesIn g ws) × KeptPages bytes g ws a y
+          go : (b : Bool) (p : ℕ) (a : Counts) (y : Sums)
+              → pick b (opening.Refused 21 (length ws / words)) (opening.Ends (length ws / words) at sums) ≡ opening.Ends p a y
+              → (p ≡ pagesIn g ws) × KeptPages bytes g ws 0 a y
           go true p a y q = let z : _≡_ {A = ℕ} 0 1 = cc in absurd (omega arith)
           go false p a y q =
               let one : length ws / words ≡ p = cc in
               let two : at ≡ a = cc in
-              let three : x ≡ y = cc in
+              let three : sums ≡ y = cc in
               (sym one ∙ same-pages, rw (← two, ← three) known)

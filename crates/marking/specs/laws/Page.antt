@@ -16,37 +16,40 @@ use Rattle.blocks.specs.declared.Counts.{Counts}
 use Rattle.blocks.specs.Counts.{pageWords, placeOf, countsIn, Proper}
 use Rattle.blocks.specs.laws.Counts.{words-most, within-proper, in-proper}
 use Rattle.rules.specs.declared.waiting.Waiting.{Waiting}
+use Rattle.rules.specs.declared.counts.Sums.{Sums}
 use Rattle.rules.specs.Parts.{Ahead, faultFrom, startFault}
 use Rattle.rules.specs.laws.Page.{ahead}
-use Rattle.rules.specs.Waiting.{waitingOf, WalkingOn, waitingAt}
+use Rattle.rules.specs.Waiting.{waitingOf, WalkingOn}
+use Rattle.rules.specs.Sums.{Addable, withPage}
+use Rattle.rules.specs.laws.Walked.{waiting-few}
 use Rattle.marking.specs.declared.heights.Laid.{Laid}
 use Rattle.marking.specs.Parts.{pagesIn, WholePages}
 use Rattle.marking.specs.Judged.{firstFault, KeptPages}
 use Rattle.marking.specs.Heights.{barePage, isLaid, withNext, Open}
 use Rattle.marking.specs.laws.Faults.{broken-start, goes-forward, broken-over, broken-end}
 use Rattle.marking.specs.laws.Next.{left}
-use Rattle.marking.specs.laws.Heights.{SoFar, so-far-bare, so-far-open, so-far-next, so-far-less, page-over, page-fits, page-fills}
+use Rattle.marking.specs.laws.Heights.{SoFar, so-far-bare, so-far-open, so-far-next, so-far-less, page-over, page-fits, page-loose, page-fills}
 use Rattle.marking.specs.laws.Rest.{rest-long}
 use Rattle.marking.specs.laws.Run.{Run, pageAt, brokenAt, run-refused, run-next, run-kept}
 
 -- Page `done` + 1 goes from `at` to v, and `start` is the first of 13 and 14 that it breaks, or 0.
-pub record Begun (bytes : List ℕ) (g : Galley) (ws : List ℕ) (last done : ℕ) (at : Counts) (w : Waiting) (x : ℕ) (v : Counts) (start : ℕ) : Type 0 where
+pub record Begun (bytes : List ℕ) (g : Galley) (ws : List ℕ) (last done : ℕ) (at : Counts) (w : Waiting) (sums : Sums) (v : Counts) (start : ℕ) : Type 0 where
   pub listed : WholePages bytes g ws
-  pub run : Run bytes g ws last done at w x
+  pub run : Run bytes g ws last done at w sums
   pub more : done < pagesIn g ws
   pub here : v ≡ pageAt g ws done
   pub fault : start ≡ startFault (modelOf bytes g) (placeOf g at) (placeOf g v)
 
 -- Each page places a block, so that no more are judged than there are blocks.
-pub run-few : {bytes : List ℕ} {g : Galley} {ws : List ℕ} {last done : ℕ} {at : Counts} {w : Waiting} {x : ℕ}
-    → WholePages bytes g ws → Run bytes g ws last done at w x → done ≤ 4250
+pub run-few : {bytes : List ℕ} {g : Galley} {ws : List ℕ} {last done : ℕ} {at : Counts} {w : Waiting} {sums : Sums}
+    → WholePages bytes g ws → Run bytes g ws last done at w sums → done ≤ 4250
 run-few listed run =
     let so = listed .sound in
     let in-text = run .placed in
     omega (arith, run .few, in-text .lines, in-text .figures, in-text .tables, so .fewLines, so .figures .few, so .tables .few)
 
 module _ (bytes : List ℕ) (g : Galley) (ws : List ℕ) (listed : WholePages bytes g ws) {words : ℕ} (is : words ≡ pageWords g)
-    {last done : ℕ} {at : Counts} {w : Waiting} {x : ℕ} (run : Run bytes g ws last done at w x) where
+    {last done : ℕ} {at : Counts} {w : Waiting} {sums : Sums} (run : Run bytes g ws last done at w sums) where
   -- A page is left where not all are done.
   pub page-left : (done ≡ length ws / words → ⊥) → done < length ws / words
   page-left left = let up : done ≤ length ws / words = rw is (run .within) in omega arith
@@ -62,20 +65,20 @@ module _ (bytes : List ℕ) (g : Galley) (ws : List ℕ) (listed : WholePages by
         mul-le-mul few (run-few listed run)
 
     pub begins : {v : Counts} {start : ℕ} → v ≡ countsIn g ws (words * done)
-        → start ≡ startFault (modelOf bytes g) (placeOf g at) (placeOf g v) → Begun bytes g ws last done at w x v start
+        → start ≡ startFault (modelOf bytes g) (placeOf g at) (placeOf g v) → Begun bytes g ws last done at w sums v start
     begins {v} {start} read found = record { listed = listed; run = run; more = rw is at more; here = rw is at read; fault = found }
 
   -- After the last page no rule is broken.
-  pub run-over : done ≡ length ws / words → (none ≡ firstFault bytes g ws last) × KeptPages bytes g ws at x
+  pub run-over : done ≡ length ws / words → (none ≡ firstFault bytes g ws last) × KeptPages bytes g ws last at sums
   run-over all = run-kept bytes g (listed .sound) ws last (listed .whole) run (rw is at all)
 
 -- The counts at both ends of a page are proper.
-pub begun-proper : {bytes : List ℕ} {g : Galley} {ws : List ℕ} {last done : ℕ} {at : Counts} {w : Waiting} {x : ℕ} → Run bytes g ws last done at w x
+pub begun-proper : {bytes : List ℕ} {g : Galley} {ws : List ℕ} {last done : ℕ} {at : Counts} {w : Waiting} {sums : Sums} → Run bytes g ws last done at w sums
     → {v : Counts} (from : ℕ) → v ≡ countsIn g ws from → (Proper g at) × (Proper g v)
 begun-proper {g = g} {ws = ws} run from e = (within-proper g (run .placed), rw e (in-proper g ws from))
 
-module _ {bytes : List ℕ} {g : Galley} {ws : List ℕ} {last done : ℕ} {at : Counts} {w : Waiting} {x : ℕ} {v : Counts} {start : ℕ}
-    (p : Begun bytes g ws last done at w x v start) where
+module _ {bytes : List ℕ} {g : Galley} {ws : List ℕ} {last done : ℕ} {at : Counts} {w : Waiting} {sums : Sums} {v : Counts} {start : ℕ}
+    (p : Begun bytes g ws last done at w sums v start) where
   from-proper : Proper g at
   from-proper = within-proper g (p .run .placed)
 
@@ -99,28 +102,28 @@ module _ {bytes : List ℕ} {g : Galley} {ws : List ℕ} {last done : ℕ} {at :
       (goes-forward (modelOf bytes g) (done + 1) (eqb (done + 1) last) (placeOf g at) (placeOf g v) start (p .fault) fine)
 
 -- The same page, which breaks neither 13 nor 14, with the blocks that it has so far.
-pub record Underway (bytes : List ℕ) (g : Galley) (ws : List ℕ) (last done : ℕ) (at : Counts) (w : Waiting) (x : ℕ) (v : Counts) (start : ℕ) (laid : Laid) : Type 0 where
-  pub begun : Begun bytes g ws last done at w x v start
+pub record Underway (bytes : List ℕ) (g : Galley) (ws : List ℕ) (last done : ℕ) (at : Counts) (w : Waiting) (sums : Sums) (v : Counts) (start : ℕ) (laid : Laid) : Type 0 where
+  pub begun : Begun bytes g ws last done at w sums v start
   pub fine : start ≤ 0
   pub ahead : Ahead g at v
   pub soFar : SoFar bytes g at v laid
 
 -- At first it has none.
-pub underway-bare : {bytes : List ℕ} {g : Galley} {ws : List ℕ} {last done : ℕ} {at : Counts} {w : Waiting} {x : ℕ} {v : Counts} {start : ℕ}
-    → Begun bytes g ws last done at w x v start → start ≤ 0 → Underway bytes g ws last done at w x v start (barePage g at v)
+pub underway-bare : {bytes : List ℕ} {g : Galley} {ws : List ℕ} {last done : ℕ} {at : Counts} {w : Waiting} {sums : Sums} {v : Counts} {start : ℕ}
+    → Begun bytes g ws last done at w sums v start → start ≤ 0 → Underway bytes g ws last done at w sums v start (barePage g at v)
 underway-bare {bytes} {g} {at = at} {v = v} p fine =
     let on = begun-ahead p fine in
     record { begun = p; fine = fine; ahead = on; soFar = so-far-bare bytes g at v (p .listed .sound) on }
 
-module _ {bytes : List ℕ} {g : Galley} {ws : List ℕ} {last done : ℕ} {at : Counts} {w : Waiting} {x : ℕ} {v : Counts} {start : ℕ} {laid : Laid}
-    (u : Underway bytes g ws last done at w x v start laid) where
+module _ {bytes : List ℕ} {g : Galley} {ws : List ℕ} {last done : ℕ} {at : Counts} {w : Waiting} {sums : Sums} {v : Counts} {start : ℕ} {laid : Laid}
+    (u : Underway bytes g ws last done at w sums v start laid) where
   module _ (more : isLaid (laid .on) v ≡ false) where
     -- There is room for the next block,
     pub underway-open : Open bytes g v laid
     underway-open = so-far-open bytes g at v (u .soFar) (u .begun .listed .sound) (u .ahead .within) more
 
     -- and with it fewer are left.
-    pub underway-more : Underway bytes g ws last done at w x v start (withNext bytes g at v laid)
+    pub underway-more : Underway bytes g ws last done at w sums v start (withNext bytes g at v laid)
     underway-more =
         record {
           begun = u .begun;
@@ -156,14 +159,31 @@ module _ {bytes : List ℕ} {g : Galley} {ws : List ℕ} {last done : ℕ} {at :
 
     -- A page that breaks none goes on to the next.
     pub underway-next : n ≤ 0 → (w′ : Waiting) → w′ ≡ waitingOf bytes g v
-        → Run bytes g ws last (done + 1) v w′ (x + waitingAt g (done + 1) (w′ .figures + w′ .tables))
+        → Run bytes g ws last (done + 1) v w′ (withPage g (done + 1) (eqb (done + 1) last) (laid .heights .loose) w′ sums)
     underway-next fine w′ found =
         let p = u .begun in
         let zero : n ≡ 0 = omega arith in
         let kept : brokenAt bytes g ws last done at ≡ 0 = rw (p .here) at (sym at-end ∙ zero) in
+        let loose = page-loose bytes g at v (u .soFar) (from-proper p) (to-proper p) whole in
         rw (p .here)
-        (run-next bytes g (p .listed .sound) ws last (p .listed .whole) (p .run) (p .more) kept w′ (rw (p .here) at found))
+        (run-next bytes g (p .listed .sound) ws last (p .listed .whole) (p .run) (p .more) kept w′ (rw (p .here) at found)
+        (laid .heights .loose) (rw (p .here) at loose))
 
   -- What waited and is not placed on this page still waits at its end.
   pub underway-walking : WalkingOn bytes g at v w
   underway-walking = record { walking = u .begun .run .walking; ahead = u .ahead }
+
+  -- What the page adds to the sums fits.
+  pub underway-addable : (w′ : Waiting) → w′ ≡ waitingOf bytes g v → Addable g w′ sums
+  underway-addable w′ found =
+      let so = u .begun .listed .sound in
+      let few = run-few (u .begun .listed) (u .begun .run) in
+      let x = u .begun .run .most in
+      let white = u .begun .run .whitest in
+      record {
+        folio = so .someFolio;
+        waits = rw found (waiting-few so v);
+        highest = so .specRanged .htmaxs;
+        x = omega arith;
+        white = omega arith;
+      }

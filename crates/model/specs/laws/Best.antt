@@ -7,13 +7,14 @@ use mathlib.Core.Bool.{Bool, true, false}
 use mathlib.Core.List.{List, [], _∷_, List·Memᴰ·head, List·Memᴰ·tail, List·Memᴰ·cases-cons, List·Memᴰ·not-nil}
 use mathlib.Core.Option.{Option, none, some}
 use lib.Dec.{leb}
-use borrow.Author.Tests.{leb-true}
-use Rattle.model.specs.Gather.{pick}
+use borrow.Author.Tests.{leb-true, le-leb}
+use Rattle.model.specs.Gather.{pick, implies}
 use Rattle.model.specs.Galley.{Galley, Place}
 use Rattle.model.specs.Turns.{turns}
+use Rattle.model.specs.White.{white}
 use Rattle.model.specs.Order.{thenBy, by, before}
 use Rattle.model.specs.Best.{valid, firstOf, best}
-use Rattle.model.specs.laws.Gather.{and-left}
+use Rattle.model.specs.laws.Gather.{and-left, and-right, implies-at}
 use Rattle.model.specs.laws.Lists.{_∈_}
 use Rattle.model.specs.laws.Valid.{Accepted, valid-accepted}
 use Rattle.model.specs.laws.Order.{Preference, preference-refl, before-preference, before-antisymm}
@@ -80,6 +81,15 @@ pub record LeastOf (g : Galley) (all : List (List Place)) (ps : List Place) : Ty
 pub least-turns : (g : Galley) {all : List (List Place)} (ps qs : List Place) → LeastOf g all ps → qs ∈ all → turns g ps ≤ turns g qs
 unfolding before thenBy by
 least-turns g ps qs a m = leb-true (turns g ps) (turns g qs) (and-left (leb (turns g ps) (turns g qs)) _ (a .ahead qs m))
+
+-- Of those with no more turns none has less white.
+pub least-white : (g : Galley) {all : List (List Place)} (ps qs : List Place) → LeastOf g all ps → qs ∈ all → turns g qs ≤ turns g ps
+    → white g ps ≤ white g qs
+unfolding before thenBy by
+least-white g ps qs a m l =
+    let rest = and-right (leb (turns g ps) (turns g qs)) (implies (leb (turns g qs) (turns g ps)) _) (a .ahead qs m) in
+    let next = implies-at (leb (turns g qs) (turns g ps)) _ rest (le-leb (turns g qs) (turns g ps) l) in
+    leb-true (white g ps) (white g qs) (and-left (leb (white g ps) (white g qs)) _ next)
 
 -- Of some lists there is none, or the first is the least one.
 pub data MakesOf (g : Galley) (all : List (List Place)) : Option (List Place) → Type 0 where

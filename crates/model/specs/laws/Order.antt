@@ -155,7 +155,7 @@ module _ (g : Galley) where
   -- The order of preference is total and transitive, as are the orders that it is put together from.
   pub before-preference : Preference (before g)
   unfolding before
-  before-preference = search (leb-preference, geb-preference, by-preference, lex-preference, thenBy-preference) depth 8
+  before-preference = search (leb-preference, geb-preference, by-preference, lex-preference, thenBy-preference) depth 9
 
   -- Two accepted lists that each come before the other are the same list.
   pub before-antisymm : (ps qs : List Place) → Accepted g ps → Accepted g qs → before g ps qs ≡ true → before g qs ps ≡ true → ps ≡ qs
@@ -165,8 +165,10 @@ module _ (g : Galley) where
       let k′ = thenBy-last _ _ qs ps k h in
       let h″ = thenBy-last _ _ ps qs h′ k′ in
       let k″ = thenBy-last _ _ qs ps k′ h′ in
+      let h‴ = thenBy-last _ _ ps qs h″ k″ in
+      let k‴ = thenBy-last _ _ qs ps k″ h″ in
       let starts : startsOf (zeros g) ps [] ≡ startsOf (zeros g) qs [] =
-      lex-antisymm _ (search (lex-antisymm, geb-antisymm)) (startsOf (zeros g) ps []) (startsOf (zeros g) qs []) h″ k″ in
+      lex-antisymm _ (search (lex-antisymm, geb-antisymm)) (startsOf (zeros g) ps []) (startsOf (zeros g) qs []) h‴ k‴ in
       let back : reverse (zeros g ∷ ps) ≡ reverse (zeros g ∷ qs) =
       sym (starts-reverse (allowed g) (sizes g) 1 (zeros g) ps [] (a .taken))
       ∙ ap (λ r. sizes g ∷ r) starts

@@ -5,24 +5,43 @@ use native.Mathlib.Omega.{arith}
 use lib.ListN.{getD}
 use borrow.Author.Tests.{eq-eqb, ne-eqb}
 use Rattle.places.specs.Entry.{entryAt}
-use ghost.Mode.{_$_}
+use borrow.Author.Needs.{needs}
 use Rattle.places.proofs.entry_at.Statement.{statement}
 use Rattle.places.proofs.entry_at.Tie as tie
 
 returns : tie.Need-returns
 unfolding entryAt
 returns c =
-    let args = c .before .before .before .before .before .args in
-    let tag : getD (args .work .now) (args .at) 0 ≡ 1 = omega (arith, c .before .before .before .if1 .taken) in
-    simp (eq-eqb _ _ tag)
+    let test = c .before .before .before .before .before in
+    let args = test .before .before .before .args in
+    let tag : getD (args .work .now) (args .at) 0 ≡ 1 = omega (arith, test .if1 .taken) in
+    simp (eq-eqb _ _ tag, c .joined .ensures)
 
 returns-2 : tie.Need-returns-2
 unfolding entryAt
 returns-2 c =
-    let args = c .before .before .args in
+    let args = c .before .before .before .args in
     let tag : getD (args .work .now) (args .at) 0 ≢ 1 = omega (arith, c .if1 .left) in
     simp (ne-eqb _ _ tag)
 
 pub entry-at-spec : {M : Type 1} → statement M
 entry-at-spec =
-    tie.close ((λ (a, b, c, d, e, f, g, h, i, j, k). tie.spec a b c d e f g h i j k returns returns-2) $ omega arith)
+    tie.close
+    (tie.spec
+    (λ c. search needs)
+    (λ c. search needs)
+    (λ c. search needs)
+    (λ c. search needs)
+    (λ c. search needs)
+    (λ c. search needs)
+    (λ c. search needs)
+    (λ c. search needs)
+    (λ c. search needs)
+    (λ c. search needs)
+    (λ c. search needs)
+    (λ c. search needs)
+    (λ c. search needs)
+    (λ c. search needs)
+    (λ c κs. search needs)
+    returns
+    returns-2)

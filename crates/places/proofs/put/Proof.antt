@@ -1,10 +1,9 @@
--- `put` meets its contract: its four stores are the four of the definition, and none changes the length that the next is within.
+-- `put` meets its contract: its five stores are the five of the definition, and none changes the length that the next is within.
 use Prim.Native.Nat.{suc, _+_}
 use native.Mathlib.Omega.{arith}
 use mathlib.Core.Path.{_≡_, refl}
 use lib.ListN.{length-set}
 use borrow.Author.Needs.{needs}
-use ghost.Mode.{_$_}
 use Rattle.places.proofs.put.Statement.{statement}
 use Rattle.places.proofs.put.Tie as tie
 
@@ -17,17 +16,37 @@ slice-write-work-3 c = simp length-set (omega arith)
 slice-write-work-4 : tie.Need-slice-write-work-4
 slice-write-work-4 c = simp length-set (omega arith)
 
+slice-write-work-5 : tie.Need-slice-write-work-5
+slice-write-work-5 c = simp length-set (omega arith)
+
 returns : tie.Need-returns
 returns c =
-    let at = c .args .at in
+    let at = c .before .before .before .args .at in
     let one : at + 1 ≡ suc at = omega arith in
     let two : at + 2 ≡ suc (suc at) = omega arith in
     let three : at + 3 ≡ suc (suc (suc at)) = omega arith in
-    rw (one, two, three) refl
+    let four : at + 4 ≡ suc (suc (suc (suc at))) = omega arith in
+    rw (one, two, three, four, c .high-of .ensures, c .before .low-of .ensures) refl
 
 pub put-spec : {M : Type 1} → statement M
 put-spec =
     tie.close
-    ((λ (a, b, c, d, e, f, g, h).
-    tie.spec a b c d slice-write-work-2 e f slice-write-work-3 g h slice-write-work-4 (λ c. search needs)
-    returns) $ omega arith)
+    (tie.spec
+    (λ c. search needs)
+    (λ c. search needs)
+    (λ c κs. search needs)
+    (λ c. search needs)
+    (λ c. search needs)
+    slice-write-work-2
+    (λ c κs. search needs)
+    (λ c. search needs)
+    (λ c. search needs)
+    slice-write-work-3
+    (λ c. search needs)
+    (λ c. search needs)
+    slice-write-work-4
+    (λ c. search needs)
+    (λ c. search needs)
+    slice-write-work-5
+    (λ c. search needs)
+    returns)

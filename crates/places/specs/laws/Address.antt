@@ -21,7 +21,7 @@ compared a b = go (ltb a b) refl (ltb b a) refl
     go false p false q = inr (inl (omega (arith, ltb-false a b p, ltb-false b a q)))
 
 -- The sides of a place follow each other.
-pub address-side : (tall i j side : ℕ) → address tall i j side ≡ address tall i j 0 + side * 4
+pub address-side : (tall i j side : ℕ) → address tall i j side ≡ address tall i j 0 + side * 5
 unfolding address
 address-side tall i j side = omega arith
 
@@ -30,7 +30,7 @@ column-first : (tall j j′ : ℕ) → j < j′ → j * tall + tall ≤ j′ * t
 column-first tall j j′ h = omega (arith, mul-le-mul-right tall h, suc-mul j tall)
 
 -- An earlier place has all its words before a later one.
-pub address-earlier : (tall i j i′ j′ : ℕ) → i < tall → Earlier i j i′ j′ → address tall i j 0 + 8 ≤ address tall i′ j′ 0
+pub address-earlier : (tall i j i′ j′ : ℕ) → i < tall → Earlier i j i′ j′ → address tall i j 0 + 10 ≤ address tall i′ j′ 0
 unfolding address
 address-earlier tall i j i′ j′ h (inl l) = omega (arith, column-first tall j j′ l)
 address-earlier tall i j i′ j′ h (inr (e, l)) = rw e (omega arith)
@@ -38,7 +38,7 @@ address-earlier tall i j i′ j′ h (inr (e, l)) = rw e (omega arith)
 -- An earlier place is apart from a later one, on whatever sides.
 pub address-before :
     (tall i j side i′ j′ side′ : ℕ) → i < tall → side ≤ 1 → Earlier i j i′ j′
-    → address tall i j side + 4 ≤ address tall i′ j′ side′
+    → address tall i j side + 5 ≤ address tall i′ j′ side′
 address-before tall i j side i′ j′ side′ h s l =
     omega (arith, address-side tall i j side, address-side tall i′ j′ side′, address-earlier tall i j i′ j′ h l)
 
@@ -79,8 +79,8 @@ address-apart tall i j side i′ j′ side′ h h′ s s′ differ = by-column (
     by-column (inr (inl e)) = by-row e (compared i i′)
     by-column (inr (inr l)) = second (inl l)
 
--- The four words of a place lie within those of the columns.
-pub address-in : (tall i j side wide : ℕ) → i < tall → j < wide → side ≤ 1 → address tall i j side + 4 ≤ area tall wide
+-- The five words of a place lie within those of the columns.
+pub address-in : (tall i j side wide : ℕ) → i < tall → j < wide → side ≤ 1 → address tall i j side + 5 ≤ area tall wide
 unfolding address area
 address-in tall i j side wide h l s = omega (arith, column-first tall j wide l, mul-comm tall wide)
 

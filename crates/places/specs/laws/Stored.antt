@@ -11,7 +11,7 @@ use lib.Dec.{eqb}
 use lib.Seq.{getD-set-same, getD-set-other, drop-set-lt, sets, length-sets, ext-getD}
 use Rattle.places.specs.declared.Entry.{Entry}
 use Rattle.places.specs.declared.Entry.the-variants.{Unreached, Least}
-use Rattle.places.specs.Entry.{tagged, entryAt, wordsOf, stored}
+use Rattle.places.specs.Entry.{lowOf, highOf, joined, tagged, entryAt, wordsOf, stored}
 use Rattle.places.specs.Address.{Apart}
 
 -- An offset lies outside a run of so many words from another on.
@@ -46,10 +46,10 @@ pub sets-drop : (vs w : List ℕ) (at n : ℕ) → at + length vs ≤ n → drop
 sets-drop [] w at n l = refl
 sets-drop (v ∷ vs) w at n l = sets-drop vs (set w at v) (suc at) n (omega arith) ∙ drop-set-lt n w at v (omega arith)
 
--- An entry has four words.
-pub words-four : (e : Entry) → length (wordsOf e) ≡ 4
-words-four Unreached = refl
-words-four (Least cost start) = refl
+-- An entry has five words.
+pub words-five : (e : Entry) → length (wordsOf e) ≡ 5
+words-five Unreached = refl
+words-five (Least cost start) = refl
 
 -- A store leaves the length as it is.
 pub stored-length : (w : List ℕ) (at : ℕ) (e : Entry) → length (stored w at e) ≡ length w
@@ -57,34 +57,40 @@ unfolding stored
 stored-length w at e = length-sets w at (wordsOf e)
 
 -- A store within the first n words leaves those beyond.
-pub stored-beyond : (w : List ℕ) (at n : ℕ) (e : Entry) → at + 4 ≤ n → drop n (stored w at e) ≡ drop n w
+pub stored-beyond : (w : List ℕ) (at n : ℕ) (e : Entry) → at + 5 ≤ n → drop n (stored w at e) ≡ drop n w
 unfolding stored
-stored-beyond w at n e h = sets-drop (wordsOf e) w at n (omega (arith, words-four e))
+stored-beyond w at n e h = sets-drop (wordsOf e) w at n (omega (arith, words-five e))
 
 module _ (w : List ℕ) (at : ℕ) (e : Entry) where
-  stored-out : (k : ℕ) → Out k at 4 → getD (stored w at e) k 0 ≡ getD w k 0
+  stored-out : (k : ℕ) → Out k at 5 → getD (stored w at e) k 0 ≡ getD w k 0
   unfolding stored
-  stored-out k out = let n = words-four e in sets-out (wordsOf e) w at k (rw n out)
+  stored-out k out = let n = words-five e in sets-out (wordsOf e) w at k (rw n out)
 
-  stored-in : (k : ℕ) → k < 4 → at + 4 ≤ length w → getD (stored w at e) (at + k) 0 ≡ getD (wordsOf e) k 0
+  stored-in : (k : ℕ) → k < 5 → at + 5 ≤ length w → getD (stored w at e) (at + k) 0 ≡ getD (wordsOf e) k 0
   unfolding stored
-  stored-in k l h = sets-in (wordsOf e) w at k (omega (arith, words-four e)) (omega (arith, words-four e))
+  stored-in k l h = sets-in (wordsOf e) w at k (omega (arith, words-five e)) (omega (arith, words-five e))
 
--- An entry is its four words,
+-- A cost is its two words.
+pub cost-joined : (cost : ℕ) → joined (lowOf cost) (highOf cost) ≡ cost
+cost-joined cost = omega arith
+
+-- An entry is its five words,
 words-entry : (e : Entry)
-    → tagged (eqb (getD (wordsOf e) 0 0) 1) (getD (wordsOf e) 1 0) (record { line = getD (wordsOf e) 2 0; column = getD (wordsOf e) 3 0 }) ≡ e
+    → tagged (eqb (getD (wordsOf e) 0 0) 1) (joined (getD (wordsOf e) 1 0) (getD (wordsOf e) 2 0))
+    (record { line = getD (wordsOf e) 3 0; column = getD (wordsOf e) 4 0 }) ≡ e
 words-entry Unreached = refl
-words-entry (Least cost start) = refl
+words-entry (Least cost start) = ap (λ x. Least x start) (cost-joined cost)
 
 -- so that what is stored at an offset is read there.
-pub stored-same : (w : List ℕ) (at : ℕ) (e : Entry) → at + 4 ≤ length w → entryAt (stored w at e) at ≡ e
+pub stored-same : (w : List ℕ) (at : ℕ) (e : Entry) → at + 5 ≤ length w → entryAt (stored w at e) at ≡ e
 unfolding entryAt
 stored-same w at e h =
     let a = ap (λ (k : ℕ). getD (stored w at e) k 0) (sym (add-zero at)) ∙ stored-in w at e 0 (omega arith) h in
     let b = stored-in w at e 1 (omega arith) h in
     let c = stored-in w at e 2 (omega arith) h in
     let d = stored-in w at e 3 (omega arith) h in
-    rw (a, b, c, d) (words-entry e)
+    let f = stored-in w at e 4 (omega arith) h in
+    rw (a, b, c, d, f) (words-entry e)
 
 -- What is stored at an offset leaves every entry apart from it.
 pub stored-other : (w : List ℕ) (at to : ℕ) (e : Entry) → Apart at to → entryAt (stored w at e) to ≡ entryAt w to
@@ -94,46 +100,47 @@ stored-other w at to e apart =
     let b = stored-out w at e (to + 1) (out apart (to + 1) (omega arith) (omega arith)) in
     let c = stored-out w at e (to + 2) (out apart (to + 2) (omega arith) (omega arith)) in
     let d = stored-out w at e (to + 3) (out apart (to + 3) (omega arith) (omega arith)) in
-    rw (a, b, c, d) refl
+    let f = stored-out w at e (to + 4) (out apart (to + 4) (omega arith) (omega arith)) in
+    rw (a, b, c, d, f) refl
   where
-    out : Apart at to → (k : ℕ) → to ≤ k → k < to + 4 → Out k at 4
+    out : Apart at to → (k : ℕ) → to ≤ k → k < to + 5 → Out k at 5
     out (inl l) k m n = inr (omega arith)
     out (inr l) k m n = inl (omega arith)
 
--- A word is one of four from an offset on, or none of them.
-where-is : (k at : ℕ) → Out k at 4 ⊎ ((d : ℕ) × (k ≡ at + d) × (d < 4))
-where-is k at = go (decLt k at) (decLe (at + 4) k)
+-- A word is one of five from an offset on, or none of them.
+where-is : (k at : ℕ) → Out k at 5 ⊎ ((d : ℕ) × (k ≡ at + d) × (d < 5))
+where-is k at = go (decLt k at) (decLe (at + 5) k)
   where
-    go : Dec (k < at) → Dec (at + 4 ≤ k) → Out k at 4 ⊎ ((d : ℕ) × (k ≡ at + d) × (d < 4))
+    go : Dec (k < at) → Dec (at + 5 ≤ k) → Out k at 5 ⊎ ((d : ℕ) × (k ≡ at + d) × (d < 5))
     go (yes p) q = inl (inl p)
     go (no p) (yes q) = inl (inr q)
     go (no p) (no q) = inr (k - at, omega arith, omega arith)
 
 -- What is stored over is forgotten.
-pub stored-twice : (w : List ℕ) (at : ℕ) (e f : Entry) → at + 4 ≤ length w → stored (stored w at e) at f ≡ stored w at f
+pub stored-twice : (w : List ℕ) (at : ℕ) (e f : Entry) → at + 5 ≤ length w → stored (stored w at e) at f ≡ stored w at f
 stored-twice w at e f h =
     let n = stored-length w at e in
     ext-getD 0 (stored (stored w at e) at f) (stored w at f) (stored-length (stored w at e) at f ∙ n ∙ sym (stored-length w at f))
     (λ k l. go k (where-is k at))
   where
-    go : (k : ℕ) → Out k at 4 ⊎ ((d : ℕ) × (k ≡ at + d) × (d < 4)) → getD (stored (stored w at e) at f) k 0 ≡ getD (stored w at f) k 0
+    go : (k : ℕ) → Out k at 5 ⊎ ((d : ℕ) × (k ≡ at + d) × (d < 5)) → getD (stored (stored w at e) at f) k 0 ≡ getD (stored w at f) k 0
     go k (inl o) = stored-out (stored w at e) at f k o ∙ stored-out w at e k o ∙ sym (stored-out w at f k o)
     go k (inr (d, p, l)) =
         rw p (stored-in (stored w at e) at f d l (omega (arith, stored-length w at e)) ∙ sym (stored-in w at f d l h))
 
 -- Stores apart from each other change places.
-pub stored-swap : (w : List ℕ) (at to : ℕ) (e f : Entry) → Apart at to → at + 4 ≤ length w → to + 4 ≤ length w
+pub stored-swap : (w : List ℕ) (at to : ℕ) (e f : Entry) → Apart at to → at + 5 ≤ length w → to + 5 ≤ length w
     → stored (stored w at e) to f ≡ stored (stored w to f) at e
 stored-swap w at to e f apart h h′ =
     ext-getD 0 (stored (stored w at e) to f) (stored (stored w to f) at e)
     (stored-length (stored w at e) to f ∙ stored-length w at e ∙ sym (stored-length w to f) ∙ sym (stored-length (stored w to f) at e))
     (λ k l. go k (where-is k at) (where-is k to))
   where
-    never : (d c : ℕ) → Apart at to → at + d ≡ to + c → d < 4 → c < 4 → ⊥
+    never : (d c : ℕ) → Apart at to → at + d ≡ to + c → d < 5 → c < 5 → ⊥
     never d c (inl p) e l m = omega arith
     never d c (inr p) e l m = omega arith
 
-    go : (k : ℕ) → Out k at 4 ⊎ ((d : ℕ) × (k ≡ at + d) × (d < 4)) → Out k to 4 ⊎ ((d : ℕ) × (k ≡ to + d) × (d < 4))
+    go : (k : ℕ) → Out k at 5 ⊎ ((d : ℕ) × (k ≡ at + d) × (d < 5)) → Out k to 5 ⊎ ((d : ℕ) × (k ≡ to + d) × (d < 5))
         → getD (stored (stored w at e) to f) k 0 ≡ getD (stored (stored w to f) at e) k 0
     go k (inl o) (inl p) =
         stored-out (stored w at e) to f k p ∙ stored-out w at e k o ∙ sym (stored-out w to f k p) ∙ sym (stored-out (stored w to f) at e k o)

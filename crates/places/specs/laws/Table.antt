@@ -12,7 +12,7 @@ use Rattle.places.specs.laws.Stored.{stored-same, stored-other}
 
 -- The place and side that were stored have what was stored.
 pub table-same :
-    (tall i j side : ℕ) (w : List ℕ) (e : Entry) → address tall i j side + 4 ≤ length w
+    (tall i j side : ℕ) (w : List ℕ) (e : Entry) → address tall i j side + 5 ≤ length w
     → tableOf tall (stored w (address tall i j side) e) i j side ≡ e
 unfolding tableOf
 table-same tall i j side w e h = stored-same w (address tall i j side) e h

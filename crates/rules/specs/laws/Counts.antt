@@ -2,11 +2,13 @@
 use Prim.Native.Nat.{ℕ, _-_, _*_, _≤_}
 use native.Mathlib.Nat.{mul-le-mul}
 use native.Mathlib.Omega.{arith}
+use mathlib.Core.Bool.{Bool, true, false}
 use Rattle.model.specs.Galley.{Sides, single, double}
 use Rattle.model.specs.Leaf.{leaf}
 use Rattle.galley.specs.declared.Galley.{Galley}
 use Rattle.galley.specs.Model.{sidesIn}
 use Rattle.rules.specs.Parts.{leavesTurned, CountLimits}
+use Rattle.rules.specs.Sums.{whiteAt}
 
 -- The parts of T.
 pub record Bounded (g : Galley) (p x : ℕ) : Type 0 where
@@ -28,3 +30,9 @@ few-bounded g p x few =
     leaves-few : (sides : Sides) → leaf sides p - leaf sides 1 ≤ 4250
     leaves-few single = omega arith
     leaves-few (double f) = omega arith
+
+-- No page adds more than htMax to W.
+pub white-at-few : (g : Galley) (last : Bool) (loose : ℕ) → whiteAt g last loose ≤ g .spec .htmax
+unfolding whiteAt
+white-at-few g true loose = omega arith
+white-at-few g false loose = omega arith

@@ -2,7 +2,7 @@
 use Prim.Native.Nat.{ℕ, suc, _+_, _≤_, _<_}
 use native.Mathlib.Decide.{ℕ-discrete}
 use native.Mathlib.Omega.{arith}
-use mathlib.Core.Path.{_≡_, refl, ap, _∙_}
+use mathlib.Core.Path.{_≡_, refl, sym, ap, _∙_}
 use mathlib.Core.Bool.{Bool, true, false}
 use mathlib.Core.List.{List}
 use lib.ListN.{length}
@@ -21,7 +21,7 @@ use Rattle.places.specs.laws.Best.{best-none}
 use Rattle.starts.specs.Better.{wins, chosen, taken}
 use Rattle.starts.specs.Choice.{Starts, Between}
 use Rattle.starts.specs.Read.{tableIn, sideOf, searchOf, columnsIn}
-use Rattle.starts.specs.Sweep.{Knows, Known, number, Swept, Scratched, fresh, more, Changed, Blank, ColumnRoom, Cleared}
+use Rattle.starts.specs.Sweep.{Lent, Knows, Known, number, Swept, Scratched, fresh, more, Changed, Blank, ColumnRoom, Cleared}
 use Rattle.starts.specs.laws.Sweep.{best-same}
 use Rattle.starts.specs.laws.Lending.{side-either}
 
@@ -35,6 +35,27 @@ pub scratched-length : (g : Galley) (j : ℕ) (w v : List ℕ) → Scratched g j
 scratched-length g j w v fresh = refl
 scratched-length g j w v (more x y i c e b l m p) =
     ap length p ∙ stored-length x (address (g .text .count + 1) i j c) e ∙ scratched-length g j w x b
+
+-- They leave the other columns,
+pub scratched-others : (g : Galley) (j : ℕ) (w v : List ℕ) → g .spec .sides ≤ 2 → Scratched g j w v → (a b d : ℕ) → a ≤ g .text .count
+    → d ≤ 1 → ¬ (j ≡ b) → tableIn g v a b d ≡ tableIn g w a b d
+scratched-others g j w v two fresh a b d l m n = refl
+scratched-others g j w v two (more x y i c e s h o p) a b d l m n =
+    ap (λ u. tableIn g u a b d) p
+    ∙ table-other (g .text .count + 1) i j c a b d x e (omega arith) (omega arith) (omega arith) m (λ q. n (q .1))
+    ∙ scratched-others g j w x two s a b d l m n
+
+-- so that what is lent for a column is so after stores in it.
+pub lent-kept : {bytes : List ℕ} {g : Galley} {w v : List ℕ} {j : ℕ} → Scratched g j w v → Lent bytes g w j → Lent bytes g v j
+lent-kept {g = g} {w} {v} {j} kept lent =
+    record {
+      sound = lent .sound;
+      column = lent .column;
+      room = omega (arith, lent .room, scratched-length g j w v kept);
+      costs = λ b c l m a n x r e.
+          lent .costs b c l m a n x r
+          (sym (scratched-others g j w v (lent .sound .specRanged .sidesTwo) kept a b (sideOf g c) (omega arith) (side-either g c) (λ q. omega arith)) ∙ e);
+    }
 
 -- One store, of an entry or of the better of two, at a place of the work area.
 module _ (g : Galley) (w : List ℕ) (i j c : ℕ) (line : i ≤ g .text .count) (column : j < columnsIn g) (occurs : c < g .spec .sides)

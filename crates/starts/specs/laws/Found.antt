@@ -1,5 +1,5 @@
 -- What the search finds is the best of all starts.
-use Prim.Native.Nat.{ℕ, zero, suc, _≤_, _<_}
+use Prim.Native.Nat.{ℕ, zero, suc, _+_, _≤_, _<_}
 use native.Mathlib.Nat.{le-refl}
 use native.Mathlib.Decide.{decLt}
 use native.Mathlib.Omega.{arith}
@@ -12,7 +12,7 @@ use Rattle.places.specs.declared.Entry.the-variants.{Unreached, Least}
 use Rattle.places.specs.Best.{Leads, Best}
 use Rattle.places.specs.laws.Best.{no-reach, best-none, best-least, best-as}
 use Rattle.starts.specs.Better.{startAt}
-use Rattle.starts.specs.Search.{Search, goes, startFrom, onLines, inColumns, bestStart}
+use Rattle.starts.specs.Search.{Search, goes, whiteFrom, startFrom, onLines, inColumns, bestStart}
 use Rattle.starts.specs.Choice.{Candidate, Starts, Any, Above, Level}
 use Rattle.starts.specs.laws.Choice.{best-chosen}
 
@@ -30,20 +30,21 @@ module _ (s : Search) where
       here a′ b′ x ((p, q), c) = rw (p, q) at c
 
       go : (t : Bool) → goes s a b ≡ t → (e : Entry) → s .table a b (s .side) ≡ e
-          → Best (Starts s (Level b a)) (pick t (startAt e a b) Unreached)
+          → Best (Starts s (Level b a)) (pick t (startAt e (whiteFrom s a b) a b) Unreached)
       go false t e f =
           best-none (λ a′ b′ x c. let u = here a′ b′ x c .page in let z : _≡_ {A = ℕ} 0 1 = cc in omega arith)
-      go true t Unreached f = best-none (λ a′ b′ x c. no-reach (sym f ∙ here a′ b′ x c .reached .1))
+      go true t Unreached f = best-none (λ a′ b′ x c. no-reach (sym f ∙ here a′ b′ x c .reached .entry))
       go true t (Least x r) f =
-          best-least x (record { line = a; column = b })
-          ((refl, refl), record { line = h; column = k; page = t; reached = (r, f) }) leads
+          best-least (x + whiteFrom s a b) (record { line = a; column = b })
+          ((refl, refl), record { line = h; column = k; page = t; reached = record { own = x; start = r; entry = f; whole = refl } }) leads
         where
-          leads : (a′ b′ y : ℕ) → Starts s (Level b a) a′ b′ y → Leads (Least x (record { line = a; column = b })) a′ b′ y
+          leads : (a′ b′ y : ℕ) → Starts s (Level b a) a′ b′ y
+              → Leads (Least (x + whiteFrom s a b) (record { line = a; column = b })) a′ b′ y
           leads a′ b′ y c =
               let q = here a′ b′ y c .reached in
-              let same : Least x r ≡ Least y (q .0) = sym f ∙ q .1 in
-              let cost : x ≡ y = cc in
-              (omega arith, λ _. inr (c .0 .1, omega (arith, c .0 .0)))
+              let same : Least x r ≡ Least (q .own) (q .start) = sym f ∙ q .entry in
+              let cost : x ≡ q .own = cc in
+              (omega (arith, q .whole), λ _. inr (c .0 .1, omega (arith, c .0 .0)))
 
   lines-best : (b : ℕ) → b ≤ s .column → (a : ℕ) → a ≤ suc (s .line) → Best (Starts s (Above b a)) (onLines s b a)
   unfolding onLines

@@ -1,8 +1,8 @@
--- What is lent for a column is enough for the window, the queue and the best starts.
+-- What is lent for a column is enough for the window, its queues and the best starts.
 use Prim.Native.Nat.{ℕ, _+_, _-_, _≤_, _<_}
 use native.Mathlib.Nat.{mul-le-mul-right}
 use native.Mathlib.Omega.{arith}
-use mathlib.Core.Path.{_≡_}
+use mathlib.Core.Path.{sym, subst}
 use mathlib.Core.List.{List}
 use lib.ListN.{length}
 use Rattle.model.specs.Galley.{Sides, single, double}
@@ -14,9 +14,10 @@ use Rattle.blocks.specs.laws.Heights.{Low}
 use Rattle.places.specs.Address.{wordsNeeded, Stands}
 use Rattle.places.specs.laws.Address.{address-in, area-needed}
 use Rattle.window.specs.declared.slide.Window.{Window}
-use Rattle.window.specs.declared.queue.Queue.{Queue}
+use Rattle.window.specs.declared.parts.Parts.{Parts}
 use Rattle.window.specs.Slide.{Reachable, Slidable}
-use Rattle.window.specs.Queue.{Feedable, QueueStands}
+use Rattle.window.specs.Queue.{linesOf, Payable}
+use Rattle.window.specs.Parts.{Both, Rises, Movable}
 use Rattle.window.specs.laws.Sums.{sums-small}
 use Rattle.starts.specs.Search.{before}
 use Rattle.starts.specs.Read.{sideOf, columnsIn, FewFloats, loadOf, Placed}
@@ -47,11 +48,6 @@ stands-in g w i b side few floats h k l room =
           );
     }
 
--- What is lent for a column is the same while the length is.
-pub lent-sized : {bytes : List ℕ} {g : Galley} {w : List ℕ} {j : ℕ} (w′ : List ℕ) → length w′ ≡ length w → Lent bytes g w j
-    → Lent bytes g w′ j
-lent-sized w′ p l = record { sound = l .sound; column = l .column; room = omega (arith, l .room) }
-
 module _ {bytes : List ℕ} {g : Galley} {w : List ℕ} {j : ℕ} (lent : Lent bytes g w j) where
   -- A line of the column is a place.
   pub lent-placed : (i : ℕ) → i ≤ g .text .count → Placed bytes g i j
@@ -78,11 +74,11 @@ module _ {bytes : List ℕ} {g : Galley} {w : List ℕ} {j : ℕ} (lent : Lent b
         loose = omega (arith, low .loose);
       }
 
-  -- Both ends of a window can be moved on to line i.
+  -- The ends of a window can be moved on to line i.
   pub can-slide : {sums : List ℕ} → Summed bytes g sums → (n : ℕ) (floats : Heights) → n ≤ 1 → Low 60000000 floats
       → (least : ℕ) → least ≤ g .spec .htmax → (window : Window) (i : ℕ)
-      → i ≤ g .text .count → window .low ≤ i → window .high ≤ i → Slidable sums (loadOf g n floats least) window i
-  can-slide {sums} summed n floats few beside least under window i h low high =
+      → i ≤ g .text .count → window .low ≤ i → window .split ≤ i → window .high ≤ i → Slidable sums (loadOf g n floats least) window i
+  can-slide {sums} summed n floats few beside least under window i h low split high =
       let spec = lent .sound .specRanged in
       let load = loadOf g n floats least in
       let p = mul-le-mul-right (g .spec .smin) few in
@@ -90,6 +86,8 @@ module _ {bytes : List ℕ} {g : Galley} {w : List ℕ} {j : ℕ} (lent : Lent b
       record {
         low = from 0 (load .tight) (load .htmax + 1) (window .low) (omega arith) (omega (arith, beside .tight, spec .smins, spec .smaxs))
             (omega (arith, spec .htmaxs)) low;
+        split = from 1 (load .loose) (load .htmax) (window .split) (omega arith) (omega (arith, beside .loose, spec .smaxs))
+            (omega (arith, spec .htmaxs)) split;
         high = from 1 (load .loose) (load .htmin) (window .high) (omega arith) (omega (arith, beside .loose, spec .smaxs))
             (omega (arith, spec .htmaxs)) high;
       }
@@ -108,27 +106,23 @@ module _ {bytes : List ℕ} {g : Galley} {w : List ℕ} {j : ℕ} (lent : Lent b
             limited = limited;
           }
 
-  -- A queue of the lines of column b can be moved on to a window that ends by line i.
-  pub can-feed : {words : List ℕ} → Scratch words → (b : ℕ) → b < columnsIn g → (queue : Queue) (c from to i : ℕ)
-      → i ≤ g .text .count → from ≤ to → to ≤ i → queue .base ≤ 4000 → queue .base ≤ queue .head → queue .head ≤ queue .tail
-      → queue .tail ≤ queue .base + from → Feedable w (g .text .count + 1) b (sideOf g c) words queue from to
-  can-feed scratch b k queue c from to i h rises inside low based order short =
+  -- The queues of the lines of column b can be moved on to a window whose parts end by line i.
+  pub can-move : {sums words : List ℕ} → Summed bytes g sums → Scratch words → (b c : ℕ) → b < columnsIn g → (parts : Parts)
+      (from to : Window) (i : ℕ) → i ≤ g .text .count → Payable (linesOf w (g .text .count + 1) b (sideOf g c)) i → to .split ≤ i
+      → to .high ≤ i → Rises from to → (base : ℕ) → base ≤ 8000
+      → Both (linesOf w (g .text .count + 1) b (sideOf g c)) sums words base parts from
+      → Movable w sums words (record { tall = g .text .count + 1; column = b; side = sideOf g c }) parts from to
+  can-move {sums} {words} summed scratch b c k parts from to i h costs split high rises base low held =
       record {
+        top = i;
+        few = omega (arith, lent .sound .fewLines);
+        split = split;
+        high = high;
         stands = λ a l. can-stand a b (sideOf g c) (omega arith) k (side-either g c);
-        based = based;
-        order = order;
-        short = short;
-        start = rises;
-        room = omega (arith, scratch, lent .sound .fewLines);
-      }
-
-  -- The first entry of the queue of such a window can be read.
-  pub can-front : {words : List ℕ} → Scratch words → (b : ℕ) → b < columnsIn g → (queue : Queue) (high : ℕ)
-      → high ≤ g .text .count → queue .base ≤ 4000 → queue .head ≤ queue .tail → queue .tail ≤ queue .base + high
-      → QueueStands words queue b
-  can-front scratch b k queue high l low order short =
-      record {
-        order = order;
-        room = omega (arith, scratch, lent .sound .fewLines);
-        column = omega (arith, columns-few g (few-floats (lent .sound)));
+        costs = costs;
+        summed = omega (arith, summed .room);
+        rises = rises;
+        held =
+            subst (λ n. Both (linesOf w (g .text .count + 1) b (sideOf g c)) sums words n parts from) (sym (held .first)) held;
+        room = omega (arith, scratch, held .first);
       }

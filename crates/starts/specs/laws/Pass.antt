@@ -8,13 +8,16 @@ use lib.Dec.{eqb}
 use borrow.Author.Tests.{ne-eqb}
 use Rattle.model.specs.Gather.{pick}
 use Rattle.model.specs.Rules.{floor}
+use Rattle.theorems.specs.pages.Graph.{full}
+use Rattle.rules.specs.Sums.{whiteAt}
 use Rattle.galley.specs.declared.Galley.{Galley}
 use Rattle.galley.specs.Model.{textOf, modelOf}
 use Rattle.galley.specs.Sound.{Sound}
 use Rattle.places.specs.declared.Entry.{Entry}
+use Rattle.places.specs.Columns.{placeAt}
 use Rattle.places.specs.Best.{Best}
 use Rattle.window.specs.declared.slide.Window.{Window}
-use Rattle.window.specs.Slide.{Open}
+use Rattle.window.specs.Slide.{whiteOf, Open}
 use Rattle.window.specs.Queue.{linesOf, Lines}
 use Rattle.starts.specs.declared.sweep.Pass.{Pass}
 use Rattle.starts.specs.Better.{chosen}
@@ -24,6 +27,7 @@ use Rattle.starts.specs.Read.{tableIn, sideOf, searchOf, lastColumn, las
 use Rattle.starts.specs.Sweep.{Lent, passLoad, Passing, aloneOf, weighed, Ended, number, Swept, Changed, sweepEnd}
 use Rattle.starts.specs.laws.Heights.{kinds-some, beside-alone}
 use Rattle.starts.specs.laws.Columns.{columns-in, full-in, sought-in}
+use Rattle.starts.specs.laws.White.{white-lines, white-alone}
 use Rattle.starts.specs.laws.Sweep.{window-best, alone-best, improved}
 use Rattle.starts.specs.laws.Lending.{side-either, lent-placed, can-stand}
 use Rattle.starts.specs.laws.Cells.{taken-changes, swept-next}
@@ -49,27 +53,36 @@ end-inner g pass i = go (lastColumn g (pass .to))
         (omega arith, rw (ne-eqb i (g .text .count) n))
     go false l = (omega arith, last (eqb i (g .text .count)))
 
+-- The white of a page of the pass from line a to line i, which is the last page or not.
+abbrev pub passWhite : List ℕ → Galley → Pass → Bool → ℕ → ℕ → ℕ
+passWhite bytes g pass last i a = pick last 0 (whiteOf (textOf bytes (g .text)) (passLoad g pass) i a)
+
 module _ {bytes : List ℕ} {g : Galley} {w : List ℕ} {pass : Pass} (lent : Lent bytes g w (pass .to)) (passing : Passing bytes g pass)
     (i c : ℕ) (line : i ≤ g .text .count) (occurs : c < g .spec .sides) where
   side : c ≤ 1
   side = omega (arith, lent .sound .specRanged .sidesTwo)
 
-  -- The start and the end of a page of the pass stand in the work area.
+  -- The start and the end of a page of the pass stand in the work area, and the start's cost is small.
   pub pass-ended : Ended g w i c pass
   pass-ended =
       record {
         start =
             can-stand lent i (pass .from) (sideOf g c) line (omega (arith, passing .before, lent .column)) (side-either g c);
+        cost = lent .costs (pass .from) c (passing .before) occurs i (omega arith);
         end = can-stand lent i (pass .to) c line (lent .column) side;
         side = side;
       }
 
-  module _ (least : pass .least ≡ floor (modelOf bytes g) (lastPlace g i (pass .to))) (window : Window)
+  module _ (last : Bool) (ends : lastPlace g i (pass .to) ≡ last) (least : pass .least ≡ floor (modelOf bytes g) last)
+      (white : pass .white ≡ whiteAt g last (pass .heights .loose)) (window : Window)
       (opened : Open (textOf bytes (g .text)) (passLoad g pass) window i) (lines : Entry)
-      (best : Best (Lines (linesOf w (g .text .count + 1) (pass .from) (sideOf g c)) (window .low) (window .high) (pass .from)) lines)
+      (best : Best (Lines (linesOf w (g .text .count + 1) (pass .from) (sideOf g c)) (passWhite bytes g pass last i) (window .low) (window .high) (pass .from)) lines)
       (swept : Swept bytes g w (pass .to) (pass .from) (number c i)) where
     abbrev held : Entry
     held = tableIn g w i (pass .to) c
+
+    full-last : full (modelOf bytes g) (placeAt (modelOf bytes g) i (pass .to)) ≡ last
+    full-last = full-in bytes g i (pass .to) (lent .column) ∙ ends
 
     bears : Bears (searchOf bytes g w i (pass .to) (sideOf g c)) (pass .from) (passLoad g pass)
     bears =
@@ -80,21 +93,24 @@ module _ {bytes : List ℕ} {g : Galley} {w : List ℕ} {pass : Pass} (lent : Le
         record {
           tight = omega (arith, passing .tight);
           loose = omega (arith, passing .loose);
-          htmin = least ∙ ap (floor model) (sym (full-in bytes g i (pass .to) (lent .column)));
+          htmin = least ∙ ap (floor model) (sym full-last);
           htmax = refl;
         }
 
     weighed-best : Best (Starts (searchOf bytes g w i (pass .to) (sideOf g c)) (Between (pass .from) (pass .to)))
         (chosen held (chosen lines (aloneOf g w i (sideOf g c) pass)))
+    unfolding whiteAt
     weighed-best =
         let s = searchOf bytes g w i (pass .to) (sideOf g c) in
         let sought = sought-in bytes g w i (pass .to) (sideOf g c) (lent-placed lent i line) in
         let left : pass .from ≤ pass .to = omega (arith, passing .before) in
         improved s (pass .from) (pass .to) (passing .before) held lines (aloneOf g w i (sideOf g c) pass)
         (swept .left i c line occurs (omega arith))
-        (window-best s sought (pass .from) left (passing .under) (passLoad g pass) bears window opened lines best)
+        (window-best s sought (pass .from) left (passing .under) (passLoad g pass) bears window opened (passWhite bytes g pass last i)
+        (white-lines s (pass .from) last full-last (passLoad g pass) bears) lines best)
         (alone-best s sought (pass .from) left (passing .under) (passing .before) (pass .heights .tight) (pass .heights .loose)
-        (pass .least) (passing .tight) (passing .loose) (bears .htmin) (passing .short))
+        (pass .least) (pass .white) (passing .tight) (passing .loose) (bears .htmin) (passing .short)
+        (rw white (white-alone s (pass .from) last full-last (pass .heights .loose) (passing .loose))))
 
     module _ (v : List ℕ) (e : v ≡ weighed g w lines i c pass) where
       -- The place holds the better of what it held and of what is weighed,

@@ -10,6 +10,7 @@ use lib.ListN.{length}
 use lib.Dec.{ltb}
 use borrow.Author.Tests.{ltb-true, ltb-false}
 use Rattle.model.specs.Gather.{pick}
+use Rattle.rules.specs.Sums.{whiteAt}
 use Rattle.galley.specs.declared.Galley.{Galley}
 use Rattle.galley.specs.Model.{floatsOf, modelOf}
 use Rattle.blocks.specs.declared.Counts.{Counts}
@@ -26,8 +27,7 @@ use Rattle.starts.specs.Sweep.{fresh, Layable, floatsAlone, rowTop}
 use Rattle.starts.specs.Swept.{RowSweep, RowRun, RowSwept, Sweep, SweepDone}
 use Rattle.starts.specs.laws.Columns.{few-floats, columns-few, row-next, row-grows, row-of, row-figures, row-tables, row-in, within-at, under-at}
 use Rattle.starts.specs.laws.Floats.{alone-at, floats-lay, alone-low}
-use Rattle.starts.specs.laws.Lending.{lent-sized}
-use Rattle.starts.specs.laws.Cells.{scratched-then}
+use Rattle.starts.specs.laws.Cells.{scratched-then, lent-kept}
 use Rattle.starts.specs.laws.Past.{known-past, start-under, start-short}
 
 -- A row offers columns with no more tables than the end, and the end's own row one less.
@@ -171,8 +171,8 @@ module _ {bytes : List ℕ} {g : Galley} {w₀ sums words₀ : List ℕ} {row : 
 
         module _ (both : Bool) (mixed : both ≡ (ltb (row .figures) (row .end .figures) && ltb (top - 1) (row .end .tables))) (floats : Heights)
             (laid : floats ≡ floatsAlone (g .spec) (row .heights) tables′ both) where
-          abbrev next : Pass
-          next = record { from = from; to = row .to; heights = floats; least = row .least }
+          abbrev next : ℕ → Pass
+          next white = record { from = from; to = row .to; heights = floats; least = row .least; white = white }
 
           alone-from : (floats .tight ≡ alone (modelOf bytes g) (λ st. st .least) (g .spec .smin) from (row .to))
               × (floats .loose ≡ alone (modelOf bytes g) (λ st. st .most) (g .spec .smax) from (row .to))
@@ -182,8 +182,8 @@ module _ {bytes : List ℕ} {g : Galley} {w₀ sums words₀ : List ℕ} {row : 
               (rw (from-tables, ← end-tables) floats′) (rw (from-figures, ← end-figures, from-tables, ← end-tables) mixed))
 
           -- the next sweep may start,
-          pub row-sweeps : floats .tight ≤ g .spec .htmax → Sweep bytes g w sums words next
-          row-sweeps short =
+          pub row-sweeps : floats .tight ≤ g .spec .htmax → (white : ℕ) → white ≡ whiteAt g false (floats .loose) → Sweep bytes g w sums words (next white)
+          row-sweeps short white e =
               let after : suc from ≡ rowOf g (row .figures) + top = omega arith in
               record {
                 lent = run .lent;
@@ -199,15 +199,16 @@ module _ {bytes : List ℕ} {g : Galley} {w₀ sums words₀ : List ℕ} {row : 
                       short = short;
                     };
                 least = asked .least;
+                white = e;
                 known = rw after (run .known);
               }
 
           -- and brings in the starts of its column.
-          pub row-swept : (v words′ : List ℕ) → length v ≡ length w → length words′ ≡ length words → SweepDone bytes g w v next
+          pub row-swept : (white : ℕ) (v words′ : List ℕ) → length v ≡ length w → length words′ ≡ length words → SweepDone bytes g w v (next white)
               → RowRun bytes g w₀ v words₀ words′ row tables′ (top - 1)
-          row-swept v words′ p q done =
+          row-swept white v words′ p q done =
               record {
-                lent = lent-sized v p (run .lent);
+                lent = lent-kept (done .kept) (run .lent);
                 scratch = omega (arith, run .scratch);
                 within = omega (arith, run .within);
                 sized = p ∙ run .sized;

@@ -20,8 +20,7 @@ use Rattle.starts.specs.Sweep.{Summed, number, fresh, Cleared}
 use Rattle.starts.specs.Swept.{ColumnSweep, ColumnSweepRun, ColumnSwept, RowSweep, RowSwept}
 use Rattle.starts.specs.laws.Columns.{row-next, row-grows, row-of, row-figures, row-tables, row-before, tables-low, within-at, under-at}
 use Rattle.starts.specs.laws.Floats.{figures-alone}
-use Rattle.starts.specs.laws.Lending.{lent-sized}
-use Rattle.starts.specs.laws.Cells.{scratched-then, blank-known}
+use Rattle.starts.specs.laws.Cells.{scratched-then, lent-kept, blank-known}
 use Rattle.starts.specs.laws.Past.{known-past, start-under, start-short}
 
 -- Before the first row no start is known, and every place is unreached. The loop starts with the cleared column.
@@ -31,7 +30,7 @@ column-first {bytes} {g} {j = j} asked w cleared =
     let end = countsAt g 0 j in
     let next : end .figures + 1 ≡ suc (end .figures) = omega arith in
     record {
-      lent = lent-sized w (cleared .sized) (asked .lent);
+      lent = lent-kept (cleared .kept) (asked .lent);
       scratch = asked .scratch;
       within = omega arith;
       sized = refl;
@@ -103,7 +102,7 @@ module _ {bytes : List ℕ} {g : Galley} {w₀ w words₀ words : List ℕ} {j :
           → RowSwept bytes g w v (next-row least) → ColumnSweepRun bytes g w₀ v words₀ words′ j heights′ (top - 1)
       column-next least v words′ p q done =
           record {
-            lent = lent-sized v p (run .lent);
+            lent = lent-kept (done .kept) (run .lent);
             scratch = omega (arith, run .scratch);
             within = omega (arith, run .within);
             sized = p ∙ run .sized;

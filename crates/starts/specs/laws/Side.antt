@@ -4,31 +4,33 @@ use native.Mathlib.Nat.{le-refl}
 use native.Mathlib.Numerals.{add-one}
 use native.Mathlib.Decide.{decLt, ℕ-discrete}
 use native.Mathlib.Omega.{arith}
-use mathlib.Core.Path.{_≡_, refl, sym, ap, _∙_, subst}
+use mathlib.Core.Path.{_≡_, refl, sym, _∙_, subst}
 use mathlib.Core.Logic.{_⊎_, inl, inr}
 use mathlib.Core.Bool.{false}
 use mathlib.Core.List.{List}
 use lib.ListN.{length}
 use Rattle.model.specs.Galley.{Stream}
-use Rattle.model.specs.Rules.{floor}
 use Rattle.galley.specs.declared.Galley.{Galley}
-use Rattle.galley.specs.Model.{textOf, modelOf}
+use Rattle.galley.specs.Model.{textOf}
 use Rattle.places.specs.declared.Entry.{Entry}
 use Rattle.window.specs.declared.slide.Window.{Window}
-use Rattle.window.specs.declared.queue.Queue.{Queue}
-use Rattle.window.specs.Slide.{Open}
-use Rattle.window.specs.Queue.{linesOf, frontOf, Held, Feedable, QueueStands, Advanced}
+use Rattle.window.specs.declared.queue.Source.{Source}
+use Rattle.window.specs.declared.parts.Parts.{Parts}
+use Rattle.window.specs.Slide.{Slidable, Open}
+use Rattle.window.specs.Queue.{linesOf, Payable}
+use Rattle.window.specs.Parts.{noParts, Both, Movable, Moved}
 use Rattle.window.specs.Windows.{windowAt, Windowable, WindowFound}
 use Rattle.window.specs.laws.Slide.{ends-first, ends-next}
-use Rattle.window.specs.laws.Held.{held-none, held-same, held-beside}
-use Rattle.window.specs.laws.Front.{front-best}
+use Rattle.window.specs.laws.Parts.{both-none, both-same, both-beside}
 use Rattle.window.specs.laws.Windows.{window-beside, kept-beside, ends-rise}
 use Rattle.starts.specs.declared.sweep.Pass.{Pass}
-use Rattle.starts.specs.Read.{sideOf, columnsIn, lastPlace}
+use Rattle.starts.specs.Fronts.{bestFront, Fronted}
+use Rattle.starts.specs.Read.{sideOf, columnsIn}
 use Rattle.starts.specs.Sweep.{Lent, passLoad, weighed, Ended, fresh, sweepEnd}
 use Rattle.starts.specs.Swept.{Windowed, Taken, SideSweep, SideRun, SideDone}
-use Rattle.starts.specs.laws.Lending.{side-either, lent-sized, can-slide, can-feed, can-front}
-use Rattle.starts.specs.laws.Cells.{scratched-then}
+use Rattle.starts.specs.laws.Lending.{side-either, can-slide, can-move}
+use Rattle.starts.specs.laws.Fronts.{fronts-best, can-front}
+use Rattle.starts.specs.laws.Cells.{scratched-then, lent-kept}
 use Rattle.starts.specs.laws.Pass.{least-low, end-inner, pass-ended, pass-changed, pass-swept}
 
 module _ {bytes : List ℕ} {g : Galley} {w₀ sums words₀ : List ℕ} {c : ℕ} {pass : Pass}
@@ -42,9 +44,12 @@ module _ {bytes : List ℕ} {g : Galley} {w₀ sums words₀ : List ℕ} {c : �
   from-low : pass .from < columnsIn g
   from-low = omega (arith, asked .passing .before, asked .lent .column)
 
-  -- A side starts with nothing in its queue.
-  pub side-first : SideRun bytes g w₀ w₀ words₀ words₀ c pass (record { base = 0; head = 0; tail = 0 })
-      (record { low = 0; high = 0 }) 0
+  -- What is offered costs little.
+  costs-low : {w : List ℕ} → Lent bytes g w (pass .to) → (i : ℕ) → i ≤ g .text .count → Payable (column w) i
+  costs-low lent i l a m = lent .costs (pass .from) c (asked .passing .before) (asked .occurs) a (omega arith)
+
+  -- A side starts with nothing in its queues.
+  pub side-first : SideRun bytes g w₀ w₀ sums words₀ words₀ c pass noParts (record { low = 0; split = 0; high = 0 }) 0
   side-first =
       record {
         within = omega arith;
@@ -52,8 +57,7 @@ module _ {bytes : List ℕ} {g : Galley} {w₀ sums words₀ : List ℕ} {c : �
         wordsSized = refl;
         ends = ends-first text (passLoad g pass) 0;
         windows = λ k p. kept k (p .0) (p .1);
-        based = refl;
-        held = held-none (column w₀) words₀ 0;
+        held = both-none (column w₀) sums words₀ 0;
         swept = asked .swept;
         kept = fresh;
       }
@@ -62,10 +66,10 @@ module _ {bytes : List ℕ} {g : Galley} {w₀ sums words₀ : List ℕ} {c : �
       kept k l (inl p) = asked .windows p k l
       kept k l (inr p) = absurd (omega arith)
 
-  module _ {w words : List ℕ} {queue : Queue} {window : Window} {i : ℕ}
-      (run : SideRun bytes g w₀ w words₀ words c pass queue window i) where
+  module _ {w words : List ℕ} {parts : Parts} {window : Window} {i : ℕ}
+      (run : SideRun bytes g w₀ w sums words₀ words c pass parts window i) where
     lent-now : Lent bytes g w (pass .to)
-    lent-now = lent-sized w (run .sized) (asked .lent)
+    lent-now = lent-kept (run .kept) (asked .lent)
 
     -- It ends where the sweep does.
     pub side-last : sweepEnd g pass ≤ i → SideDone bytes g w₀ w words c pass
@@ -77,18 +81,20 @@ module _ {bytes : List ℕ} {g : Galley} {w₀ sums words₀ : List ℕ} {c : �
       line : i ≤ g .text .count
       line = end-inner g pass i next .0
 
-      least : pass .least ≡ floor (modelOf bytes g) (lastPlace g i (pass .to))
-      least = asked .least ∙ ap (floor (modelOf bytes g)) (sym (end-inner g pass i next .1))
+      order : pass .least ≤ g .spec .htmax
+      order = rw (asked .least) (least-low bytes g (asked .lent .sound) false)
 
       pub side-ended : Ended g w i c pass
       side-ended = pass-ended lent-now (asked .passing) i c line (asked .occurs)
 
+      slides : (window : Window) → window .low ≤ i → window .split ≤ i → window .high ≤ i → Slidable sums (passLoad g pass) window i
+      slides window =
+          can-slide lent-now (asked .summed) 1 (pass .heights) (le-refl 1) (asked .passing .low) (pass .least) order window i line
+
       pub side-slides : Windowable sums (passLoad g pass) words window i
       side-slides =
           record {
-            slides =
-                can-slide lent-now (asked .summed) 1 (pass .heights) (le-refl 1) (asked .passing .low) (pass .least)
-                (rw (asked .least) (least-low bytes g (asked .lent .sound) false)) window i line (run .ends .low) (run .ends .high);
+            slides = slides window (run .ends .low) (run .ends .split) (run .ends .high);
             few = omega (arith, line, asked .lent .sound .fewLines);
             room = omega (arith, asked .scratch, run .wordsSized);
           }
@@ -100,16 +106,10 @@ module _ {bytes : List ℕ} {g : Galley} {w₀ sums words₀ : List ℕ} {c : �
         opened =
             found .opens text (g .text .count) (asked .summed .rows) line (run .ends) (λ p. run .windows i (next, inl p))
 
-        rise : (window .low ≤ new .low) × (window .high ≤ new .high)
-        rise = ends-rise text (passLoad g pass) window new i (run .ends) opened
-
-        inside : new .high ≤ g .text .count
-        inside = omega (arith, opened .ends .high, line)
-
-        held-found : Held (column w) words′ queue (window .low) (window .high)
+        held-found : Both (column w) sums words′ 0 parts window
         held-found =
-            held-beside (column w) words words′ queue (window .low) (window .high) (i + 4000) (i + 4001) (found .beside)
-            (inl (omega (arith, run .based, run .ends .high))) (run .held)
+            both-beside (omega (arith, run .ends .split, line, asked .lent .sound .fewLines))
+            (omega (arith, run .ends .high, line, asked .lent .sound .fewLines)) (found .beside) (inl (omega arith)) (run .held)
 
         windows-found : Windowed bytes g words′ pass (λ k. Taken g pass k × ((0 < c) ⊎ (k < i + 1)))
         windows-found k (l, p) = go (ℕ-discrete k i)
@@ -118,7 +118,7 @@ module _ {bytes : List ℕ} {g : Galley} {w₀ sums words₀ : List ℕ} {c : �
             before n (inl h) = inl h
             before n (inr h) = inr (omega arith)
 
-            apart : ¬ (k ≡ i) → Dec (k < i) → (k + 4000 < i + 4000) ⊎ (i + 4001 ≤ k + 4000)
+            apart : ¬ (k ≡ i) → Dec (k < i) → (k + 8000 < i + 8000) ⊎ (i + 8001 ≤ k + 8000)
             apart n (yes m) = inl (omega arith)
             apart n (no m) = inr (omega arith)
 
@@ -129,46 +129,54 @@ module _ {bytes : List ℕ} {g : Galley} {w₀ sums words₀ : List ℕ} {c : �
                 subst (λ (window : Window). Open text (passLoad g pass) window k)
                 (sym (window-beside (found .beside) k (apart n (decLt k i)))) (run .windows k (l, before n p))
 
-        pub side-feeds : Feedable w (g .text .count + 1) (pass .from) (sideOf g c) words′ queue (window .high) (new .high)
-        side-feeds =
-            can-feed lent-now (omega (arith, asked .scratch, run .wordsSized, sized)) (pass .from) from-low queue c (window .high)
-            (new .high) i line (rise .1) (opened .ends .high) (omega (arith, run .based)) (run .held .based) (run .held .order)
-            (run .held .short)
+        -- The lines of the column from which pages of the pass start.
+        abbrev source : Source
+        source = record { tall = g .text .count + 1; column = pass .from; side = sideOf g c }
 
-        -- The queue has moved on.
-        module _ (words″ : List ℕ) (sized″ : length words″ ≡ length words′) (moved : Queue)
-            (advanced : Advanced w (g .text .count + 1) (pass .from) (sideOf g c) words′ queue (window .high) new moved words″) where
-          pub side-front : QueueStands words″ moved (pass .from)
-          side-front =
-              can-front lent-now (omega (arith, asked .scratch, run .wordsSized, sized, sized″)) (pass .from) from-low moved (new .high)
-              inside (omega (arith, advanced .base, run .based)) (advanced .order) (advanced .short)
+        pub side-moves : Movable w sums words′ source parts window new
+        side-moves =
+            can-move lent-now (asked .summed) (omega (arith, asked .scratch, run .wordsSized, sized)) (pass .from) c from-low parts window
+            new i line (costs-low lent-now i line) (opened .ends .split) (opened .ends .high)
+            (ends-rise text (passLoad g pass) window new i (run .ends) opened) 0 (omega arith) held-found
 
-          held-next : Held (column w) words″ moved (new .low) (new .high)
-          held-next = advanced .held (window .low) (rise .0) held-found
+        -- The queues have moved on.
+        module _ (words″ : List ℕ) (sized″ : length words″ ≡ length words′) (moved : Parts)
+            (done : Moved w sums words′ source parts new moved words″) where
+          held-next : Both (column w) sums words″ 0 moved new
+          held-next = subst (λ n. Both (column w) sums words″ n moved new) (run .held .first) (done .held)
+
+          pub side-fronted : Fronted sums words″ moved (pass .from) (passLoad g pass) i
+          side-fronted =
+              can-front lent-now (asked .summed) (omega (arith, asked .scratch, run .wordsSized, sized, sized″)) (passLoad g pass) order i
+              line new opened (column w) 0 (pass .from) moved held-next (done .fresh) from-low (omega arith) (costs-low lent-now i line)
+              (slides new (opened .ends .low) (opened .ends .split) (opened .ends .high))
 
           -- One line more is swept.
-          pub side-next : (v : List ℕ) → v ≡ weighed g w (frontOf words″ moved (pass .from)) i c pass
-              → SideRun bytes g w₀ v words₀ words″ c pass moved new (i + 1)
+          pub side-next : (v : List ℕ) → v ≡ weighed g w (bestFront sums words″ moved (pass .from) (passLoad g pass) i) i c pass
+              → SideRun bytes g w₀ v sums words₀ words″ c pass moved new (i + 1)
           side-next v e =
-              let lines = frontOf words″ moved (pass .from) in
-              let best = front-best (column w) words″ moved (new .low) (new .high) (pass .from) held-next (advanced .fresh) in
-              let changed = pass-changed lent-now (asked .passing) i c line (asked .occurs) least new opened lines best (run .swept) v e in
+              let lines = bestFront sums words″ moved (pass .from) (passLoad g pass) i in
+              let inner = end-inner g pass i next .1 in
+              let best =
+              fronts-best lent-now (asked .summed) (omega (arith, asked .scratch, run .wordsSized, sized, sized″)) (passLoad g pass) order i
+              line new opened (column w) 0 (pass .from) moved held-next (done .fresh) in
+              let changed =
+              pass-changed lent-now (asked .passing) i c line (asked .occurs) false inner (asked .least) (asked .white) new opened lines
+              best (run .swept) v e in
               record {
                 within = omega arith;
                 sized = changed .sized ∙ run .sized;
                 wordsSized = sized″ ∙ sized ∙ run .wordsSized;
                 ends = rw add-one (ends-next text (passLoad g pass) new i opened);
-                windows =
-                    kept-beside (advanced .beside)
-                    (λ k p. inr (omega (arith, run .based, inside, asked .lent .sound .fewLines)))
-                    windows-found;
-                based = advanced .base ∙ run .based;
+                windows = kept-beside (done .beside) (λ k p. inr (omega (arith, run .held .first))) windows-found;
                 held =
-                    held-same (column w) (column v) words″ moved (new .low) (new .high)
+                    both-same i (opened .ends .split) (opened .ends .high)
                     (λ a l.
-                    changed .others a (pass .from) (sideOf g c) (omega (arith, inside)) (side-either g c)
+                    changed .others a (pass .from) (sideOf g c) (omega (arith, line)) (side-either g c)
                     (λ q. omega (arith, q .1, asked .passing .before)))
                     held-next;
-                swept = pass-swept lent-now (asked .passing) i c line (asked .occurs) least new opened lines best (run .swept) v e;
+                swept =
+                    pass-swept lent-now (asked .passing) i c line (asked .occurs) false inner (asked .least) (asked .white) new opened lines
+                    best (run .swept) v e;
                 kept = scratched-then g (pass .to) w₀ w v (run .kept) (changed .kept);
               }

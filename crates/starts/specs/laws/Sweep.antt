@@ -3,7 +3,7 @@ use Prim.Native.Nat.{ℕ, suc, _+_, _≤_, _<_}
 use native.Mathlib.Nat.{le-refl}
 use native.Mathlib.Decide.{decLe, decLt}
 use native.Mathlib.Omega.{arith}
-use mathlib.Core.Path.{_≡_, refl, sym, _∙_}
+use mathlib.Core.Path.{_≡_, refl, sym, subst, _∙_}
 use mathlib.Core.Logic.{_⊎_, inl, inr, _↔_}
 use mathlib.Core.Bool.{Bool, true, false}
 use lib.Dec.{ltb}
@@ -16,14 +16,14 @@ use Rattle.places.specs.declared.Entry.{Entry}
 use Rattle.places.specs.declared.Entry.the-variants.{Unreached}
 use Rattle.places.specs.Order.{Earlier}
 use Rattle.places.specs.Columns.{placeAt}
-use Rattle.places.specs.Best.{Best}
+use Rattle.places.specs.Best.{Paid, Best}
 use Rattle.places.specs.laws.Best.{best-as, best-unique}
 use Rattle.window.specs.declared.slide.Load.{Load}
 use Rattle.window.specs.declared.slide.Window.{Window}
 use Rattle.window.specs.Slide.{Open}
 use Rattle.window.specs.Queue.{Lines}
 use Rattle.starts.specs.Better.{chosen, startAt}
-use Rattle.starts.specs.Search.{Table, Search, goes, startFrom, bestStart}
+use Rattle.starts.specs.Search.{Table, Search, goes, whiteFrom, startFrom, bestStart}
 use Rattle.starts.specs.Choice.{Candidate, Starts, Any, Above, Level, Between}
 use Rattle.starts.specs.Beside.{Under, alone, Bears, Sought}
 use Rattle.starts.specs.laws.Choice.{best-chosen}
@@ -33,8 +33,9 @@ use Rattle.starts.specs.laws.Pages.{Keeps, goes-lines, goes-alone, candi
 module _ (s : Search) (sought : Sought s) (b : ℕ) (left : b ≤ s .column) (under : Under (s .galley) b (s .column)) where
   -- The best line of the window is the best of the column's lines before this one.
   pub window-best : (load : Load) → Bears s b load → (window : Window) → Open (s .galley .stream 0) load window (s .line)
-      → (e : Entry) → Best (Lines (λ a. s .table a b (s .side)) (window .low) (window .high) b) e → Best (Starts s (Above b (s .line))) e
-  window-best load bears window opened e best = best-as starts lines best
+      → (white : ℕ → ℕ) → ((a : ℕ) → a < s .line → white a ≡ whiteFrom s a b) → (e : Entry)
+      → Best (Lines (λ a. s .table a b (s .side)) white (window .low) (window .high) b) e → Best (Starts s (Above b (s .line))) e
+  window-best load bears window opened white whites e best = best-as starts lines best
     where
       page : (a : ℕ) → a < s .line
           → (goes s a b ≡ true)
@@ -49,7 +50,7 @@ module _ (s : Search) (sought : Sought s) (b : ℕ) (left : b ≤ s .column) (un
       fits a l m (yes h) = h
       fits a l m (no h) = absurd (opened .fits a l m (omega arith))
 
-      starts : (a b′ x : ℕ) → Lines (λ a. s .table a b (s .side)) (window .low) (window .high) b a b′ x → Starts s (Above b (s .line)) a b′ x
+      starts : (a b′ x : ℕ) → Lines (λ a. s .table a b (s .side)) white (window .low) (window .high) b a b′ x → Starts s (Above b (s .line)) a b′ x
       starts a b′ x (low, high, e, reached) =
           let l : a < s .line = omega (arith, opened .ends .high) in
           let short = fits a low l (decLe _ _) in
@@ -60,15 +61,19 @@ module _ (s : Search) (sought : Sought s) (b : ℕ) (left : b ≤ s .column) (un
               line = omega arith;
               column = left;
               page = page a l .1 (record { short = omega (arith, bears .htmax); enough = omega (arith, bears .htmin) });
-              reached = reached;
+              reached = subst (λ p. Paid (s .table a b (s .side)) p x) (whites a l) reached;
             },
           )
 
-      lines : (a b′ x : ℕ) → Starts s (Above b (s .line)) a b′ x → Lines (λ a. s .table a b (s .side)) (window .low) (window .high) b a b′ x
+      lines : (a b′ x : ℕ) → Starts s (Above b (s .line)) a b′ x → Lines (λ a. s .table a b (s .side)) white (window .low) (window .high) b a b′ x
       lines a b′ x ((e, l), c) =
           let d : Candidate s a b x = rw e at c in
-          let keeps = page a l .0 (d .page) in
-          (low keeps (decLe (window .low) a), high keeps (decLt a (window .high)), e, d .reached)
+          let keeps = page a l .0 (d .page) in (
+            low keeps (decLe (window .low) a),
+            high keeps (decLt a (window .high)),
+            e,
+            subst (λ p. Paid (s .table a b (s .side)) p x) (sym (whites a l)) (d .reached),
+          )
         where
           K : Type 0
           K = Keeps (s .galley) (placeAt (s .galley) (s .line) (s .column))
@@ -86,21 +91,22 @@ module _ (s : Search) (sought : Sought s) (b : ℕ) (left : b ≤ s .column) (un
           high k (no h) = absurd (opened .short a (omega arith) l (omega (arith, k .enough, bears .htmin)))
 
   -- The page of floats alone, where it is high enough, is the best that starts after this line.
-  pub alone-best : b < s .column → (tight loose least : ℕ)
+  pub alone-best : b < s .column → (tight loose least white : ℕ)
       → tight ≡ alone (s .galley) (λ st. st .least) (s .galley .spec .smin) b (s .column)
       → loose ≡ alone (s .galley) (λ st. st .most) (s .galley .spec .smax) b (s .column)
       → least ≡ floor (s .galley) (full (s .galley) (placeAt (s .galley) (s .line) (s .column))) → tight ≤ s .galley .spec .htmax
-      → Best (Starts s (Level b (s .line)))
-      (pick (ltb loose least) Unreached (startAt (s .table (s .line) b (s .side)) (s .line) b))
+      → white ≡ whiteFrom s (s .line) b → Best (Starts s (Level b (s .line)))
+      (pick (ltb loose least) Unreached (startAt (s .table (s .line) b (s .side)) white (s .line) b))
   unfolding startFrom
-  alone-best k tight loose least t l f short = go (ltb loose least) refl (goes s (s .line) b) refl (start-best s (s .line) b (le-refl _) left)
+  alone-best k tight loose least white t l f short w =
+      go (ltb loose least) refl (goes s (s .line) b) refl (rw w (start-best s (s .line) b (le-refl _) left))
     where
       page : (goes s (s .line) b ≡ true) ↔ Keeps (s .galley) (placeAt (s .galley) (s .line) (s .column)) tight loose
       page = rw (t, l) (goes-alone s sought b k under)
 
       go : (x : Bool) → ltb loose least ≡ x → (y : Bool) → goes s (s .line) b ≡ y
-          → Best (Starts s (Level b (s .line))) (pick y (startAt (s .table (s .line) b (s .side)) (s .line) b) Unreached)
-          → Best (Starts s (Level b (s .line))) (pick x Unreached (startAt (s .table (s .line) b (s .side)) (s .line) b))
+          → Best (Starts s (Level b (s .line))) (pick y (startAt (s .table (s .line) b (s .side)) white (s .line) b) Unreached)
+          → Best (Starts s (Level b (s .line))) (pick x Unreached (startAt (s .table (s .line) b (s .side)) white (s .line) b))
       go true p false q best = best
       go false p true q best = best
       go true p true q best = absurd (omega (arith, ltb-true loose least p, page .0 q .enough, f))
@@ -157,7 +163,7 @@ searchIn s t = record { galley = s .galley; table = t; line = s .line; column = 
 pub best-same : (s : Search) (t : Table) (P : ℕ → ℕ → Type 0) (e : Entry)
     → ((a b : ℕ) → P a b → a ≤ s .line → b ≤ s .column → t a b (s .side) ≡ s .table a b (s .side))
     → Best (Starts s P) e → Best (Starts (searchIn s t) P) e
-unfolding goes
+unfolding goes whiteFrom
 best-same s t P e same = best-as (λ a b x c. (c .0, there a b x c)) (λ a b x c. (c .0, back a b x c))
   where
     there : (a b x : ℕ) → Starts s P a b x → Candidate (searchIn s t) a b x
@@ -166,7 +172,9 @@ best-same s t P e same = best-as (λ a b x c. (c .0, there a b x c)) (λ a b x c
           line = c .line;
           column = c .column;
           page = c .page;
-          reached = (c .reached .0, same a b p (c .line) (c .column) ∙ c .reached .1);
+          reached =
+              let r = c .reached in
+              record { own = r .own; start = r .start; entry = same a b p (c .line) (c .column) ∙ r .entry; whole = r .whole };
         }
 
     back : (a b x : ℕ) → Starts (searchIn s t) P a b x → Candidate s a b x
@@ -175,5 +183,7 @@ best-same s t P e same = best-as (λ a b x c. (c .0, there a b x c)) (λ a b x c
           line = c .line;
           column = c .column;
           page = c .page;
-          reached = (c .reached .0, sym (same a b p (c .line) (c .column)) ∙ c .reached .1);
+          reached =
+              let r = c .reached in
+              record { own = r .own; start = r .start; entry = sym (same a b p (c .line) (c .column)) ∙ r .entry; whole = r .whole };
         }

@@ -2,12 +2,13 @@
 use Prim.Native.Nat.{ℕ, _+_, _≤_, _<_}
 use native.Mathlib.Nat.{le-refl}
 use native.Mathlib.Omega.{arith}
-use mathlib.Core.Path.{_≡_, refl, sym, ap, _∙_}
+use mathlib.Core.Path.{_≡_, refl, _∙_}
 use mathlib.Core.Bool.{true}
 use mathlib.Core.List.{List}
 use lib.ListN.{length}
 use borrow.Author.Tests.{eq-eqb, ne-eqb}
 use Rattle.model.specs.Rules.{floor}
+use Rattle.rules.specs.Sums.{whiteAt}
 use Rattle.galley.specs.declared.Galley.{Galley}
 use Rattle.galley.specs.Model.{textOf, modelOf}
 use Rattle.places.specs.declared.Entry.{Entry}
@@ -15,8 +16,8 @@ use Rattle.starts.specs.declared.sweep.Pass.{Pass}
 use Rattle.starts.specs.Read.{sideOf, columnsIn, lastPlace}
 use Rattle.starts.specs.Sweep.{passLoad, Passing, weighed, Ended, LinesStand, LastBest, number, Swept, fresh}
 use Rattle.starts.specs.Swept.{Sweep, SweepRun, SweepDone, SideSweep, SideDone, LastLine, LineDone}
-use Rattle.starts.specs.laws.Lending.{side-either, lent-sized, can-stand, can-slide}
-use Rattle.starts.specs.laws.Cells.{scratched-then, swept-side}
+use Rattle.starts.specs.laws.Lending.{side-either, can-stand, can-slide}
+use Rattle.starts.specs.laws.Cells.{scratched-then, lent-kept, swept-side}
 use Rattle.starts.specs.laws.Pass.{least-low, pass-ended, pass-changed, pass-swept}
 
 -- The last line.
@@ -35,7 +36,7 @@ module _ {bytes : List ℕ} {g : Galley} {w sums : List ℕ} {c : ℕ} {pass : P
   module _ (last : columnsIn g ≤ pass .to + 1) where
     -- The pass to a page that may be short.
     abbrev short : Pass
-    short = record { from = pass .from; to = pass .to; heights = pass .heights; least = floor (modelOf bytes g) true }
+    short = record { from = pass .from; to = pass .to; heights = pass .heights; least = floor (modelOf bytes g) true; white = 0 }
 
     passing : Passing bytes g short
     passing =
@@ -54,10 +55,11 @@ module _ {bytes : List ℕ} {g : Galley} {w sums : List ℕ} {c : ℕ} {pass : P
           stands = λ a l.
               can-stand (asked .lent) a (pass .from) (sideOf g c) l (omega (arith, asked .passing .before, asked .lent .column))
               (side-either g c);
+          costs = λ a l. asked .lent .costs (pass .from) c (asked .passing .before) (asked .occurs) a (omega arith);
           slides =
               can-slide (asked .lent) (asked .summed) 1 (pass .heights) (le-refl 1) (asked .passing .low) (g .spec .lastmin)
-              (least-low bytes g (asked .lent .sound) true) (record { low = 0; high = 0 }) (g .text .count) (le-refl _) (omega arith)
-              (omega arith);
+              (least-low bytes g (asked .lent .sound) true) (record { low = 0; split = 0; high = 0 }) (g .text .count) (le-refl _) (omega arith)
+              (omega arith) (omega arith);
         }
 
     pub last-ended : Ended g w (g .text .count) c short
@@ -66,21 +68,21 @@ module _ {bytes : List ℕ} {g : Galley} {w sums : List ℕ} {c : ℕ} {pass : P
     -- It is swept too.
     pub last-done : (lines : Entry) → LastBest g w sums (passLoad g short) (pass .from) (sideOf g c) lines
         → (v : List ℕ) → v ≡ weighed g w lines (g .text .count) c short → LineDone bytes g w v c pass
+    unfolding whiteAt
     last-done lines found v e =
         let same : pass .to + 1 ≡ columnsIn g = omega (arith, asked .lent .column) in
         let full : lastPlace g (g .text .count) (pass .to) ≡ true =
         rw (eq-eqb (g .text .count) (g .text .count) refl, eq-eqb (pass .to + 1) (columnsIn g) same) in
-        let least = ap (floor (modelOf bytes g)) (sym full) in
         let opened = found .opens (textOf bytes (g .text)) (asked .summed .rows) in
         let swept : Swept bytes g w (pass .to) (pass .from) (number c (g .text .count)) =
         rw (eq-eqb (pass .to + 1) (columnsIn g) same) at (asked .swept) in
         record {
           swept =
               swept-side c (g .text .count + 1) (asked .lent .sound .fewLines) (omega arith) (omega arith)
-              (pass-swept (asked .lent) passing (g .text .count) c (le-refl _) (asked .occurs) least (found .window) opened lines
+              (pass-swept (asked .lent) passing (g .text .count) c (le-refl _) (asked .occurs) true full refl refl (found .window) opened lines
               (found .best) swept v e);
           kept =
-              pass-changed (asked .lent) passing (g .text .count) c (le-refl _) (asked .occurs) least (found .window) opened lines
+              pass-changed (asked .lent) passing (g .text .count) c (le-refl _) (asked .occurs) true full refl refl (found .window) opened lines
               (found .best) swept v e .kept;
         }
 
@@ -107,11 +109,12 @@ module _ {bytes : List ℕ} {g : Galley} {w₀ sums words₀ : List ℕ} {pass :
       pub sweep-side : SideSweep bytes g w sums words c pass
       sweep-side =
           record {
-            lent = lent-sized w (run .sized) (asked .lent);
+            lent = lent-kept (run .kept) (asked .lent);
             summed = asked .summed;
             scratch = omega (arith, asked .scratch, run .wordsSized);
             passing = asked .passing;
             least = asked .least;
+            white = asked .white;
             occurs = occurs;
             windows = run .windows;
             swept = run .swept;
@@ -121,7 +124,7 @@ module _ {bytes : List ℕ} {g : Galley} {w₀ sums words₀ : List ℕ} {pass :
         pub sweep-line : LastLine bytes g v sums c pass
         sweep-line =
             record {
-              lent = lent-sized v (p ∙ run .sized) (asked .lent);
+              lent = lent-kept (scratched-then g (pass .to) w₀ w v (run .kept) (side .kept)) (asked .lent);
               summed = asked .summed;
               passing = asked .passing;
               occurs = occurs;

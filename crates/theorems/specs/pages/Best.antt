@@ -6,17 +6,20 @@ use mathlib.Core.List.{List, [], _++_}
 use mathlib.Core.Option.{none, some}
 use Rattle.model.specs.Galley.{Galley, Place, Sane, zeros}
 use Rattle.model.specs.Turns.{turns}
+use Rattle.model.specs.White.{white}
 use Rattle.model.specs.Order.{startsOf}
 use Rattle.model.specs.Opening.{bestAfter}
 use Rattle.model.specs.laws.Valid.{valid-accepted}
 use Rattle.model.specs.laws.Opening.{after-valid, valid-after, after-is, after-none}
 use Rattle.theorems.specs.optimality.Graph.{unreached, least}
 use Rattle.theorems.specs.optimality.Cell.{Table, Right, Trace}
+use Rattle.theorems.specs.turns.Rank.{rank}
+use Rattle.theorems.specs.turns.Bounds.{Narrow}
 use Rattle.theorems.specs.pages.Graph.{State, end, Within, pageGraph, pagesOn}
 use Rattle.theorems.specs.pages.Theorem.{LeastFrom, table-empty, table-least}
 use Rattle.theorems.specs.pages.Opening.{after, Opening, end-inside, follows-accepted, accepted-follows, turns-follow, before-follow}
 
-module _ (g : Galley) (sane : Sane g) (os : List Place) (opening : Opening g os) where
+module _ (g : Galley) (sane : Sane g) (narrow : Narrow g) (os : List Place) (opening : Opening g os) where
   -- The opening and the least list from its end on are the best list that begins with it.
   pub least-best : (ps : List Place) → LeastFrom g (after g os) (startsOf (zeros g) os []) ps → bestAfter g os ≡ some (os ++ ps)
   least-best ps l =
@@ -25,7 +28,7 @@ module _ (g : Galley) (sane : Sane g) (os : List Place) (opening : Opening g os)
         ahead = λ qs m.
             let (v, (rs, is)) = after-valid g os qs m in
             let f = accepted-follows g os opening rs (valid-accepted g (os ++ rs) .0 (rw is at v)) in
-            rw is (sym (before-follow g os opening sane ps rs (l .follows) f) ∙ l .ahead rs f);
+            rw is (sym (before-follow g os opening sane narrow ps rs (l .follows) f) ∙ l .ahead rs f);
       })
 
   module _ (D : Table (pageGraph g (after g os))) (right : Right (pageGraph g (after g os)) D (Within g (after g os))) where
@@ -38,10 +41,10 @@ module _ (g : Galley) (sane : Sane g) (os : List Place) (opening : Opening g os)
         table-empty g (after g os) (end-inside g os opening) D right e rs
         (accepted-follows g os opening rs (valid-accepted g (os ++ rs) .0 (rw is at v))))
 
-    -- Where it is reached the walk back from it meets what follows in the best list, and its entry holds the turns.
+    -- Where it is reached the walk back from it meets what follows in the best list, and its entry holds the turns and the white.
     pub table-best : (c : ℕ) (u : State) → D end ≡ least c u
         → (us : List State) × Trace (pageGraph g (after g os)) D us end × (bestAfter g os ≡ some (os ++ pagesOn us))
-        × (turns g (os ++ pagesOn us) ≡ c)
+        × (rank (turns g (os ++ pagesOn us)) (white g (os ++ pagesOn us)) ≡ c)
     table-best c u e =
         let (us, trace, l, cost) = table-least g (after g os) (end-inside g os opening) D right (startsOf (zeros g) os []) c u e in
         (us, trace, least-best (pagesOn us) l, turns-follow g os opening sane (pagesOn us) (l .follows) ∙ cost)

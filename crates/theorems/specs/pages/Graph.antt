@@ -9,8 +9,10 @@ use Rattle.model.specs.Answers.{same}
 use Rattle.model.specs.Order.{lex, geb, oddly}
 use Rattle.model.specs.Best.{allowed}
 use Rattle.model.specs.laws.Lists.{Inside}
+use Rattle.model.specs.laws.White.{pageWhite}
 use Rattle.theorems.specs.optimality.Graph.{Graph}
 use Rattle.theorems.specs.turns.Waiting.{pageCost}
+use Rattle.theorems.specs.turns.Rank.{rank}
 
 -- The side of page q: in double-sided work 1 for an odd number and 0 for an even one, which are right-hand and left-hand pages
 -- from an odd folio on, and the other way round from an even one; in single-sided work 0.
@@ -32,7 +34,7 @@ placeOf end = []
 unfoldable pub full : Galley → Place → Bool
 full g v = same v (sizes g)
 
--- Where a search begins: the place, the number of pages before it, and what they cost.
+-- Where a search begins: the place, the number of pages before it, and what they cost with their white.
 pub record Origin : Type 0 where
   pub place : Place
   pub pages : ℕ
@@ -64,10 +66,12 @@ Step g from (stop u b) (stop v c) = PageStep g from u b v c
 Step g from (stop u b) end = EndStep g from u b
 Step g from end t = ⊥
 
--- What is added on the way into a state: the cost of the page that stops there; nothing at the end.
-unfoldable pub price : Galley → State → ℕ
-price g (stop v c) = pageCost g c (full g v) v
-price g end = 0
+-- What is added on the way from one state to another: the cost of the page and its white, which depends on where the page
+-- starts, as one number; nothing at the end.
+unfoldable pub price : Galley → State → State → ℕ
+price g (stop u b) (stop v c) = rank (pageCost g c (full g v) v) (pageWhite g (full g v) u v)
+price g (stop u b) end = 0
+price g end t = 0
 
 -- Which start is preferred: the later line, then the later float of each stream; at the same place the side of even folios,
 -- which at the end is an even last folio (and then the lower number, so that the order is one on all numbers).
@@ -87,7 +91,7 @@ pageGraph g from =
       o = stop (from .place) (side (g .spec .sides) (from .pages));
       step = Step g from;
       nil = from .cost;
-      add = λ u v c. c + price g v;
+      add = λ u v c. c + price g u v;
       le = λ a b. a ≤ b;
       tie = Prefers (g .spec .sides);
     }

@@ -18,6 +18,7 @@ use Rattle.model.specs.declared.answer.Answer.the-variants.{Counted, Refused}
 use Rattle.model.specs.Gather.{pick}
 use Rattle.model.specs.Galley.{Galley, Place, streams, zeros, sizes}
 use Rattle.model.specs.Turns.{turns}
+use Rattle.model.specs.White.{white}
 use Rattle.model.specs.Answers.{numbersOf, accepted, same, pagesOf, wordsOf, countsOf, marked}
 use Rattle.model.specs.Best.{allowed, valid}
 use Rattle.model.specs.Opening.{validAfter, bestAfter, pagesTurned, openingTurned, madeAfter, madeWordsAfter}
@@ -25,7 +26,7 @@ use Rattle.model.specs.laws.Gather.{and-both}
 use Rattle.model.specs.laws.Lists.{_∈_}
 use Rattle.model.specs.laws.Words.{Shaped, chunks-shaped, words-chunks, length-words}
 use Rattle.model.specs.laws.Valid.{valid-accepted, accepted-valid}
-use Rattle.model.specs.laws.Best.{LeastOf, MakesOf, impossible, makes, least-turns}
+use Rattle.model.specs.laws.Best.{LeastOf, MakesOf, impossible, makes, least-turns, least-white}
 use Rattle.model.specs.laws.Opening.{after-valid, valid-after, after-makes}
 use Rattle.theorems.specs.turns.LeastTurns.{valid-counts}
 use Rattle.theorems.specs.pages.Graph.{Origin, beginning, full}
@@ -124,20 +125,25 @@ module _ (g : Galley) (ows : List ℕ) where
               → Out (pagesTurned g 1 (zeros g) (pagesOf g ows))
           told whole (inl h) = inl h
           told whole (inr (a, b, c)) =
-              inr (a, record {
-                whole = whole;
-                words = words-chunks (length ows / suc (g .floats)) (suc (g .floats)) ows whole;
-                printed = record { shaped = chunks-shaped (length ows / suc (g .floats)) (suc (g .floats)) ows whole; passed = b; left = c };
-              })
+              inr (
+                a,
+                record {
+                  whole = whole;
+                  words = words-chunks (length ows / suc (g .floats)) (suc (g .floats)) ows whole;
+                  printed = record { shaped = chunks-shaped (length ows / suc (g .floats)) (suc (g .floats)) ows whole; passed = b; left = c };
+                },
+              )
 
   -- What the possible answers of making after an opening say of the lists that marking accepts and that begin with it.
   pub data MakingAfter : Answer → List ℕ → Type 0 where
     turned-away : {a : Answer} → openingTurned g ows ≡ some a → ByOpening a → MakingAfter a []
     no-list : openingTurned g ows ≡ none → ((ws : List ℕ) → accepted (marked g (ows ++ ws)) ≡ false) → MakingAfter (Refused 11 0) []
-    best-list : {p x y t : ℕ} (ws : List ℕ) → openingTurned g ows ≡ none → marked g (ows ++ ws) ≡ Counted p x y t
+    best-list : {p x y t w : ℕ} (ws : List ℕ) → openingTurned g ows ≡ none → marked g (ows ++ ws) ≡ Counted p x y t w
         → length (ows ++ ws) ≡ p * streams g
         → ((vs : List ℕ) → accepted (marked g (ows ++ vs)) ≡ true → t ≤ numbersOf (marked g (ows ++ vs)) .turns)
-        → MakingAfter (Counted p x y t) (ows ++ ws)
+        → ((vs : List ℕ) → accepted (marked g (ows ++ vs)) ≡ true → numbersOf (marked g (ows ++ vs)) .turns ≤ t
+        → w ≤ numbersOf (marked g (ows ++ vs)) .white)
+        → MakingAfter (Counted p x y t w) (ows ++ ws)
 
   module _ (stands : openingTurned g ows ≡ none) (w : Whole) where
     -- An accepted list of words that begins with the opening's is the words of a valid list that begins with it.
@@ -164,13 +170,21 @@ module _ (g : Galley) (ows : List ℕ) where
         let ws : wordsOf qs ≡ ows ++ wordsOf ps = ap wordsOf is ∙ words-append opening ps ∙ ap (λ l. l ++ wordsOf ps) (w .words) in
         let counts : marked g (ows ++ wordsOf ps) ≡ countsOf g qs = ap (marked g) (sym ws) ∙ valid-counts g qs m in
         let long = length-words (streams g) qs (valid-accepted g qs .0 m .shaped) in
-        rw ws (best-list (wordsOf ps) stands counts (ap length (sym ws) ∙ long) beats)
+        rw ws (best-list (wordsOf ps) stands counts (ap length (sym ws) ∙ long) beats whiter)
       where
         beats : (vs : List ℕ) → accepted (marked g (ows ++ vs)) ≡ true → turns g qs ≤ numbersOf (marked g (ows ++ vs)) .turns
         beats vs a =
             let (ps, m, e) = begun vs a in
             let counts = valid-counts g (opening ++ ps) m in
             rw (← e, counts) (least-turns g qs (opening ++ ps) l (valid-after g opening ps m))
+
+        whiter : (vs : List ℕ) → accepted (marked g (ows ++ vs)) ≡ true → numbersOf (marked g (ows ++ vs)) .turns ≤ turns g qs
+            → white g qs ≤ numbersOf (marked g (ows ++ vs)) .white
+        whiter vs a k =
+            let (ps, m, e) = begun vs a in
+            let counts = valid-counts g (opening ++ ps) m in
+            let fewer : turns g (opening ++ ps) ≤ turns g qs = rw (← e, counts) at k in
+            rw (← e, counts) (least-white g qs (opening ++ ps) l (valid-after g opening ps m) fewer)
 
   -- Making after an opening answers one of them.
   pub making-after : MakingAfter (madeAfter g ows) (madeWordsAfter g ows)

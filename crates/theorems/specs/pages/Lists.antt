@@ -19,7 +19,9 @@ use Rattle.model.specs.laws.Words.{Shaped}
 use Rattle.model.specs.laws.Lists.{Inside, AllInside}
 use Rattle.model.specs.laws.Valid.{same-true, same-refl, length-sizes, inside-shaped, all-inside}
 use Rattle.theorems.specs.optimality.Graph.{Way, total}
+use Rattle.model.specs.White.{whites}
 use Rattle.theorems.specs.turns.Waiting.{pageSum, costs}
+use Rattle.theorems.specs.turns.Rank.{ranked}
 use Rattle.theorems.specs.pages.Graph.{State, stop, end, side, Origin, Within, Step, price, pageGraph, pagesTo, pagesOn, stopsOf, wayOf}
 use Rattle.theorems.specs.pages.Sides.{side-side, side-next}
 use Rattle.theorems.specs.pages.Ways.{same-rules, Reads, reads}
@@ -89,10 +91,10 @@ module _ (g : Galley) (from : Origin) where
       let e = way-ends us w in
       record { shaped = inside-shaped g (pagesOn us) (e .read .inside); taken = e .read .taken }
 
-  -- A way to the end costs what is paid at the origin and what the pages of its list cost.
+  -- A way to the end costs what is paid at the origin and what the pages of its list cost with their white.
   pub way-costs : (us : List State) → Way (pageGraph g from) us end
-      → total (pageGraph g from) us end ≡ from .cost + costs g (suc (from .pages)) (pagesOn us)
-  unfolding total price costs pageSum
+      → total (pageGraph g from) us end ≡ from .cost + ranked g (suc (from .pages)) (from .place) (pagesOn us)
+  unfolding total price ranked costs pageSum whites
   way-costs us w =
       let e = way-ends us w in
       let c = e .read .cost in

@@ -12,6 +12,7 @@ use Rattle.model.specs.Galley.{Galley, Place, Sane, streams, zeros, sizes}
 use Rattle.model.specs.Leaf.{leaf, ends}
 use Rattle.model.specs.Answers.{ended}
 use Rattle.model.specs.Turns.{turns}
+use Rattle.model.specs.White.{white}
 use Rattle.model.specs.Order.{thenBy, by, startsOf, before}
 use Rattle.model.specs.Best.{allowed}
 use Rattle.model.specs.Opening.{endOf}
@@ -22,8 +23,10 @@ use Rattle.model.specs.laws.Judge.{accepts}
 use Rattle.model.specs.laws.Words.{Shaped}
 use Rattle.model.specs.laws.Lists.{Inside}
 use Rattle.model.specs.laws.Valid.{page-inside, Accepted}
+use Rattle.model.specs.laws.White.{pageWhite, whites-next, white-le}
 use Rattle.theorems.specs.turns.Waiting.{waiting, pageSum, atEnd, pageCost, costs}
-use Rattle.theorems.specs.turns.Bounds.{dearest, cost-le}
+use Rattle.theorems.specs.turns.Rank.{rank, ranked, rank-order}
+use Rattle.theorems.specs.turns.Bounds.{heaviest, weight-le, Narrow}
 use Rattle.theorems.specs.turns.Costs.{turns-are-costs}
 use Rattle.theorems.specs.pages.Graph.{Origin, beginning, full}
 use Rattle.theorems.specs.pages.Lists.{Follows, zeros-inside}
@@ -31,7 +34,12 @@ use Rattle.theorems.specs.pages.Ties.{ties, beforeFrom}
 
 -- The origin after one more page, which stops at v and is not the last.
 abbrev pub printed : Galley → Origin → Place → Origin
-printed g o v = record { place = v; pages = suc (o .pages); cost = o .cost + pageCost g (suc (o .pages)) false v }
+printed g o v =
+    record {
+      place = v;
+      pages = suc (o .pages);
+      cost = o .cost + rank (pageCost g (suc (o .pages)) false v) (pageWhite g false (o .place) v);
+    }
 
 -- The origin after an opening: place, pages and cost folded over it (document 02, S-6).
 unfoldable pub onto : Galley → Origin → List Place → Origin
@@ -46,6 +54,11 @@ passes g o (v ∷ vs) = allowed g (suc (o .pages)) false (o .place) v && passes 
 -- The origin after an opening of the galley.
 abbrev pub after : Galley → List Place → Origin
 after g os = onto g (beginning g) os
+
+-- The white of the pages of an opening that starts at u: each counts, for none is the last (document 02, S-10).
+unfoldable pub openWhite : Galley → Place → List Place → ℕ
+openWhite g u [] = 0
+openWhite g u (v ∷ vs) = pageWhite g false u v + openWhite g v vs
 
 -- An opening that neither 20 nor 21 turns away: its pages pass, and a block is left.
 pub record Opening (g : Galley) (os : List Place) : Type 0 where
@@ -85,15 +98,17 @@ module _ (g : Galley) where
       ∙ ap (λ b. here && b) (accepts-onto (printed g o v) vs p ps)
       ∙ and-assoc here (passes g (printed g o v) vs) _
 
-  -- it costs what the opening and what follows cost;
-  costs-onto : (o : Origin) (os : List Place) (p : Place) (ps : List Place)
-      → o .cost + costs g (suc (o .pages)) (os ++ (p ∷ ps))
-      ≡ onto g o os .cost + costs g (suc (onto g o os .pages)) (p ∷ ps)
-  unfolding costs pageSum onto
-  costs-onto o [] p ps = refl
-  costs-onto o (v ∷ vs) p ps =
-      let after = costs-onto (printed g o v) vs p ps in
+  -- it costs what the opening and what follows cost, with their white;
+  ranked-onto : (o : Origin) (os : List Place) (p : Place) (ps : List Place)
+      → o .cost + ranked g (suc (o .pages)) (o .place) (os ++ (p ∷ ps))
+      ≡ onto g o os .cost + ranked g (suc (onto g o os .pages)) (onto g o os .place) (p ∷ ps)
+  unfolding ranked costs pageSum onto
+  ranked-onto o [] p ps = refl
+  ranked-onto o (v ∷ vs) p ps =
+      let after = ranked-onto (printed g o v) vs p ps in
       let here = ap (λ b. pageCost g (suc (o .pages)) b v) (ended-append vs ps p) in
+      let white = whites-next g (o .place) v (vs ++ (p ∷ ps)) in
+      let lacks = ap (λ b. pageWhite g b (o .place) v) (ended-append vs ps p) in
       omega arith
 
   -- the starts of what follows come before those of the opening;
@@ -136,25 +151,26 @@ module _ (g : Galley) where
       (and-right (allowed g (suc (o .pages)) false (o .place) v) (passes g (printed g o v) vs) h)
       (page-inside g (o .place) v (sh .0) (forward-at g (o .place) v (kept here .rule13)))
 
-  -- costs at most α·n + β for each block that it places,
-  dear-onto : (o : Origin) (os : List Place) → passes g o os ≡ true → o .cost ≤ placed g (o .place) * dearest g
-      → onto g o os .cost ≤ placed g (onto g o os .place) * dearest g
+  -- costs at most α·n + β, with htMax of white, for each block that it places,
+  dear-onto : (o : Origin) (os : List Place) → passes g o os ≡ true → o .cost ≤ placed g (o .place) * heaviest g
+      → onto g o os .cost ≤ placed g (onto g o os .place) * heaviest g
   unfolding passes onto
   dear-onto o [] h d = d
   dear-onto o (v ∷ vs) h d =
       let may = and-left (allowed g (suc (o .pages)) false (o .place) v) (passes g (printed g o v) vs) h in
-      let scaled = mul-le-mul-right (dearest g) (placed-grows g (o .place) v (kept may .rule13)) in
-      let more = suc-mul (placed g (o .place)) (dearest g) in
-      let here = cost-le g (suc (o .pages)) false v in
+      let scaled = mul-le-mul-right (heaviest g) (placed-grows g (o .place) v (kept may .rule13)) in
+      let more = suc-mul (placed g (o .place)) (heaviest g) in
+      let here = weight-le g (suc (o .pages)) false (o .place) v in
       dear-onto (printed g o v) vs
       (and-right (allowed g (suc (o .pages)) false (o .place) v) (passes g (printed g o v) vs) h) (omega arith)
 
-  -- which is by α what waited at the ends of its leaves, and by β the leaves turned to the page after it,
+  -- which is by α what waited at the ends of its leaves, and by β the leaves turned to the page after it, with its white,
   cost-onto : (o : Origin) (os : List Place)
-      → onto g o os .cost + g .spec .beta * leaf (g .spec .sides) (suc (o .pages))
-      ≡ o .cost + g .spec .alpha * pageSum (atEnd (g .spec .sides) (waiting g)) (suc (o .pages)) os
-      + g .spec .beta * leaf (g .spec .sides) (suc (onto g o os .pages))
-  unfolding onto pageSum pageCost atEnd
+      → onto g o os .cost + rank (g .spec .beta * leaf (g .spec .sides) (suc (o .pages))) 0
+      ≡ o .cost
+      + rank (g .spec .alpha * pageSum (atEnd (g .spec .sides) (waiting g)) (suc (o .pages)) os
+      + g .spec .beta * leaf (g .spec .sides) (suc (onto g o os .pages))) (openWhite g (o .place) os)
+  unfolding onto pageSum pageCost atEnd openWhite
   cost-onto o [] = let z = mul-zero (g .spec .alpha) in omega arith
   cost-onto o (v ∷ vs) =
       let next = leaf-next (g .spec .sides) (suc (o .pages)) in
@@ -185,12 +201,12 @@ module _ (g : Galley) where
     pub end-inside : Inside (sizes g) (after g os .place)
     end-inside = inside-onto (beginning g) os (opening .shaped) (opening .passed) (zeros-inside g)
 
-    pub end-dear : after g os .cost ≤ placed g (after g os .place) * dearest g
+    pub end-dear : after g os .cost ≤ placed g (after g os .place) * heaviest g
     end-dear = dear-onto (beginning g) os (opening .passed) (omega arith)
 
     pub end-cost : after g os .cost
-        ≡ g .spec .alpha * pageSum (atEnd (g .spec .sides) (waiting g)) 1 os
-        + g .spec .beta * (leaf (g .spec .sides) (suc (after g os .pages)) - leaf (g .spec .sides) 1)
+        ≡ rank (g .spec .alpha * pageSum (atEnd (g .spec .sides) (waiting g)) 1 os
+        + g .spec .beta * (leaf (g .spec .sides) (suc (after g os .pages)) - leaf (g .spec .sides) 1)) (openWhite g (zeros g) os)
     end-cost =
         let first = leaf (g .spec .sides) 1 in
         let past = leaf (g .spec .sides) (suc (after g os .pages)) in
@@ -231,29 +247,34 @@ module _ (g : Galley) where
           taken = and-right (passes g (beginning g) os) _ (sym (accepts-onto (beginning g) os p ps) ∙ a .taken);
         }
 
-    -- The turns of the list are what the opening costs and what follows.
+    -- The turns and the white of the list are what the opening costs and what follows.
     pub turns-follow : Sane g → (ps : List Place) → Follows g (after g os) ps
-        → turns g (os ++ ps) ≡ after g os .cost + costs g (suc (after g os .pages)) ps
+        → rank (turns g (os ++ ps)) (white g (os ++ ps))
+        ≡ after g os .cost + ranked g (suc (after g os .pages)) (after g os .place) ps
+    unfolding ranked white
     turns-follow sane [] f = absurd (not-all f)
     turns-follow sane (p ∷ ps) f =
         let same = turns-are-costs g sane (os ++ (p ∷ ps)) (follows-accepted (p ∷ ps) f .taken) in
-        let c = costs-onto (beginning g) os p ps in
+        let c = ranked-onto (beginning g) os p ps in
         omega arith
 
     -- Lists that begin with the opening compare as what follows does.
-    pub before-follow : Sane g → (ps qs : List Place) → Follows g (after g os) ps → Follows g (after g os) qs
+    pub before-follow : Sane g → Narrow g → (ps qs : List Place) → Follows g (after g os) ps → Follows g (after g os) qs
         → beforeFrom g (after g os) (startsOf (zeros g) os []) ps qs ≡ before g (os ++ ps) (os ++ qs)
     unfolding beforeFrom before ties thenBy by
-    before-follow sane ps qs f h =
+    before-follow sane narrow ps qs f h =
         let one = pages-onto (beginning g) os ps in
         let two = pages-onto (beginning g) os qs in
         let p : after g os .pages + length ps ≡ length (os ++ ps) = omega arith in
         let q : after g os .pages + length qs ≡ length (os ++ qs) = omega arith in
+        let small = white-le g (os ++ ps) (follows-accepted ps f .taken) in
+        let small′ = white-le g (os ++ qs) (follows-accepted qs h .taken) in
         simp (
-          turns-follow sane ps f,
-          turns-follow sane qs h,
+          ← turns-follow sane ps f,
+          ← turns-follow sane qs h,
           p,
           q,
-          starts-onto (beginning g) os ps [],
-          starts-onto (beginning g) os qs [],
+          ← starts-onto (beginning g) os ps [],
+          ← starts-onto (beginning g) os qs [],
         )
+        (rank-order (turns g (os ++ ps)) (white g (os ++ ps)) (turns g (os ++ qs)) (white g (os ++ qs)) _ (omega arith) (omega arith))

@@ -10,7 +10,7 @@ use Rattle.model.specs.laws.Lists.{Inside}
 use Rattle.theorems.specs.optimality.Graph.{unreached, least, Way, total, First, Optimal}
 use Rattle.theorems.specs.optimality.Cell.{Table, Right, Trace, Answer}
 use Rattle.theorems.specs.optimality.Theorem.{optimality}
-use Rattle.theorems.specs.turns.Waiting.{costs}
+use Rattle.theorems.specs.turns.Rank.{ranked}
 use Rattle.theorems.specs.pages.Graph.{State, end, Origin, Within, pageGraph, pagesOn, wayOf}
 use Rattle.theorems.specs.pages.Laws.{page-laws, page-domain}
 use Rattle.theorems.specs.pages.Lists.{Follows, way-follows, way-costs, list-way, list-pages}
@@ -58,10 +58,11 @@ module _ (g : Galley) (from : Origin) (inside : Inside (sizes g) (from .place)) 
     pub table-empty : D end ≡ unreached → (ps : List Place) → ¬ Follows g from ps
     table-empty e = no-way .0 (tells .none e)
 
-    -- Where the end is reached the walk back from it meets the least list, and its entry holds what all pages cost.
+    -- Where the end is reached the walk back from it meets the least list, and its entry holds what all pages cost
+    -- with their white.
     pub table-least : (earlier : List Place) (c : ℕ) (u : State) → D end ≡ least c u
         → (us : List State) × Trace (pageGraph g from) D us end × LeastFrom g from earlier (pagesOn us)
-        × (from .cost + costs g (suc (from .pages)) (pagesOn us) ≡ c)
+        × (from .cost + ranked g (suc (from .pages)) (from .place) (pagesOn us) ≡ c)
     table-least earlier c u e =
         let (us, w) = tells .found c u e in
         let way = w .optimal .way in

@@ -16,7 +16,7 @@ use Rattle.model.specs.Order.{thenBy, by, lex, geb, oddly, startsOf}
 use Rattle.model.specs.laws.Gather.{and-left, and-right, and-both, implies-at, implies-of}
 use Rattle.model.specs.laws.Order.{preference-refl, lex-preference, geb-preference}
 use Rattle.theorems.specs.optimality.Graph.{Way, total, First}
-use Rattle.theorems.specs.turns.Waiting.{costs}
+use Rattle.theorems.specs.turns.Rank.{ranked}
 use Rattle.theorems.specs.pages.Graph.{State, stop, end, side, placeOf, Origin, Within, PageStep, Step, Prefers, pageGraph, pageAt, pagesOn}
 use Rattle.theorems.specs.pages.Sides.{side-side, side-back, oddly-side, oddly-back}
 use Rattle.theorems.specs.pages.Laws.{later-refl, later-antisymm, prefers-side, no-origin}
@@ -30,9 +30,9 @@ ties g from earlier =
     thenBy (by (λ ps. oddly (g .spec .sides) (from .pages + length ps)) leb)
     (by (λ ps. startsOf (from .place) ps earlier) (lex (lex geb)))
 
--- The order of preference for lists that go on from an origin: by what all pages cost, and then by the ties.
+-- The order of preference for lists that go on from an origin: by what all pages cost with their white, and then by the ties.
 unfoldable pub beforeFrom : Galley → Origin → List Place → List Place → List Place → Bool
-beforeFrom g from earlier = thenBy (by (λ ps. from .cost + costs g (suc (from .pages)) ps) leb) (ties g from earlier)
+beforeFrom g from earlier = thenBy (by (λ ps. from .cost + ranked g (suc (from .pages)) (from .place) ps) leb) (ties g from earlier)
 
 -- One order and then another, read from its test.
 then-iff : (a c b : Bool) → (a && implies c b ≡ true) ↔ ((a ≡ true) × (c ≡ true → b ≡ true))
@@ -132,7 +132,7 @@ module _ (g : Galley) (from : Origin) where
         × (total (pageGraph g from) ws end ≡ total (pageGraph g from) us end → First (pageGraph g from) us ws))
     unfolding beforeFrom thenBy by
     before-ways us ws w x =
-        let cost : List Place → ℕ = λ ps. from .cost + costs g (suc (from .pages)) ps in
+        let cost : List Place → ℕ = λ ps. from .cost + ranked g (suc (from .pages)) (from .place) ps in
         let both =
         then-iff (leb (cost (pagesOn us)) (cost (pagesOn ws))) (leb (cost (pagesOn ws)) (cost (pagesOn us)))
         (ties g from earlier (pagesOn us) (pagesOn ws)) in

@@ -14,8 +14,10 @@ use Rattle.model.specs.laws.Rules.{kept, forward-at}
 use Rattle.model.specs.laws.Judge.{accepts}
 use Rattle.model.specs.laws.Lists.{Inside, AllInside}
 use Rattle.model.specs.laws.Valid.{same-true, count-sizes}
+use Rattle.model.specs.laws.White.{pageWhite, whites-next}
 use Rattle.theorems.specs.optimality.Graph.{Way, total}
 use Rattle.theorems.specs.turns.Waiting.{pageSum, pageCost, costs}
+use Rattle.theorems.specs.turns.Rank.{rank, ranked}
 use Rattle.theorems.specs.pages.Graph.{State, stop, end, side, placeOf, full, Origin, Within, Step, price, pageGraph, pageAt, pagesTo}
 use Rattle.theorems.specs.pages.Sides.{side-next, allowed-side, cost-side}
 
@@ -45,11 +47,14 @@ module _ (g : Galley) where
         ap (λ b. allowed g (side (g .spec .sides) q) b u v) (full-ended (suc q) v after h)
         ∙ sym (allowed-side g q (ended after) u v)
 
-    -- and the same cost.
-    pub same-price : price g (stop v (side (g .spec .sides) q)) ≡ pageCost g q (ended after) v
+    -- and the same cost and white.
+    pub same-price : (u : Place) (b : ℕ)
+        → price g (stop u b) (stop v (side (g .spec .sides) q))
+        ≡ rank (pageCost g q (ended after) v) (pageWhite g (ended after) u v)
     unfolding price
-    same-price =
-        ap (λ b. pageCost g (side (g .spec .sides) q) b v) (full-ended (suc q) v after h) ∙ sym (cost-side g q (ended after) v)
+    same-price u b =
+        ap (λ x. rank (pageCost g (side (g .spec .sides) q) x v) (pageWhite g x u v)) (full-ended (suc q) v after h)
+        ∙ ap (λ n. rank n (pageWhite g (ended after) u v)) (sym (cost-side g q (ended after) v))
 
 module _ (g : Galley) (from : Origin) where
   -- On a way the side is that of the number of pages.
@@ -65,8 +70,8 @@ module _ (g : Galley) (from : Origin) where
   pub record Reads (us : List State) (v : Place) (c : ℕ) (after ps : List Place) : Type 0 where
     pub taken : accepts (allowed g) (sizes g) (suc (from .pages)) (from .place) ps ≡ true
     pub inside : AllInside (sizes g) ps
-    pub cost : from .cost + costs g (suc (from .pages)) ps
-        ≡ total (pageGraph g from) us (stop v c) + costs g (suc (pageAt from us)) after
+    pub cost : from .cost + ranked g (suc (from .pages)) (from .place) ps
+        ≡ total (pageGraph g from) us (stop v c) + ranked g (suc (pageAt from us)) v after
     pub long : from .pages + length ps ≡ pageAt from us + length after
     pub starts : (t : List Place) → startsOf (from .place) ps t ≡ startsOf v after (map placeOf us ++ t)
 
@@ -74,17 +79,19 @@ module _ (g : Galley) (from : Origin) where
   pub reads : (us : List State) (v : Place) (c : ℕ) (after : List Place) → Way (pageGraph g from) us (stop v c)
       → Inside (sizes g) v → AllInside (sizes g) after → accepts (allowed g) (sizes g) (suc (pageAt from us)) v after ≡ true
       → Reads us v c after (pagesTo us (stop v c) after)
-  unfolding Way Step total costs pageSum pagesTo startsOf accepts Within placeOf pageAt
+  unfolding Way Step total ranked costs pageSum pagesTo startsOf accepts Within placeOf pageAt
   reads [] v c after e i is h =
       let z : v ≡ from .place = cc in
-      record { taken = cc; inside = is; cost = refl; long = refl; starts = λ t. ap (λ x. startsOf x after t) (sym z) }
+      record { taken = cc; inside = is; cost = rw z refl; long = refl; starts = λ t. ap (λ x. startsOf x after t) (sym z) }
   reads (stop u b ∷ us) v c after (p, w) i is h =
       let s = way-side (stop u b ∷ us) v c (p, w) in
       let may : allowed g (suc (pageAt from us)) (ended after) u v ≡ true =
       sym (same-rules g (suc (pageAt from us)) v after h u) ∙ ap (λ d. allowed g d (full g v) u v) (sym s) ∙ p .may in
       let r = reads us u b (v ∷ after) w (p .within .0) (i, is) (and-both may h) in
-      let page : price g (stop v c) ≡ pageCost g (suc (pageAt from us)) (ended after) v =
-      ap (λ d. price g (stop v d)) s ∙ same-price g (suc (pageAt from us)) v after h in
+      let page : price g (stop u b) (stop v c)
+      ≡ rank (pageCost g (suc (pageAt from us)) (ended after) v) (pageWhite g (ended after) u v) =
+      ap (λ d. price g (stop u b) (stop v d)) s ∙ same-price g (suc (pageAt from us)) v after h u b in
+      let white = whites-next g u v after in
       let cost = r .cost in
       let long = r .long in
       record {

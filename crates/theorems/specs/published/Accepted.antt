@@ -74,13 +74,23 @@ module _ (g : Galley) (sane : Sane g) where
             (place-is g pages (suc i) (place (suc i)) (shaped-at (streams g) (zeros g) ps shaped i b)
             (λ s d. count-place g pages (suc i) s d ∙ fits-count (after (suc i) b s d)))
 
-  -- The list of a pagination is accepted.
-  pub pagination-accepts : {p : ℕ} {P : Map} → Pagination g p P
-      → accepts (allowed g) (sizes g) 1 (zeros g) (listOn g P p 1) ≡ true
-  unfolding zeros sizes
-  pagination-accepts {p} {P} m =
-      let laid = pagination-laid g sane p (placeOn g P) P (λ q b. place-after (m .order) q) m in
-      let start = place-is g P 0 (zeros g) (length-row 0 (streams g) _) (λ s d. laid .none s d ∙ sym (count-zeros g s d)) in
-      let full = place-is g P p (sizes g) (length-row 0 (streams g) _) (λ s d. laid .all s d ∙ sym (count-sizes g s d)) in
-      subst (λ u. accepts (allowed g) (sizes g) 1 u (listOn g P p 1) ≡ true) start
-      (accepts-list g P (allowed g) (sizes g) p full (λ q b. kept-allowed (laid .page q b)) p 0 (omega arith))
+  module _ {p : ℕ} {P : Map} (m : Pagination g p P) where
+    placed : Laid g p (placeOn g P)
+    placed = pagination-laid g sane p (placeOn g P) P (λ q b. place-after (m .order) q) m
+
+    -- Before its first page nothing is placed,
+    pub place-start : placeOn g P 0 ≡ zeros g
+    unfolding zeros
+    place-start =
+        place-is g P 0 (zeros g) (length-row 0 (streams g) _) (λ s d. placed .none s d ∙ sym (count-zeros g s d))
+
+    -- after its last page everything is,
+    place-end : placeOn g P p ≡ sizes g
+    unfolding sizes
+    place-end = place-is g P p (sizes g) (length-row 0 (streams g) _) (λ s d. placed .all s d ∙ sym (count-sizes g s d))
+
+    -- and its list is accepted.
+    pub pagination-accepts : accepts (allowed g) (sizes g) 1 (zeros g) (listOn g P p 1) ≡ true
+    pagination-accepts =
+        subst (λ u. accepts (allowed g) (sizes g) 1 u (listOn g P p 1) ≡ true) place-start
+        (accepts-list g P (allowed g) (sizes g) p place-end (λ q b. kept-allowed (placed .page q b)) p 0 (omega arith))

@@ -14,13 +14,14 @@ use Rattle.model.specs.Leaf.{leaf}
 use Rattle.model.specs.Turns.{pageOf}
 use Rattle.model.specs.Answers.{accepted, marked, pagesOf, wordsOf, countsOf}
 use Rattle.model.specs.Best.{valid}
-use Rattle.model.specs.Pagination.{Map, Pagination, listOn, xOn, turnsOn}
+use Rattle.model.specs.Pagination.{Map, Pagination, listOn, xOn, turnsOn, whiteOver}
 use Rattle.model.specs.laws.Words.{pages-words}
 use Rattle.model.specs.laws.Lists.{_∈_}
 use Rattle.model.specs.laws.Valid.{Accepted, valid-accepted, accepted-valid, marked-counts}
 use Rattle.theorems.specs.published.OfMap.{length-list, list-shaped}
 use Rattle.theorems.specs.published.Accepted.{accepted-pagination, pagination-accepts}
 use Rattle.theorems.specs.published.Numbers.{page-on, x-on, y-on, turns-on, weighted}
+use Rattle.theorems.specs.published.White.{white-on}
 
 module _ (g : Galley) (sane : Sane g) where
   list-accepted : {p : ℕ} {P : Map} → Pagination g p P → Accepted g (listOn g P p 1)
@@ -67,15 +68,15 @@ module _ (g : Galley) (sane : Sane g) where
         ∙ ap (pagesOf g) e
         ∙ pages-words g (listOn g P′ p′ 1) (list-shaped g P′ p′ 1))
 
-    -- The counts of its list are its page count, X and Y over its leaves, and its turns.
+    -- The counts of its list are its page count, X and Y over its leaves, its turns, and its white.
     pub places-counts : countsOf g (listOn g P p 1)
-        ≡ Counted p (xOn g P) (leaf (g .spec .sides) p - leaf (g .spec .sides) 1) (turnsOn g p P)
+        ≡ Counted p (xOn g P) (leaf (g .spec .sides) p - leaf (g .spec .sides) 1) (turnsOn g p P) (whiteOver g p P)
     unfolding countsOf
-    places-counts = rw (length-list g P p 1, x-on sane m, y-on sane m, turns-on sane m)
+    places-counts = rw (length-list g P p 1, x-on sane m, y-on sane m, turns-on sane m, white-on sane m)
 
     -- And so marking answers the words of its list.
     pub words-counts : marked g (wordsOf (listOn g P p 1))
-        ≡ Counted p (xOn g P) (leaf (g .spec .sides) p - leaf (g .spec .sides) 1) (turnsOn g p P)
+        ≡ Counted p (xOn g P) (leaf (g .spec .sides) p - leaf (g .spec .sides) 1) (turnsOn g p P) (whiteOver g p P)
     words-counts =
         marked-counts g (wordsOf (listOn g P p 1)) (words-published (wordsOf (listOn g P p 1)) .1 (p, P, m, refl))
         ∙ ap (countsOf g) (pages-words g (listOn g P p 1) (list-shaped g P p 1))

@@ -10,12 +10,13 @@ use Rattle.model.specs.declared.answer.Answer.{Answer}
 use Rattle.model.specs.declared.answer.Answer.the-variants.{Counted, Refused}
 use Rattle.model.specs.Galley.{Galley, Place, streams}
 use Rattle.model.specs.Turns.{turns}
+use Rattle.model.specs.White.{white}
 use Rattle.model.specs.Answers.{numbersOf, accepted, wordsOf, countsOf, marked}
 use Rattle.model.specs.Best.{valid, best, made, madeWords}
 use Rattle.model.specs.laws.Lists.{_∈_}
 use Rattle.model.specs.laws.Words.{pages-words, length-words}
 use Rattle.model.specs.laws.Valid.{valid-accepted, accepted-valid, marked-counts}
-use Rattle.model.specs.laws.Best.{Least, Makes, impossible, makes, best-makes, least-turns}
+use Rattle.model.specs.laws.Best.{Least, Makes, impossible, makes, best-makes, least-turns, least-white}
 
 module _ (g : Galley) where
   -- The words of a valid list are accepted with its counts.
@@ -27,8 +28,10 @@ module _ (g : Galley) where
   -- What the two possible answers of making say of the lists that marking accepts.
   pub data Making : Answer → List ℕ → Type 0 where
     no-list : ((ws : List ℕ) → accepted (marked g ws) ≡ false) → Making (Refused 11 0) []
-    best-list : {p x y t : ℕ} {ws : List ℕ} → marked g ws ≡ Counted p x y t → length ws ≡ p * streams g
-        → ((vs : List ℕ) → accepted (marked g vs) ≡ true → t ≤ numbersOf (marked g vs) .turns) → Making (Counted p x y t) ws
+    best-list : {p x y t w : ℕ} {ws : List ℕ} → marked g ws ≡ Counted p x y t w → length ws ≡ p * streams g
+        → ((vs : List ℕ) → accepted (marked g vs) ≡ true → t ≤ numbersOf (marked g vs) .turns)
+        → ((vs : List ℕ) → accepted (marked g vs) ≡ true → numbersOf (marked g vs) .turns ≤ t → w ≤ numbersOf (marked g vs) .white)
+        → Making (Counted p x y t w) ws
 
   -- Making answers one or the other.
   pub making : Making (made g) (madeWords g)
@@ -50,8 +53,17 @@ module _ (g : Galley) where
           let t = least-turns g ps (r .0) l (r .1) in
           rw (← r .2, e) t
 
+      whiter-none : (ps : List Place) → Least g ps → (vs : List ℕ) → accepted (marked g vs) ≡ true
+          → numbersOf (marked g vs) .turns ≤ turns g ps → white g ps ≤ numbersOf (marked g vs) .white
+      whiter-none ps l vs a k =
+          let r = accepted-valid g vs .0 a in
+          let e = valid-counts (r .0) (r .1) in
+          let fewer : turns g (r .0) ≤ turns g ps = rw (← r .2, e) at k in
+          let w = least-white g ps (r .0) l (r .1) fewer in
+          rw (← r .2, e) w
+
       go : (b : Option (List Place)) → Makes g b
           → Making (elim b [ none ↦ Refused 11 0 | some ps ↦ countsOf g ps ]) (elim b [ none ↦ [] | some ps ↦ wordsOf ps ])
       go none (impossible empty) = no-list (none-accepted empty)
       go (some ps) (makes l) =
-          best-list (valid-counts ps (l .lawful)) (length-words (streams g) ps (valid-accepted g ps .0 (l .lawful) .shaped)) (beats-none ps l)
+          best-list (valid-counts ps (l .lawful)) (length-words (streams g) ps (valid-accepted g ps .0 (l .lawful) .shaped)) (beats-none ps l) (whiter-none ps l)

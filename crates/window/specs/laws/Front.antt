@@ -1,4 +1,4 @@
--- The front of a queue is the best start of its window.
+-- The front of a queue is the best start of its part.
 use Prim.Native.Nat.{ℕ, zero, suc, _+_, _-_, _≤_, _<_}
 use native.Mathlib.Nat.{add-zero, add-suc}
 use native.Mathlib.Omega.{arith}
@@ -40,21 +40,21 @@ rises-to f head tail up k l m =
     let same = ap f e in
     omega arith
 
--- The first entry of a queue, where it is within the window, is the best start.
-module _ (col : ℕ → Entry) (words : List ℕ) (queue : Queue) (low high b : ℕ) (h : Held col words queue low high)
+-- The first entry of a queue, where it is within the part, is the best start.
+module _ (col : ℕ → Entry) (add : ℕ → ℕ) (words : List ℕ) (queue : Queue) (low high b : ℕ) (h : Held col add words queue low high)
     (fresh : queue .head < queue .tail → low ≤ lineAt words (queue .head)) where
   front-some : queue .head < queue .tail
-      → Best (Lines col low high b)
+      → Best (Lines col add low high b)
       (Least (costAt words (queue .head)) (record { line = lineAt words (queue .head); column = b }))
   unfolding Leads
   front-some some =
       best-least (costAt words (queue .head)) (record { line = lineAt words (queue .head); column = b })
       (fresh some, h .before (queue .head) (omega arith) some, refl, h .reached (queue .head) (omega arith) some) leads
     where
-      leads : (a b′ y : ℕ) → Lines col low high b a b′ y → (costAt words (queue .head) ≤ y)
+      leads : (a b′ y : ℕ) → Lines col add low high b a b′ y → (costAt words (queue .head) ≤ y)
           × (costAt words (queue .head) ≡ y → NoLater a b′ (lineAt words (queue .head)) b)
-      leads a b′ y (l, m, e, (q, f)) =
-          let k = h .covered a y q l m f in
+      leads a b′ y (l, m, e, p) =
+          let k = h .covered a y l m p in
           let up = rises-to (costAt words) (queue .head) (queue .tail) (h .costs) (k .at) (k .from) (k .to) in
           (omega (arith, k .cheaper), λ same. later (omega (arith, k .cheaper, k .from)) (k .later) (decLt a (lineAt words (queue .head))))
         where
@@ -63,16 +63,16 @@ module _ (col : ℕ → Entry) (words : List ℕ) (queue : Queue) (low high b : 
           later first n (yes p) = inl p
           later first n (no p) = let o = ap (lineAt words) first in inr (omega arith, omega arith)
 
-  front-none : queue .tail ≤ queue .head → Best (Lines col low high b) Unreached
+  front-none : queue .tail ≤ queue .head → Best (Lines col add low high b) Unreached
   front-none none =
-      best-none (λ a b′ x c. let k = h .covered a x (c .3 .0) (c .0) (c .1) (c .3 .1) in omega (arith, k .from, k .to))
+      best-none (λ a b′ x c. let k = h .covered a x (c .0) (c .1) (c .3) in omega (arith, k .from, k .to))
 
-  pub front-best : Best (Lines col low high b) (frontOf words queue b)
+  pub front-best : Best (Lines col add low high b) (frontOf words queue b)
   unfolding frontOf
   front-best = go (ltb (queue .head) (queue .tail)) refl
     where
       go : (t : Bool) → ltb (queue .head) (queue .tail) ≡ t
-          → Best (Lines col low high b)
+          → Best (Lines col add low high b)
           (pick t (Least (costAt words (queue .head)) (record { line = lineAt words (queue .head); column = b })) Unreached)
       go true e = front-some (ltb-true _ _ e)
       go false e = front-none (ltb-false _ _ e)

@@ -1,4 +1,4 @@
--- The two ends of a window: where they start, that they serve the next line, and that the first lines found are the
+-- The ends of a window: where they start, that they serve the next line, and that the first lines found are the
 -- window's.
 use Prim.Native.Nat.{ℕ, suc, _+_, _*_, _≤_, _<_}
 use native.Mathlib.Nat.{le-refl}
@@ -9,18 +9,19 @@ use Rattle.model.specs.Galley.{Stream}
 use Rattle.model.specs.laws.Height.{stacked-grows}
 use Rattle.window.specs.declared.slide.Load.{Load}
 use Rattle.window.specs.declared.slide.Window.{Window}
-use Rattle.window.specs.Queue.{costAt}
 use Rattle.window.specs.Sums.{Pair, Sums}
-use Rattle.window.specs.Slide.{Reachable, FirstBelow, Reaches, Ends, Open}
+use Rattle.window.specs.Slide.{Readable, Reachable, FirstBelow, Reaches, Ends, Open}
 use Rattle.window.specs.laws.Sums.{reach-stacked, reach-grows}
 
--- Where nothing is passed both ends are at 0, whatever the line.
-pub ends-first : (st : Stream) (load : Load) (i : ℕ) → Ends st load (record { low = 0; high = 0 }) i
+-- Where nothing is passed all ends are at 0, whatever the line.
+pub ends-first : (st : Stream) (load : Load) (i : ℕ) → Ends st load (record { low = 0; split = 0; high = 0 }) i
 ends-first st load i =
     record {
       low = omega arith;
+      split = omega arith;
       high = omega arith;
       passed = λ a e l m. absurd (omega arith);
+      whole = λ a e l m. absurd (omega arith);
       filled = λ a e l m. absurd (omega arith);
     }
 
@@ -30,15 +31,18 @@ ends-next st load window i o =
     let ends = o .ends in
     record {
       low = omega (arith, ends .low);
+      split = omega (arith, ends .split);
       high = omega (arith, ends .high);
       passed = λ a e l m. ends .passed a e l (omega arith);
+      whole = λ a e l m. ends .whole a e l (omega arith);
       filled = λ a e l m. ends .filled a e l (omega arith);
     }
 
--- The height up to the last line, and what the page has beside its lines, fit a word together.
-pub reached-small : {sums : List ℕ} {space beside limit from i : ℕ} → Reachable sums space beside limit from i
-    → costAt sums (2 * i + space) + beside ≤ 2000000000
-reached-small {i = i} r = omega (arith, r .small i (le-refl i) .1, r .added)
+-- How far a page reaches can be read.
+pub reaches-readable : {sums : List ℕ} {space beside limit from i : ℕ} → Reachable sums space beside limit from i
+    → Readable sums space beside i
+reaches-readable {i = i} r =
+    record { either = r .either; room = r .room; small = r .small i (le-refl i) .1; added = r .added }
 
 -- One end of the window: from what was known of the old one, and the first line from there on whose page stays below the limit.
 module _ (sums : List ℕ) (st : Stream) (gap : ℕ → ℕ) (space beside limit old i new : ℕ)
@@ -77,17 +81,21 @@ module _ (sums : List ℕ) (st : Stream) (gap : ℕ → ℕ) (space beside limit
 -- The first lines found are the ends of the window.
 pub slide-opens : (sums : List ℕ) (st : Stream) (m : ℕ) (load : Load) (old new : Window) (i : ℕ)
     → FirstBelow sums 0 (load .tight) (load .htmax + 1) (old .low) i (new .low)
+    → FirstBelow sums 1 (load .loose) (load .htmax) (old .split) i (new .split)
     → FirstBelow sums 1 (load .loose) (load .htmin) (old .high) i (new .high)
     → Sums st m sums → i ≤ m → Ends st load old i → Open st load new i
-slide-opens sums st m load old new i low high rows within ends =
+slide-opens sums st m load old new i low split high rows within ends =
     record {
       ends = record {
         low = low .to;
+        split = split .to;
         high = high .to;
         passed = end-passes sums st (st .least) 0 (load .tight) (load .htmax + 1) (old .low) i (new .low) tight low (ends .passed);
+        whole = end-passes sums st (st .most) 1 (load .loose) (load .htmax) (old .split) i (new .split) loose split (ends .whole);
         filled = end-passes sums st (st .most) 1 (load .loose) (load .htmin) (old .high) i (new .high) loose high (ends .filled);
       };
       fits = end-opens sums st (st .least) 0 (load .tight) (load .htmax + 1) (old .low) i (new .low) tight low;
+      white = end-opens sums st (st .most) 1 (load .loose) (load .htmax) (old .split) i (new .split) loose split;
       short = end-opens sums st (st .most) 1 (load .loose) (load .htmin) (old .high) i (new .high) loose high;
     }
   where

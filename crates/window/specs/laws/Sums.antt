@@ -3,20 +3,21 @@ use Prim.Native.Nat.{ℕ, zero, suc, pred, _+_, _*_, _≤_, _<_}
 use native.Mathlib.Decide.{decLe}
 use native.Mathlib.Omega.{arith}
 use mathlib.Core.Path.{_≡_, refl, sym, ap, subst, _∙_}
-use mathlib.Core.List.{List}
-use lib.ListN.{length}
+use mathlib.Core.Logic.{_⊎_, inl}
+use mathlib.Core.List.{List, [], _∷_}
+use lib.ListN.{length, getD}
+use lib.Seq.{length-sets}
 use Rattle.model.specs.Gather.{sum}
 use Rattle.model.specs.Galley.{Stream}
 use Rattle.model.specs.Height.{stacked}
 use Rattle.model.specs.laws.Gather.{between-sum}
 use Rattle.model.specs.laws.Height.{sum-mono}
+use Rattle.places.specs.laws.Stored.{sets-out, sets-in}
 use Rattle.galley.specs.declared.Stream as galley
 use Rattle.galley.specs.Model.{textOf}
 use Rattle.galley.specs.Sound.{SoundStream}
-use Rattle.window.specs.Queue.{pushed}
 use Rattle.window.specs.Sums.{reach, rowPut, SmallPair, Pair, Row, Sums}
 use Rattle.window.specs.Run.{SumsRun}
-use Rattle.window.specs.laws.Pushed.{pushed-length, pushed-own-line, pushed-own-cost, other-line, other-cost}
 
 -- The lines up to i are those up to a with the space after it, and the rest.
 pub reach-stacked :
@@ -67,44 +68,48 @@ high-next st gap k =
     let spaces = between-sum 0 k gap (omega arith) in
     rw (← e) (omega arith)
 
--- A pair that is written is what was written, and every other stays.
-module _ (st : Stream) (gap : ℕ → ℕ) (words : List ℕ) (t spaced bare : ℕ) where
-  pair-own : (k : ℕ) → 2 * t + 2 ≤ length words → spaced ≡ reach st gap k → bare ≡ stacked st gap 0 k
-      → Pair st gap (pushed words t spaced bare) t k
-  pair-own k room s b =
-      record { spaced = pushed-own-line words t spaced bare room ∙ s; bare = pushed-own-cost words t spaced bare room ∙ b }
+-- A row that is written has what was written, and every other is as it was.
+module _ (rows : List ℕ) (k first second third fourth : ℕ) where
+  pub row-length : length (rowPut rows k first second third fourth) ≡ length rows
+  unfolding rowPut
+  row-length = length-sets rows (4 * k) (first ∷ second ∷ third ∷ fourth ∷ [])
 
-  pair-other : (e k : ℕ) → ¬ (e ≡ t) → Pair st gap words e k → Pair st gap (pushed words t spaced bare) e k
-  pair-other e k h p =
-      record { spaced = other-line words t spaced bare e h ∙ p .spaced; bare = other-cost words t spaced bare e h ∙ p .bare }
+  pub row-other : (n : ℕ) → (n < 4 * k) ⊎ (4 * k + 4 ≤ n) → getD (rowPut rows k first second third fourth) n 0 ≡ getD rows n 0
+  unfolding rowPut
+  row-other n h = sets-out (first ∷ second ∷ third ∷ fourth ∷ []) rows (4 * k) n h
 
--- So it is with the row of a line.
+  pub row-word : (d n : ℕ) → d < 4 → n ≡ 4 * k + d → 4 * k + 4 ≤ length rows
+      → getD (rowPut rows k first second third fourth) n 0 ≡ getD (first ∷ second ∷ third ∷ fourth ∷ []) d 0
+  unfolding rowPut
+  row-word d n l e room = rw e (sets-in (first ∷ second ∷ third ∷ fourth ∷ []) rows (4 * k) d l room)
+
+-- So it is with the sums of a line.
 module _ (st : Stream) (sums : List ℕ) (k tight high loose wide : ℕ) where
-  pub row-length : length (rowPut sums k tight high loose wide) ≡ length sums
-  unfolding rowPut
-  row-length = pushed-length _ _ _ _ ∙ pushed-length _ _ _ _
-
   pub row-before : (q : ℕ) → q < k → Row st sums q → Row st (rowPut sums k tight high loose wide) q
-  unfolding rowPut
   row-before q h r =
-      let first = pushed sums (2 * k + 0) tight high in
       record {
-        tight = pair-other st (st .least) first (2 * k + 1) loose wide (2 * q + 0) q (λ e. omega arith)
-            (pair-other st (st .least) sums (2 * k + 0) tight high (2 * q + 0) q (λ e. omega arith) (r .tight));
-        loose = pair-other st (st .most) first (2 * k + 1) loose wide (2 * q + 1) q (λ e. omega arith)
-            (pair-other st (st .most) sums (2 * k + 0) tight high (2 * q + 1) q (λ e. omega arith) (r .loose));
+        tight = record {
+          spaced = row-other sums k tight high loose wide (2 * (2 * q + 0)) (inl (omega arith)) ∙ r .tight .spaced;
+          bare = row-other sums k tight high loose wide (2 * (2 * q + 0) + 1) (inl (omega arith)) ∙ r .tight .bare;
+        };
+        loose = record {
+          spaced = row-other sums k tight high loose wide (2 * (2 * q + 1)) (inl (omega arith)) ∙ r .loose .spaced;
+          bare = row-other sums k tight high loose wide (2 * (2 * q + 1) + 1) (inl (omega arith)) ∙ r .loose .bare;
+        };
       }
 
   pub row-own : 4 * k + 4 ≤ length sums → tight ≡ reach st (st .least) k → high ≡ stacked st (st .least) 0 k
       → loose ≡ reach st (st .most) k → wide ≡ stacked st (st .most) 0 k → Row st (rowPut sums k tight high loose wide) k
-  unfolding rowPut
   row-own room t h l w =
-      let first = pushed sums (2 * k + 0) tight high in
-      let n : length first ≡ length sums = pushed-length sums (2 * k + 0) tight high in
       record {
-        tight = pair-other st (st .least) first (2 * k + 1) loose wide (2 * k + 0) k (λ e. omega arith)
-            (pair-own st (st .least) sums (2 * k + 0) tight high k (omega arith) t h);
-        loose = pair-own st (st .most) first (2 * k + 1) loose wide k (omega arith) l w;
+        tight = record {
+          spaced = row-word sums k tight high loose wide 0 (2 * (2 * k + 0)) (omega arith) (omega arith) room ∙ t;
+          bare = row-word sums k tight high loose wide 1 (2 * (2 * k + 0) + 1) (omega arith) (omega arith) room ∙ h;
+        };
+        loose = record {
+          spaced = row-word sums k tight high loose wide 2 (2 * (2 * k + 1)) (omega arith) (omega arith) room ∙ l;
+          bare = row-word sums k tight high loose wide 3 (2 * (2 * k + 1) + 1) (omega arith) (omega arith) room ∙ w;
+        };
       }
 
 -- Heights and spaces within the limit make small sums.
@@ -203,7 +208,7 @@ module _ (bytes : List ℕ) (text : galley.Stream) (sums₀ sums : List ℕ) (ti
   sums-next new room e =
       record {
         within = omega arith;
-        sized = ap length e ∙ row-length st sums (k + 1) _ _ _ _ ∙ run .sized;
+        sized = ap length e ∙ row-length sums (k + 1) _ _ _ _ ∙ run .sized;
         tights = tights .0;
         looses = looses .0;
         rows = λ q l. rw e (go q (decLe q k) l);

@@ -3,37 +3,46 @@ use Prim.Native.Nat.{ℕ, _+_, _*_, _≤_, _<_}
 use native.Mathlib.Nat.{le-refl}
 use native.Mathlib.Decide.{decLe}
 use native.Mathlib.Omega.{arith}
-use mathlib.Core.Path.{_≡_, sym, subst}
-use mathlib.Core.Logic.{_⊎_}
+use mathlib.Core.Path.{_≡_, sym, ap, subst, _∙_}
+use mathlib.Core.Logic.{_⊎_, inl, inr}
 use mathlib.Core.List.{List}
-use lib.ListN.{length}
+use lib.ListN.{length, getD}
 use Rattle.model.specs.Galley.{Stream}
 use Rattle.window.specs.declared.slide.Load.{Load}
 use Rattle.window.specs.declared.slide.Window.{Window}
-use Rattle.window.specs.Slide.{Tall, Enough, Ends, Open}
+use Rattle.window.specs.Slide.{Tall, Full, Enough, Ends, Open}
+use Rattle.window.specs.Parts.{Rises}
 use Rattle.window.specs.Queue.{pushed, Beside}
 use Rattle.window.specs.Windows.{windowAt, Kept}
-use Rattle.window.specs.laws.Pushed.{pushed-own-line, pushed-own-cost}
+use Rattle.window.specs.laws.Pushed.{pushed-own}
 
 -- A window that is stored as its line's entry is kept.
-pub window-stored : (words : List ℕ) (i : ℕ) (window : Window) → 2 * (i + 4000) + 2 ≤ length words
-    → windowAt (pushed words (i + 4000) (window .low) (window .high)) i ≡ window
+pub window-stored : (words : List ℕ) (i : ℕ) (window : Window) → 3 * (i + 8000) + 3 ≤ length words
+    → windowAt (pushed words (i + 8000) (window .low) (window .split) (window .high)) i ≡ window
 window-stored words i window room =
-    let low = pushed-own-line words (i + 4000) (window .low) (window .high) room in
-    let high = pushed-own-cost words (i + 4000) (window .low) (window .high) room in
-    rw (low, high)
+    let at : 3 * (i + 8000) ≡ 3 * (i + 8000) + 0 = omega arith in
+    let stored = pushed words (i + 8000) (window .low) (window .split) (window .high) in
+    let low = ap (λ n. getD stored n 0) at ∙ pushed-own words (i + 8000) (window .low) (window .split) (window .high) 0 (omega arith) room in
+    let split = pushed-own words (i + 8000) (window .low) (window .split) (window .high) 1 (omega arith) room in
+    let high = pushed-own words (i + 8000) (window .low) (window .split) (window .high) 2 (omega arith) room in
+    rw (low, split, high)
 
 -- A window whose entry is not among those stored is as it was.
-pub window-beside : {old new : List ℕ} {from to : ℕ} → Beside old new from to → (i : ℕ) → (i + 4000 < from) ⊎ (to ≤ i + 4000)
+pub window-beside : {old new : List ℕ} {from to : ℕ} → Beside old new from to → (i : ℕ) → (i + 8000 < from) ⊎ (to ≤ i + 8000)
     → windowAt new i ≡ windowAt old i
-window-beside beside i apart =
-    let low = beside .lines (i + 4000) apart in
-    let high = beside .costs (i + 4000) apart in
+window-beside {old} {new} {from} {to} beside i apart =
+    let low = beside .words (3 * (i + 8000)) (out 0 apart (omega arith) (omega arith)) in
+    let split = beside .words (3 * (i + 8000) + 1) (out 1 apart (omega arith) (omega arith)) in
+    let high = beside .words (3 * (i + 8000) + 2) (out 2 apart (omega arith) (omega arith)) in
     cc
+  where
+    out : (d : ℕ) {n : ℕ} → (i + 8000 < from) ⊎ (to ≤ i + 8000) → n ≡ 3 * (i + 8000) + d → d < 3 → (n < 3 * from) ⊎ (3 * to ≤ n)
+    out d (inl p) e l = inl (omega arith)
+    out d (inr p) e l = inr (omega arith)
 
 -- So are the windows of the lines of P.
 pub kept-beside : {st : Stream} {load : Load} {P : ℕ → Type 0} {old new : List ℕ} {from to : ℕ} → Beside old new from to
-    → ((i : ℕ) → P i → (i + 4000 < from) ⊎ (to ≤ i + 4000)) → Kept st load old P → Kept st load new P
+    → ((i : ℕ) → P i → (i + 8000 < from) ⊎ (to ≤ i + 8000)) → Kept st load old P → Kept st load new P
 kept-beside {st} {load} beside apart kept i p =
     subst (λ (window : Window). Open st load window i) (sym (window-beside beside i (apart i p))) (kept i p)
 
@@ -47,9 +56,10 @@ end-rises P old new i within passed opened = go (decLe old new)
     go (no l) = absurd (opened new (le-refl new) (omega arith) (passed new i (omega arith) (le-refl i)))
 
 -- The ends of a line's window are not before those that the line started from.
-pub ends-rise : (st : Stream) (load : Load) (old new : Window) (i : ℕ) → Ends st load old i → Open st load new i
-    → (old .low ≤ new .low) × (old .high ≤ new .high)
-ends-rise st load old new i ends opened = (
-  end-rises (Tall st load) (old .low) (new .low) i (ends .low) (ends .passed) (opened .fits),
-  end-rises (Enough st load) (old .high) (new .high) i (ends .high) (ends .filled) (opened .short),
-)
+pub ends-rise : (st : Stream) (load : Load) (old new : Window) (i : ℕ) → Ends st load old i → Open st load new i → Rises old new
+ends-rise st load old new i ends opened =
+    record {
+      low = end-rises (Tall st load) (old .low) (new .low) i (ends .low) (ends .passed) (opened .fits);
+      split = end-rises (Full st load) (old .split) (new .split) i (ends .split) (ends .whole) (opened .white);
+      high = end-rises (Enough st load) (old .high) (new .high) i (ends .high) (ends .filled) (opened .short);
+    }

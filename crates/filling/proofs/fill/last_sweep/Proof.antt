@@ -19,7 +19,7 @@ use Rattle.filling.proofs.fill.last_sweep.Tie as tie
 
 abbrev Inv-loop : tie.InvT-loop
 Inv-loop s task work₀ sums words₀ j g least load top floats waiting₀ span₀ ends₀ i₀ work words waiting span ends i =
-    LastRun s task work₀ work words₀ words j waiting span ends i
+    LastRun s task work₀ work sums words₀ words j waiting span ends i
 
 abbrev μ-loop : tie.MeasureT-loop
 μ-loop s task work₀ sums words₀ j g least load top floats waiting₀ span₀ ends₀ i₀ work words waiting span ends i =
@@ -74,8 +74,8 @@ says : (c : tie.After-stop-at Inv-loop μ-loop)
     (countsAt (c .before .before .before .before .before .before .before .before .before .before .before .before .before .before .before .args .task .galley) (c .before .before .before .before .before .loop .i) (c .before .before .before .before .before .before .before .before .before .before .before .before .before .before .before .args .j))
 says c = c .stop-at .ensures ∙ rw (c .before .before .before .before .before .before .floats-of .ensures, c .before .before .before .before .before .before .before .counts-at .ensures)
 
-add-waiting : tie.Need-add-t23 Inv-loop μ-loop
-add-waiting c =
+add-t23 : tie.Need-add-t23 Inv-loop μ-loop
+add-t23 c =
     let top = c .before .before .before .before .before .before .before .before .counts-at .result in
     let few =
     waiting-few (c .before .before .before .before .before .before .before .before .before .before .before .before .before .before .before .before .pre .column .next .lent .sound)
@@ -122,7 +122,7 @@ last-sweep-spec =
     waiting-after-requires
     slide-requires
     stop-at-requires
-    add-waiting
+    add-t23
     (λ c. search needs)
     fill-place-requires
     add-i

@@ -12,7 +12,7 @@ use Rattle.filling.proofs.side.fill_place.Statement.{statement}
 use Rattle.filling.proofs.side.fill_place.Tie as tie
 
 abbrev Inv-loop : tie.InvT-loop
-Inv-loop s task work₀ sums words₀ ends₀ windows end ending c₀ work words ends c = SidesRun s task work₀ work words₀ words ends₀ ends windows end c
+Inv-loop s task work₀ sums words₀ ends₀ windows end ending c₀ work words ends c = SidesRun s task work₀ work sums words₀ words ends₀ ends windows end c
 
 abbrev μ-loop : tie.MeasureT-loop
 μ-loop s task work₀ sums words₀ ends₀ windows end ending c₀ work words ends c = task .galley .spec .sides - c
@@ -35,46 +35,62 @@ turned c =
     rw (c .before .before .before .ending-side .ensures)
     (turns-on (start .args .task .galley) (c .before .before .loop .c) (sound .someFolio) (sound .specRanged .sidesTwo) (c .if1 .taken))
 
-queue-of-requires : tie.Need-queue-of-requires Inv-loop μ-loop
-queue-of-requires c κs =
+parts-of-requires : tie.Need-parts-of-requires Inv-loop μ-loop
+parts-of-requires c κs =
     let low = either (c .before .before .before) in
-    (omega (arith, c .before .before .before .before .before .loop .inv .queued .pair), low)
+    (omega (arith, c .before .before .before .before .before .loop .inv .queued .rows), low)
 
 fill-side-requires : tie.Need-fill-side-requires Inv-loop μ-loop
 fill-side-requires c κs =
     let inside = c .before .before .before .before .before .before in
-    rw (c .before .before .queue-of .ensures)
+    rw (c .before .before .parts-of .ensures)
     (sides-side (inside .before .before .before .before .before .before .before .before .before .pre) (inside .before .before .loop .inv) (inside .if1 .taken) _ (turned inside))
 
-small : (c : tie.After-fill-side Inv-loop μ-loop) → (c .fill-side .result .head ≤ 8000) × (c .fill-side .result .tail ≤ 8000)
+small : (c : tie.After-fill-side Inv-loop μ-loop)
+    → (let r = c .fill-side .result in
+    (r .full .head ≤ 16000) × (r .full .tail ≤ 16000) × (r .rest .head ≤ 16000) × (r .rest .tail ≤ 16000))
 small c =
     let inside = c .before .before .before .before .before .before .before in
     sides-small (inside .before .before .before .before .before .before .before .before .before .pre) (inside .before .before .loop .inv)
-    (inside .if1 .taken) _ (turned inside) _ (c .fill-side .result) (rw (c .before .before .before .queue-of .ensures) at (c .fill-side .ensures .advanced))
+    (inside .if1 .taken) _ (turned inside) _ (c .fill-side .result) (rw (c .before .before .before .parts-of .ensures) at (c .fill-side .ensures .moved))
 
-cast-push : tie.Need-cast-push Inv-loop μ-loop
-cast-push c = omega (arith, small (c .before .before .before .before .before .before) .0)
+cast-put-row : tie.Need-cast-put-row Inv-loop μ-loop
+cast-put-row c = omega (arith, small (c .before .before .before .before .before .before .before .before) .0)
 
-cast-push-2 : tie.Need-cast-push-2 Inv-loop μ-loop
-cast-push-2 c = omega (arith, small (c .before .before .before .before .before .before .before) .1)
+cast-put-row-2 : tie.Need-cast-put-row-2 Inv-loop μ-loop
+cast-put-row-2 c = omega (arith, small (c .before .before .before .before .before .before .before .before .before) .1)
 
-push-requires : tie.Need-push-requires Inv-loop μ-loop
-push-requires c κs =
-    let inside = c .before .before .before .before .before .before .before .before .before .before .before .before .before .before in
-    omega (arith, either inside, inside .before .before .loop .inv .queued .pair)
+cast-put-row-3 : tie.Need-cast-put-row-3 Inv-loop μ-loop
+cast-put-row-3 c = omega (arith, small (c .before .before .before .before .before .before .before .before .before .before) .2)
+
+cast-put-row-4 : tie.Need-cast-put-row-4 Inv-loop μ-loop
+cast-put-row-4 c = omega (arith, small (c .before .before .before .before .before .before .before .before .before .before .before) .3)
+
+put-row-requires : tie.Need-put-row-requires Inv-loop μ-loop
+put-row-requires c κs =
+    let filled = c .before .before .before .before .before .before .before .before .before .before .before in
+    let inside = filled .before .before .before .before .before .before .before in
+    omega (arith, either inside, inside .before .before .loop .inv .queued .rows)
 
 add-c : tie.Need-add-c Inv-loop μ-loop
-add-c c = omega (arith, either (c .before .before .before .before .before .before .before .before .before .before .before .before .before .before .before .before .before))
+add-c c =
+    let filled = c .before .before .before .before .before .before .before .before .before .before .before .before .before .before in
+    omega (arith, either (filled .before .before .before .before .before .before .before))
+
+loop-less : tie.Need-loop-less Inv-loop μ-loop
+loop-less c =
+    let filled = c .before .before .before .before .before .before .before .before .before .before .before .before .before .before in
+    omega (arith, filled .before .before .before .before .before .before .before .if1 .taken)
 
 loop-again : tie.Need-loop-again Inv-loop μ-loop
 loop-again c =
-    let filled = c .before .before .before .before .before .before .before .before .before .before in
+    let filled = c .before .before .before .before .before .before .before .before .before .before .before .before .before .before in
     let inside = filled .before .before .before .before .before .before .before in
-    rw (c .before .before .push .ensures)
+    let stored = c .before .before .before .before .before .before .before .before .before .before in
+    rw (c .before .before .put-row .ensures)
     (sides-next (inside .before .before .before .before .before .before .before .before .before .pre) (inside .before .before .loop .inv)
-    (inside .if1 .taken) _ (turned inside) _ _
-    (search (needs, c .before .before .before .before .before .before .slice-known5 .given, c .before .before .before .before .before .before .before .words .given))
-    (filled .fill-side .result) (rw (filled .before .before .before .queue-of .ensures) at (filled .fill-side .ensures)))
+    (inside .if1 .taken) _ (turned inside) _ _ (search (needs, stored .slice-known5 .given, stored .before .words .given))
+    (filled .fill-side .result) (rw (filled .before .before .before .parts-of .ensures) at (filled .fill-side .ensures)))
 
 returns : tie.Need-returns Inv-loop μ-loop
 returns c =
@@ -89,13 +105,15 @@ fill-place-spec =
     (λ c κs. search needs)
     loop-holds
     (λ c. search needs)
-    queue-of-requires
+    parts-of-requires
     fill-side-requires
-    cast-push
-    cast-push-2
-    push-requires
+    cast-put-row
+    cast-put-row-2
+    cast-put-row-3
+    cast-put-row-4
+    put-row-requires
     add-c
-    (λ c. search needs)
+    loop-less
     loop-again
     (λ c. search needs)
     (λ c. search needs)

@@ -1,11 +1,14 @@
 -- `new_entry` meets its contract: each answer is the case of `newEntry` for the tests before it. The entries before keep their costs
--- low enough for the sum with the price to be a word.
+-- low enough for the sum with the price to be a number of 64 bits.
 use mathlib.Core.Path.{_≡_, sym, _∙_}
 use native.Mathlib.Omega.{arith}
 use borrow.Author.Tests.{not-true, not-false}
+use Rattle.theorems.specs.turns.Waiting.{pageCost}
+use Rattle.theorems.specs.pages.Graph.{full}
 use Rattle.galley.specs.Model.{modelOf}
 use Rattle.rules.specs.laws.Sane.{sound-sane}
 use Rattle.rules.specs.laws.Walked.{waiting-few}
+use Rattle.places.specs.Columns.{placeAt}
 use Rattle.starts.specs.Better.{chosen}
 use Rattle.starts.specs.Search.{priced}
 use Rattle.starts.specs.Read.{tableIn}
@@ -35,8 +38,8 @@ returns-2 c =
     (end-stops (a .s .now) (a .task .galley) e (start .pre .ending .counts) (e .side) ∙ sym (asked .may-stop .ensures (a .s .now) (a .task .galley) (a .end .at) (a .end .side) (entry-proper (start .pre)) (start .pre .ending .stop) (start .pre .turns))
     ∙ not-true (asked .may-stop .result) (c .if2 .taken)))
 
-add-tall : tie.Need-add-entry-of
-add-tall c =
+add-entry-of : tie.Need-add-entry-of
+add-entry-of c =
     let start = c .before .before .before .before .before .before .before .before .before .before .before in
     omega (arith, start .pre .next .lent .sound .fewLines)
 
@@ -84,29 +87,38 @@ price-requires c κs =
       few = omega (arith, start .pre .ending .found, waiting-few sound (start .args .end .at));
     }
 
-add-t22 : tie.Need-add-t22
-add-t22 c =
-    let chose = c .before .before .before .before in
-    let start = chose .before .before .before .before .before .before .before .before .before .before .before .before .before .before in
+-- The price of the page, by what the place says.
+priced-at : (c : tie.After-price)
+    → c .price .result
+    ≡ (let a = c .before .before .before .before .before .before .before .before .before .before .before .before .before .before .before .before .before .before .args in
+    let v = placeAt (modelOf (a .s .now) (a .task .galley)) (a .end .at .lines) (a .end .column) in
+    pageCost (modelOf (a .s .now) (a .task .galley)) (a .end .side) (full (modelOf (a .s .now) (a .task .galley)) v) v)
+priced-at c =
+    let start = c .before .before .before .before .before .before .before .before .before .before .before .before .before .before .before .before .before .before in
     let a = start .args in
+    c .price .ensures (a .s .now) (a .end .at) (a .end .side) (entry-proper (start .pre)) (sound-sane (a .s .now) (a .task .galley) (start .pre .next .lent .sound)) (start .pre .above .full) (start .pre .turns) (start .pre .ending .found)
+    ∙ end-cost (a .s .now) (a .task .galley) (a .end) (start .pre .ending .counts) (a .end .side)
+
+add-t23 : tie.Need-add-t23
+add-t23 c =
+    let chose = c .before .before .before .before .before in
+    let start = chose .before .before .before .before .before .before .before .before .before .before .before .before .before .before in
     let lines = chose .before .lines-above in
-    let low = cost-low (start .pre) (lines .result) (lines .ensures) _ (told chose) _ _ (c .before .before .start .given .1) in
-    let price = c .price .ensures (a .s .now) (a .end .at) (a .end .side) (entry-proper (start .pre)) (sound-sane (a .s .now) (a .task .galley) (start .pre .next .lent .sound)) (start .pre .above .full) (start .pre .turns) (start .pre .ending .found) in
-    omega (arith, low, price, end-cost (a .s .now) (a .task .galley) (a .end) (start .pre .ending .counts) (a .end .side))
+    let low = cost-low (start .pre) (lines .result) (lines .ensures) _ (told chose) _ _ (c .before .before .before .start .given .1) in
+    omega (arith, low, c .joined .ensures, priced-at (c .before))
 
 returns-4 : tie.Need-returns-4
 unfolding priced
 returns-4 c =
-    let chose = c .before .before .before .before in
+    let chose = c .before .before .before .before .before in
     let asked = chose .before .before .before .before .before .before in
     let origin = asked .before .before in
     let start = origin .before .before .before .before .before .before in
     let a = start .args in
     let lines = chose .before .lines-above in
-    rw (c .price .ensures (a .s .now) (a .end .at) (a .end .side) (entry-proper (start .pre)) (sound-sane (a .s .now) (a .task .galley) (start .pre .next .lent .sound)) (start .pre .above .full) (start .pre .turns) (start .pre .ending .found)
-    ∙ end-cost (a .s .now) (a .task .galley) (a .end) (start .pre .ending .counts) (a .end .side))
+    rw (c .joined .ensures, priced-at (c .before))
     (sym
-    (entry-told (start .pre) (lines .result) (lines .ensures) _ (sym (c .before .before .start .given .1) ∙ told chose)
+    (entry-told (start .pre) (lines .result) (lines .ensures) _ (sym (c .before .before .before .start .given .1) ∙ told chose)
     (sym (origin .is-origin .ensures) ∙ asked .before .if1 .left)
     (end-stops (a .s .now) (a .task .galley) (a .end) (start .pre .ending .counts) (a .end .side) ∙ sym (asked .may-stop .ensures (a .s .now) (a .task .galley) (a .end .at) (a .end .side) (entry-proper (start .pre)) (start .pre .ending .stop) (start .pre .turns)) ∙ not-false (asked .may-stop .result) (chose .before .before .before .before .before .if2 .left))))
 
@@ -119,7 +131,7 @@ new-entry-spec =
     (λ c κs. search needs)
     returns-2
     (λ c κs. search needs)
-    add-tall
+    add-entry-of
     entry-of-requires
     (λ c κs. search needs)
     (λ c κs. search needs)
@@ -127,5 +139,6 @@ new-entry-spec =
     (λ c. search needs)
     returns-3
     price-requires
-    add-t22
+    (λ c κs. search needs)
+    add-t23
     returns-4)

@@ -1,6 +1,6 @@
 -- `judge_pages` meets its contract. The outer invariant is the run over the pages so far (laws/Run), the inner one the page under
 -- way with the blocks that it has so far (laws/Page); each way of leaving a page is one law of laws/Page.
-use Prim.Native.Nat.{ℕ, _+_, _-_, _/_, _≤_, _<_}
+use Prim.Native.Nat.{ℕ, _-_, _/_, _≤_, _<_}
 use borrow.Author.Needs.{needs}
 use denote.Ref.{now}
 use lib.ListN.{length}
@@ -11,26 +11,25 @@ use native.Mathlib.Omega.{arith}
 use Rattle.model.specs.declared.answer.Answer.the-variants.{Refused}
 use Rattle.galley.specs.declared.Galley.{Galley}
 use Rattle.blocks.specs.laws.Counts.{words-least}
-use Rattle.rules.specs.laws.Walked.{waiting-few, waiting-at-few}
 use Rattle.marking.specs.declared.pages.Judged.the-variants.{Broken}
 use Rattle.marking.specs.Judged.{firstFault, JudgedPages}
 use Rattle.marking.specs.laws.Next.{left}
-use Rattle.marking.specs.laws.Page.{run-few, Begun, page-left, page-there, page-few, run-over, begins, begun-proper, begun-refused, begun-ahead, Underway, underway-bare, underway-open, underway-more, underway-less, underway-over, underway-ended, underway-next, underway-walking}
+use Rattle.marking.specs.laws.Page.{run-few, Begun, page-left, page-there, page-few, run-over, begins, begun-proper, begun-refused, begun-ahead, Underway, underway-bare, underway-open, underway-more, underway-less, underway-over, underway-ended, underway-next, underway-walking, underway-addable}
 use Rattle.marking.specs.laws.Run.{Run, run-start}
 use Rattle.marking.proofs.pages.judge_pages.Statement.{statement}
 use Rattle.marking.proofs.pages.judge_pages.Tie as tie
 
 abbrev Inv-loop : tie.InvT-loop
-Inv-loop s g list last words pages done at waiting x number v start laid₀ laid = Underway s g list last done at waiting x v start laid
+Inv-loop s g list last words pages done at waiting sums number v start laid₀ laid = Underway s g list last done at waiting sums v start laid
 
 abbrev μ-loop : tie.MeasureT-loop
-μ-loop s g list last words pages done at waiting x number v start laid₀ laid = left (laid .on) v
+μ-loop s g list last words pages done at waiting sums number v start laid₀ laid = left (laid .on) v
 
 abbrev Inv-pages : tie.InvT-pages
-Inv-pages s g list last words pages done₀ at₀ waiting₀ x₀ done at waiting x = Run s g list last done at waiting x
+Inv-pages s g list last words pages done₀ at₀ waiting₀ sums₀ done at waiting sums = Run s g list last done at waiting sums
 
 abbrev μ-pages : tie.MeasureT-pages
-μ-pages s g list last words pages done₀ at₀ waiting₀ x₀ done at waiting x = pages - done
+μ-pages s g list last words pages done₀ at₀ waiting₀ sums₀ done at waiting sums = pages - done
 
 pages-holds : tie.Need-pages-holds Inv-loop μ-loop Inv-pages μ-pages
 pages-holds c =
@@ -69,7 +68,7 @@ start-fault-requires c κs =
 page : (c : tie.After-start-fault Inv-loop μ-loop Inv-pages μ-pages)
     → (let st = c .before .before .before .before .before .before .before in
     let l = c .before .before .before .pages in
-    Begun (now (st .args .s)) (st .args .g) (now (st .args .list)) (st .args .last) (l .done) (l .at) (l .waiting) (l .x) (c .before .page-at .result)
+    Begun (now (st .args .s)) (st .args .g) (now (st .args .list)) (st .args .last) (l .done) (l .at) (l .waiting) (l .sums) (c .before .page-at .result)
     (c .start-fault .result))
 page c =
     let st = c .before .before .before .before .before .before .before in
@@ -100,41 +99,28 @@ end-fault-requires c κs = (c .before .before .before .before .before .before .b
 waiting-on-requires : tie.Need-waiting-on-requires Inv-loop μ-loop Inv-pages μ-pages
 waiting-on-requires c κs = underway-walking (c .before .before .before .before .before .before .before .loop .inv)
 
--- No more floats wait than there are.
-few : (c : tie.After-waiting-on Inv-loop μ-loop Inv-pages μ-pages)
-    → c .waiting-on .result .figures + c .waiting-on .result .tables ≤ 250
-few c = rw (c .waiting-on .ensures) (waiting-few (c .before .before .before .before .before .before .before .before .before .before .before .before .before .before .before .before .before .before .pre .sound) _)
-
-add-waiting-at : tie.Need-add-waiting-at Inv-loop μ-loop Inv-pages μ-pages
-add-waiting-at c = omega (arith, few (c .before))
-
-waiting-at-requires : tie.Need-waiting-at-requires Inv-loop μ-loop Inv-pages μ-pages
-waiting-at-requires c κs = (c .before .before .before .before .before .before .before .before .before .before .before .before .before .before .before .before .before .before .before .pre .sound .someFolio, few (c .before))
-
-add-x : tie.Need-add-x Inv-loop μ-loop Inv-pages μ-pages
-add-x c =
-    let found = c .before .before .waiting-on .result in
-    let counted = waiting-at-few (c .before .before .before .before .before .before .before .before .before .before .before .before .before .before .before .before .before .before .before .before .args .g) (c .before .before .before .before .before .before .before .before .before .before .before .before .before .before .before .before .pages .done + 1) (found .figures + found .tables) in
-    omega (arith, counted, c .waiting-at .ensures, few (c .before .before), c .before .before .before .before .before .before .before .before .before .before .before .before .before .before .before .before .pages .inv .most, low (c .before .before .before .before .before .before .before .before .before .before .before .before .before .before .before))
+with-page-requires : tie.Need-with-page-requires Inv-loop μ-loop Inv-pages μ-pages
+with-page-requires c κs =
+    underway-addable (c .before .before .before .before .before .before .before .before .loop .inv) (c .waiting-on .result) (c .waiting-on .ensures)
 
 add-done : tie.Need-add-done Inv-loop μ-loop Inv-pages μ-pages
-add-done c = omega (arith, low (c .before .before .before .before .before .before .before .before .before .before .before .before .before .before .before))
+add-done c = omega (arith, low (c .before .before .before .before .before .before .before .before .before .before .before .before .before .before))
 
 pages-less : tie.Need-pages-less Inv-loop μ-loop Inv-pages μ-pages
-pages-less c = omega (arith, more (c .before .before .before .before .before .before .before .before .before .before .before .before .before .before .before))
+pages-less c = omega (arith, more (c .before .before .before .before .before .before .before .before .before .before .before .before .before .before))
 
 pages-again : tie.Need-pages-again Inv-loop μ-loop Inv-pages μ-pages
 pages-again c =
-    let end = c .before .before .before .before .end-fault in
-    rw (c .waiting-at .ensures)
-    (underway-next (c .before .before .before .before .before .before .before .before .before .before .loop .inv) (c .before .before .before .before .before .before .before .if3 .left) (sym (c .before .before .before .before .before .before .is-laid .ensures) ∙ c .before .before .before .before .before .if4 .taken) (end .result)
-    (end .ensures) (c .before .before .before .if5 .left) (c .before .before .waiting-on .result) (c .before .before .waiting-on .ensures))
+    let end = c .before .before .before .end-fault in
+    rw (c .with-page .ensures)
+    (underway-next (c .before .before .before .before .before .before .before .before .before .loop .inv) (c .before .before .before .before .before .before .if3 .left) (sym (c .before .before .before .before .before .is-laid .ensures) ∙ c .before .before .before .before .if4 .taken) (end .result)
+    (end .ensures) (c .before .before .if5 .left) (c .before .waiting-on .result) (c .before .waiting-on .ensures))
 
 returns : tie.Need-returns Inv-loop μ-loop Inv-pages μ-pages
 returns c =
     let st = c .before .before .before .before .before in
     let over = run-over (now (st .args .s)) (st .args .g) (now (st .args .list)) (st .pre) (c .before .before .page-words .ensures .1) (c .before .pages .inv) (c .if1 .taken) in
-    record { fault = over .0; kept = λ at x e. let a : c .before .pages .at ≡ at = cc in let b : c .before .pages .x ≡ x = cc in rw (← a, ← b) (over .1) }
+    record { fault = over .0; kept = λ at x e. let a : c .before .pages .at ≡ at = cc in let b : c .before .pages .sums ≡ x = cc in rw (← a, ← b) (over .1) }
 
 -- A rule that is broken is told with its page, and nothing is kept.
 broke : {bytes : List ℕ} {g : Galley} {ws : List ℕ} {last n q : ℕ} → some (Refused n q) ≡ firstFault bytes g ws last
@@ -179,9 +165,7 @@ judge-pages-spec =
     add-closing
     end-fault-requires
     waiting-on-requires
-    add-waiting-at
-    waiting-at-requires
-    add-x
+    with-page-requires
     add-done
     pages-less
     pages-again

@@ -11,17 +11,17 @@ use Rattle.rules.proofs.counts.finish.Tie as tie
 -- X and Y by their weights.
 weighted : (c : tie.After-leaves-turned)
     → (let a = c .before .before .before .args in
-    (a .g .spec .alpha * a .x ≤ 1062500000) × (a .g .spec .beta * c .leaves-turned .result ≤ 4250000))
+    (a .g .spec .alpha * a .sums .x ≤ 1062500000) × (a .g .spec .beta * c .leaves-turned .result ≤ 4250000))
 weighted c =
     let st = c .before .before .before in
-    let parts = few-bounded (st .args .g) (st .args .pages) (st .args .x) (st .pre) in
+    let parts = few-bounded (st .args .g) (st .args .pages) (st .args .sums .x) (st .pre) in
     rw (c .leaves-turned .ensures) (parts .waits, parts .leaves)
 
 returns : tie.Need-returns
 unfolding finished counts
 returns c =
-    let full = sym (c .before .before .before .before .all-placed .ensures) ∙ c .before .before .before .if1 .taken in
-    rw (full, c .before .before .leaves-turned .ensures)
+    let full = sym (c .before .before .before .before .before .all-placed .ensures) ∙ c .before .before .before .before .if1 .taken in
+    rw (full, c .before .before .before .leaves-turned .ensures)
 
 returns-2 : tie.Need-returns-2
 unfolding finished
@@ -33,8 +33,8 @@ finish-spec =
     (tie.spec
     (λ c κs. search needs)
     (λ c κs. search needs)
-    (λ c. omega (arith, weighted (c .before)))
     (λ c. omega (arith, weighted (c .before .before)))
-    (λ c. omega (arith, weighted (c .before .before)))
+    (λ c. omega (arith, weighted (c .before .before .before)))
+    (λ c. omega (arith, weighted (c .before .before .before)))
     returns
     returns-2)

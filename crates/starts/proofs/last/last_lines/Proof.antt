@@ -7,8 +7,10 @@ use Rattle.starts.proofs.last.last_lines.Statement.{statement}
 use Rattle.starts.proofs.last.last_lines.Tie as tie
 
 best-line-requires : tie.Need-best-line-requires
-best-line-requires c κs = λ a l.
-    c .before .before .before .before .pre .stands a (omega (arith, c .before .slide .ensures .inside))
+best-line-requires c κs =
+    let pre = c .before .before .before .before .pre in
+    let slid = c .before .slide .ensures in
+    (λ a l. pre .stands a (omega (arith, slid .inside)), λ a l. pre .costs a (omega (arith, slid .inside)))
 
 returns : tie.Need-returns
 returns c =
@@ -21,4 +23,10 @@ returns c =
     }
 
 pub last-lines-spec : {M : Type 1} → statement M
-last-lines-spec = tie.close (tie.spec (λ c κs. search needs) (λ c. search needs) best-line-requires returns)
+last-lines-spec =
+    tie.close
+    (tie.spec
+    (λ c κs. search needs)
+    (λ c. search needs)
+    best-line-requires
+    returns)

@@ -12,7 +12,11 @@ returns c =
     rw (lt-ltb (pass .heights .loose) (pass .least) (c .if1 .taken))
 
 entry-of-requires : tie.Need-entry-of-requires
-entry-of-requires c κs = rw (c .before .place-of .ensures) (c .before .before .before .before .before .pre)
+entry-of-requires c κs = rw (c .before .place-of .ensures) (c .before .before .before .before .before .pre .0)
+
+start-at-requires : tie.Need-start-at-requires
+start-at-requires c κs =
+    rw (c .entry-of .ensures, c .before .before .place-of .ensures) (c .before .before .before .before .before .before .pre .1)
 
 returns-2 : tie.Need-returns-2
 returns-2 c =
@@ -23,4 +27,10 @@ returns-2 c =
 pub alone-spec : {M : Type 1} → statement M
 alone-spec =
     tie.close
-    (tie.spec returns (λ c κs. search needs) (λ c. search needs) entry-of-requires (λ c κs. search needs) returns-2)
+    (tie.spec
+    returns
+    (λ c κs. search needs)
+    (λ c. search needs)
+    entry-of-requires
+    start-at-requires
+    returns-2)

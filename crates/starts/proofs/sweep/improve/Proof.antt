@@ -5,7 +5,9 @@ use Rattle.starts.proofs.sweep.improve.Statement.{statement}
 use Rattle.starts.proofs.sweep.improve.Tie as tie
 
 alone-requires : tie.Need-alone-requires
-alone-requires c κs = rw (c .before .side-before .ensures) (c .before .before .before .pre .start)
+alone-requires c κs =
+    let pre = c .before .before .before .pre in
+    rw (c .before .side-before .ensures) (pre .start, pre .cost)
 
 offer-requires : tie.Need-offer-requires
 offer-requires c κs = rw (c .before .before .place-of .ensures) (c .before .before .before .before .before .before .before .before .pre .end)

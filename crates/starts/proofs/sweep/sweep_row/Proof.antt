@@ -48,9 +48,9 @@ returns c =
     row-tall (st .before .before .before .before .before .before .before .before .pre) (st .loop .inv) (put .before .loop-test .taken)
     (put .block-before .result) (put .block-before .ensures) _ refl (laid .floats-alone .result) (laid .floats-alone .ensures) (c .if1 .taken)
 
-add-from : tie.Need-add-t16 Inv-loop μ-loop
+add-t16 : tie.Need-add-t16 Inv-loop μ-loop
 unfolding rowOf
-add-from c =
+add-t16 c =
     let put = c .before .before .before .before .before .before in
     let st = put .before .before in
     omega (
@@ -61,22 +61,25 @@ add-from c =
 sweep-requires : tie.Need-sweep-requires Inv-loop μ-loop
 unfolding rowOf
 sweep-requires c κs =
-    let laid = c .before .before .before .before .before in
+    let white = c .before .before in
+    let laid = white .before .before .before .before in
     let put = laid .before .before .before in
     let st = put .before .before in
     row-sweeps (st .before .before .before .before .before .before .before .before .pre) (st .loop .inv) (put .before .loop-test .taken)
     (put .block-before .result) (put .block-before .ensures) _ refl (laid .floats-alone .result) (laid .floats-alone .ensures)
-    (omega (arith, c .before .before .if1 .left))
+    (omega (arith, white .before .if1 .left)) (white .white-at .result) (white .white-at .ensures .0)
 
 loop-again : tie.Need-loop-again Inv-loop μ-loop
 unfolding rowOf
 loop-again c =
     let swept = c .before .before .before .before in
-    let laid = swept .before .before .before .before .before .before in
+    let white = swept .before .before .before in
+    let laid = white .before .before .before .before in
     let put = laid .before .before .before in
     let st = put .before .before in
     row-swept (st .before .before .before .before .before .before .before .before .pre) (st .loop .inv) (put .before .loop-test .taken)
-    (put .block-before .result) (put .block-before .ensures) _ refl (laid .floats-alone .result) (laid .floats-alone .ensures) _ _
+    (put .block-before .result) (put .block-before .ensures) _ refl (laid .floats-alone .result) (laid .floats-alone .ensures)
+    (white .white-at .result) _ _
     (search (needs, c .before .before .slice-known3 .given, c .before .before .before .work .given))
     (search (needs, c .slice-known4 .given, c .before .words .given)) (swept .sweep .ensures)
 
@@ -100,7 +103,8 @@ sweep-row-spec =
     (λ c. search needs)
     (λ c. search needs)
     returns
-    add-from
+    add-t16
+    (λ c κs. search needs)
     sweep-requires
     (λ c. search needs)
     loop-again

@@ -1,9 +1,8 @@
 -- `drop_dearer` meets its contract. The loop's invariant: the entries dropped cost x or more, to which each turn adds one.
-use Prim.Native.Nat.{ℕ, _+_, _-_, _*_, _≤_}
+use Prim.Native.Nat.{ℕ, _-_, _≤_}
 use mathlib.Core.Path.{_≡_, sym, ap, _∙_}
 use native.Mathlib.Omega.{arith}
 use borrow.Author.Tests.{ltb-true, ltb-false}
-use lib.ListN.{getD}
 use Rattle.window.specs.Queue.{costAt}
 use Rattle.window.specs.Run.{DearerRun}
 use Rattle.window.specs.laws.Run.{down-next}
@@ -19,32 +18,32 @@ abbrev μ-loop : tie.MeasureT-loop
 
 returns : tie.Need-returns Inv-loop μ-loop
 returns c =
-    let start = c .before .before .before .before .before .before in
-    let st = c .before .before .before .before .loop in
+    let joined = c .before .before in
+    let st = joined .before .before .before .before .loop in
+    let start = joined .before .before .before .before .before .before in
     let words = start .args .words .now in
     record {
       from = st .inv .from;
       to = st .inv .to;
       dearer = st .inv .dearer;
       cheaper = λ k l e.
-          let at : 2 * st .t - 1 ≡ 2 * k + 1 = omega arith in
-          let same = ap (λ (n : ℕ). getD words n 0) at in
-          omega (arith, ltb-true (getD words (2 * st .t - 1) 0) (start .args .x) (sym (c .before .less .ensures) ∙ c .if1 .taken), same);
+          let last : st .t - 1 ≡ k = omega arith in
+          let same = ap (costAt words) last in
+          omega (arith, ltb-true _ (start .args .x) (sym (c .before .less .ensures) ∙ c .if1 .taken), joined .joined .ensures, same);
     }
 
 loop-again : tie.Need-loop-again Inv-loop μ-loop
 loop-again c =
-    let start = c .before .before .before .before .before .before in
-    let st = c .before .before .before .before .loop in
+    let joined = c .before .before in
+    let st = joined .before .before .before .before .loop in
+    let start = joined .before .before .before .before .before .before in
     let words = start .args .words .now in
-    let at : 2 * st .t - 1 ≡ 2 * (st .t - 1) + 1 = omega (arith, c .before .before .before .loop-test .taken) in
-    let same = ap (λ (n : ℕ). getD words n 0) at in
     record {
-      from = omega arith;
-      to = omega arith;
+      from = omega (arith, joined .before .before .before .loop-test .taken);
+      to = omega (arith, st .inv .to);
       dearer =
           down-next (λ (k : ℕ). start .args .x ≤ costAt words k) (st .t) (start .args .tail) (st .inv .dearer)
-          (omega (arith, ltb-false (getD words (2 * st .t - 1) 0) (start .args .x) (sym (c .before .less .ensures) ∙ c .if1 .left), same));
+          (omega (arith, ltb-false _ (start .args .x) (sym (c .before .less .ensures) ∙ c .if1 .left), joined .joined .ensures));
     }
 
 pub drop-dearer-spec : {M : Type 1} → statement M
@@ -58,9 +57,14 @@ drop-dearer-spec =
     (λ c. search needs)
     (λ c. search needs)
     (λ c. search needs)
+    (λ c. search needs)
+    (λ c. search needs)
+    (λ c. search needs)
+    (λ c. search needs)
+    (λ c. search needs)
+    (λ c κs. search needs)
     (λ c κs. search needs)
     returns
-    (λ c. search needs)
     (λ c. search needs)
     loop-again
     (λ c. search needs))

@@ -18,7 +18,7 @@ loop-holds : tie.Need-loop-holds Inv-loop μ-loop
 loop-holds c = (omega arith, first-start _ _ _)
 
 cast-if1 : tie.Need-cast-if1 Inv-loop μ-loop
-cast-if1 c = omega (arith, c .shared-slice-known .given (2 * c .before .before .loop .h))
+cast-if1 c = omega (arith, c .shared-slice-known .given (3 * c .before .before .loop .h))
 
 returns : tie.Need-returns Inv-loop μ-loop
 returns c = let st = c .before .before .before .loop in first-found _ (st .inv .1) (st .inv .0) (λ l. omega (arith, c .if1 .taken))

@@ -1,14 +1,32 @@
 -- `front` meets its contract: by whether the queue has an entry, each arm is that of the definition.
-use native.Mathlib.Omega.{arith}
 use borrow.Author.Tests.{lt-ltb, le-ltb}
 use Rattle.window.specs.Queue.{frontOf}
-use ghost.Mode.{_$_}
+use borrow.Author.Needs.{needs}
 use Rattle.window.proofs.queue.front.Statement.{statement}
 use Rattle.window.proofs.queue.front.Tie as tie
 
-pub front-spec : {M : Type 1} → statement M
+returns : tie.Need-returns
 unfolding frontOf
+returns c = simp (lt-ltb _ _ (c .before .before .before .before .if1 .taken), c .joined .ensures)
+
+returns-2 : tie.Need-returns-2
+unfolding frontOf
+returns-2 c = simp (le-ltb _ _ (c .if1 .left))
+
+pub front-spec : {M : Type 1} → statement M
 front-spec =
     tie.close
-    ((λ (a, b, c, d, e, f, g).
-    tie.spec a b c d e f g (λ c. simp (lt-ltb _ _ (c .before .before .if1 .taken))) (λ c. simp (le-ltb _ _ (c .if1 .left)))) $ omega arith)
+    (tie.spec
+    (λ c. search needs)
+    (λ c. search needs)
+    (λ c. search needs)
+    (λ c. search needs)
+    (λ c. search needs)
+    (λ c. search needs)
+    (λ c. search needs)
+    (λ c. search needs)
+    (λ c. search needs)
+    (λ c. search needs)
+    (λ c κs. search needs)
+    returns
+    returns-2)

@@ -3,32 +3,36 @@
 use Prim.Native.Nat.{suc, _+_, _-_, _*_, _≤_}
 use native.Mathlib.Omega.{arith}
 use Rattle.window.specs.First.{First}
-use Rattle.window.specs.Queue.{lineAt}
+use Rattle.window.specs.Sums.{spacedAt}
 use Rattle.window.specs.laws.First.{first-start, first-next, first-found}
-use Rattle.window.specs.laws.Slide.{reached-small}
-use ghost.Mode.{_$_}
+use Rattle.window.specs.laws.Slide.{reaches-readable}
+use borrow.Author.Needs.{needs}
 use Rattle.window.proofs.slide.first_below.Statement.{statement}
 use Rattle.window.proofs.slide.first_below.Tie as tie
 
 abbrev Inv-loop : tie.InvT-loop
-Inv-loop sums space beside limit from i reached a₀ a =
-    (a ≤ i) × First (λ k. limit + lineAt sums (2 * k + space)) (suc reached) from a a
+Inv-loop sums space beside limit from i far a₀ a =
+    (a ≤ i) × First (λ k. limit + spacedAt sums (2 * k + space)) (suc far) from a a
 
 abbrev μ-loop : tie.MeasureT-loop
-μ-loop sums space beside limit from i reached a₀ a = i - a
+μ-loop sums space beside limit from i far a₀ a = i - a
+
+reached-requires : tie.Need-reached-requires Inv-loop μ-loop
+reached-requires c κs = reaches-readable (c .before .pre)
 
 loop-holds : tie.Need-loop-holds Inv-loop μ-loop
-loop-holds c = (omega arith, first-start _ _ _)
+loop-holds c = (omega (arith, c .before .before .pre .start), first-start _ _ _)
 
 add-if1-2 : tie.Need-add-if1-2 Inv-loop μ-loop
 add-if1-2 c =
-    let pre = c .before .before .before .before .pre in
+    let pre = c .before .before .before .before .before .pre in
     omega (arith, pre .small (c .before .before .loop .a) (omega arith) .0, pre .limited)
 
 returns : tie.Need-returns Inv-loop μ-loop
 returns c =
     let st = c .before .before .before .loop in
-    first-found _ (st .inv .1) (st .inv .0) (λ l. omega (arith, c .if1 .taken))
+    let far = c .before .before .before .before .reached .ensures in
+    rw (← far) (first-found _ (st .inv .1) (st .inv .0) (λ l. omega (arith, c .if1 .taken)))
 
 loop-again : tie.Need-loop-again Inv-loop μ-loop
 loop-again c =
@@ -38,10 +42,25 @@ loop-again c =
 returns-2 : tie.Need-returns-2 Inv-loop μ-loop
 returns-2 c =
     let st = c .before .loop in
-    first-found _ (st .inv .1) (st .inv .0) (λ l. absurd (omega arith))
+    let far = c .before .before .reached .ensures in
+    rw (← far) (first-found _ (st .inv .1) (st .inv .0) (λ l. absurd (omega arith)))
 
 pub first-below-spec : {M : Type 1} → statement M
 first-below-spec =
     tie.close
-    ((λ (a, b, c, d, e, f, g, h, i, j, k, l, m, n).
-    tie.spec Inv-loop μ-loop a b c d e f g loop-holds h i j k l add-if1-2 returns m n loop-again returns-2) $ omega (arith, reached-small))
+    (tie.spec
+    Inv-loop
+    μ-loop
+    reached-requires
+    loop-holds
+    (λ c. search needs)
+    (λ c. search needs)
+    (λ c. search needs)
+    (λ c. search needs)
+    (λ c. search needs)
+    add-if1-2
+    returns
+    (λ c. search needs)
+    (λ c. search needs)
+    loop-again
+    returns-2)
