@@ -77,12 +77,13 @@ turned-refused a (at, inl e) h = let z : _≡_ {A = ℕ} 0 1 = cc in omega arith
 turned-refused a (at, inr e) h = let z : _≡_ {A = ℕ} 0 1 = cc in omega arith
 
 -- In the page model: what is made after an opening is no worse than any list that is accepted and begins with it.
-made-best : (m : model.Galley) (opening words : List ℕ) {p x y t : ℕ} → openingTurned m opening ≡ none
-    → marked m (opening ++ words) ≡ Counted p x y t → {a : Answer} {list : List ℕ} → MakingAfter m opening a list → Loosens (Counted p x y t) a
+made-best : (m : model.Galley) (opening words : List ℕ) {p x y t w : ℕ} → openingTurned m opening ≡ none
+    → marked m (opening ++ words) ≡ Counted p x y t w → {a : Answer} {list : List ℕ} → MakingAfter m opening a list
+    → Loosens (Counted p x y t w) a
 made-best m opening words through is (turned-away e by) = let z : _≡_ {A = ℕ} 0 1 = cc in absurd (omega arith)
 made-best m opening words through is (no-list e empty) =
     let a = empty words in let b = ap accepted is in let z : _≡_ {A = ℕ} 0 1 = cc in absurd (omega arith)
-made-best m opening words through is (best-list vs e is′ long best) =
+made-best m opening words through is (best-list vs e is′ long best whiter) =
     record { finishes = λ _. refl; turns = λ _. let few = rw is at (best words (ap accepted is)) in omega arith }
 
 -- The list that is made for the higher htMin is one for the lower.
@@ -90,7 +91,7 @@ made-loosened : (m : model.Galley) (h : ℕ) → h ≤ m .spec .htmin → (openi
     → MakingAfter m opening a list → MakingAfter (withHtmin h m) opening a′ list′ → Loosens a a′
 made-loosened m h low opening {a = a} (turned-away e by) made′ = refusal-loosens (turned-refused a by)
 made-loosened m h low opening (no-list e empty) made′ = refusal-loosens (λ a. let z : _≡_ {A = ℕ} 0 1 = cc in omega arith)
-made-loosened m h low opening (best-list words e is long best) made′ =
+made-loosened m h low opening (best-list words e is long best whiter) made′ =
     made-best (withHtmin h m) opening words (standing-loosened m h low opening e)
     (marked-loosened m h low (opening ++ words) (ap accepted is) ∙ is) made′
 

@@ -1,19 +1,20 @@
 -- With a lower htMin valid lists only grow: whatever was accepted is accepted, with the same numbers (document 02, S-14).
-use Prim.Native.Nat.{ℕ, suc, _%_, _≤_}
+use Prim.Native.Nat.{ℕ, suc, _+_, _%_, _≤_}
 use native.Mathlib.Omega.{arith}
-use mathlib.Core.Path.{_≡_, refl, sym, _∙_}
+use mathlib.Core.Path.{_≡_, refl, sym, _∙_, ap}
 use mathlib.Core.Bool.{Bool, true, false}
 use mathlib.Core.List.{List, [], _∷_}
 use mathlib.Core.Option.{none, some}
 use lib.ListN.{length}
 use lib.Dec.{eqb}
 use borrow.Author.Tests.{leb-true, le-leb}
-use Rattle.model.specs.declared.answer.Answer.the-variants.{Refused}
+use Rattle.model.specs.declared.answer.Answer.the-variants.{Counted, Refused}
 use Rattle.model.specs.Gather.{pick}
 use Rattle.model.specs.Galley.{Galley, Place, streams, zeros, sizes, blocks}
 use Rattle.model.specs.Height.{kinds, height, tightest, loosest}
 use Rattle.model.specs.Rules.{forward, closes, fits, fills, cited}
 use Rattle.model.specs.Turns.{apart, xOf, yOf, turns}
+use Rattle.model.specs.White.{whiteOn, whites, white}
 use Rattle.model.specs.Answers.{accepted, ended, counted, countsOf, pagesOf, marked}
 use Rattle.model.specs.Best.{allowed, valid}
 use Rattle.model.specs.Opening.{pagesTurned, openingTurned}
@@ -63,10 +64,17 @@ module _ (g : Galley) (h : ℕ) (low : h ≤ g .spec .htmin) where
   pub valid-loosened : (ps : List Place) → ps ∈ valid g → ps ∈ valid (withHtmin h g)
   valid-loosened ps m = valid-accepted (withHtmin h g) ps .1 (accepted-loosened ps (valid-accepted g ps .0 m))
 
-  -- A list has the same counts by either.
+  -- A list leaves the same white by either,
+  whites-loosened : (u : Place) (ps : List Place) → whites (withHtmin h g) u ps ≡ whites g u ps
+  unfolding whites whiteOn loosest height kinds
+  whites-loosened u [] = refl
+  whites-loosened u (v ∷ []) = refl
+  whites-loosened u (v ∷ (w ∷ ws)) = ap (λ x. whiteOn g u v + x) (whites-loosened v (w ∷ ws))
+
+  -- and has the same counts.
   counts-loosened : (ps : List Place) → countsOf (withHtmin h g) ps ≡ countsOf g ps
-  unfolding countsOf xOf yOf turns apart
-  counts-loosened ps = refl
+  unfolding countsOf xOf yOf turns apart white zeros streams
+  counts-loosened ps = ap (λ x. Counted (length ps) (xOf g ps) (yOf g ps) (turns g ps) x) (whites-loosened (zeros g) ps)
 
   -- Marking accepts for the lower htMin every list that it accepts for the higher, with the same numbers.
   pub marked-loosened : (ws : List ℕ) → accepted (marked g ws) ≡ true → marked (withHtmin h g) ws ≡ marked g ws
