@@ -104,7 +104,7 @@ module _ {bytes bytes′ : List ℕ} (like : Alike bytes bytes′) (g g′ : Gal
       let e = galleys-alike like g g′ read read′ in
       (ap (λ (x : Galley). workNeeded x) e, ap (λ (x : Galley). listNeeded x) e)
 
-  -- Marking accepts for the lower htMin every list that it accepts for the higher, with the same p, X, Y, T.
+  -- Marking accepts for the lower htMin every list that it accepts for the higher, with the same p, X, Y, T, W.
   pub marking-loosened : (words : List ℕ) → accepted (markOf bytes words) ≡ true → markOf bytes′ words ≡ markOf bytes words
   unfolding markOf markRead
   marking-loosened words a =
