@@ -20,7 +20,6 @@ use Rattle.model.specs.Opening.{endOf, openingTurned}
 use Rattle.model.specs.laws.Gather.{and-both}
 use Rattle.model.specs.laws.Words.{length-pages}
 use Rattle.model.specs.laws.Rules.{placed}
-use Rattle.theorems.specs.turns.Waiting.{waiting, pageSum, atEnd}
 use Rattle.theorems.specs.turns.Rank.{rank}
 use Rattle.theorems.specs.turns.Bounds.{heaviest, weight-limit}
 use Rattle.theorems.specs.pages.Graph.{Origin as Begin, beginning, full}
