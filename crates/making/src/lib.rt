@@ -99,12 +99,7 @@ fn make_read(s: &[u8], g: Galley, opening: &[u32], work: &mut [u32], pages: &mut
 
 // The best of the lists that begin with an opening already printed, for the galley that any bytes hold, or one refusal, and the count of
 // what is weighed. The opening is only read, and nothing that the work area holds beforehand matters.
-pub fn make_after(
-    galley: &[u8],
-    opening: &[u32],
-    work: &mut [u32],
-    pages: &mut [u32],
-) -> Making
+pub fn make_after(galley: &[u8], opening: &[u32], work: &mut [u32], pages: &mut [u32]) -> Making
     ensures { λ r. ⌜ MadeAfter (now (galley .entry)) (now (opening .entry)) (now (work .entry)) (now (pages .entry)) (r .answer) (r .weighed) (now (work .exit)) (now (pages .exit)) ⌝ }
 {
     let reading = galley::whole::read_galley(galley);

@@ -51,13 +51,13 @@ pub record KeptPages (bytes : List ℕ) (g : Galley) (ws : List ℕ) (at : Count
   pub most : x ≤ 250 * pagesIn g ws
 
 -- The refusal that was found.
-abbrev pub told : Judged → Option Answer
-told (Broken n q) = some (Refused n q)
-told (Kept at x) = none
+abbrev pub faultTold : Judged → Option Answer
+faultTold (Broken n q) = some (Refused n q)
+faultTold (Kept at x) = none
 
 -- The pages of a list are judged, of which page `last` counts as the last.
 pub record JudgedPages (bytes : List ℕ) (g : Galley) (ws : List ℕ) (last : ℕ) (r : Judged) : Type 0 where
-  pub fault : told r ≡ firstFault bytes g ws last
+  pub fault : faultTold r ≡ firstFault bytes g ws last
   pub kept : (at : Counts) (x : ℕ) → r ≡ Kept at x → KeptPages bytes g ws at x
 
 -- What turns an opening away.

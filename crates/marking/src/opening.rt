@@ -1,6 +1,6 @@
 // An opening, pages already printed: what turns it away, or where it ends. Document 02, S-6.
 ghost use Rattle.galley.specs.Sound.{Sound};
-ghost use Rattle.marking.specs.Judged.{KeptPages, OpeningJudged, Ended};
+ghost use Rattle.marking.specs.Judged.{OpeningJudged, Ended};
 use crate::pages::Judged;
 use blocks::Counts;
 use galley::Galley;
@@ -39,7 +39,10 @@ pub fn judge_opening(s: &[u8], g: Galley, opening: &[u32]) -> Opening
     }
     let judged = crate::pages::judge_pages(s, g, opening, 0);
     match judged {
-        Judged::Broken { number: _rule, page } => Opening::Refused {
+        Judged::Broken {
+            number: _rule,
+            page,
+        } => Opening::Refused {
             number: 20,
             place: page,
         },

@@ -48,7 +48,7 @@ openingTurned g ws = pick (eqb (length ws % streams g) 0) (pagesTurned g 1 (zero
 unfoldable pub madeAfter : Galley → List ℕ → Answer
 madeAfter g ws =
     elim (openingTurned g ws) [
-      none ↦ elim (bestAfter g (pagesOf g ws)) [ none ↦ Refused 11 0 | some ps ↦ countsOf g ps ]
+      | none ↦ elim (bestAfter g (pagesOf g ws)) [ none ↦ Refused 11 0 | some ps ↦ countsOf g ps ]
       | some refusal ↦ refusal
     ]
 
@@ -56,6 +56,6 @@ madeAfter g ws =
 unfoldable pub madeWordsAfter : Galley → List ℕ → List ℕ
 madeWordsAfter g ws =
     elim (openingTurned g ws) [
-      none ↦ elim (bestAfter g (pagesOf g ws)) [ none ↦ [] | some ps ↦ wordsOf ps ]
+      | none ↦ elim (bestAfter g (pagesOf g ws)) [ none ↦ [] | some ps ↦ wordsOf ps ]
       | some refusal ↦ []
     ]

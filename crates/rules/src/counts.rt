@@ -21,8 +21,7 @@ fn leaves_turned(g: Galley, pages: u32) -> u32
 pub fn all_placed(g: Galley, at: Counts) -> bool
     ensures { λ r. ⌜ r ≡ allPlaced g at ⌝ }
 {
-    (at.lines == g.text.count)
-        & ((at.figures == g.figures.count) & (at.tables == g.tables.count))
+    (at.lines == g.text.count) & ((at.figures == g.figures.count) & (at.tables == g.tables.count))
 }
 
 // What so many printed pages cost, after which a page follows: the floats that waited where a leaf ends, by α, and the leaves turned, by β.

@@ -25,7 +25,7 @@ use Rattle.model.specs.laws.Gather.{and-both}
 use Rattle.model.specs.laws.Lists.{_∈_}
 use Rattle.model.specs.laws.Words.{Shaped, chunks-shaped, words-chunks, length-words}
 use Rattle.model.specs.laws.Valid.{valid-accepted, accepted-valid}
-use Rattle.model.specs.laws.Best.{LeastOf, MakesOf, impossible, makes, least-turns}
+use Rattle.model.specs.laws.Best.{MakesOf, impossible, makes, least-turns}
 use Rattle.model.specs.laws.Opening.{after-valid, valid-after, after-makes}
 use Rattle.theorems.specs.turns.LeastTurns.{valid-counts}
 use Rattle.theorems.specs.pages.Graph.{Origin, beginning, full}
@@ -124,11 +124,14 @@ module _ (g : Galley) (ows : List ℕ) where
               → Out (pagesTurned g 1 (zeros g) (pagesOf g ows))
           told whole (inl h) = inl h
           told whole (inr (a, b, c)) =
-              inr (a, record {
-                whole = whole;
-                words = words-chunks (length ows / suc (g .floats)) (suc (g .floats)) ows whole;
-                printed = record { shaped = chunks-shaped (length ows / suc (g .floats)) (suc (g .floats)) ows whole; passed = b; left = c };
-              })
+              inr (
+                a,
+                record {
+                  whole = whole;
+                  words = words-chunks (length ows / suc (g .floats)) (suc (g .floats)) ows whole;
+                  printed = record { shaped = chunks-shaped (length ows / suc (g .floats)) (suc (g .floats)) ows whole; passed = b; left = c };
+                },
+              )
 
   -- What the possible answers of making after an opening say of the lists that marking accepts and that begin with it.
   pub data MakingAfter : Answer → List ℕ → Type 0 where

@@ -63,7 +63,6 @@ module _ {bytes : List ℕ} {g : Galley} {sums : List ℕ} {first : Counts} {q :
             let z : rowOf g b ≡ 0 = row-none b (omega arith) in
             absurd (omega arith)
 
-
     pub column-room : Room bytes (g .figures) heights (countsAt g 0 q .figures)
     column-room =
         stacked-room bytes (g .figures) b (countsAt g 0 q .figures) heights (asked .ready .sound .figures .sound)

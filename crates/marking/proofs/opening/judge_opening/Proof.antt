@@ -34,7 +34,7 @@ cast-opening-end c =
     omega (
       arith,
       opening-few (now (st .args .s)) (st .args .g) (st .pre) (now (st .args .opening)) (c .before .before .before .before .before .page-words .ensures .1)
-      (c .before .before .before .before .if1 .left) _ _ (rw (c .before .judged2 .given .1) at (c .before .before .before .judge-pages .ensures)),
+          (c .before .before .before .before .if1 .left) _ _ (rw (c .before .judged2 .given .1) at (c .before .before .before .judge-pages .ensures)),
     )
 
 returns-2 : tie.Need-returns-2
