@@ -1,3 +1,4 @@
 pub mod Eight
 pub mod Section
 pub mod Forecast
+pub mod Desk
