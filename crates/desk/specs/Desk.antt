@@ -1,6 +1,7 @@
 -- What an ask and a commit leave and answer, for any words of a desk (document 02, S-7). The types `Desk`, `Told` and `Done` are
 -- those of src/lib.rt.
 use Prim.Native.Nat.{ℕ}
+use mathlib.Core.Bool.{Bool, true, false}
 use mathlib.Core.List.{List}
 use lib.ListN.{take}
 use Rattle.model.specs.declared.answer.Answer.{Answer}
@@ -29,16 +30,20 @@ altered d page end = take (wordsOn d) (withEnd (d .width) (d .list) page end)
 unfoldable pub afterAsk : Desk → ℕ → List ℕ → Answer → Desk
 afterAsk d page end answer = pick (accepted answer) (pended d page end) (cleared d)
 
--- An ask about an inner page is answered with a marking.
+-- An ask about an inner page is answered with a marking,
 abbrev pub askMarked : Desk → ℕ → List ℕ → Answer → Told
 askMarked d page end answer = record { desk = afterAsk d page end answer; answer = answer }
+
+-- and one about any other with 23 and the page.
+abbrev pub askOff : Desk → ℕ → Told
+askOff d page = record { desk = cleared d; answer = Refused 23 page }
 
 -- What an ask leaves and answers: 23 whatever the bytes, then the marking of the altered list (document 02, S-7).
 unfoldable pub askDesk : List ℕ → ℕ → List ℕ → Desk → Told
 askDesk bytes page end d =
     pick (isInner d page)
     (askMarked d page end (markOf bytes (altered d page end)))
-    (record { desk = cleared d; answer = Refused 23 page })
+    (askOff d page)
 
 -- The list in force with what is pending, and none pending after it.
 abbrev pub committed : Desk → Desk
@@ -46,5 +51,9 @@ committed d =
     record { pages = d .pages; width = d .width; page = 0; end = d .end; list = withEnd (d .width) (d .list) (d .page) (d .end) }
 
 -- What a commit leaves and answers: 24 with none pending, and nothing changes (document 02, S-7).
+abbrev pub commitBy : Bool → Desk → Done
+commitBy true d = record { desk = committed d; number = 0 }
+commitBy false d = record { desk = d; number = 24 }
+
 unfoldable pub commitDesk : Desk → Done
-commitDesk d = pick (isInner d (d .page)) (record { desk = committed d; number = 0 }) (record { desk = d; number = 24 })
+commitDesk d = commitBy (isInner d (d .page)) d

@@ -3,4 +3,5 @@ pub mod Words
 pub mod Pages
 pub mod Opening
 pub mod Desk
+pub mod Calls
 pub mod laws

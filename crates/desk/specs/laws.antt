@@ -2,3 +2,6 @@
 pub mod Words
 pub mod Pages
 pub mod Opening
+pub mod Calls
+pub mod Accepted
+pub mod Opened

@@ -1,0 +1,80 @@
+-- A desk that is opened unrefused: its list in force is the opening one, and nothing is pending.
+use Prim.Native.Nat.{ℕ, _*_, _≤_}
+use native.Mathlib.Omega.{arith}
+use mathlib.Core.Bool.{Bool, true, false, _&&_}
+use mathlib.Core.List.{List, _++_}
+use mathlib.Core.Path.{_≡_, refl, sym, ap, _∙_}
+use lib.Dec.{leb}
+use lib.ListN.{length, take, drop, replicate}
+use lib.Seq.{take-at}
+use borrow.Author.Tests.{leb-true, le-leb}
+use Rattle.model.specs.declared.answer.Answer.{Answer}
+use Rattle.model.specs.declared.answer.Answer.the-variants.{Refused}
+use Rattle.model.specs.Answers.{numbersOf, accepted}
+use Rattle.model.specs.Gather.{pick}
+use Rattle.model.specs.laws.Gather.{and-left, and-right, and-both}
+use Rattle.galley.specs.declared.Reading.{Reading}
+use Rattle.galley.specs.declared.Reading.the-variants as reads
+use Rattle.galley.specs.Whole.{galleyOf}
+use Rattle.marking.specs.Mark.{markOf}
+use Rattle.desk.specs.declared.Desk.{Desk}
+use Rattle.desk.specs.declared.Told.{Told}
+use Rattle.desk.specs.Pages.{pagesOn, wordsOn, inForce, isInner, widthOf}
+use Rattle.desk.specs.Opening.{closed, opened, openOn, openRead, openDesk}
+use Rattle.desk.specs.Calls.{Known, atOpening}
+use Rattle.desk.specs.laws.Opening.{Whole, accepted-whole, width-least, width-most, whole-long}
+use Rattle.desk.specs.laws.Calls.{pendingOn, knownOf}
+use Rattle.desk.specs.laws.Accepted.{Good}
+
+-- The desk is the one with the list and as many pages as the marking counts, which are at most 64.
+pub record Opened (bytes list : List ℕ) (d : Desk) : Type 0 where
+  pub taken : accepted (markOf bytes list) ≡ true
+  pub few : numbersOf (markOf bytes list) .pages ≤ 64
+  pub desk : d ≡ opened list (numbersOf (markOf bytes list) .pages)
+
+-- An opening that is not refused opens such a desk.
+pub unrefused : (bytes list : List ℕ) (lent : Desk) → accepted (openDesk bytes list lent .answer) ≡ true
+    → Opened bytes list (openDesk bytes list lent .desk)
+unfolding openDesk openRead openOn
+unrefused bytes list lent = go (galleyOf bytes)
+  where
+    p : ℕ
+    p = numbersOf (markOf bytes list) .pages
+
+    told : Bool → Told
+    told b = pick b (record { desk = opened list p; answer = markOf bytes list }) (record { desk = closed lent; answer = Refused 22 0 })
+
+    on : (b : Bool) → (accepted (markOf bytes list) && leb p 64) ≡ b → accepted (told b .answer) ≡ true → Opened bytes list (told b .desk)
+    on true e h = record { taken = h; few = leb-true p 64 (and-right (accepted (markOf bytes list)) (leb p 64) e); desk = refl }
+    on false e h = let z : _≡_ {A = ℕ} 0 1 = cc in absurd (omega arith)
+
+    go : (r : Reading) → accepted (openRead bytes list lent r .answer) ≡ true → Opened bytes list (openRead bytes list lent r .desk)
+    go (reads.Galley g) h = on (accepted (markOf bytes list) && leb p 64) refl h
+    go (reads.Refused number place) h = let z : _≡_ {A = ℕ} 0 1 = cc in absurd (omega arith)
+
+module _ (list : List ℕ) (pages : ℕ) (whole : Whole list pages) (few : pages ≤ 64) where
+  opened-pages : pagesOn (opened list pages) ≡ pages
+  unfolding pagesOn opened
+  opened-pages =
+      rw (and-both (and-both (le-leb pages 64 few) (le-leb 2 _ (width-least list pages))) (le-leb _ 3 (width-most list pages)))
+
+  opened-force : inForce (opened list pages) ≡ list
+  unfolding inForce wordsOn opened
+  opened-force =
+      ap (λ (n : ℕ). take (n * widthOf (length list) pages) (list ++ drop (length list) (replicate 192 0))) opened-pages
+      ∙ take-at list (drop (length list) (replicate 192 0)) (pages * widthOf (length list) pages) (whole-long list pages whole)
+
+  opened-none : isInner (opened list pages) (opened list pages .page) ≡ false
+  unfolding isInner opened
+  opened-none = refl
+
+  pub opened-known : knownOf (opened list pages) ≡ atOpening list
+  unfolding pendingOn
+  opened-known = rw opened-none (ap atOpening opened-force)
+
+  pub opened-good : (bytes : List ℕ) → accepted (markOf bytes list) ≡ true → Good bytes (opened list pages)
+  opened-good bytes h =
+      record {
+        force = rw opened-force h;
+        pending = λ inner. let z : _≡_ {A = Bool} true false = sym inner ∙ opened-none in let y : _≡_ {A = ℕ} 0 1 = cc in absurd (omega arith);
+      }
