@@ -45,10 +45,13 @@ askDesk bytes page end d =
     (askMarked d page end (markOf bytes (altered d page end)))
     (askOff d page)
 
--- The list in force with what is pending, and none pending after it.
+-- Another list of as many pages is in force, and none is pending.
+abbrev pub putIn : Desk → List ℕ → Desk
+putIn d list = record { pages = d .pages; width = d .width; page = 0; end = d .end; list = list }
+
+-- The list in force with what is pending (document 02, S-7).
 abbrev pub committed : Desk → Desk
-committed d =
-    record { pages = d .pages; width = d .width; page = 0; end = d .end; list = withEnd (d .width) (d .list) (d .page) (d .end) }
+committed d = putIn d (withEnd (d .width) (d .list) (d .page) (d .end))
 
 -- What a commit leaves and answers: 24 with none pending, and nothing changes (document 02, S-7).
 abbrev pub commitBy : Bool → Desk → Done

@@ -5,3 +5,4 @@ pub mod Opening
 pub mod Desk
 pub mod Calls
 pub mod laws
+pub mod Promised

@@ -6,7 +6,7 @@ ghost use lib.ListN.{drop};
 ghost use Rattle.model.specs.Answers.{accepted};
 ghost use Rattle.marking.specs.Mark.{markOf};
 ghost use Rattle.desk.specs.Pages.{pagesOn, wordsOn, inForce};
-ghost use Rattle.desk.specs.Desk.{cleared, pended, afterAsk, askDesk, commitDesk};
+ghost use Rattle.desk.specs.Desk.{cleared, pended, putIn, afterAsk, askDesk, commitDesk};
 ghost use Rattle.desk.specs.Opening.{closed, Short, opened, openOn, openDesk};
 use galley::Reading;
 use model::answer::Answer;
@@ -51,17 +51,17 @@ fn close(d: Desk) -> Desk
     }
 }
 
-// A desk with so many pages and a new end pending; page 0 is none.
+// A desk with a page and its new end pending; page 0 is none.
 fn pend(d: Desk, page: u32, end: [u32; 3]) -> Desk
     ensures { λ r. ⌜ r ≡ pended d page end ⌝ }
 {
-    let list = d.list;
+    let force = d.list;
     Desk {
         pages: d.pages,
         width: d.width,
         page,
         end,
-        list,
+        list: force,
     }
 }
 
@@ -71,6 +71,21 @@ fn clear(d: Desk) -> Desk
 {
     let end = d.end;
     pend(d, 0, end)
+}
+
+// A desk with another list in force, of as many pages, and nothing pending.
+fn put(d: Desk, list: [u32; 192]) -> Desk
+    ensures { λ r. ⌜ r ≡ putIn d list ⌝ }
+{
+    let none = 0;
+    let end = d.end;
+    Desk {
+        pages: d.pages,
+        width: d.width,
+        page: none,
+        end,
+        list,
+    }
 }
 
 // A new desk with a list of so many pages.
@@ -182,13 +197,7 @@ pub fn commit(d: Desk) -> Done
     }
     let end = d.end;
     let list = pages::with_end(d, page, end);
-    let desk = Desk {
-        pages: d.pages,
-        width: d.width,
-        page: 0,
-        end,
-        list,
-    };
+    let desk = put(d, list);
     Done { desk, number: 0 }
 }
 

@@ -35,12 +35,13 @@ returns-2 : tie.Need-returns-2
 unfolding altered askDesk
 returns-2 c =
     simp (
-    ← c .before .before .before .before .before .before .is-inner .ensures,
-    not-false (c .before .before .before .before .before .before .is-inner .result) (c .before .before .before .before .before .if1 .left),
-    c .after-ask .ensures,
-    c .before .mark .ensures,
-    c .before .before .before .words-on .ensures,
-    c .before .before .before .before .with-end .ensures)
+      ← c .before .before .before .before .before .before .is-inner .ensures,
+      not-false (c .before .before .before .before .before .before .is-inner .result) (c .before .before .before .before .before .if1 .left),
+      c .after-ask .ensures,
+      c .before .mark .ensures,
+      c .before .before .before .words-on .ensures,
+      c .before .before .before .before .with-end .ensures,
+    )
 
 pub ask-spec : {M : Type 1} → statement M
 ask-spec =

@@ -17,7 +17,12 @@ with-end-requires c κs = sym (c .before .before .is-inner .ensures) ∙ not-fal
 returns-2 : tie.Need-returns-2
 unfolding commitDesk
 returns-2 c =
-    simp (← c .before .before .before .is-inner .ensures, not-false (c .before .before .before .is-inner .result) (c .before .before .if1 .left), ← c .with-end .ensures)
+    simp (
+      ← c .before .before .before .before .is-inner .ensures,
+      not-false (c .before .before .before .before .is-inner .result) (c .before .before .before .if1 .left),
+      c .put .ensures,
+      c .before .with-end .ensures,
+    )
 
 pub commit-spec : {M : Type 1} → statement M
-commit-spec = tie.close (tie.spec (λ c κs. search needs) returns with-end-requires returns-2)
+commit-spec = tie.close (tie.spec (λ c κs. search needs) returns with-end-requires (λ c κs. search needs) returns-2)

@@ -10,30 +10,33 @@ desk-of-requires : tie.Need-desk-of-requires
 desk-of-requires c κs =
     open-short (now (c .before .before .before .before .before .before .before .args .galley)) (now (c .before .before .before .before .before .before .before .args .list))
     (simp (
-    ← c .before .before .before .before .mark .ensures,
-    ← c .before .before .before .six-numbers .ensures,
-    ← c .before .before .is-accepted .ensures)
+      ← c .before .before .before .before .mark .ensures,
+      ← c .before .before .before .six-numbers .ensures,
+      ← c .before .before .is-accepted .ensures,
+    )
     (c .if1 .taken))
 
 returns : tie.Need-returns
 unfolding openOn
 returns c =
     simp (
-    ← c .before .before .before .before .before .mark .ensures,
-    ← c .before .before .before .before .six-numbers .ensures,
-    ← c .before .before .before .is-accepted .ensures,
-    c .before .if1 .taken,
-    ← c .desk-of .ensures)
+      ← c .before .before .before .before .before .mark .ensures,
+      ← c .before .before .before .before .six-numbers .ensures,
+      ← c .before .before .before .is-accepted .ensures,
+      c .before .if1 .taken,
+      ← c .desk-of .ensures,
+    )
 
 returns-2 : tie.Need-returns-2
 unfolding openOn
 returns-2 c =
     simp (
-    ← c .before .before .before .before .before .mark .ensures,
-    ← c .before .before .before .before .six-numbers .ensures,
-    ← c .before .before .before .is-accepted .ensures,
-    c .before .if1 .left,
-    ← c .close .ensures)
+      ← c .before .before .before .before .before .mark .ensures,
+      ← c .before .before .before .before .six-numbers .ensures,
+      ← c .before .before .before .is-accepted .ensures,
+      c .before .if1 .left,
+      ← c .close .ensures,
+    )
 
 pub open-read-spec : {M : Type 1} → statement M
 open-read-spec =

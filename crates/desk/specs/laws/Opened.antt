@@ -8,11 +8,10 @@ use lib.Dec.{leb}
 use lib.ListN.{length, take, drop, replicate}
 use lib.Seq.{take-at}
 use borrow.Author.Tests.{leb-true, le-leb}
-use Rattle.model.specs.declared.answer.Answer.{Answer}
 use Rattle.model.specs.declared.answer.Answer.the-variants.{Refused}
 use Rattle.model.specs.Answers.{numbersOf, accepted}
 use Rattle.model.specs.Gather.{pick}
-use Rattle.model.specs.laws.Gather.{and-left, and-right, and-both}
+use Rattle.model.specs.laws.Gather.{and-right, and-both}
 use Rattle.galley.specs.declared.Reading.{Reading}
 use Rattle.galley.specs.declared.Reading.the-variants as reads
 use Rattle.galley.specs.Whole.{galleyOf}
@@ -21,8 +20,8 @@ use Rattle.desk.specs.declared.Desk.{Desk}
 use Rattle.desk.specs.declared.Told.{Told}
 use Rattle.desk.specs.Pages.{pagesOn, wordsOn, inForce, isInner, widthOf}
 use Rattle.desk.specs.Opening.{closed, opened, openOn, openRead, openDesk}
-use Rattle.desk.specs.Calls.{Known, atOpening}
-use Rattle.desk.specs.laws.Opening.{Whole, accepted-whole, width-least, width-most, whole-long}
+use Rattle.desk.specs.Calls.{atOpening}
+use Rattle.desk.specs.laws.Opening.{Whole, width-least, width-most, whole-long}
 use Rattle.desk.specs.laws.Calls.{pendingOn, knownOf}
 use Rattle.desk.specs.laws.Accepted.{Good}
 

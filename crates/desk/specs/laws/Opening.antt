@@ -18,7 +18,6 @@ use Rattle.galley.specs.declared.Reading.{Reading}
 use Rattle.galley.specs.declared.Reading.the-variants as reads
 use Rattle.galley.specs.Whole.{galleyOf}
 use Rattle.galley.specs.Model.{modelOf}
-use Rattle.blocks.specs.Counts.{pageWords}
 use Rattle.blocks.specs.laws.Counts.{streams-of}
 use Rattle.marking.specs.Mark.{markRead, markOf}
 use Rattle.desk.specs.Opening.{Short}
