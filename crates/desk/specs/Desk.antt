@@ -10,13 +10,15 @@ use Rattle.model.specs.Answers.{accepted}
 use Rattle.model.specs.Gather.{pick}
 use Rattle.marking.specs.Mark.{markOf}
 use Rattle.desk.specs.declared.Desk.{Desk}
+use Rattle.desk.specs.declared.Layout.{Layout}
 use Rattle.desk.specs.declared.Told.{Told}
 use Rattle.desk.specs.declared.Done.{Done}
 use Rattle.desk.specs.Pages.{wordsOn, isInner, withEnd}
 
 -- A page and its new end are pending, in place of what was.
 abbrev pub pended : Desk → ℕ → List ℕ → Desk
-pended d page end = record { pages = d .pages; width = d .width; page = page; end = end; list = d .list }
+pended d page end =
+    record { pages = d .pages; width = d .width; page = page; end = end; list = d .list; layouts = d .layouts }
 
 -- None is pending, since there is no page 0.
 abbrev pub cleared : Desk → Desk
@@ -47,7 +49,13 @@ askDesk bytes page end d =
 
 -- Another list of as many pages is in force, and none is pending.
 abbrev pub putIn : Desk → List ℕ → Desk
-putIn d list = record { pages = d .pages; width = d .width; page = 0; end = d .end; list = list }
+putIn d list =
+    record { pages = d .pages; width = d .width; page = 0; end = d .end; list = list; layouts = d .layouts }
+
+-- There are other layouts.
+abbrev pub layIn : Desk → List Layout → Desk
+layIn d layouts =
+    record { pages = d .pages; width = d .width; page = d .page; end = d .end; list = d .list; layouts = layouts }
 
 -- The list in force with what is pending (document 02, S-7).
 abbrev pub committed : Desk → Desk

@@ -15,6 +15,7 @@ use Rattle.marking.specs.Mark.{markOf}
 use Rattle.desk.specs.declared.Desk.{Desk}
 use Rattle.desk.specs.declared.Told.{Told}
 use Rattle.desk.specs.Pages.{widthOf}
+use Rattle.desk.specs.Names.{freeLayout}
 
 -- A list that 192 words have room for.
 abbrev pub Short : List ℕ → Type 0
@@ -22,11 +23,13 @@ Short list = length list ≤ 192
 
 -- The desk of an opening that is refused: it has no pages, and nothing else of it changes (document 02, S-7).
 abbrev pub closed : Desk → Desk
-closed d = record { pages = 0; width = d .width; page = d .page; end = d .end; list = d .list }
+closed d =
+    record { pages = 0; width = d .width; page = d .page; end = d .end; list = d .list; layouts = d .layouts }
 
--- A desk with so many pages of so many words each, which stand in a list of 192 words, and nothing pending.
+-- A desk with so many pages of so many words each, which stand in a list of 192 words, nothing pending, and eight free layouts.
 abbrev pub fresh : ℕ → ℕ → List ℕ → Desk
-fresh pages width list = record { pages = pages; width = width; page = 0; end = 0 ∷ 0 ∷ 0 ∷ []; list = list }
+fresh pages width list =
+    record { pages = pages; width = width; page = 0; end = 0 ∷ 0 ∷ 0 ∷ []; list = list; layouts = replicate 8 freeLayout }
 
 -- The desk with a list of so many pages (document 02, S-7).
 unfoldable pub opened : List ℕ → ℕ → Desk

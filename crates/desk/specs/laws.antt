@@ -1,6 +1,8 @@
 -- The laws behind the desk.
 pub mod Words
 pub mod Pages
+pub mod Names
+pub mod Layouts
 pub mod Opening
 pub mod Calls
 pub mod Accepted

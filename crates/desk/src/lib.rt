@@ -1,20 +1,34 @@
-// The desk: another end of a page is tried on a list that the marking accepts, and committed. Document 02, S-7. A desk is plain
-// data of any contents, and there is no galley in it: whoever asks gives the bytes again.
+// The desk: another end of a page is tried on a list that the marking accepts, and committed; and layouts are saved under names to
+// come back to. Document 02, S-7 and S-8. A desk is plain data of any contents, and there is no galley in it: whoever asks gives the
+// bytes again.
 ghost use mathlib.Core.List.{_++_};
 ghost use mathlib.Core.Path.{_≡_};
 ghost use lib.ListN.{drop};
 ghost use Rattle.model.specs.Answers.{accepted};
 ghost use Rattle.marking.specs.Mark.{markOf};
 ghost use Rattle.desk.specs.Pages.{pagesOn, wordsOn, inForce};
-ghost use Rattle.desk.specs.Desk.{cleared, pended, putIn, afterAsk, askDesk, commitDesk};
+ghost use Rattle.desk.specs.Desk.{cleared, pended, putIn, layIn, afterAsk, askDesk, commitDesk};
+ghost use Rattle.desk.specs.Layouts.{saveDesk, backDesk, dropDesk};
 ghost use Rattle.desk.specs.Opening.{closed, Short, opened, openOn, openDesk};
 use galley::Reading;
 use model::answer::Answer;
 
+mod layouts; // layouts.rt: the layouts of a desk, by their names
+mod names; // names.rt: the names of layouts
 mod pages; // pages.rt: the pages of the list in force, and one of them with another end
 mod words; // words.rt: words copied over the first of others
 
-// The count of pages and the words of a page, what is pending, which is a page and its new end, and the list in force.
+// A list under a name: the bytes of the name, how many there are, and the words of the list. A layout whose name has no bytes is
+// free.
+#[repr(C)]
+pub struct Layout {
+    pub len: u32,
+    pub name: [u8; 16],
+    pub list: [u32; 192],
+}
+
+// The count of pages and the words of a page, what is pending, which is a page and its new end, the list in force, and eight layouts.
+// Count and words stand once: all lists of a desk have as many pages.
 #[repr(C)]
 pub struct Desk {
     pub pages: u32,
@@ -22,6 +36,7 @@ pub struct Desk {
     pub page: u32,
     pub end: [u32; 3],
     pub list: [u32; 192],
+    pub layouts: [Layout; 8],
 }
 
 // What a call leaves, with an answer like the marking's,
@@ -42,12 +57,14 @@ fn close(d: Desk) -> Desk
 {
     let end = d.end;
     let list = d.list;
+    let layouts = d.layouts;
     Desk {
         pages: 0,
         width: d.width,
         page: d.page,
         end,
         list,
+        layouts,
     }
 }
 
@@ -56,12 +73,14 @@ fn pend(d: Desk, page: u32, end: [u32; 3]) -> Desk
     ensures { λ r. ⌜ r ≡ pended d page end ⌝ }
 {
     let force = d.list;
+    let layouts = d.layouts;
     Desk {
         pages: d.pages,
         width: d.width,
         page,
         end,
         list: force,
+        layouts,
     }
 }
 
@@ -79,12 +98,30 @@ fn put(d: Desk, list: [u32; 192]) -> Desk
 {
     let none = 0;
     let end = d.end;
+    let layouts = d.layouts;
     Desk {
         pages: d.pages,
         width: d.width,
         page: none,
         end,
         list,
+        layouts,
+    }
+}
+
+// A desk with other layouts.
+fn lay(d: Desk, layouts: [Layout; 8]) -> Desk
+    ensures { λ r. ⌜ r ≡ layIn d layouts ⌝ }
+{
+    let end = d.end;
+    let list = d.list;
+    Desk {
+        pages: d.pages,
+        width: d.width,
+        page: d.page,
+        end,
+        list,
+        layouts,
     }
 }
 
@@ -97,12 +134,15 @@ fn desk_of(list: &[u32], pages: u32) -> Desk
     let mut all = [0; 192];
     words::copy_words(list, list.len(), &mut all);
     let end = [0; 3];
+    let free = layouts::free();
+    let layouts = [free; 8];
     Desk {
         pages,
         width,
         page: 0,
         end,
         list: all,
+        layouts,
     }
 }
 
@@ -209,4 +249,75 @@ pub fn list(d: Desk, pages: &mut [u32; 192]) -> u32
     let all = d.list;
     words::copy_words(&all, words, pages);
     pages::pages_on(d)
+}
+
+// The list in force kept under a name: 25 a bad name, then 27 where the name is not held and no layout is free.
+pub fn save(name: &[u8], d: Desk) -> Done
+    ensures { λ r. ⌜ r ≡ saveDesk (now (name .entry)) d ⌝ }
+{
+    if !names::is_name(name) {
+        return Done {
+            desk: d,
+            number: 25,
+        };
+    }
+    let old = d.layouts;
+    let at = layouts::room_for(old, name);
+    if at < 8 {
+        let list = d.list;
+        let layouts = layouts::with_layout(old, at, name, list);
+        let desk = lay(d, layouts);
+        return Done { desk, number: 0 };
+    }
+    Done {
+        desk: d,
+        number: 27,
+    }
+}
+
+// The layout under a name put in force, with nothing pending: 25 a bad name, then 26 where it is not held.
+pub fn back(name: &[u8], d: Desk) -> Done
+    ensures { λ r. ⌜ r ≡ backDesk (now (name .entry)) d ⌝ }
+{
+    if !names::is_name(name) {
+        return Done {
+            desk: d,
+            number: 25,
+        };
+    }
+    let all = d.layouts;
+    let at = layouts::find(all, name);
+    if at < 8 {
+        let layout = all[at];
+        let list = layout.list;
+        let desk = put(d, list);
+        return Done { desk, number: 0 };
+    }
+    Done {
+        desk: d,
+        number: 26,
+    }
+}
+
+// A name freed: 25 a bad name, then 26 where it is not held. On a desk of words that no call leaves, every layout under the name is.
+pub fn drop(name: &[u8], d: Desk) -> Done
+    ensures { λ r. ⌜ r ≡ dropDesk (now (name .entry)) d ⌝ }
+{
+    if !names::is_name(name) {
+        return Done {
+            desk: d,
+            number: 25,
+        };
+    }
+    let old = d.layouts;
+    let at = layouts::find(old, name);
+    if at < 8 {
+        let layouts = layouts::without(old, name);
+        let desk = lay(d, layouts);
+        return Done { desk, number: 0 };
+    }
+    Done {
+        desk: d,
+        number: 26,
+    }
 }
