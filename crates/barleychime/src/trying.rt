@@ -6,6 +6,7 @@ ghost use lib.ListN.{drop};
 ghost use Rattle.desk.specs.Pages.{pagesOn, wordsOn, inForce};
 ghost use Rattle.desk.specs.Opening.{openDesk};
 ghost use Rattle.desk.specs.Desk.{askDesk, commitDesk};
+ghost use Rattle.desk.specs.Layouts.{saveDesk, backDesk, dropDesk};
 ghost use Rattle.barleychime.specs.Eight.{eightOf};
 ghost use Rattle.barleychime.specs.Desk.{doneOf, numberAlone, pagesAlone, LeftTold, LeftDone};
 use desk::Desk;
@@ -68,6 +69,36 @@ fn list(d: Desk, pages: &mut [u32; 192], answer: &mut [u32; 8]) -> u32
     let p = desk::list(d, pages);
     *answer = [0, 0, p, 0, 0, 0, 0, 0];
     0
+}
+
+fn save(name: &[u8], d: Desk, answer: &mut [u32; 8]) -> Done
+    ensures { λ r. ⌜
+        (r ≡ saveDesk (now (name .entry)) d)
+        × (now (answer .exit) ≡ numberAlone (saveDesk (now (name .entry)) d .number))
+        ⌝ }
+{
+    let done = desk::save(name, d);
+    tell_number(done, answer)
+}
+
+fn back(name: &[u8], d: Desk, answer: &mut [u32; 8]) -> Done
+    ensures { λ r. ⌜
+        (r ≡ backDesk (now (name .entry)) d)
+        × (now (answer .exit) ≡ numberAlone (backDesk (now (name .entry)) d .number))
+        ⌝ }
+{
+    let done = desk::back(name, d);
+    tell_number(done, answer)
+}
+
+fn drop(name: &[u8], d: Desk, answer: &mut [u32; 8]) -> Done
+    ensures { λ r. ⌜
+        (r ≡ dropDesk (now (name .entry)) d)
+        × (now (answer .exit) ≡ numberAlone (dropDesk (now (name .entry)) d .number))
+        ⌝ }
+{
+    let done = desk::drop(name, d);
+    tell_number(done, answer)
 }
 
 // A desk opened on a galley and a list.
@@ -136,4 +167,40 @@ pub extern "C" fn barleychime_desk_list(
 {
     let d = *desk;
     list(d, pages, answer)
+}
+
+// The list in force kept under a name.
+#[no_mangle]
+pub extern "C" fn barleychime_desk_save(name: &[u8], desk: &mut Desk, answer: &mut [u32; 8]) -> u32
+    ensures { λ r. ⌜ LeftDone (saveDesk (now (name .entry)) (now (desk .entry))) r (now (desk .exit)) (now (answer .exit)) ⌝ }
+{
+    let d = *desk;
+    let r = save(name, d, answer);
+    let n = r.desk;
+    *desk = n;
+    r.number
+}
+
+// The layout under a name put in force.
+#[no_mangle]
+pub extern "C" fn barleychime_desk_back(name: &[u8], desk: &mut Desk, answer: &mut [u32; 8]) -> u32
+    ensures { λ r. ⌜ LeftDone (backDesk (now (name .entry)) (now (desk .entry))) r (now (desk .exit)) (now (answer .exit)) ⌝ }
+{
+    let d = *desk;
+    let r = back(name, d, answer);
+    let n = r.desk;
+    *desk = n;
+    r.number
+}
+
+// A name freed.
+#[no_mangle]
+pub extern "C" fn barleychime_desk_drop(name: &[u8], desk: &mut Desk, answer: &mut [u32; 8]) -> u32
+    ensures { λ r. ⌜ LeftDone (dropDesk (now (name .entry)) (now (desk .entry))) r (now (desk .exit)) (now (answer .exit)) ⌝ }
+{
+    let d = *desk;
+    let r = drop(name, d, answer);
+    let n = r.desk;
+    *desk = n;
+    r.number
 }

@@ -5,6 +5,7 @@ pub mod Names
 pub mod Opening
 pub mod Desk
 pub mod Layouts
+pub mod Held
 pub mod Calls
 pub mod laws
 pub mod Promised

@@ -3,6 +3,7 @@ pub mod Words
 pub mod Pages
 pub mod Names
 pub mod Layouts
+pub mod Held
 pub mod Opening
 pub mod Calls
 pub mod Accepted
