@@ -1,4 +1,4 @@
--- What is promised of every desk (document 02, S-7).
+-- What is promised of every desk (document 02, S-7 and S-8).
 use Prim.Native.Nat.{ℕ}
 use mathlib.Core.Bool.{Bool, true, false, _&&_}
 use mathlib.Core.List.{List, [], _∷_}
@@ -18,20 +18,28 @@ use Rattle.desk.specs.declared.Told.{Told}
 use Rattle.desk.specs.Pages.{pagesOn, inForce, isInner, withEnd}
 use Rattle.desk.specs.Opening.{closed, opened, openOn, openRead, openDesk}
 use Rattle.desk.specs.Desk.{askOff, askDesk, commitDesk}
-use Rattle.desk.specs.Calls.{Call, afterCalls, answered, Known, learnAll, atOpening}
+use Rattle.desk.specs.Names.{isName}
+use Rattle.desk.specs.Held.{heldOn}
+use Rattle.desk.specs.Calls.{Call, afterCalls, answered, Trying, learnAll, atOpening}
 use Rattle.desk.specs.laws.Opening.{accepted-whole}
-use Rattle.desk.specs.laws.Calls.{knownOf, Alike, calls-known, calls-alike}
-use Rattle.desk.specs.laws.Accepted.{calls-good}
-use Rattle.desk.specs.laws.Opened.{unrefused, opened-known, opened-good}
+use Rattle.desk.specs.laws.Calls.{Alike, calls-agree}
+use Rattle.desk.specs.laws.Accepted.{Taken, calls-good}
+use Rattle.desk.specs.laws.Opened.{unrefused, opened-agrees, opened-good}
 
--- After any calls the list in force is the opening one with exactly the committed ends altered, in order, as the calls and their
--- answers tell; the marking accepts it; and it has as many pages as the opening list, of as many words.
+-- After any calls: the list in force is the one last come back to, as then saved, else the opening one, with exactly the ends
+-- altered that were committed since, in order; a name not dropped since gives the list that was in force when it was last saved, and
+-- any other nothing; the marking accepts the list in force, and every layout held; and all have as many pages as the opening list, of
+-- as many words. `learnAll` says the first two by the calls and their answers alone. Without saving, coming back and dropping this is
+-- what S-7 asks.
 pub record Keeps (bytes list : List ℕ) (d : Desk) (calls : List Call) : Type 0 where
-  pub force : inForce (afterCalls bytes d calls) ≡ learnAll (d .width) (atOpening list) (answered bytes d calls) .force
+  pub force : inForce (afterCalls bytes d calls) ≡ learnAll (d .width) (atOpening list) (answered bytes d calls) .trying .force
+  pub held : (name : List ℕ) → isName name ≡ true
+      → heldOn (afterCalls bytes d calls) name ≡ learnAll (d .width) (atOpening list) (answered bytes d calls) .held name
   pub taken : accepted (markOf bytes (inForce (afterCalls bytes d calls))) ≡ true
+  pub heldTaken : (name : List ℕ) → isName name ≡ true → Taken bytes (heldOn (afterCalls bytes d calls) name)
   pub alike : Alike (afterCalls bytes d calls) d
 
--- So it is for every list of asks and commits from a desk that is opened unrefused, given the same galley each time.
+-- So it is for every list of calls on a desk that is opened unrefused, given the same galley each time.
 pub desk-keeps : (bytes list : List ℕ) (lent : Desk) → accepted (openDesk bytes list lent .answer) ≡ true → (calls : List Call)
     → Keeps bytes list (openDesk bytes list lent .desk) calls
 desk-keeps bytes list lent h calls =
@@ -39,13 +47,14 @@ desk-keeps bytes list lent h calls =
     let d = openDesk bytes list lent .desk in
     let so = unrefused bytes list lent h in
     let whole = accepted-whole bytes list (so .taken) in
-    let known : knownOf d ≡ atOpening list = ap knownOf (so .desk) ∙ opened-known list p whole (so .few) in
+    let known = calls-agree bytes d (atOpening list) (rw (so .desk) (opened-agrees list p whole (so .few))) calls in
+    let good = calls-good bytes d (rw (so .desk) (opened-good list p whole (so .few) bytes (so .taken))) calls in
     record {
-      force =
-          ap (λ (k : Known). k .force)
-          (calls-known bytes d calls ∙ ap (λ (k : Known). learnAll (d .width) k (answered bytes d calls)) known);
-      taken = calls-good bytes d (rw (so .desk) (opened-good list p whole (so .few) bytes (so .taken))) calls .force;
-      alike = calls-alike bytes d calls;
+      force = ap (λ (t : Trying). t .force) (known .0 .trying);
+      held = known .0 .held;
+      taken = good .force;
+      heldTaken = good .held;
+      alike = known .1;
     }
 
 -- A desk that is refused at opening has no pages, and nothing else of it changes.

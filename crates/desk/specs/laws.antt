@@ -5,6 +5,7 @@ pub mod Names
 pub mod Layouts
 pub mod Held
 pub mod Opening
+pub mod Trying
 pub mod Calls
 pub mod Accepted
 pub mod Opened

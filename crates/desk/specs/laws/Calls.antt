@@ -1,145 +1,220 @@
--- What each call does to what is known of a desk, whatever its words; and that the marking goes on accepting.
-use Prim.Native.Nat.{ℕ, zero, suc, _+_}
+-- What each call does to what is known of a desk, whatever its words.
+use Prim.Native.Nat.{ℕ, zero, suc, _<_}
+use native.Mathlib.Omega.{arith}
 use mathlib.Core.Bool.{Bool, true, false}
 use mathlib.Core.List.{List, [], _∷_}
-use mathlib.Core.Path.{_≡_, refl, ap, _∙_}
-use lib.Dec.{eqb}
-use lib.ListN.{getD, set, take}
-use Rattle.model.specs.declared.answer.Answer.{Answer}
-use Rattle.model.specs.Answers.{accepted}
+use mathlib.Core.Path.{_≡_, refl, sym, ap, ap₂, _∙_}
+use lib.Dec.{ltb}
+use lib.ListN.{length, getD, take}
+use borrow.Author.Tests.{ltb-true}
+use Rattle.model.specs.Answers.{accepted, same}
 use Rattle.model.specs.Gather.{pick}
 use Rattle.marking.specs.Mark.{markOf}
 use Rattle.desk.specs.declared.Desk.{Desk}
+use Rattle.desk.specs.declared.Layout.{Layout}
 use Rattle.desk.specs.declared.Told.{Told}
-use Rattle.desk.specs.Pages.{pagesOn, wordsOn, inForce, isInner, pageAt, twoSet, withEnd}
-use Rattle.desk.specs.Desk.{pended, cleared, altered, afterAsk, askMarked, askOff, askDesk, committed, commitBy, commitDesk}
-use Rattle.desk.specs.Calls.{Call, Ask, Commit, Committed, leaves, answers, afterCalls, answered, Pending, None, Page, pendingIn, Known, learn, learnAll}
-
--- The first words of a list with one word set are those words with it set.
-take-set : (n : ℕ) (l : List ℕ) (i a : ℕ) → take n (set l i a) ≡ set (take n l) i a
-take-set zero l i a = refl
-take-set (suc n) [] i a = refl
-take-set (suc n) (x ∷ l) zero a = refl
-take-set (suc n) (x ∷ l) (suc i) a = ap (λ (r : List ℕ). x ∷ r) (take-set n l i a)
-
--- So the first words with another end of a page are those of the list with that end.
-pub take-end : (n width : ℕ) (list : List ℕ) (page : ℕ) (end : List ℕ)
-    → take n (withEnd width list page end) ≡ withEnd width (take n list) page end
-unfolding withEnd
-take-end n width list page end = go (eqb width 3)
-  where
-    at : ℕ
-    at = pageAt width page
-
-    two : take n (twoSet list at end) ≡ twoSet (take n list) at end
-    two = simp take-set
-
-    go : (b : Bool) → take n (pick b (set (twoSet list at end) (at + 2) (getD end 2 0)) (twoSet list at end))
-        ≡ pick b (set (twoSet (take n list) at end) (at + 2) (getD end 2 0)) (twoSet (take n list) at end)
-    go true = take-set n (twoSet list at end) (at + 2) (getD end 2 0) ∙ ap (λ (l : List ℕ). set l (at + 2) (getD end 2 0)) two
-    go false = two
-
--- What the words of a desk say is pending,
-unfoldable pub pendingOn : Desk → Pending
-pendingOn d = pick (isInner d (d .page)) (Page (d .page) (d .end)) None
-
--- and what is known of it.
-abbrev pub knownOf : Desk → Known
-knownOf d = record { force = inForce d; pending = pendingOn d }
-
-module _ (d : Desk) where
-  -- A desk with another page pending has the list in force that it had, and that page pending where it is an inner one;
-  pended-known : (page : ℕ) (end : List ℕ) → isInner d page ≡ true
-      → knownOf (pended d page end) ≡ record { force = inForce d; pending = Page page end }
-  unfolding pendingOn inForce wordsOn pagesOn isInner
-  pended-known page end inner = rw inner
-
-  -- and a desk that is cleared has none, since there is no page 0.
-  cleared-known : knownOf (cleared d) ≡ record { force = inForce d; pending = None }
-  unfolding pendingOn inForce wordsOn pagesOn isInner
-  cleared-known = refl
-
-  after-known : (page : ℕ) (end : List ℕ) (answer : Answer) → isInner d page ≡ true
-      → knownOf (afterAsk d page end answer) ≡ record { force = inForce d; pending = pick (accepted answer) (Page page end) None }
-  unfolding afterAsk
-  after-known page end answer inner = go (accepted answer)
-    where
-      go : (b : Bool) → knownOf (pick b (pended d page end) (cleared d)) ≡ record { force = inForce d; pending = pick b (Page page end) None }
-      go true = pended-known page end inner
-      go false = cleared-known
-
-  -- What is known after an ask follows from what was known and what the ask answered.
-  ask-known : (bytes : List ℕ) (page : ℕ) (end : List ℕ)
-      → knownOf (leaves bytes d (Ask page end)) ≡ learn (d .width) (knownOf d) (answers bytes d (Ask page end))
-  unfolding askDesk
-  ask-known bytes page end = go (isInner d page) refl (markOf bytes (altered d page end))
-    where
-      told : Bool → Answer → Told
-      told b answer = pick b (askMarked d page end answer) (askOff d page)
-
-      go : (b : Bool) → isInner d page ≡ b → (answer : Answer)
-          → knownOf (told b answer .desk) ≡ record { force = inForce d; pending = pick (accepted (told b answer .answer)) (Page page end) None }
-      go true inner answer = after-known page end answer inner
-      go false outer answer = cleared-known
-
-  committed-known : isInner d (d .page) ≡ true
-      → knownOf (committed d) ≡ record { force = pendingIn (d .width) (inForce d) (pendingOn d); pending = None }
-  unfolding pendingOn inForce wordsOn pagesOn isInner
-  committed-known inner =
-      rw inner (ap (λ (list : List ℕ). record { force = list; pending = None }) (take-end (wordsOn d) (d .width) (d .list) (d .page) (d .end)))
-
-  -- What is known after a commit follows likewise.
-  commit-known : (bytes : List ℕ) → knownOf (leaves bytes d Commit) ≡ learn (d .width) (knownOf d) (answers bytes d Commit)
-  unfolding commitDesk
-  commit-known bytes = go (isInner d (d .page)) refl
-    where
-      go : (b : Bool) → isInner d (d .page) ≡ b → knownOf (commitBy b d .desk) ≡ learn (d .width) (knownOf d) (Committed (commitBy b d .number))
-      go true inner = committed-known inner
-      go false outer = refl
+use Rattle.desk.specs.declared.Done.{Done}
+use Rattle.desk.specs.Pages.{pagesOn, wordsOn, inForce, isInner}
+use Rattle.desk.specs.Names.{isName, findNamed, roomFor, noLayout}
+use Rattle.desk.specs.Desk.{pended, cleared, altered, afterAsk, askOff, askDesk, putIn, layIn, commitBy, commitDesk}
+use Rattle.desk.specs.Layouts.{refused, saved, cameBack, dropped, saveDesk, backDesk, dropDesk}
+use Rattle.desk.specs.Held.{Kept, Unheld, Held, heldIn, cut, heldOn}
+use Rattle.desk.specs.Calls.{Call, Ask, Commit, Save, Back, Drop, Saved, CameBack, Dropped, leaves, answers, afterCalls, answered}
+use Rattle.desk.specs.Calls.{None, Trying, Known, afterAsked, afterCommitted, listOr, learn, learnAll}
+use Rattle.desk.specs.laws.Held.{found-held, save-held, drop-held}
+use Rattle.desk.specs.laws.Trying.{pendingOn, tryingOf, ask-trying, commit-trying}
 
 -- Two desks have as many pages, of as many words.
 pub record Alike (d e : Desk) : Type 0 where
   pub pages : d .pages ≡ e .pages
   pub width : d .width ≡ e .width
 
--- No call changes the count of pages, nor the words of a page.
-leaves-alike : (bytes : List ℕ) (d : Desk) (call : Call) → Alike (leaves bytes d call) d
-unfolding askDesk afterAsk commitDesk
-leaves-alike bytes d (Ask page end) = go (isInner d page) (accepted (markOf bytes (altered d page end)))
+-- What is known of a desk is so: the list in force, what is pending, and what is held under each name.
+pub record Agrees (d : Desk) (known : Known) : Type 0 where
+  pub trying : tryingOf d ≡ known .trying
+  pub held : (name : List ℕ) → isName name ≡ true → heldOn d name ≡ known .held name
+
+-- One call leaves a desk with as many pages that is as its answer tells.
+pub record Follows (d after : Desk) (known : Known) : Type 0 where
+  pub alike : Alike after d
+  pub agrees : Agrees after known
+
+-- ---- asks and commits
+-- A desk has the layouts of another, and as many pages of as many words.
+record Lays (d e : Desk) : Type 0 where
+  alike : Alike d e
+  layouts : d .layouts ≡ e .layouts
+
+lays-held : (d e : Desk) → Lays d e → (name : List ℕ) → heldOn d name ≡ heldOn e name
+unfolding heldOn wordsOn pagesOn
+lays-held d e lays name = rw (lays .alike .pages, lays .alike .width, lays .layouts)
+
+ask-lays : (bytes : List ℕ) (d : Desk) (page : ℕ) (end : List ℕ) → Lays (askDesk bytes page end d .desk) d
+unfolding askDesk afterAsk
+ask-lays bytes d page end = go (isInner d page) (accepted (markOf bytes (altered d page end)))
   where
     told : Bool → Bool → Told
     told a b = pick a (record { desk = pick b (pended d page end) (cleared d); answer = markOf bytes (altered d page end) }) (askOff d page)
 
-    go : (a b : Bool) → Alike (told a b .desk) d
-    go true true = record { pages = refl; width = refl }
-    go true false = record { pages = refl; width = refl }
-    go false b = record { pages = refl; width = refl }
-leaves-alike bytes d Commit = go (isInner d (d .page))
+    go : (a b : Bool) → Lays (told a b .desk) d
+    go true true = record { alike = record { pages = refl; width = refl }; layouts = refl }
+    go true false = record { alike = record { pages = refl; width = refl }; layouts = refl }
+    go false b = record { alike = record { pages = refl; width = refl }; layouts = refl }
+
+commit-lays : (d : Desk) → Lays (commitDesk d .desk) d
+unfolding commitDesk
+commit-lays d = go (isInner d (d .page))
   where
-    go : (b : Bool) → Alike (commitBy b d .desk) d
-    go true = record { pages = refl; width = refl }
-    go false = record { pages = refl; width = refl }
+    go : (b : Bool) → Lays (commitBy b d .desk) d
+    go true = record { alike = record { pages = refl; width = refl }; layouts = refl }
+    go false = record { alike = record { pages = refl; width = refl }; layouts = refl }
 
-leaves-known : (bytes : List ℕ) (d : Desk) (call : Call)
-    → knownOf (leaves bytes d call) ≡ learn (d .width) (knownOf d) (answers bytes d call)
-leaves-known bytes d (Ask page end) = ask-known d bytes page end
-leaves-known bytes d Commit = commit-known d bytes
+-- ---- layouts
+module _ (name : List ℕ) (d : Desk) where
+  -- What is held after saving,
+  pub saved-held : roomFor (d .layouts) name < length (d .layouts) → (n : List ℕ) → isName n ≡ true
+      → heldOn (saved name d) n ≡ pick (same name n) (Held (inForce d)) (heldOn d n)
+  unfolding heldOn inForce wordsOn pagesOn
+  saved-held low n proper = ap (cut (wordsOn d)) (save-held (d .layouts) name (d .list) n proper low) ∙ go (same name n)
+    where
+      go : (b : Bool) → cut (wordsOn d) (pick b (Held (d .list)) (heldIn (d .layouts) n)) ≡ pick b (Held (inForce d)) (heldOn d n)
+      go true = refl
+      go false = refl
 
--- After any calls on a desk of any words, its list in force and what is pending are what the calls and their answers tell.
-pub calls-known : (bytes : List ℕ) (d : Desk) (calls : List Call)
-    → knownOf (afterCalls bytes d calls) ≡ learnAll (d .width) (knownOf d) (answered bytes d calls)
+  -- after dropping,
+  pub dropped-held : (n : List ℕ) → isName n ≡ true → heldOn (dropped name d) n ≡ pick (same name n) Unheld (heldOn d n)
+  unfolding heldOn wordsOn pagesOn
+  dropped-held n proper = ap (cut (wordsOn d)) (drop-held (d .layouts) name n proper) ∙ go (same name n)
+    where
+      go : (b : Bool) → cut (wordsOn d) (pick b Unheld (heldIn (d .layouts) n)) ≡ pick b Unheld (heldOn d n)
+      go true = refl
+      go false = refl
+
+  -- and what is in force after coming back: what was held.
+  pub back-held : findNamed (d .layouts) name < length (d .layouts) → heldOn d name ≡ Held (inForce (cameBack name d))
+  unfolding heldOn inForce wordsOn pagesOn
+  back-held low = ap (cut (wordsOn d)) (found-held name (d .layouts) low)
+
+  back-trying : tryingOf (cameBack name d) ≡ record { force = inForce (cameBack name d); pending = None }
+  unfolding pendingOn isInner
+  back-trying = refl
+
+  lay-trying : (layouts : List Layout) → tryingOf (layIn d layouts) ≡ tryingOf d
+  unfolding pendingOn inForce wordsOn pagesOn isInner
+  lay-trying layouts = refl
+
+  put-held : (list n : List ℕ) → heldOn (putIn d list) n ≡ heldOn d n
+  unfolding heldOn wordsOn pagesOn
+  put-held list n = refl
+
+-- ---- one call
+module _ (d : Desk) (known : Known) (so : Agrees d known) where
+  -- A refusal by a call that answers a number alone changes nothing.
+  stays : Follows d d (record { trying = known .trying; held = known .held })
+  stays = record { alike = record { pages = refl; width = refl }; agrees = record { trying = so .trying; held = so .held } }
+
+  module _ (name : List ℕ) where
+    save-follows : Follows d (saveDesk name d .desk) (learn (d .width) known (Saved name (saveDesk name d .number)))
+    unfolding saveDesk
+    save-follows = go (isName name) (ltb (roomFor (d .layouts) name) (length (d .layouts))) refl
+      where
+        done : Bool → Bool → Done
+        done a b = pick a (pick b (record { desk = saved name d; number = 0 }) (refused d 27)) (refused d 25)
+
+        go : (a b : Bool) → ltb (roomFor (d .layouts) name) (length (d .layouts)) ≡ b
+            → Follows d (done a b .desk) (learn (d .width) known (Saved name (done a b .number)))
+        go true true e =
+            record {
+              alike = record { pages = refl; width = refl };
+              agrees =
+                  record {
+                    trying = lay-trying name d _ ∙ so .trying;
+                    held = λ n proper.
+                        saved-held name d (ltb-true (roomFor (d .layouts) name) (length (d .layouts)) e) n proper
+                        ∙ ap₂ (λ (t : Trying) (k : Kept). pick (same name n) (Held (t .force)) k) (so .trying) (so .held n proper);
+                  };
+            }
+        go true false e = stays
+        go false b e = stays
+
+    back-follows : Follows d (backDesk name d .desk) (learn (d .width) known (CameBack name (backDesk name d .number)))
+    unfolding backDesk
+    back-follows = go (isName name) (ltb (findNamed (d .layouts) name) (length (d .layouts))) refl refl
+      where
+        done : Bool → Bool → Done
+        done a b = pick a (pick b (record { desk = cameBack name d; number = 0 }) (refused d 26)) (refused d 25)
+
+        go : (a b : Bool) → isName name ≡ a → ltb (findNamed (d .layouts) name) (length (d .layouts)) ≡ b
+            → Follows d (done a b .desk) (learn (d .width) known (CameBack name (done a b .number)))
+        go true true proper e =
+            let is = sym (so .held name proper) ∙ back-held name d (ltb-true (findNamed (d .layouts) name) (length (d .layouts)) e) in
+            record {
+              alike = record { pages = refl; width = refl };
+              agrees =
+                  record {
+                    trying =
+                        back-trying name d
+                        ∙ ap (λ (k : Kept). record { force = listOr (known .trying .force) k; pending = None }) (sym is);
+                    held = λ n p. put-held name d _ n ∙ so .held n p;
+                  };
+            }
+        go true false proper e = stays
+        go false b proper e = stays
+
+    drop-follows : Follows d (dropDesk name d .desk) (learn (d .width) known (Dropped name (dropDesk name d .number)))
+    unfolding dropDesk
+    drop-follows = go (isName name) (ltb (findNamed (d .layouts) name) (length (d .layouts)))
+      where
+        done : Bool → Bool → Done
+        done a b = pick a (pick b (record { desk = dropped name d; number = 0 }) (refused d 26)) (refused d 25)
+
+        go : (a b : Bool) → Follows d (done a b .desk) (learn (d .width) known (Dropped name (done a b .number)))
+        go true true =
+            record {
+              alike = record { pages = refl; width = refl };
+              agrees =
+                  record {
+                    trying = lay-trying name d _ ∙ so .trying;
+                    held = λ n proper. dropped-held name d n proper ∙ ap (pick (same name n) Unheld) (so .held n proper);
+                  };
+            }
+        go true false = stays
+        go false b = stays
+
+follows : (bytes : List ℕ) (d : Desk) (known : Known) → Agrees d known → (call : Call)
+    → Follows d (leaves bytes d call) (learn (d .width) known (answers bytes d call))
+follows bytes d known so (Ask page end) =
+    let lays = ask-lays bytes d page end in
+    record {
+      alike = lays .alike;
+      agrees =
+          record {
+            trying =
+                ask-trying d bytes page end
+                ∙ ap (λ (t : Trying). afterAsked t page end (askDesk bytes page end d .answer)) (so .trying);
+            held = λ n proper. lays-held (askDesk bytes page end d .desk) d lays n ∙ so .held n proper;
+          };
+    }
+follows bytes d known so Commit =
+    record {
+      alike = commit-lays d .alike;
+      agrees =
+          record {
+            trying = commit-trying d ∙ ap (λ (t : Trying). afterCommitted (d .width) t (commitDesk d .number)) (so .trying);
+            held = λ n proper. lays-held (commitDesk d .desk) d (commit-lays d) n ∙ so .held n proper;
+          };
+    }
+follows bytes d known so (Save name) = save-follows d known so name
+follows bytes d known so (Back name) = back-follows d known so name
+follows bytes d known so (Drop name) = drop-follows d known so name
+
+-- After any calls a desk is as they and their answers tell, and has as many pages as before, of as many words.
+pub calls-agree : (bytes : List ℕ) (d : Desk) (known : Known) → Agrees d known → (calls : List Call)
+    → (Agrees (afterCalls bytes d calls) (learnAll (d .width) known (answered bytes d calls))) × (Alike (afterCalls bytes d calls) d)
 unfolding afterCalls answered learnAll
-calls-known bytes d [] = refl
-calls-known bytes d (call ∷ calls) =
-    calls-known bytes (leaves bytes d call) calls
-    ∙ ap (λ (w : ℕ). learnAll w (knownOf (leaves bytes d call)) (answered bytes (leaves bytes d call) calls)) (leaves-alike bytes d call .width)
-    ∙ ap (λ (k : Known). learnAll (d .width) k (answered bytes (leaves bytes d call) calls)) (leaves-known bytes d call)
-
--- All lists of a desk have as many pages as its opening list, of as many words.
-pub calls-alike : (bytes : List ℕ) (d : Desk) (calls : List Call) → Alike (afterCalls bytes d calls) d
-unfolding afterCalls
-calls-alike bytes d [] = record { pages = refl; width = refl }
-calls-alike bytes d (call ∷ calls) =
-    let first = leaves-alike bytes d call in
-    let after = calls-alike bytes (leaves bytes d call) calls in
-    record { pages = after .pages ∙ first .pages; width = after .width ∙ first .width }
+calls-agree bytes d known so [] = (so, record { pages = refl; width = refl })
+calls-agree bytes d known so (call ∷ calls) =
+    let one = follows bytes d known so call in
+    let after = calls-agree bytes (leaves bytes d call) (learn (d .width) known (answers bytes d call)) (one .agrees) calls in
+    let first = one .alike in
+    (rw (first .width) at (after .0), record { pages = after .1 .pages ∙ first .pages; width = after .1 .width ∙ first .width })

@@ -40,7 +40,7 @@ other-name v a b h differ =
     false-of (isNamed v b) (λ k. apart (same a b) (subst (λ (n : List ℕ). same a n ≡ true) (named-one v a b h k) (same-refl a)) differ)
 
 -- A layout whose name has no bytes is under no name.
-free-unnamed : (v : Layout) (n : List ℕ) → isName n ≡ true → v .len ≡ 0 → isNamed v n ≡ false
+pub free-unnamed : (v : Layout) (n : List ℕ) → isName n ≡ true → v .len ≡ 0 → isNamed v n ≡ false
 unfolding isNamed
 free-unnamed v n proper none =
     let some = name-some n proper in
@@ -102,6 +102,21 @@ module _ (name : List ℕ) where
   held-other (v ∷ vs) zero w h was = rw (h, was)
   held-other (v ∷ vs) (suc k) w h was = ap (pick (isNamed v name) (Held (v .list))) (held-other vs k w h was)
 
+-- No name has no bytes.
+none-same : (n : List ℕ) → isName n ≡ true → same [] n ≡ false
+unfolding same
+none-same [] proper = let some = name-some [] proper in absurd (omega arith)
+none-same (x ∷ n) proper = refl
+
+-- A layout is freed where it is under the name, and stays as it is elsewhere.
+freed-hit : (name : List ℕ) (v : Layout) → isNamed v name ≡ true → freed name v ≡ record { len = 0; name = v .name; list = v .list }
+unfolding freed
+freed-hit name v h = rw h
+
+freed-miss : (name : List ℕ) (v : Layout) → isNamed v name ≡ false → freed name v ≡ v
+unfolding freed
+freed-miss name v h = rw h
+
 -- ---- by calls
 -- Where a list is kept the layout was under its name or free, and none before it was under its name.
 pub record Room (vs : List Layout) (name : List ℕ) (k : ℕ) : Type 0 where
@@ -125,22 +140,12 @@ room-is vs name = go (ltb (findNamed vs name) (length vs)) refl
           first = omega arith;
           was = λ n proper differ. other-name (getD vs (findNamed vs []) noLayout) [] n (found-named [] vs low) (none-same n proper);
         }
-      where
-        none-same : (n : List ℕ) → isName n ≡ true → same [] n ≡ false
-        unfolding same
-        none-same n proper = ?
 
 -- Saving keeps the list under the name, and what is held under any other.
 pub save-held : (vs : List Layout) (name list n : List ℕ) → isName n ≡ true → roomFor vs name < length vs
     → heldIn (set vs (roomFor vs name) (layoutOf name list)) n ≡ pick (same name n) (Held list) (heldIn vs n)
 save-held vs name list n proper low = go (same name n) refl
   where
-    k : ℕ
-    k = roomFor vs name
-
-    w : Layout
-    w = layoutOf name list
-
     go : (b : Bool) → same name n ≡ b → heldIn (set vs (roomFor vs name) (layoutOf name list)) n ≡ pick b (Held list) (heldIn vs n)
     go true e =
         subst (λ (m : List ℕ). heldIn (set vs (roomFor vs name) (layoutOf name list)) m ≡ Held list) (same-true name n e)
@@ -159,13 +164,13 @@ drop-held [] name n proper = go (same name n)
     go false = refl
 drop-held (v ∷ vs) name n proper = go (isNamed v name) (same name n) refl refl (drop-held vs name n proper)
   where
-    after : List Layout
-    after = map (freed name) vs
-
     go : (a b : Bool) → isNamed v name ≡ a → same name n ≡ b → heldIn (map (freed name) vs) n ≡ pick b Unheld (heldIn vs n)
         → pick (isNamed (freed name v) n) (Held (freed name v .list)) (heldIn (map (freed name) vs) n)
         ≡ pick b Unheld (pick (isNamed v n) (Held (v .list)) (heldIn vs n))
-    go true true e f rest = ?
-    go true false e f rest = ?
-    go false true e f rest = ?
-    go false false e f rest = ?
+    go true true e f rest =
+        rw (freed-hit name v e, free-unnamed (record { len = 0; name = v .name; list = v .list }) n proper refl) rest
+    go true false e f rest =
+        rw (freed-hit name v e, free-unnamed (record { len = 0; name = v .name; list = v .list }) n proper refl, other-name v name n e f) rest
+    go false true e f rest =
+        rw (freed-miss name v e, subst (λ (m : List ℕ). isNamed v m ≡ false) (same-true name n f) e) rest
+    go false false e f rest = rw (freed-miss name v e) (ap (pick (isNamed v n) (Held (v .list))) rest)

@@ -1,9 +1,9 @@
 -- A desk that is opened unrefused: its list in force is the opening one, and nothing is pending.
-use Prim.Native.Nat.{ℕ, _*_, _≤_}
+use Prim.Native.Nat.{ℕ, zero, suc, _*_, _≤_}
 use native.Mathlib.Omega.{arith}
 use mathlib.Core.Bool.{Bool, true, false, _&&_}
 use mathlib.Core.List.{List, _++_}
-use mathlib.Core.Path.{_≡_, refl, sym, ap, _∙_}
+use mathlib.Core.Path.{_≡_, refl, sym, ap, subst⁻¹, _∙_}
 use lib.Dec.{leb}
 use lib.ListN.{length, take, drop, replicate}
 use lib.Seq.{take-at}
@@ -20,10 +20,14 @@ use Rattle.desk.specs.declared.Desk.{Desk}
 use Rattle.desk.specs.declared.Told.{Told}
 use Rattle.desk.specs.Pages.{pagesOn, wordsOn, inForce, isInner, widthOf}
 use Rattle.desk.specs.Opening.{closed, opened, openOn, openRead, openDesk}
-use Rattle.desk.specs.Calls.{atOpening}
+use Rattle.desk.specs.Names.{isName, freeLayout}
+use Rattle.desk.specs.Held.{Unheld, heldIn, cut, heldOn}
+use Rattle.desk.specs.Calls.{None, atOpening}
+use Rattle.desk.specs.laws.Held.{free-unnamed}
 use Rattle.desk.specs.laws.Opening.{Whole, width-least, width-most, whole-long}
-use Rattle.desk.specs.laws.Calls.{pendingOn, knownOf}
-use Rattle.desk.specs.laws.Accepted.{Good}
+use Rattle.desk.specs.laws.Trying.{pendingOn, tryingOf}
+use Rattle.desk.specs.laws.Calls.{Agrees}
+use Rattle.desk.specs.laws.Accepted.{Taken, Good}
 
 -- The desk is the one with the list and as many pages as the marking counts, which are at most 64.
 pub record Opened (bytes list : List ℕ) (d : Desk) : Type 0 where
@@ -51,6 +55,12 @@ unrefused bytes list lent = go (galleyOf bytes)
     go (reads.Galley g) h = on (accepted (markOf bytes list) && leb p 64) refl h
     go (reads.Refused number place) h = let z : _≡_ {A = ℕ} 0 1 = cc in absurd (omega arith)
 
+-- Free layouts hold nothing.
+none-held : (name : List ℕ) → isName name ≡ true → (n : ℕ) → heldIn (replicate n freeLayout) name ≡ Unheld
+unfolding heldIn
+none-held name proper zero = refl
+none-held name proper (suc n) = rw (free-unnamed freeLayout name proper refl) (none-held name proper n)
+
 module _ (list : List ℕ) (pages : ℕ) (whole : Whole list pages) (few : pages ≤ 64) where
   opened-pages : pagesOn (opened list pages) ≡ pages
   unfolding pagesOn opened
@@ -67,13 +77,22 @@ module _ (list : List ℕ) (pages : ℕ) (whole : Whole list pages) (few : pages
   unfolding isInner opened
   opened-none = refl
 
-  pub opened-known : knownOf (opened list pages) ≡ atOpening list
+  -- Nothing is held: every layout is free.
+  opened-held : (name : List ℕ) → isName name ≡ true → heldOn (opened list pages) name ≡ Unheld
+  unfolding heldOn opened
+  opened-held name proper = ap (cut (wordsOn (opened list pages))) (none-held name proper 8)
+
+  opened-trying : tryingOf (opened list pages) ≡ atOpening list .trying
   unfolding pendingOn
-  opened-known = rw opened-none (ap atOpening opened-force)
+  opened-trying = rw opened-none (ap (λ (force : List ℕ). record { force = force; pending = None }) opened-force)
+
+  pub opened-agrees : Agrees (opened list pages) (atOpening list)
+  opened-agrees = record { trying = opened-trying; held = opened-held }
 
   pub opened-good : (bytes : List ℕ) → accepted (markOf bytes list) ≡ true → Good bytes (opened list pages)
   opened-good bytes h =
       record {
         force = rw opened-force h;
         pending = λ inner. let z : _≡_ {A = Bool} true false = sym inner ∙ opened-none in let y : _≡_ {A = ℕ} 0 1 = cc in absurd (omega arith);
+        held = λ name proper. subst⁻¹ (Taken bytes) (opened-held name proper) tt;
       }
