@@ -9,3 +9,4 @@ pub mod Trying
 pub mod Calls
 pub mod Accepted
 pub mod Opened
+pub mod Long

@@ -66,10 +66,11 @@ fn freed_of(layout: Layout, name: &[u8]) -> Layout
     ensures { λ r. ⌜ r ≡ freed (now (name .entry)) layout ⌝ }
 {
     if names::is_named(layout, name) {
+        let gone = 0;
         let bytes = layout.name;
         let list = layout.list;
         return Layout {
-            len: 0,
+            len: gone,
             name: bytes,
             list,
         };
