@@ -22,11 +22,12 @@ returns-2 c =
     let eight = c .before .before .before .before .find .ensures .1 in
     let low = c .before .before .before .if2 .taken in
     simp (
-    ← c .before .before .before .before .before .before .before .is-name .ensures,
-    not-false (c .before .before .before .before .before .before .before .is-name .result) (c .before .before .before .before .before .before .if1 .left),
-    ← c .before .before .before .before .find .ensures .0,
-    lt-ltb (c .before .before .before .before .find .result) (length (c .before .before .before .before .before .before .before .before .before .args .d .layouts)) (omega arith),
-    c .put .ensures)
+      ← c .before .before .before .before .before .before .before .is-name .ensures,
+      not-false (c .before .before .before .before .before .before .before .is-name .result) (c .before .before .before .before .before .before .if1 .left),
+      ← c .before .before .before .before .find .ensures .0,
+      lt-ltb (c .before .before .before .before .find .result) (length (c .before .before .before .before .before .before .before .before .before .args .d .layouts)) (omega arith),
+      c .put .ensures,
+    )
 
 returns-3 : tie.Need-returns-3
 unfolding backDesk
@@ -34,13 +35,14 @@ returns-3 c =
     let eight = c .before .find .ensures .1 in
     let high = c .if2 .left in
     simp (
-    ← c .before .before .before .before .is-name .ensures,
-    not-false (c .before .before .before .before .is-name .result) (c .before .before .before .if1 .left),
-    ← c .before .find .ensures .0,
-    le-ltb (c .before .find .result) (length (c .before .before .before .before .before .before .args .d .layouts)) (omega arith))
+      ← c .before .before .before .before .is-name .ensures,
+      not-false (c .before .before .before .before .is-name .result) (c .before .before .before .if1 .left),
+      ← c .before .find .ensures .0,
+      le-ltb (c .before .find .result) (length (c .before .before .before .before .before .before .args .d .layouts)) (omega arith),
+    )
 
 pub back-spec : {M : Type 1} → statement M
-back-spec = tie.close (tie.spec 
+back-spec = tie.close (tie.spec
     (λ c κs. search needs)
     returns
     find-requires

@@ -26,12 +26,13 @@ returns-2 c =
     let eight = c .before .before .before .before .room-for .ensures .1 in
     let low = c .before .before .before .if2 .taken in
     simp (
-    ← c .before .before .before .before .before .before .before .is-name .ensures,
-    not-false (c .before .before .before .before .before .before .before .is-name .result) (c .before .before .before .before .before .before .if1 .left),
-    ← c .before .before .before .before .room-for .ensures .0,
-    lt-ltb (c .before .before .before .before .room-for .result) (length (c .before .before .before .before .before .before .before .before .before .args .d .layouts)) (omega arith),
-    c .lay .ensures,
-    c .before .with-layout .ensures)
+      ← c .before .before .before .before .before .before .before .is-name .ensures,
+      not-false (c .before .before .before .before .before .before .before .is-name .result) (c .before .before .before .before .before .before .if1 .left),
+      ← c .before .before .before .before .room-for .ensures .0,
+      lt-ltb (c .before .before .before .before .room-for .result) (length (c .before .before .before .before .before .before .before .before .before .args .d .layouts)) (omega arith),
+      c .lay .ensures,
+      c .before .with-layout .ensures,
+    )
 
 returns-3 : tie.Need-returns-3
 unfolding saveDesk
@@ -39,13 +40,14 @@ returns-3 c =
     let eight = c .before .room-for .ensures .1 in
     let high = c .if2 .left in
     simp (
-    ← c .before .before .before .before .is-name .ensures,
-    not-false (c .before .before .before .before .is-name .result) (c .before .before .before .if1 .left),
-    ← c .before .room-for .ensures .0,
-    le-ltb (c .before .room-for .result) (length (c .before .before .before .before .before .before .args .d .layouts)) (omega arith))
+      ← c .before .before .before .before .is-name .ensures,
+      not-false (c .before .before .before .before .is-name .result) (c .before .before .before .if1 .left),
+      ← c .before .room-for .ensures .0,
+      le-ltb (c .before .room-for .result) (length (c .before .before .before .before .before .before .args .d .layouts)) (omega arith),
+    )
 
 pub save-spec : {M : Type 1} → statement M
-save-spec = tie.close (tie.spec 
+save-spec = tie.close (tie.spec
     (λ c κs. search needs)
     returns
     room-for-requires

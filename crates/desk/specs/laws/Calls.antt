@@ -1,11 +1,10 @@
 -- What each call does to what is known of a desk, whatever its words.
-use Prim.Native.Nat.{ℕ, zero, suc, _<_}
-use native.Mathlib.Omega.{arith}
+use Prim.Native.Nat.{ℕ, _<_}
 use mathlib.Core.Bool.{Bool, true, false}
 use mathlib.Core.List.{List, [], _∷_}
 use mathlib.Core.Path.{_≡_, refl, sym, ap, ap₂, _∙_}
 use lib.Dec.{ltb}
-use lib.ListN.{length, getD, take}
+use lib.ListN.{length}
 use borrow.Author.Tests.{ltb-true}
 use Rattle.model.specs.Answers.{accepted, same}
 use Rattle.model.specs.Gather.{pick}
@@ -15,7 +14,7 @@ use Rattle.desk.specs.declared.Layout.{Layout}
 use Rattle.desk.specs.declared.Told.{Told}
 use Rattle.desk.specs.declared.Done.{Done}
 use Rattle.desk.specs.Pages.{pagesOn, wordsOn, inForce, isInner}
-use Rattle.desk.specs.Names.{isName, findNamed, roomFor, noLayout}
+use Rattle.desk.specs.Names.{isName, findNamed, roomFor}
 use Rattle.desk.specs.Desk.{pended, cleared, altered, afterAsk, askOff, askDesk, putIn, layIn, commitBy, commitDesk}
 use Rattle.desk.specs.Layouts.{refused, saved, cameBack, dropped, saveDesk, backDesk, dropDesk}
 use Rattle.desk.specs.Held.{Kept, Unheld, Held, heldIn, cut, heldOn}

@@ -7,14 +7,14 @@ use mathlib.Core.Path.{_≡_, refl, sym, ap, subst, _∙_}
 use lib.Dec.{eqb, ltb}
 use lib.ListN.{length, getD, set, take, drop, replicate}
 use lib.Seq.{take-at}
-use borrow.Author.Tests.{eqb-true, eqb-false, ne-eqb, ltb-true, ltb-false}
+use borrow.Author.Tests.{eqb-true, eqb-false, ne-eqb, ltb-false}
 use Rattle.model.specs.Answers.{same}
 use Rattle.model.specs.Gather.{pick}
 use Rattle.model.specs.laws.Gather.{and-left, and-right}
 use Rattle.model.specs.laws.Valid.{same-true, same-refl}
 use Rattle.desk.specs.declared.Layout.{Layout}
 use Rattle.desk.specs.Names.{isName, isNamed, findNamed, roomFor, padded, layoutOf, noLayout, freed}
-use Rattle.desk.specs.Held.{Kept, Unheld, Held, heldIn}
+use Rattle.desk.specs.Held.{Unheld, Held, heldIn}
 use Rattle.desk.specs.laws.Names.{name-some}
 
 -- One of two is not the other.

@@ -1,8 +1,8 @@
 -- Names compared byte by byte.
-use Prim.Native.Nat.{ℕ, zero, suc, _+_, _≤_, _<_}
+use Prim.Native.Nat.{ℕ, suc, _+_, _≤_, _<_}
 use native.Mathlib.Numerals.{add-one}
 use native.Mathlib.Omega.{arith}
-use mathlib.Core.Bool.{Bool, true, false, _&&_}
+use mathlib.Core.Bool.{true, false, _&&_}
 use mathlib.Core.List.{List, [], _∷_}
 use mathlib.Core.Path.{_≡_, refl, sym, ap, _∙_}
 use lib.Dec.{eqb, leb}
@@ -10,9 +10,8 @@ use lib.ListN.{length, getD, take, drop}
 use lib.Seq.{length-take-le, drop-cons, drop-length, getD-take}
 use borrow.Author.Tests.{leb-true, eq-eqb, ne-eqb}
 use Rattle.model.specs.Answers.{same}
-use Rattle.desk.specs.declared.Layout.{Layout}
 use Rattle.model.specs.laws.Gather.{and-left, and-right}
-use Rattle.desk.specs.Names.{isName, isNamed}
+use Rattle.desk.specs.Names.{isName}
 
 -- A name has a byte, and at most 16.
 pub name-some : (name : List ℕ) → isName name ≡ true → 1 ≤ length name

@@ -1,8 +1,7 @@
 -- `find` meets its contract. The invariant: the layout that is sought is not before number `at`.
-use Prim.Native.Nat.{ℕ, _-_}
+use Prim.Native.Nat.{_-_}
 use borrow.Author.Needs.{needs}
-use mathlib.Core.Path.{_≡_, sym, _∙_}
-use lib.ListN.{length}
+use mathlib.Core.Path.{sym, _∙_}
 use Rattle.desk.specs.laws.Layouts.{Seeking, seek-starts, seek-here, seek-goes-on, seek-ends}
 use Rattle.desk.proofs.layouts.find.Statement.{statement}
 use Rattle.desk.proofs.layouts.find.Tie as tie
@@ -18,9 +17,10 @@ loop-holds c = seek-starts _ _ (search needs)
 
 returns : tie.Need-returns Inv-loop μ-loop
 returns c =
-    let so-far = c .before .before .before .before .loop .inv in
-    (seek-here _ _ so-far (c .before .before .before .loop-test .taken) _ (sym (c .before .is-named .ensures) ∙ c .if1 .taken),
-    so-far .eight)
+    let so-far = c .before .before .before .before .loop .inv in (
+      seek-here _ _ so-far (c .before .before .before .loop-test .taken) _ (sym (c .before .is-named .ensures) ∙ c .if1 .taken),
+      so-far .eight,
+    )
 
 loop-again : tie.Need-loop-again Inv-loop μ-loop
 loop-again c =

@@ -20,11 +20,14 @@ unfolding roomFor
 returns-2 c =
     let found = c .before .before .before .find .ensures in
     let eight = found .1 in
-    let high = c .before .before .if1 .left in
-    (simp (
-    ← found .0,
-    le-ltb (c .before .before .before .find .result) (length (c .before .before .before .before .before .args .layouts)) (omega arith))
-    (c .find2 .ensures .0), eight)
+    let high = c .before .before .if1 .left in (
+      simp (
+        ← found .0,
+        le-ltb (c .before .before .before .find .result) (length (c .before .before .before .before .before .args .layouts)) (omega arith),
+      )
+          (c .find2 .ensures .0),
+      eight,
+    )
 
 pub room-for-spec : {M : Type 1} → statement M
 room-for-spec = tie.close (tie.spec (λ c κs. search needs) returns (λ c. search needs) (λ c κs. search needs) returns-2)

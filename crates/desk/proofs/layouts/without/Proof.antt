@@ -1,5 +1,5 @@
 -- `without` meets its contract. The invariant: the layouts before number `at` are freed of the name, the others are as they were.
-use Prim.Native.Nat.{ℕ, _-_}
+use Prim.Native.Nat.{_-_}
 use borrow.Author.Needs.{needs}
 use Rattle.desk.specs.laws.Layouts.{Freeing, free-starts, free-goes-on, free-ends}
 use Rattle.desk.proofs.layouts.without.Statement.{statement}

@@ -1,11 +1,10 @@
 -- `is_named` meets its contract. The invariant: the bytes before number `i` are the same, so that the rest decides.
-use Prim.Native.Nat.{ℕ, _-_}
+use Prim.Native.Nat.{_-_}
 use borrow.Author.Needs.{needs}
 use borrow.Author.Tests.{eq-eqb, ne-eqb}
 use native.Mathlib.Omega.{arith}
 use mathlib.Core.Path.{_≡_}
 use lib.ListN.{length}
-use denote.Ref.{now}
 use Rattle.desk.specs.Names.{isNamed}
 use Rattle.desk.specs.laws.Names.{Matching, match-starts, match-differs, match-goes-on, match-ends}
 use Rattle.desk.proofs.names.is_named.Statement.{statement}
