@@ -1,3 +1,4 @@
 pub mod Words
 pub mod Section
 pub mod Forecast
+pub mod Desk

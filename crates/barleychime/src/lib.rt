@@ -7,6 +7,7 @@ use model::answer::Answer;
 pub mod beforehand; // beforehand.rt: what a galley asks for, told beforehand
 pub mod section; // section.rt: the folding order of a section
 pub mod term; // term.rt: the report on marks
+pub mod trying; // trying.rt: the desk
 
 // An answer told to the caller: its numbers and the count of what is weighed in nine words, W the last, and its number, which is 0 for a
 // success.

@@ -1,0 +1,12 @@
+-- The laws behind the desk.
+pub mod Words
+pub mod Pages
+pub mod Names
+pub mod Layouts
+pub mod Held
+pub mod Opening
+pub mod Trying
+pub mod Calls
+pub mod Accepted
+pub mod Opened
+pub mod Long
