@@ -7,15 +7,15 @@ ghost use Rattle.desk.specs.Pages.{pagesOn, wordsOn, inForce};
 ghost use Rattle.desk.specs.Opening.{openDesk};
 ghost use Rattle.desk.specs.Desk.{askDesk, commitDesk};
 ghost use Rattle.desk.specs.Layouts.{saveDesk, backDesk, dropDesk};
-ghost use Rattle.barleychime.specs.Eight.{eightOf};
+ghost use Rattle.barleychime.specs.Words.{answerWords};
 ghost use Rattle.barleychime.specs.Desk.{doneOf, numberAlone, pagesAlone, LeftTold, LeftDone};
 use desk::Desk;
 use desk::Done;
 use desk::Told;
 
-// An answer like the marking's, told in eight words.
-fn tell(told: Told, words: &mut [u32; 8]) -> Done
-    ensures { λ r. ⌜ (r ≡ doneOf told) × (now (words .exit) ≡ eightOf (told .answer) 0) ⌝ }
+// An answer like the marking's, told in nine words.
+fn tell(told: Told, words: &mut [u32; 9]) -> Done
+    ensures { λ r. ⌜ (r ≡ doneOf told) × (now (words .exit) ≡ answerWords (told .answer) 0) ⌝ }
 {
     let answer = told.answer;
     let desk = told.desk;
@@ -23,28 +23,28 @@ fn tell(told: Told, words: &mut [u32; 8]) -> Done
     Done { desk, number }
 }
 
-// A number alone, told in eight words.
-fn tell_number(done: Done, words: &mut [u32; 8]) -> Done
+// A number alone, told in nine words.
+fn tell_number(done: Done, words: &mut [u32; 9]) -> Done
     ensures { λ r. ⌜ (r ≡ done) × (now (words .exit) ≡ numberAlone (done .number)) ⌝ }
 {
-    *words = [done.number, 0, 0, 0, 0, 0, 0, 0];
+    *words = [done.number, 0, 0, 0, 0, 0, 0, 0, 0];
     done
 }
 
-fn open(galley: &[u8], list: &[u32], d: Desk, answer: &mut [u32; 8]) -> Done
+fn open(galley: &[u8], list: &[u32], d: Desk, answer: &mut [u32; 9]) -> Done
     ensures { λ r. ⌜
         (r ≡ doneOf (openDesk (now (galley .entry)) (now (list .entry)) d))
-        × (now (answer .exit) ≡ eightOf (openDesk (now (galley .entry)) (now (list .entry)) d .answer) 0)
+        × (now (answer .exit) ≡ answerWords (openDesk (now (galley .entry)) (now (list .entry)) d .answer) 0)
         ⌝ }
 {
     let told = desk::open(galley, list, d);
     tell(told, answer)
 }
 
-fn ask(galley: &[u8], page: u32, end: &[u32; 3], d: Desk, answer: &mut [u32; 8]) -> Done
+fn ask(galley: &[u8], page: u32, end: &[u32; 3], d: Desk, answer: &mut [u32; 9]) -> Done
     ensures { λ r. ⌜
         (r ≡ doneOf (askDesk (now (galley .entry)) page (now (end .entry)) d))
-        × (now (answer .exit) ≡ eightOf (askDesk (now (galley .entry)) page (now (end .entry)) d .answer) 0)
+        × (now (answer .exit) ≡ answerWords (askDesk (now (galley .entry)) page (now (end .entry)) d .answer) 0)
         ⌝ }
 {
     let e = *end;
@@ -52,14 +52,14 @@ fn ask(galley: &[u8], page: u32, end: &[u32; 3], d: Desk, answer: &mut [u32; 8])
     tell(told, answer)
 }
 
-fn commit(d: Desk, answer: &mut [u32; 8]) -> Done
+fn commit(d: Desk, answer: &mut [u32; 9]) -> Done
     ensures { λ r. ⌜ (r ≡ commitDesk d) × (now (answer .exit) ≡ numberAlone (commitDesk d .number)) ⌝ }
 {
     let done = desk::commit(d);
     tell_number(done, answer)
 }
 
-fn list(d: Desk, pages: &mut [u32; 192], answer: &mut [u32; 8]) -> u32
+fn list(d: Desk, pages: &mut [u32; 192], answer: &mut [u32; 9]) -> u32
     ensures { λ r. ⌜
         (r ≡ 0)
         × (now (pages .exit) ≡ inForce d ++ drop (wordsOn d) (now (pages .entry)))
@@ -67,11 +67,11 @@ fn list(d: Desk, pages: &mut [u32; 192], answer: &mut [u32; 8]) -> u32
         ⌝ }
 {
     let p = desk::list(d, pages);
-    *answer = [0, 0, p, 0, 0, 0, 0, 0];
+    *answer = [0, 0, p, 0, 0, 0, 0, 0, 0];
     0
 }
 
-fn save(name: &[u8], d: Desk, answer: &mut [u32; 8]) -> Done
+fn save(name: &[u8], d: Desk, answer: &mut [u32; 9]) -> Done
     ensures { λ r. ⌜
         (r ≡ saveDesk (now (name .entry)) d)
         × (now (answer .exit) ≡ numberAlone (saveDesk (now (name .entry)) d .number))
@@ -81,7 +81,7 @@ fn save(name: &[u8], d: Desk, answer: &mut [u32; 8]) -> Done
     tell_number(done, answer)
 }
 
-fn back(name: &[u8], d: Desk, answer: &mut [u32; 8]) -> Done
+fn back(name: &[u8], d: Desk, answer: &mut [u32; 9]) -> Done
     ensures { λ r. ⌜
         (r ≡ backDesk (now (name .entry)) d)
         × (now (answer .exit) ≡ numberAlone (backDesk (now (name .entry)) d .number))
@@ -91,7 +91,7 @@ fn back(name: &[u8], d: Desk, answer: &mut [u32; 8]) -> Done
     tell_number(done, answer)
 }
 
-fn drop(name: &[u8], d: Desk, answer: &mut [u32; 8]) -> Done
+fn drop(name: &[u8], d: Desk, answer: &mut [u32; 9]) -> Done
     ensures { λ r. ⌜
         (r ≡ dropDesk (now (name .entry)) d)
         × (now (answer .exit) ≡ numberAlone (dropDesk (now (name .entry)) d .number))
@@ -107,7 +107,7 @@ pub extern "C" fn barleychime_desk_open(
     galley: &[u8],
     list: &[u32],
     desk: &mut Desk,
-    answer: &mut [u32; 8],
+    answer: &mut [u32; 9],
 ) -> u32
     ensures { λ r. ⌜
         LeftTold (openDesk (now (galley .entry)) (now (list .entry)) (now (desk .entry))) r (now (desk .exit)) (now (answer .exit))
@@ -127,7 +127,7 @@ pub extern "C" fn barleychime_desk_ask(
     page: u32,
     end: &[u32; 3],
     desk: &mut Desk,
-    answer: &mut [u32; 8],
+    answer: &mut [u32; 9],
 ) -> u32
     ensures { λ r. ⌜
         LeftTold (askDesk (now (galley .entry)) page (now (end .entry)) (now (desk .entry))) r (now (desk .exit)) (now (answer .exit))
@@ -142,7 +142,7 @@ pub extern "C" fn barleychime_desk_ask(
 
 // What is pending put in force.
 #[no_mangle]
-pub extern "C" fn barleychime_desk_commit(desk: &mut Desk, answer: &mut [u32; 8]) -> u32
+pub extern "C" fn barleychime_desk_commit(desk: &mut Desk, answer: &mut [u32; 9]) -> u32
     ensures { λ r. ⌜ LeftDone (commitDesk (now (desk .entry))) r (now (desk .exit)) (now (answer .exit)) ⌝ }
 {
     let d = *desk;
@@ -157,7 +157,7 @@ pub extern "C" fn barleychime_desk_commit(desk: &mut Desk, answer: &mut [u32; 8]
 pub extern "C" fn barleychime_desk_list(
     desk: &Desk,
     pages: &mut [u32; 192],
-    answer: &mut [u32; 8],
+    answer: &mut [u32; 9],
 ) -> u32
     ensures { λ r. ⌜
         (r ≡ 0)
@@ -171,7 +171,7 @@ pub extern "C" fn barleychime_desk_list(
 
 // The list in force kept under a name.
 #[no_mangle]
-pub extern "C" fn barleychime_desk_save(name: &[u8], desk: &mut Desk, answer: &mut [u32; 8]) -> u32
+pub extern "C" fn barleychime_desk_save(name: &[u8], desk: &mut Desk, answer: &mut [u32; 9]) -> u32
     ensures { λ r. ⌜ LeftDone (saveDesk (now (name .entry)) (now (desk .entry))) r (now (desk .exit)) (now (answer .exit)) ⌝ }
 {
     let d = *desk;
@@ -183,7 +183,7 @@ pub extern "C" fn barleychime_desk_save(name: &[u8], desk: &mut Desk, answer: &m
 
 // The layout under a name put in force.
 #[no_mangle]
-pub extern "C" fn barleychime_desk_back(name: &[u8], desk: &mut Desk, answer: &mut [u32; 8]) -> u32
+pub extern "C" fn barleychime_desk_back(name: &[u8], desk: &mut Desk, answer: &mut [u32; 9]) -> u32
     ensures { λ r. ⌜ LeftDone (backDesk (now (name .entry)) (now (desk .entry))) r (now (desk .exit)) (now (answer .exit)) ⌝ }
 {
     let d = *desk;
@@ -195,7 +195,7 @@ pub extern "C" fn barleychime_desk_back(name: &[u8], desk: &mut Desk, answer: &m
 
 // A name freed.
 #[no_mangle]
-pub extern "C" fn barleychime_desk_drop(name: &[u8], desk: &mut Desk, answer: &mut [u32; 8]) -> u32
+pub extern "C" fn barleychime_desk_drop(name: &[u8], desk: &mut Desk, answer: &mut [u32; 9]) -> u32
     ensures { λ r. ⌜ LeftDone (dropDesk (now (name .entry)) (now (desk .entry))) r (now (desk .exit)) (now (answer .exit)) ⌝ }
 {
     let d = *desk;

@@ -151,7 +151,13 @@ fn is_accepted(answer: Answer) -> bool
     ensures { λ r. ⌜ r ≡ accepted answer ⌝ }
 {
     match answer {
-        Answer::Counted { pages, x, y, turns } => true,
+        Answer::Counted {
+            pages,
+            x,
+            y,
+            turns,
+            white,
+        } => true,
         Answer::Refused { number, place } => false,
     }
 }
@@ -161,7 +167,7 @@ fn open_read(galley: &[u8], list: &[u32], d: Desk) -> Told
     ensures { λ r. ⌜ r ≡ openOn (now (list .entry)) d (markOf (now (galley .entry)) (now (list .entry))) ⌝ }
 {
     let answer = marking::mark(galley, list);
-    let n = model::answer::six_numbers(answer);
+    let n = model::answer::numbers_of(answer);
     if is_accepted(answer) & (n.pages <= 64) {
         let desk = desk_of(list, n.pages);
         return Told { desk, answer };

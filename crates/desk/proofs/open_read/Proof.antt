@@ -11,7 +11,7 @@ desk-of-requires c κs =
     open-short (now (c .before .before .before .before .before .before .before .args .galley)) (now (c .before .before .before .before .before .before .before .args .list))
     (simp (
       ← c .before .before .before .before .mark .ensures,
-      ← c .before .before .before .six-numbers .ensures,
+      ← c .before .before .before .numbers-of .ensures,
       ← c .before .before .is-accepted .ensures,
     )
     (c .if1 .taken))
@@ -21,7 +21,7 @@ unfolding openOn
 returns c =
     simp (
       ← c .before .before .before .before .before .mark .ensures,
-      ← c .before .before .before .before .six-numbers .ensures,
+      ← c .before .before .before .before .numbers-of .ensures,
       ← c .before .before .before .is-accepted .ensures,
       c .before .if1 .taken,
       ← c .desk-of .ensures,
@@ -32,7 +32,7 @@ unfolding openOn
 returns-2 c =
     simp (
       ← c .before .before .before .before .before .mark .ensures,
-      ← c .before .before .before .before .six-numbers .ensures,
+      ← c .before .before .before .before .numbers-of .ensures,
       ← c .before .before .before .is-accepted .ensures,
       c .before .if1 .left,
       ← c .close .ensures,

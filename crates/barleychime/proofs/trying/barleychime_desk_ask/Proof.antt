@@ -39,7 +39,7 @@ use denote.Triple.Walked.{says, Stays, stay-ref, stay-none, stay-none-ref, stay-
 use Rattle.desk.specs.declared.Desk.{Desk}
 use Rattle.desk.specs.declared.Done.{Done}
 use Rattle.desk.specs.Desk.{askDesk}
-use Rattle.barleychime.specs.Eight.{eightOf}
+use Rattle.barleychime.specs.Words.{answerWords}
 use Rattle.barleychime.specs.Desk.{doneOf}
 use Rattle.desk.proofs.Done as S
 use Rattle.desk.proofs.Done.Laws as S′
@@ -56,11 +56,11 @@ use Rattle.barleychime.proofs.trying.barleychime_desk_ask.Code as code
 abbrev three : Slot 4
 three = ArrayOf (plain (λ _. u32)) (λ _. tt) 3
 
-abbrev eight : Slot 4
-eight = ArrayOf (plain (λ _. u32)) (λ _. tt) 8
+abbrev nine : Slot 4
+nine = ArrayOf (plain (λ _. u32)) (λ _. tt) 9
 
 abbrev stayed : Stays (f.ended .signature .params) (f.ended .kept)
-stayed = (stay-none-slice (0 ∷ []) tt (plain (λ _. u8)) yes, (stay-none (λ _. u32) yes, (stay-none-ref (1 ∷ []) tt three yes, (stay-ref (2 ∷ []) tt (plain (λ _. T.the-row)), (gave-ref (3 ∷ []) tt eight, tt)))))
+stayed = (stay-none-slice (0 ∷ []) tt (plain (λ _. u8)) yes, (stay-none (λ _. u32) yes, (stay-none-ref (1 ∷ []) tt three yes, (stay-ref (2 ∷ []) tt (plain (λ _. T.the-row)), (gave-ref (3 ∷ []) tt nine, tt)))))
 
 abbrev vals : Desk → List Val
 vals = LL.vals T.the-type T′.the-laws
@@ -96,7 +96,7 @@ module _ {M : Type 1} {𝓤 : URA M} {H : Heap 𝓤} (𝓜 : Model 𝓤 H) (𝓖
     done = doneOf (askDesk (now s) n (now e) h)
 
     abbrev words : List ℕ
-    words = eightOf (askDesk (now s) n (now e) h .answer) 0
+    words = answerWords (askDesk (now s) n (now e) h .answer) 0
 
     abbrev at : (List Val × (List Val × (List Val × (List Val × (List Val × Unit {0})))))
     at = (slice-vals s, (uint-vals w32 n, (ptr-vals e, (vptr b o ∷ [], (ptr-vals a, tt)))))
@@ -117,7 +117,7 @@ module _ {M : Type 1} {𝓤 : URA M} {H : Heap 𝓤} (𝓜 : Model 𝓤 H) (𝓖
         (WpFn 𝓤 H C Λ code.function (sliceVal (s .ptr) (length (s .now)) ∷ vint w32 n ∷ vptr (e .ptr .0) (e .ptr .1) ∷ vptr b o ∷ vptr (a .ptr .0) (a .ptr .1) ∷ []) Post)
     goes =
         let A = 𝓖 .A in
-        qed W ((‵ (flft κ₀ q₀) ⊛ (‵ (flft κ₁ q₁) ⊛ (‵ (flft κ₂ q₂) ⊛ (‵ (flft κ₃ q₃) ⊛ (‵ ftrue))))) ∷ ‵ (owns (ShrSlice (named 0) κ₀ u8 ∷ u32 ∷ ShrRef (named 1) κ₁ (three .row κs) ∷ MutRef (named 2) κ₂ T.the-row ∷ MutRef (named 3) κ₃ (eight .row κs) ∷ []) (s, (n, (e, (x, (a, tt))))) at) ∷ []) ∵
+        qed W ((‵ (flft κ₀ q₀) ⊛ (‵ (flft κ₁ q₁) ⊛ (‵ (flft κ₂ q₂) ⊛ (‵ (flft κ₃ q₃) ⊛ (‵ ftrue))))) ∷ ‵ (owns (ShrSlice (named 0) κ₀ u8 ∷ u32 ∷ ShrRef (named 1) κ₁ (three .row κs) ∷ MutRef (named 2) κ₂ T.the-row ∷ MutRef (named 3) κ₃ (nine .row κs) ∷ []) (s, (n, (e, (x, (a, tt))))) at) ∷ []) ∵
         split ! $
         move ! (1 ∷ []) $
         split ! $
@@ -184,7 +184,7 @@ module _ {M : Type 1} {𝓤 : URA M} {H : Heap 𝓤} (𝓜 : Model 𝓤 H) (𝓖
         join ! $
         move ! (28 ∷ []) $
         join ! $
-        use2 W (raw (Callee .pre to-callee)) (qed W (tokens ∷ ‵ (owns (ShrSlice (named 0) κ₀ u8 ∷ u32 ∷ ShrRef (named 1) κ₁ (three .row κs) ∷ T.the-row ∷ MutRef (named 2) κ₃ (eight .row κs) ∷ []) (s, (n, (e, (h, (a, tt))))) (slice-vals s, (uint-vals w32 n, (ptr-vals e, (vals h, (ptr-vals a, tt)))))) ∷ []) ∵ join ! $ nothing ! $ move ! (1 ∷ 0 ∷ []) $ finish !) $
+        use2 W (raw (Callee .pre to-callee)) (qed W (tokens ∷ ‵ (owns (ShrSlice (named 0) κ₀ u8 ∷ u32 ∷ ShrRef (named 1) κ₁ (three .row κs) ∷ T.the-row ∷ MutRef (named 2) κ₃ (nine .row κs) ∷ []) (s, (n, (e, (h, (a, tt))))) (slice-vals s, (uint-vals w32 n, (ptr-vals e, (vals h, (ptr-vals a, tt)))))) ∷ []) ∵ join ! $ nothing ! $ move ! (1 ∷ 0 ∷ []) $ finish !) $
         calls-at ! framed Callee (cited 𝓤 H Callee 𝓜 𝓡 code.env callee-def.name callee-def.routine code.calls-barleychime·trying·ask (callee-thm.met 𝓤 H 𝓜 𝓖 𝓡)) to-callee (and-then ! (load ! (from ! (stop !)) (look ! 21 refl)) (and-then ! (load ! (from ! (stop !)) (look ! 19 refl)) (and-then ! (load ! (from ! (stop !)) (look ! 17 refl)) (and-then ! (load ! (from ! (stop !)) (look ! 11 refl)) (and-then ! (load ! (from ! (stop !)) (look ! 5 refl)) (no-more !)))))) (λ w.
         use1 W (later (some (λ (r : Done). (tokens ⊛ ‵ (S.the-row .own r (w ∷ []))) ⊛ raw (ensured 𝓤 H A callee.ended cc′ (κ₀, (κ₁, (κ₃, tt))) (s, (n, (e, (h, (a, tt))))) tt r)))) (id⊢ 𝓤 _) $ await ! tt $ pick ! (λ r. split ! $ move ! (1 ∷ []) $
         use1 W (some (λ (zs : (Unit {0} × (Unit {0} × (Unit {0} × (Unit {0} × (List ℕ × Unit {0})))))). ‵ (lasts callee.ended (κ₀, (κ₁, (κ₃, tt))) (s, (n, (e, (h, (a, tt))))) zs) ⊛ raw (fact 𝓤 ((r ≡ done) × (zs .1 .1 .1 .1 .0 ≡ words))))) (id⊢ 𝓤 _) $ pick ! (λ zs. split ! $ move ! (1 ∷ []) $ heard ! ((r ≡ done) × (zs .1 .1 .1 .1 .0 ≡ words)) (λ φ.
@@ -249,8 +249,8 @@ barleychime-desk-ask-spec 𝓤 H 𝓜 𝓖 𝓡 =
     let 𝓣 = tables 𝓤 H 𝓜 𝓡 code.env in
     let run = WpFn 𝓤 H (𝓣 .C) (𝓣 .Λ) code.function in
     entered 𝓤 H (tripleOf 𝓤 H A f.signature (f.spec 𝓤 H A (𝓜 .mem) (𝓡 .run))) (𝓣 .C) (𝓣 .Λ) key.name code.function (code.unfolded 𝓤 H 𝓜 𝓡)
-    (walk-meets 𝓤 H A f.ended stayed 𝓦 (goes-none-slice 𝓤 H A 𝓦 4 (0 ∷ []) tt (plain (λ _. u8)) yes, (goes-none 𝓤 H A 𝓦 4 (λ _. u32) yes (λ κs x f. refl), (goes-none-ref 𝓤 H A 𝓦 4 (1 ∷ []) tt three yes, (goes-ref 𝓤 H A 𝓦 4 2 tt (plain (λ _. T.the-row)), (goes-gave-ref 𝓤 H A 𝓦 4 3 tt eight, tt))))) (c 𝓜 𝓖 𝓡)
+    (walk-meets 𝓤 H A f.ended stayed 𝓦 (goes-none-slice 𝓤 H A 𝓦 4 (0 ∷ []) tt (plain (λ _. u8)) yes, (goes-none 𝓤 H A 𝓦 4 (λ _. u32) yes (λ κs x f. refl), (goes-none-ref 𝓤 H A 𝓦 4 (1 ∷ []) tt three yes, (goes-ref 𝓤 H A 𝓦 4 2 tt (plain (λ _. T.the-row)), (goes-gave-ref 𝓤 H A 𝓦 4 3 tt nine, tt))))) (c 𝓜 𝓖 𝓡)
     run (WpFn-mono 𝓤 H (𝓦 .laws) (tablesOf 𝓤 H 𝓜 𝓣) code.function)
     (walked 𝓤 H A f.ended stayed (c 𝓜 𝓖 𝓡) run (λ κs. (slice-vals, (uint-vals w32, (ptr-vals, (ptr-vals, (ptr-vals, tt))))))
-    (λ κs. (shr-slice-tells (named 0) (κs .0) u8, (uint-tells w32, (shr-tells (named 1) (κs .1 .0) (three .row κs), (mut-tells (named 2) (κs .1 .1 .0) T.the-row, (mut-tells (named 3) (κs .1 .1 .1 .0) (eight .row κs), tt))))))
+    (λ κs. (shr-slice-tells (named 0) (κs .0) u8, (uint-tells w32, (shr-tells (named 1) (κs .1 .0) (three .row κs), (mut-tells (named 2) (κs .1 .1 .0) T.the-row, (mut-tells (named 3) (κs .1 .1 .1 .0) (nine .row κs), tt))))))
     (λ κs qs bounds a g are. via 𝓤 _ (fst∗ 𝓤 _ (emp 𝓤)) (goes 𝓜 𝓖 𝓡 (κs .0) (κs .1 .0) (κs .1 .1 .0) (κs .1 .1 .1 .0) (qs .0) (qs .1 .0) (qs .1 .1 .0) (qs .1 .1 .1 .0) (a .0) (are .0) (a .1 .0) (are .1 .0 .1) (a .1 .1 .0) (a .1 .1 .1 .0 .ptr .0) (a .1 .1 .1 .0 .ptr .1) (a .1 .1 .1 .0 .name) (a .1 .1 .1 .0 .now) (a .1 .1 .1 .1 .0)))))

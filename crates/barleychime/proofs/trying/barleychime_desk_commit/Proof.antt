@@ -49,11 +49,11 @@ use Rattle.barleychime.proofs.trying.barleychime_desk_commit.Key as key
 use Rattle.barleychime.proofs.trying.barleychime_desk_commit.Statement as stated
 use Rattle.barleychime.proofs.trying.barleychime_desk_commit.Code as code
 
-abbrev eight : Slot 2
-eight = ArrayOf (plain (λ _. u32)) (λ _. tt) 8
+abbrev nine : Slot 2
+nine = ArrayOf (plain (λ _. u32)) (λ _. tt) 9
 
 abbrev stayed : Stays (f.ended .signature .params) (f.ended .kept)
-stayed = (stay-ref (0 ∷ []) tt (plain (λ _. T.the-row)), (gave-ref (1 ∷ []) tt eight, tt))
+stayed = (stay-ref (0 ∷ []) tt (plain (λ _. T.the-row)), (gave-ref (1 ∷ []) tt nine, tt))
 
 abbrev vals : Desk → List Val
 vals = LL.vals T.the-type T′.the-laws
@@ -110,7 +110,7 @@ module _ {M : Type 1} {𝓤 : URA M} {H : Heap 𝓤} (𝓜 : Model 𝓤 H) (𝓖
         (WpFn 𝓤 H C Λ code.function (vptr b o ∷ vptr (a .ptr .0) (a .ptr .1) ∷ []) Post)
     goes =
         let A = 𝓖 .A in
-        qed W ((‵ (flft κ₀ q₀) ⊛ (‵ (flft κ₁ q₁) ⊛ (‵ ftrue))) ∷ ‵ (owns (MutRef (named 0) κ₀ T.the-row ∷ MutRef (named 1) κ₁ (eight .row κs) ∷ []) (x, (a, tt)) at) ∷ []) ∵
+        qed W ((‵ (flft κ₀ q₀) ⊛ (‵ (flft κ₁ q₁) ⊛ (‵ ftrue))) ∷ ‵ (owns (MutRef (named 0) κ₀ T.the-row ∷ MutRef (named 1) κ₁ (nine .row κs) ∷ []) (x, (a, tt)) at) ∷ []) ∵
         split ! $
         move ! (1 ∷ []) $
         split ! $
@@ -146,7 +146,7 @@ module _ {M : Type 1} {𝓤 : URA M} {H : Heap 𝓤} (𝓜 : Model 𝓤 H) (𝓖
         fjoin ! $
         move ! (19 ∷ []) $
         nothing ! $ move ! (1 ∷ 0 ∷ []) $ join ! $
-        use2 W (raw (Callee .pre to-callee)) (qed W (tokens ∷ ‵ (owns (T.the-row ∷ MutRef (named 0) κ₁ (eight .row κs) ∷ []) (h, (a, tt)) (vals h, (ptr-vals a, tt))) ∷ []) ∵ join ! $ nothing ! $ move ! (1 ∷ 0 ∷ []) $ finish !) $
+        use2 W (raw (Callee .pre to-callee)) (qed W (tokens ∷ ‵ (owns (T.the-row ∷ MutRef (named 0) κ₁ (nine .row κs) ∷ []) (h, (a, tt)) (vals h, (ptr-vals a, tt))) ∷ []) ∵ join ! $ nothing ! $ move ! (1 ∷ 0 ∷ []) $ finish !) $
         calls-at ! framed Callee (cited 𝓤 H Callee 𝓜 𝓡 code.env callee-def.name callee-def.routine code.calls-barleychime·trying·commit (callee-thm.met 𝓤 H 𝓜 𝓖 𝓡)) to-callee (and-then ! (load ! (from ! (stop !)) (look ! 11 refl)) (and-then ! (load ! (from ! (stop !)) (look ! 5 refl)) (no-more !))) (λ w.
         use1 W (later (some (λ (r : Done). (tokens ⊛ ‵ (S.the-row .own r (w ∷ []))) ⊛ raw (ensured 𝓤 H A callee.ended cc′ (κ₁, tt) (h, (a, tt)) tt r)))) (id⊢ 𝓤 _) $ await ! tt $ pick ! (λ r. split ! $ move ! (1 ∷ []) $
         use1 W (some (λ (zs : (Unit {0} × (List ℕ × Unit {0}))). ‵ (lasts callee.ended (κ₁, tt) (h, (a, tt)) zs) ⊛ raw (fact 𝓤 ((r ≡ done) × (zs .1 .0 ≡ words))))) (id⊢ 𝓤 _) $ pick ! (λ zs. split ! $ move ! (1 ∷ []) $ heard ! ((r ≡ done) × (zs .1 .0 ≡ words)) (λ φ.
@@ -196,8 +196,8 @@ barleychime-desk-commit-spec 𝓤 H 𝓜 𝓖 𝓡 =
     let 𝓣 = tables 𝓤 H 𝓜 𝓡 code.env in
     let run = WpFn 𝓤 H (𝓣 .C) (𝓣 .Λ) code.function in
     entered 𝓤 H (tripleOf 𝓤 H A f.signature (f.spec 𝓤 H A (𝓜 .mem) (𝓡 .run))) (𝓣 .C) (𝓣 .Λ) key.name code.function (code.unfolded 𝓤 H 𝓜 𝓡)
-    (walk-meets 𝓤 H A f.ended stayed 𝓦 (goes-ref 𝓤 H A 𝓦 2 0 tt (plain (λ _. T.the-row)), (goes-gave-ref 𝓤 H A 𝓦 2 1 tt eight, tt)) (c 𝓜 𝓖 𝓡)
+    (walk-meets 𝓤 H A f.ended stayed 𝓦 (goes-ref 𝓤 H A 𝓦 2 0 tt (plain (λ _. T.the-row)), (goes-gave-ref 𝓤 H A 𝓦 2 1 tt nine, tt)) (c 𝓜 𝓖 𝓡)
     run (WpFn-mono 𝓤 H (𝓦 .laws) (tablesOf 𝓤 H 𝓜 𝓣) code.function)
     (walked 𝓤 H A f.ended stayed (c 𝓜 𝓖 𝓡) run (λ κs. (ptr-vals, (ptr-vals, tt)))
-    (λ κs. (mut-tells (named 0) (κs .0) T.the-row, (mut-tells (named 1) (κs .1 .0) (eight .row κs), tt)))
+    (λ κs. (mut-tells (named 0) (κs .0) T.the-row, (mut-tells (named 1) (κs .1 .0) (nine .row κs), tt)))
     (λ κs qs bounds a g are. via 𝓤 _ (fst∗ 𝓤 _ (emp 𝓤)) (goes 𝓜 𝓖 𝓡 (κs .0) (κs .1 .0) (qs .0) (qs .1 .0) (a .0 .ptr .0) (a .0 .ptr .1) (a .0 .name) (a .0 .now) (a .1 .0)))))

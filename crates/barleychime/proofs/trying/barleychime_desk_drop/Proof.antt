@@ -52,11 +52,11 @@ use Rattle.barleychime.proofs.trying.barleychime_desk_drop.Key as key
 use Rattle.barleychime.proofs.trying.barleychime_desk_drop.Statement as stated
 use Rattle.barleychime.proofs.trying.barleychime_desk_drop.Code as code
 
-abbrev eight : Slot 3
-eight = ArrayOf (plain (λ _. u32)) (λ _. tt) 8
+abbrev nine : Slot 3
+nine = ArrayOf (plain (λ _. u32)) (λ _. tt) 9
 
 abbrev stayed : Stays (f.ended .signature .params) (f.ended .kept)
-stayed = (stay-none-slice (0 ∷ []) tt (plain (λ _. u8)) yes, (stay-ref (1 ∷ []) tt (plain (λ _. T.the-row)), (gave-ref (2 ∷ []) tt eight, tt)))
+stayed = (stay-none-slice (0 ∷ []) tt (plain (λ _. u8)) yes, (stay-ref (1 ∷ []) tt (plain (λ _. T.the-row)), (gave-ref (2 ∷ []) tt nine, tt)))
 
 abbrev vals : Desk → List Val
 vals = LL.vals T.the-type T′.the-laws
@@ -113,7 +113,7 @@ module _ {M : Type 1} {𝓤 : URA M} {H : Heap 𝓤} (𝓜 : Model 𝓤 H) (𝓖
         (WpFn 𝓤 H C Λ code.function (sliceVal (s .ptr) (length (s .now)) ∷ vptr b o ∷ vptr (a .ptr .0) (a .ptr .1) ∷ []) Post)
     goes =
         let A = 𝓖 .A in
-        qed W ((‵ (flft κ₀ q₀) ⊛ (‵ (flft κ₁ q₁) ⊛ (‵ (flft κ₂ q₂) ⊛ (‵ ftrue)))) ∷ ‵ (owns (ShrSlice (named 0) κ₀ u8 ∷ MutRef (named 1) κ₁ T.the-row ∷ MutRef (named 2) κ₂ (eight .row κs) ∷ []) (s, (x, (a, tt))) at) ∷ []) ∵
+        qed W ((‵ (flft κ₀ q₀) ⊛ (‵ (flft κ₁ q₁) ⊛ (‵ (flft κ₂ q₂) ⊛ (‵ ftrue)))) ∷ ‵ (owns (ShrSlice (named 0) κ₀ u8 ∷ MutRef (named 1) κ₁ T.the-row ∷ MutRef (named 2) κ₂ (nine .row κs) ∷ []) (s, (x, (a, tt))) at) ∷ []) ∵
         split ! $
         move ! (1 ∷ []) $
         split ! $
@@ -162,7 +162,7 @@ module _ {M : Type 1} {𝓤 : URA M} {H : Heap 𝓤} (𝓜 : Model 𝓤 H) (𝓖
         nothing ! $ move ! (1 ∷ 0 ∷ []) $ join ! $
         move ! (23 ∷ []) $
         join ! $
-        use2 W (raw (Callee .pre to-callee)) (qed W (tokens ∷ ‵ (owns (ShrSlice (named 0) κ₀ u8 ∷ T.the-row ∷ MutRef (named 1) κ₂ (eight .row κs) ∷ []) (s, (h, (a, tt))) (slice-vals s, (vals h, (ptr-vals a, tt)))) ∷ []) ∵ join ! $ nothing ! $ move ! (1 ∷ 0 ∷ []) $ finish !) $
+        use2 W (raw (Callee .pre to-callee)) (qed W (tokens ∷ ‵ (owns (ShrSlice (named 0) κ₀ u8 ∷ T.the-row ∷ MutRef (named 1) κ₂ (nine .row κs) ∷ []) (s, (h, (a, tt))) (slice-vals s, (vals h, (ptr-vals a, tt)))) ∷ []) ∵ join ! $ nothing ! $ move ! (1 ∷ 0 ∷ []) $ finish !) $
         calls-at ! framed Callee (cited 𝓤 H Callee 𝓜 𝓡 code.env callee-def.name callee-def.routine code.calls-barleychime·trying·drop (callee-thm.met 𝓤 H 𝓜 𝓖 𝓡)) to-callee (and-then ! (load ! (from ! (stop !)) (look ! 17 refl)) (and-then ! (load ! (from ! (stop !)) (look ! 11 refl)) (and-then ! (load ! (from ! (stop !)) (look ! 5 refl)) (no-more !)))) (λ w.
         use1 W (later (some (λ (r : Done). (tokens ⊛ ‵ (S.the-row .own r (w ∷ []))) ⊛ raw (ensured 𝓤 H A callee.ended cc′ (κ₀, (κ₂, tt)) (s, (h, (a, tt))) tt r)))) (id⊢ 𝓤 _) $ await ! tt $ pick ! (λ r. split ! $ move ! (1 ∷ []) $
         use1 W (some (λ (zs : (Unit {0} × (Unit {0} × (List ℕ × Unit {0})))). ‵ (lasts callee.ended (κ₀, (κ₂, tt)) (s, (h, (a, tt))) zs) ⊛ raw (fact 𝓤 ((r ≡ done) × (zs .1 .1 .0 ≡ words))))) (id⊢ 𝓤 _) $ pick ! (λ zs. split ! $ move ! (1 ∷ []) $ heard ! ((r ≡ done) × (zs .1 .1 .0 ≡ words)) (λ φ.
@@ -218,8 +218,8 @@ barleychime-desk-drop-spec 𝓤 H 𝓜 𝓖 𝓡 =
     let 𝓣 = tables 𝓤 H 𝓜 𝓡 code.env in
     let run = WpFn 𝓤 H (𝓣 .C) (𝓣 .Λ) code.function in
     entered 𝓤 H (tripleOf 𝓤 H A f.signature (f.spec 𝓤 H A (𝓜 .mem) (𝓡 .run))) (𝓣 .C) (𝓣 .Λ) key.name code.function (code.unfolded 𝓤 H 𝓜 𝓡)
-    (walk-meets 𝓤 H A f.ended stayed 𝓦 (goes-none-slice 𝓤 H A 𝓦 3 (0 ∷ []) tt (plain (λ _. u8)) yes, (goes-ref 𝓤 H A 𝓦 3 1 tt (plain (λ _. T.the-row)), (goes-gave-ref 𝓤 H A 𝓦 3 2 tt eight, tt))) (c 𝓜 𝓖 𝓡)
+    (walk-meets 𝓤 H A f.ended stayed 𝓦 (goes-none-slice 𝓤 H A 𝓦 3 (0 ∷ []) tt (plain (λ _. u8)) yes, (goes-ref 𝓤 H A 𝓦 3 1 tt (plain (λ _. T.the-row)), (goes-gave-ref 𝓤 H A 𝓦 3 2 tt nine, tt))) (c 𝓜 𝓖 𝓡)
     run (WpFn-mono 𝓤 H (𝓦 .laws) (tablesOf 𝓤 H 𝓜 𝓣) code.function)
     (walked 𝓤 H A f.ended stayed (c 𝓜 𝓖 𝓡) run (λ κs. (slice-vals, (ptr-vals, (ptr-vals, tt))))
-    (λ κs. (shr-slice-tells (named 0) (κs .0) u8, (mut-tells (named 1) (κs .1 .0) T.the-row, (mut-tells (named 2) (κs .1 .1 .0) (eight .row κs), tt))))
+    (λ κs. (shr-slice-tells (named 0) (κs .0) u8, (mut-tells (named 1) (κs .1 .0) T.the-row, (mut-tells (named 2) (κs .1 .1 .0) (nine .row κs), tt))))
     (λ κs qs bounds a g are. via 𝓤 _ (fst∗ 𝓤 _ (emp 𝓤)) (goes 𝓜 𝓖 𝓡 (κs .0) (κs .1 .0) (κs .1 .1 .0) (qs .0) (qs .1 .0) (qs .1 .1 .0) (a .0) (are .0) (a .1 .0 .ptr .0) (a .1 .0 .ptr .1) (a .1 .0 .name) (a .1 .0 .now) (a .1 .1 .0)))))

@@ -49,11 +49,11 @@ use Rattle.barleychime.proofs.trying.barleychime_desk_list.Code as code
 abbrev list : Slot 3
 list = ArrayOf (plain (λ _. u32)) (λ _. tt) 192
 
-abbrev eight : Slot 3
-eight = ArrayOf (plain (λ _. u32)) (λ _. tt) 8
+abbrev nine : Slot 3
+nine = ArrayOf (plain (λ _. u32)) (λ _. tt) 9
 
 abbrev stayed : Stays (f.ended .signature .params) (f.ended .kept)
-stayed = (stay-none-ref (0 ∷ []) tt (plain (λ _. T.the-row)) yes, (gave-ref (1 ∷ []) tt list, (gave-ref (2 ∷ []) tt eight, tt)))
+stayed = (stay-none-ref (0 ∷ []) tt (plain (λ _. T.the-row)) yes, (gave-ref (1 ∷ []) tt list, (gave-ref (2 ∷ []) tt nine, tt)))
 
 abbrev vals : Desk → List Val
 vals = LL.vals T.the-type T′.the-laws
@@ -106,7 +106,7 @@ module _ {M : Type 1} {𝓤 : URA M} {H : Heap 𝓤} (𝓜 : Model 𝓤 H) (𝓖
     goes : ent 𝓤 (onEntry 𝓤 H (𝓖 .A) f.signature κs (q₀, (q₁, (q₂, tt))) (x, (p, (a, tt))) at) (WpFn 𝓤 H C Λ code.function (vptr b o ∷ vptr (p .ptr .0) (p .ptr .1) ∷ vptr (a .ptr .0) (a .ptr .1) ∷ []) Post)
     goes =
         let A = 𝓖 .A in
-        qed W ((‵ (flft κ₀ q₀) ⊛ (‵ (flft κ₁ q₁) ⊛ (‵ (flft κ₂ q₂) ⊛ ‵ ftrue))) ∷ ‵ (owns (ShrRef (named 0) κ₀ T.the-row ∷ MutRef (named 1) κ₁ (list .row κs) ∷ MutRef (named 2) κ₂ (eight .row κs) ∷ []) (x, (p, (a, tt))) at) ∷ []) ∵
+        qed W ((‵ (flft κ₀ q₀) ⊛ (‵ (flft κ₁ q₁) ⊛ (‵ (flft κ₂ q₂) ⊛ ‵ ftrue))) ∷ ‵ (owns (ShrRef (named 0) κ₀ T.the-row ∷ MutRef (named 1) κ₁ (list .row κs) ∷ MutRef (named 2) κ₂ (nine .row κs) ∷ []) (x, (p, (a, tt))) at) ∷ []) ∵
         split ! $ move ! (1 ∷ []) $ split ! $ move ! (1 ∷ []) $ split ! $
         move ! (4 ∷ []) $
         fsplit ! $ move ! (1 ∷ []) $ fsplit ! $ move ! (1 ∷ []) $ fsplit ! $
@@ -135,7 +135,7 @@ module _ {M : Type 1} {𝓤 : URA M} {H : Heap 𝓤} (𝓜 : Model 𝓤 H) (𝓖
         nothing ! $ move ! (1 ∷ 0 ∷ []) $ join ! $
         move ! (19 ∷ []) $
         join ! $
-        use2 W (raw (Callee .pre to-callee)) (qed W (tokens ∷ ‵ (owns (T.the-row ∷ MutRef (named 0) κ₁ (list .row κs) ∷ MutRef (named 1) κ₂ (eight .row κs) ∷ []) (h, (p, (a, tt))) (vals h, (ptr-vals p, (ptr-vals a, tt)))) ∷ []) ∵ join ! $ nothing ! $ move ! (1 ∷ 0 ∷ []) $ finish !) $
+        use2 W (raw (Callee .pre to-callee)) (qed W (tokens ∷ ‵ (owns (T.the-row ∷ MutRef (named 0) κ₁ (list .row κs) ∷ MutRef (named 1) κ₂ (nine .row κs) ∷ []) (h, (p, (a, tt))) (vals h, (ptr-vals p, (ptr-vals a, tt)))) ∷ []) ∵ join ! $ nothing ! $ move ! (1 ∷ 0 ∷ []) $ finish !) $
         calls-at ! framed Callee (cited 𝓤 H Callee 𝓜 𝓡 code.env callee-def.name callee-def.routine code.calls-barleychime·trying·list (callee-thm.met 𝓤 H 𝓜 𝓖 𝓡)) to-callee (and-then ! (load ! (from ! (stop !)) (look ! 7 refl)) (and-then ! (load ! (from ! (stop !)) (look ! 5 refl)) (and-then ! (load ! (from ! (stop !)) (look ! 3 refl)) (no-more !)))) (λ w.
         use1 W (later (some (λ (r : ℕ). (tokens ⊛ ‵ (u32 .own r (w ∷ []))) ⊛ raw (ensured 𝓤 H A callee.ended cc′ (κ₁, (κ₂, tt)) (h, (p, (a, tt))) tt r)))) (id⊢ 𝓤 _) $ await ! tt $ pick ! (λ r. split ! $ move ! (1 ∷ []) $
         use1 W (some (λ (zs : Unit {0} × (List ℕ × (List ℕ × Unit {0}))). ‵ (lasts callee.ended (κ₁, (κ₂, tt)) (h, (p, (a, tt))) zs) ⊛ raw (fact 𝓤 (Listed r (zs .1 .0) (zs .1 .1 .0))))) (id⊢ 𝓤 _) $ pick ! (λ zs. split ! $ move ! (1 ∷ []) $ heard ! (Listed r (zs .1 .0) (zs .1 .1 .0)) (λ φ.
@@ -172,9 +172,9 @@ barleychime-desk-list-spec 𝓤 H 𝓜 𝓖 𝓡 =
     let run = WpFn 𝓤 H (𝓣 .C) (𝓣 .Λ) code.function in
     entered 𝓤 H (tripleOf 𝓤 H A f.signature (f.spec 𝓤 H A (𝓜 .mem) (𝓡 .run))) (𝓣 .C) (𝓣 .Λ) key.name code.function (code.unfolded 𝓤 H 𝓜 𝓡)
     (walk-meets 𝓤 H A f.ended stayed 𝓦
-    (goes-none-ref 𝓤 H A 𝓦 3 (0 ∷ []) tt (plain (λ _. T.the-row)) yes, (goes-gave-ref 𝓤 H A 𝓦 3 1 tt list, (goes-gave-ref 𝓤 H A 𝓦 3 2 tt eight, tt))) (c 𝓜 𝓖 𝓡)
+    (goes-none-ref 𝓤 H A 𝓦 3 (0 ∷ []) tt (plain (λ _. T.the-row)) yes, (goes-gave-ref 𝓤 H A 𝓦 3 1 tt list, (goes-gave-ref 𝓤 H A 𝓦 3 2 tt nine, tt))) (c 𝓜 𝓖 𝓡)
     run (WpFn-mono 𝓤 H (𝓦 .laws) (tablesOf 𝓤 H 𝓜 𝓣) code.function)
     (walked 𝓤 H A f.ended stayed (c 𝓜 𝓖 𝓡) run (λ κs. (ptr-vals, (ptr-vals, (ptr-vals, tt))))
-    (λ κs. (shr-tells (named 0) (κs .0) T.the-row, (mut-tells (named 1) (κs .1 .0) (list .row κs), (mut-tells (named 2) (κs .1 .1 .0) (eight .row κs), tt))))
+    (λ κs. (shr-tells (named 0) (κs .0) T.the-row, (mut-tells (named 1) (κs .1 .0) (list .row κs), (mut-tells (named 2) (κs .1 .1 .0) (nine .row κs), tt))))
     (λ κs qs bounds a g are. via 𝓤 _ (fst∗ 𝓤 _ (emp 𝓤))
     (goes 𝓜 𝓖 𝓡 (κs .0) (κs .1 .0) (κs .1 .1 .0) (qs .0) (qs .1 .0) (qs .1 .1 .0) (a .0 .ptr .0) (a .0 .ptr .1) (a .0 .name) (a .0 .now) (a .1 .0) (a .1 .1 .0)))))

@@ -2,7 +2,7 @@
 use borrow.Author.Needs.{needs}
 use mathlib.Core.Path.{ap, _∙_}
 use Rattle.desk.specs.declared.Told.{Told}
-use Rattle.barleychime.specs.Eight.{eightOf}
+use Rattle.barleychime.specs.Words.{answerWords}
 use Rattle.barleychime.specs.Desk.{doneOf}
 use Rattle.barleychime.proofs.trying.open.Statement.{statement}
 use Rattle.barleychime.proofs.trying.open.Tie as tie
@@ -10,7 +10,7 @@ use Rattle.barleychime.proofs.trying.open.Tie as tie
 returns : tie.Need-returns
 returns c =
     let told = c .before .before .«open» .ensures in
-    (c .tell .ensures .0 ∙ ap doneOf told, c .tell .ensures .1 ∙ ap (λ (t : Told). eightOf (t .answer) 0) told)
+    (c .tell .ensures .0 ∙ ap doneOf told, c .tell .ensures .1 ∙ ap (λ (t : Told). answerWords (t .answer) 0) told)
 
 pub open-spec : {M : Type 1} → statement M
 open-spec = tie.close (tie.spec (λ c κs. search needs) (λ c κs. search needs) returns)
