@@ -184,7 +184,7 @@ enum {
 
 /* What the words of a layout are. It has as many pages as the list in force, so their number stands once, on the desk. */
 enum {
-    BARLEYCHIME_LAYOUT_NAME_LENGTH = 0, /* bytes of its name, 1 to 16; the layout is free where this is anything else */
+    BARLEYCHIME_LAYOUT_NAME_LENGTH = 0, /* bytes of its name, 1 to 16; 0 where the layout is free */
     BARLEYCHIME_LAYOUT_NAME = 1,        /* four words: the bytes of its name, as they stand in memory, and then zeros */
     BARLEYCHIME_LAYOUT_LIST = 5         /* 192 words, as those of the list in force */
 };
@@ -263,14 +263,17 @@ static inline size_t barleychime_page_words(const uint8_t *galley, size_t galley
  *
  * A desk may hold anything, also what no call left there; every call on it is defined, reads and writes what is lent and nothing
  * else, and ends. It has the pages that its first word says where these are at most 64 and a page has 2 words or 3, and else none;
- * a new end is pending where its page is one of 1 to p - 1; of layouts with the same name the first counts. On a desk without pages
- * every ask is 23 and every commit 24, and what is saved there is an empty list.
+ * a new end is pending where its page is one of 1 to p - 1; of layouts with the same name the first counts, and one whose name
+ * were longer than 16 bytes is neither held nor free. On a desk without pages every ask is 23 and every commit 24, and what is
+ * saved there is an empty list.
  *
- * All of them write an answer and return its number. Opening and asking answer as marking does; the others have 0 after number and
- * place, but for p of the list in force where that is asked for. For a desk opened unrefused, and any calls about its galley after
- * that: a name not dropped since gives the list that was in force when it was last saved; the list in force is the one last come
- * back to, as it was saved then, else the opening one, with exactly the ends altered that were committed since, in the order of the
- * commits; and marking accepts it and every layout, all of which have as many pages.
+ * All of them take under 24,576 bytes of stack, write an answer and return its number. Opening and asking answer as marking does;
+ * the others have 0 after number and place, but for p of the list in force where that is asked for.
+ *
+ * For a desk opened unrefused, and any calls about its galley after that: a name not dropped since gives the list that was in force
+ * when it was last saved; the list in force is the one last come back to, as it was saved then, else the opening one, with exactly
+ * the ends altered that were committed since, in the order of the commits; and marking accepts it and every layout, all of which
+ * have as many pages.
  */
 
 /* Opens a desk on a galley and a list of list_len words, and marks the list.
@@ -306,7 +309,7 @@ uint32_t barleychime_desk_save(const uint8_t *name, size_t name_len, uint32_t de
 uint32_t barleychime_desk_back(const uint8_t *name, size_t name_len, uint32_t desk[BARLEYCHIME_DESK_WORDS],
                                uint32_t answer[BARLEYCHIME_ANSWER_WORDS]);
 
-/* Frees a name: its length on the desk is 0, and all else stays, also what is pending. Refused as coming back is. */
+/* Frees a name: its length is 0 wherever the desk had it, and all else stays, also what is pending. Refused as coming back is. */
 uint32_t barleychime_desk_drop(const uint8_t *name, size_t name_len, uint32_t desk[BARLEYCHIME_DESK_WORDS],
                                uint32_t answer[BARLEYCHIME_ANSWER_WORDS]);
 

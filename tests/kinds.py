@@ -38,7 +38,8 @@ AT_LAYOUTS = ['save 0', 'save 25', 'save 27', 'back 0', 'back 25', 'back 26', 'd
               'saved in place of another list', 'saved under a name held, with no room for another', 'saved in room that was dropped',
               'saved without pages', 'back without pages', 'save leaves what is pending', 'drop leaves what is pending',
               'back clears what is pending', 'back to another list', 'refused over what was pending, by a name',
-              '26 with a name held that begins alike', '26 with no room for another', 'a name twice', 'a name of 1 byte',
+              '26 with a name held that begins alike', '26 with no room for another', 'save with a name twice', 'back with a name twice',
+              'drop with a name twice', 'saved beside a layout that is neither held nor free', 'a name of 1 byte',
               'a name of 16 bytes', 'names held without pages']
 
 
@@ -240,13 +241,15 @@ def at_layouts(call, before, name, answer):
     if answer[0] == 'refused':
         if before.pending:
             yield 'refused over what was pending, by a name'
-        if answer[1] == 26 and any(other[:1] == name[:1] for other, _ in held):
+        if answer[1] == 26 and any(other and other[:1] == name[:1] for other, _ in held):
             yield '26 with a name held that begins alike'
         if answer[1] == 26 and len(held) == len(before.layouts):
             yield '26 with no room for another'
         return
     if len(there) > 1:
-        yield 'a name twice'
+        yield f'{call} with a name twice'
+    if call == 'save' and None in [other for other, _ in held]:
+        yield 'saved beside a layout that is neither held nor free'
     if len(name) in (1, 16):
         yield f'a name of {len(name)} byte' + 's' * (len(name) > 1)
     if not before.force and there:

@@ -79,7 +79,7 @@ def data(rng, galley, others):
 
 def named(rng, desk):
     """A call with a name: mostly saves, so that a desk fills up; what is come back to or dropped is often held."""
-    held = [layout[0] for layout in desk.layouts if layout]
+    held = [layout[0] for layout in desk.layouts if layout and layout[0]]
     call = rng.choice(('save', 'save', 'save', 'save', 'save', 'back', 'back', 'drop'))
     if rng.random() < 0.05:
         return call, rng.choice(BAD_NAMES)

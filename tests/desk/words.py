@@ -7,7 +7,7 @@ from reference.desk import LONGEST_NAME, MOST_LAYOUTS, MOST_PAGES, Desk, altered
 
 PAGES, WIDTH, PAGE, END, LIST = 0, 1, 2, 3, 6  # where each begins
 LIST_WORDS = 3 * MOST_PAGES
-# A layout has the length of its name, the name's bytes, and a list; no length of a name where it is free.
+# A layout has the length of its name, the name's bytes, and a list; it is free where the length is 0.
 NAME, LAYOUT_LIST = 1, 1 + LONGEST_NAME // 4
 LAYOUT_WORDS = LAYOUT_LIST + LIST_WORDS
 LAYOUTS = [LIST + LIST_WORDS + LAYOUT_WORDS * k for k in range(MOST_LAYOUTS)]
@@ -23,10 +23,11 @@ def seen(words):
 
 
 def layout_of(words, at):
-    """The layout from a place on, as a name and a list; None where no name has such a length."""
-    if not 1 <= words[at] <= LONGEST_NAME:
+    """The layout from a place on, as a name and a list; None where it is free, and without a name where none is so long."""
+    if words[at] == 0:
         return None
-    return struct.pack('=4I', *words[at + NAME:at + LAYOUT_LIST])[:words[at]], pages_of(words, at + LAYOUT_LIST)
+    name = struct.pack('=4I', *words[at + NAME:at + LAYOUT_LIST])[:words[at]] if words[at] <= LONGEST_NAME else None
+    return name, pages_of(words, at + LAYOUT_LIST)
 
 
 def pages_of(words, at):
@@ -84,8 +85,11 @@ def come_back(words, answer, name):
 
 
 def dropped(words, answer, name):
-    """Of a layout that is dropped all stays but the length of its name."""
-    return words if answer[0] == 'refused' else replaced(words, (LAYOUTS[held_at(seen(words), name)], [0]))
+    """Of layouts that are dropped all stays but the length of the name."""
+    if answer[0] == 'refused':
+        return words
+    named = [at for at in LAYOUTS if (layout_of(words, at) or [None])[0] == name]
+    return replaced(words, *((at, [0]) for at in named))
 
 
 def listed(words, pages):

@@ -123,5 +123,5 @@ def run(tally, command, root, library, folder):
         tally.same(f'stack of a {name}, under 1,000 bytes', needed(library, f'barleychime_{name}') < 1_000, True)
     for name in ('open', 'ask', 'commit', 'save', 'back', 'drop', 'list'):
         takes_there = needed(library, f'barleychime_desk_{name}')
-        tally.same(f'stack of a desk, {name}: {takes_there} bytes', takes_there <= stated[0], True)
+        tally.same(f'stack of a desk, {name}: {takes_there} bytes', takes_there < 24_576, True)
     tally.group('stack', f'; making takes {takes[0]:,} bytes, marking {takes[1]:,}')

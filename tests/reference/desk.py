@@ -14,7 +14,8 @@ DONE = ('done',)
 class Desk:
     force: tuple = ()  # the list in force
     pending: Optional[tuple] = None  # the list that a commit puts in force
-    layouts: tuple = (None,) * MOST_LAYOUTS  # room for so many, each as a name and a list; None where it is free
+    layouts: tuple = (None,) * MOST_LAYOUTS  # room for so many, each as a name and a list; None where it is free. The name is
+    # None where no call left the layout: it is neither held nor free
 
 
 def opened(desk, read, words):
@@ -48,7 +49,8 @@ def saved(desk, name):
     at = held_at(desk, name)
     if at is None and None not in desk.layouts:
         return ('refused', 27, 0), desk
-    return DONE, with_layout(desk, desk.layouts.index(None) if at is None else at, (name, desk.force))
+    at = desk.layouts.index(None) if at is None else at
+    return DONE, replace(desk, layouts=(*desk.layouts[:at], (name, desk.force), *desk.layouts[at + 1:]))
 
 
 def come_back(desk, name):
@@ -58,8 +60,10 @@ def come_back(desk, name):
 
 
 def dropped(desk, name):
-    fault, at = not_held(desk, name), held_at(desk, name)
-    return (fault, desk) if fault else (DONE, with_layout(desk, at, None))
+    """The name freed, wherever it is held."""
+    fault = not_held(desk, name)
+    freed = tuple(None if layout and layout[0] == name else layout for layout in desk.layouts)
+    return (fault, desk) if fault else (DONE, replace(desk, layouts=freed))
 
 
 def is_bad(name):
@@ -76,10 +80,6 @@ def not_held(desk, name):
 def held_at(desk, name):
     """Where a name is held, the first of them; None if it is not."""
     return next((at for at, layout in enumerate(desk.layouts) if layout and layout[0] == name), None)
-
-
-def with_layout(desk, at, layout):
-    return replace(desk, layouts=(*desk.layouts[:at], layout, *desk.layouts[at + 1:]))
 
 
 def altered_list(pages, page, end):

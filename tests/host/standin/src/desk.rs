@@ -9,7 +9,7 @@ const MOST_PAGES: usize = 64;
 const LIST_WORDS: usize = 3 * MOST_PAGES;
 const LONGEST_NAME: usize = 16;
 
-/// A list under a name; free where no name has such a length.
+/// A list under a name; free where the name has no bytes.
 #[derive(Clone, Copy)]
 #[repr(C)]
 struct Layout {
@@ -21,8 +21,8 @@ struct Layout {
 impl Layout {
     const FREE: Layout = Layout { length: 0, name: [0; LONGEST_NAME], list: [0; LIST_WORDS] };
 
-    fn name(&self) -> &[u8] {
-        self.name.get(..self.length as usize).unwrap_or_default()
+    fn is_named(&self, name: &[u8]) -> bool {
+        self.length as usize == name.len() && self.name.starts_with(name)
     }
 }
 
@@ -110,7 +110,7 @@ impl Desk {
 
     /// The layout of a name, if it is held; a free one for no name.
     fn layout(&mut self, name: &[u8]) -> Option<&mut Layout> {
-        self.layouts.iter_mut().find(|layout| layout.name() == name)
+        self.layouts.iter_mut().find(|layout| layout.is_named(name))
     }
 
     fn save(&mut self, name: &[u8]) -> Answer {
@@ -141,13 +141,11 @@ impl Desk {
     }
 
     fn drop_name(&mut self, name: &[u8]) -> Answer {
-        match self.held(name) {
-            Err(answer) => answer,
-            Ok(layout) => {
-                layout.length = 0;
-                Answer::default()
-            }
+        let answer = self.held(name).err().unwrap_or_default();
+        if answer.number == 0 {
+            self.layouts.iter_mut().filter(|layout| layout.is_named(name)).for_each(|layout| layout.length = 0);
         }
+        answer
     }
 
     /// The layout of a name, or why there is none.
