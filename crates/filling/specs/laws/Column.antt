@@ -8,14 +8,12 @@ use mathlib.Core.Bool.{false}
 use mathlib.Core.List.{List, [], _∷_}
 use lib.ListN.{length}
 use Rattle.model.specs.Rules.{floor}
-use Rattle.galley.specs.declared.Galley.{Galley}
 use Rattle.galley.specs.Model.{textOf, modelOf, sidesIn}
 use Rattle.rules.specs.declared.waiting.Waiting.{Waiting}
 use Rattle.rules.specs.Waiting.{waitingOf}
 use Rattle.rules.specs.laws.Walked.{walking-none, walking-here}
 use Rattle.places.specs.Order.{Earlier}
 use Rattle.places.specs.Columns.{columns, floatSizes}
-use Rattle.places.specs.laws.Table.{table-other}
 use Rattle.window.specs.declared.slide.Window.{Window}
 use Rattle.window.specs.Slide.{Slidable, Open, Slid}
 use Rattle.window.specs.laws.Slide.{ends-first, ends-next}

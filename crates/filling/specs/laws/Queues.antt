@@ -2,17 +2,16 @@
 use Prim.Native.Nat.{ℕ, zero, suc, _+_, _*_, _≤_, _<_}
 use native.Mathlib.Decide.{decLt, ℕ-discrete}
 use native.Mathlib.Omega.{arith}
-use mathlib.Core.Path.{_≡_, refl, sym, ap, subst, _∙_}
+use mathlib.Core.Path.{_≡_, refl, sym, _∙_}
 use mathlib.Core.Logic.{_⊎_, inl, inr}
 use mathlib.Core.List.{List, [], _∷_}
 use lib.ListN.{length, getD}
 use Rattle.galley.specs.declared.Galley.{Galley}
 use Rattle.window.specs.declared.slide.Window.{Window}
-use Rattle.window.specs.declared.queue.Source.{Source}
 use Rattle.window.specs.declared.parts.Parts.{Parts}
 use Rattle.window.specs.Sums.{rowPut}
 use Rattle.window.specs.Queue.{linesOf}
-use Rattle.window.specs.Parts.{partsOf, Both, Moved}
+use Rattle.window.specs.Parts.{partsOf, Moved}
 use Rattle.window.specs.laws.Sums.{row-length, row-other, row-word}
 use Rattle.window.specs.laws.Parts.{both-none, both-same, both-beside}
 use Rattle.starts.specs.Read.{sideOf}

@@ -12,7 +12,7 @@ use mathlib.Core.Option.{none, some}
 use lib.ListN.{length, length-append}
 use borrow.Author.Tests.{eq-eqb}
 use Rattle.model.specs.declared.answer.Answer.{Answer}
-use Rattle.model.specs.Galley.{Place}
+use Rattle.model.specs.Galley.{Place, zeros}
 use Rattle.model.specs.Leaf.{leaf}
 use Rattle.model.specs.Answers.{pagesOf}
 use Rattle.model.specs.Opening.{openingTurned}
