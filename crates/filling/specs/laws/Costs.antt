@@ -1,7 +1,7 @@
 -- The costs of the entries filled so far are small, so that white can be added to them.
 use Prim.Native.Nat.{ℕ, _+_, _≤_, _<_}
 use native.Mathlib.Omega.{arith}
-use mathlib.Core.Path.{_≡_, refl}
+use mathlib.Core.Path.{refl}
 use mathlib.Core.Logic.{inl, inr}
 use mathlib.Core.List.{List}
 use lib.ListN.{length}
@@ -16,7 +16,6 @@ use Rattle.window.specs.Queue.{linesOf, Payable}
 use Rattle.starts.specs.Read.{tableIn, sideOf, columnsIn}
 use Rattle.starts.specs.Sweep.{Lent}
 use Rattle.starts.specs.laws.Columns.{placed-at, within-at}
-use Rattle.filling.specs.Fill.{sideCount}
 use Rattle.filling.specs.Filled.{Filled}
 use Rattle.filling.specs.laws.Entered.{below-side, side-before, sides-count}
 

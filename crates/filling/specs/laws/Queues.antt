@@ -2,17 +2,16 @@
 use Prim.Native.Nat.{ℕ, zero, suc, _+_, _*_, _≤_, _<_}
 use native.Mathlib.Decide.{decLt, ℕ-discrete}
 use native.Mathlib.Omega.{arith}
-use mathlib.Core.Path.{_≡_, refl, sym, ap, subst, _∙_}
+use mathlib.Core.Path.{_≡_, refl, sym, _∙_}
 use mathlib.Core.Logic.{_⊎_, inl, inr}
 use mathlib.Core.List.{List, [], _∷_}
 use lib.ListN.{length, getD}
 use Rattle.galley.specs.declared.Galley.{Galley}
 use Rattle.window.specs.declared.slide.Window.{Window}
-use Rattle.window.specs.declared.queue.Source.{Source}
 use Rattle.window.specs.declared.parts.Parts.{Parts}
 use Rattle.window.specs.Sums.{rowPut}
 use Rattle.window.specs.Queue.{linesOf}
-use Rattle.window.specs.Parts.{partsOf, Both, Moved}
+use Rattle.window.specs.Parts.{partsOf, Moved}
 use Rattle.window.specs.laws.Sums.{row-length, row-other, row-word}
 use Rattle.window.specs.laws.Parts.{both-none, both-same, both-beside}
 use Rattle.starts.specs.Read.{sideOf}
@@ -27,7 +26,7 @@ noEnds = 0 ∷ 0 ∷ 4000 ∷ 4000 ∷ 8000 ∷ 8000 ∷ 12000 ∷ 12000 ∷ []
 
 -- Before the first line all queues are empty.
 pub queues-none : (g : Galley) (w sums words : List ℕ) (b : ℕ) → g .spec .sides ≤ 2
-    → Queues g w sums words (0 ∷ 0 ∷ 4000 ∷ 4000 ∷ 8000 ∷ 8000 ∷ 12000 ∷ 12000 ∷ []) b nothing nothing 0
+    → Queues g w sums words noEnds b nothing nothing 0
 queues-none g w sums words b two =
     record { rows = refl; moved = λ c l m. absurd (omega arith); still = λ c l m. still c m }
   where
