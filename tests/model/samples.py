@@ -51,9 +51,10 @@ def made(g):
     if not valid:
         return '(refuses 11 0)', 'made: none (11)'
     best = search.best(g)
-    _, p, x, y, t = marking.mark(g, best)
-    tied = sum(marking.mark(g, words)[4] == t for words in valid) > 1
-    return f'(makes {p} {x} {y} {t} {numbers(best)})', 'made: ' + ('a tie decides' if tied else 'the turns decide')
+    _, p, x, y, t, w = marking.mark(g, best)
+    least = [marking.mark(g, words)[5] for words in valid if marking.mark(g, words)[4] == t]
+    kind = 'a tie decides' if least.count(w) > 1 else 'the white decides' if len(least) > 1 else 'the turns decide'
+    return f'(makes {p} {x} {y} {t} {w} {numbers(best)})', f'made: {kind}'
 
 
 def marked(g, words):
@@ -93,7 +94,7 @@ def binding(g):
 
 def kinds(bound):
     """Every kind of answer that there is; from an even folio page 1 opens a spread, and floats may stand there alone."""
-    yield from ('made: none (11)', 'made: a tie decides', 'made: the turns decide', 'marked: accepted', 'marked: 12')
+    yield from ('made: none (11)', 'made: a tie decides', 'made: the white decides', 'made: the turns decide', 'marked: accepted', 'marked: 12')
     for number in range(13, 18):
         yield from (f'marked: {number} on page 1', f'marked: {number} on a later page')[bound == EVEN and number == 17:]
     yield from ('marked: 14 after a kept figure', 'marked: 16 on the last page of its list')

@@ -1,3 +1,3 @@
-pub mod Eight
+pub mod Words
 pub mod Section
 pub mod Forecast

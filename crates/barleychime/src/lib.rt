@@ -1,22 +1,32 @@
 // The C interface: making, marking and reports for programs in other languages. include/barleychime.h documents it.
 ghost use mathlib.Core.Path.{_≡_};
 ghost use Rattle.marking.specs.Mark.{markOf};
-ghost use Rattle.barleychime.specs.Eight.{numberOf, eightOf, Exported};
+ghost use Rattle.barleychime.specs.Words.{numberOf, answerWords, Exported, ExportedAfter};
 use model::answer::Answer;
 
 pub mod beforehand; // beforehand.rt: what a galley asks for, told beforehand
 pub mod section; // section.rt: the folding order of a section
 pub mod term; // term.rt: the report on marks
 
-// An answer told to the caller: its six numbers and the count of what is weighed in eight words, and its number, which is 0 for a
+// An answer told to the caller: its numbers and the count of what is weighed in nine words, W the last, and its number, which is 0 for a
 // success.
-fn tell(answer: Answer, weighed: u64, words: &mut [u32; 8]) -> u32
-    ensures { λ r. ⌜ (r ≡ numberOf answer) × (now (words .exit) ≡ eightOf answer weighed) ⌝ }
+fn tell(answer: Answer, weighed: u64, words: &mut [u32; 9]) -> u32
+    ensures { λ r. ⌜ (r ≡ numberOf answer) × (now (words .exit) ≡ answerWords answer weighed) ⌝ }
 {
-    let n = model::answer::six_numbers(answer);
+    let n = model::answer::numbers_of(answer);
     let low = (weighed % 4294967296) as u32;
     let high = (weighed / 4294967296) as u32;
-    *words = [n.number, n.place, n.pages, n.x, n.y, n.turns, low, high];
+    *words = [
+        n.number,
+        n.place,
+        n.pages,
+        n.x,
+        n.y,
+        n.turns,
+        low,
+        high,
+        n.white,
+    ];
     n.number
 }
 
@@ -26,7 +36,7 @@ pub extern "C" fn barleychime_make(
     galley: &[u8],
     work: &mut [u32],
     pages: &mut [u32],
-    answer: &mut [u32; 8],
+    answer: &mut [u32; 9],
 ) -> u32
     ensures { λ r. ⌜
         Exported
@@ -44,12 +54,39 @@ pub extern "C" fn barleychime_make(
     tell(found, made.weighed, answer)
 }
 
+// The best pages of a galley that begin with an opening already printed: the answer of making after it with the count of what is weighed,
+// and what that leaves in the lent memory. The opening is only read.
+#[no_mangle]
+pub extern "C" fn barleychime_make_after(
+    galley: &[u8],
+    opening: &[u32],
+    work: &mut [u32],
+    pages: &mut [u32],
+    answer: &mut [u32; 9],
+) -> u32
+    ensures { λ r. ⌜
+        ExportedAfter
+        (now (galley .entry))
+        (now (opening .entry))
+        (now (work .entry))
+        (now (pages .entry))
+        r
+        (now (work .exit))
+        (now (pages .exit))
+        (now (answer .exit))
+        ⌝ }
+{
+    let made = making::make_after(galley, opening, work, pages);
+    let found = made.answer;
+    tell(found, made.weighed, answer)
+}
+
 // The marking of a page list: marking's answer; it weighs nothing. No lent memory but `answer` is written.
 #[no_mangle]
-pub extern "C" fn barleychime_mark(galley: &[u8], pages: &[u32], answer: &mut [u32; 8]) -> u32
+pub extern "C" fn barleychime_mark(galley: &[u8], pages: &[u32], answer: &mut [u32; 9]) -> u32
     ensures { λ r. ⌜
         (r ≡ numberOf (markOf (now (galley .entry)) (now (pages .entry))))
-        × (now (answer .exit) ≡ eightOf (markOf (now (galley .entry)) (now (pages .entry))) 0)
+        × (now (answer .exit) ≡ answerWords (markOf (now (galley .entry)) (now (pages .entry))) 0)
         ⌝ }
 {
     let mark = marking::mark(galley, pages);

@@ -4,10 +4,11 @@ use mathlib.Core.Bool.{Bool, true}
 use mathlib.Core.List.{List, [], _∷_}
 use lib.ListN.{length, getD}
 use Rattle.model.specs.declared.answer.Numbers.{Numbers}
-use Rattle.model.specs.Galley.{Spec, Stream, Galley}
-use Rattle.model.specs.Answers.{numbersOf, marked}
+use Rattle.model.specs.Galley.{Spec, Stream, Galley, zeros}
+use Rattle.model.specs.Answers.{numbersOf, pagesOf, marked}
 use Rattle.model.specs.Best.{made, madeWords}
-use Rattle.model.specs.Weighed.{weighed, ceiling}
+use Rattle.model.specs.Weighed.{weighed, weighedFrom, ceiling}
+use Rattle.model.specs.Opening.{endOf, madeAfter, madeWordsAfter}
 
 -- A line or figure: its height, the least and greatest space after it, whether a page may end there, and what cites it.
 pub record Block : Type 0 where
@@ -40,11 +41,14 @@ unfoldable pub galleyOf : Spec → List Block → List Block → Galley
 galleyOf sp lines figures =
     record { spec = sp; floats = 1; stream = λ s. elim s [ zero ↦ streamOf lines | suc t ↦ streamOf figures ] }
 
--- What is asked: a making, the marking of a list of words, or what is weighed and told of it beforehand.
+-- What is asked: a making, the marking of a list of words, or what is weighed and told of it beforehand; and a making, or what is weighed,
+-- after an opening.
 pub data Question : Type 0 where
   making : Question
   marking : List ℕ → Question
   weighing : Question
+  making-after : List ℕ → Question
+  weighing-after : List ℕ → Question
 
 -- What is answered: the numbers of an answer, the words of the list that is made, and where that is asked the pages weighed and their
 -- ceiling.
@@ -85,3 +89,5 @@ unfoldable pub answered : Galley → Question → Reply
 answered g making = record { numbers = numbersOf (made g); list = madeWords g; counted = [] }
 answered g (marking ws) = record { numbers = numbersOf (marked g ws); list = []; counted = [] }
 answered g weighing = counts (weighed g) (ceiling g)
+answered g (making-after ws) = record { numbers = numbersOf (madeAfter g ws); list = madeWordsAfter g ws; counted = [] }
+answered g (weighing-after ws) = counts (weighedFrom g (endOf (zeros g) (pagesOf g ws))) (ceiling g)

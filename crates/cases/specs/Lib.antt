@@ -6,6 +6,7 @@ pub mod Further
 pub mod Requests
 pub mod Tables
 pub mod Weighings
+pub mod Openings
 pub mod Whites
 pub mod Table
 pub mod Agrees

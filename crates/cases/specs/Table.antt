@@ -6,7 +6,10 @@ use Rattle.cases.specs.Further.{makings, heights, refusals}
 use Rattle.cases.specs.Requests.{folios, keepings, closings}
 use Rattle.cases.specs.Tables.{tablesMade, tablesHigh, tablesRefused}
 use Rattle.cases.specs.Weighings.{weighings}
-use Rattle.cases.specs.Whites.{whitesLeft}
+use Rattle.cases.specs.Openings.{openingsMade, openingsTurned, openingsWeighed}
+use Rattle.cases.specs.Whites.{whitesLeft, whitesAfter}
 
 unfoldable pub table : List Case
-table = starred ++ makings ++ heights ++ refusals ++ folios ++ keepings ++ closings ++ tablesMade ++ tablesHigh ++ tablesRefused ++ weighings ++ whitesLeft
+table =
+    starred ++ makings ++ heights ++ refusals ++ folios ++ keepings ++ closings ++ tablesMade ++ tablesHigh ++ tablesRefused ++ weighings
+    ++ openingsMade ++ openingsTurned ++ openingsWeighed ++ whitesLeft ++ whitesAfter

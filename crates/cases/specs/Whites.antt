@@ -1,7 +1,7 @@
 -- The cases of S-10 of document 02: of lists with the same turns the one with less white, and what a list's white is.
 use mathlib.Core.List.{List, [], _∷_}
 use Rattle.model.specs.Galley.{single, double}
-use Rattle.cases.specs.Case.{Case, making, marking, makes, marks, asks}
+use Rattle.cases.specs.Case.{Case, making, marking, making-after, makes, marks, asks}
 use Rattle.cases.specs.Galleys.{galleyD, galleyL, galleyP, galleyR}
 
 unfoldable pub whitesLeft : List Case
@@ -27,4 +27,14 @@ whitesLeft =
     ∷ asks (galleyL 0 60) (marking (1 ∷ 1 ∷ 1 ∷ 2 ∷ 1 ∷ 1 ∷ [])) (marks 2 0 1 1 20)
     -- the only page is the last
     ∷ asks (galleyL 0 60) making (makes 1 0 0 0 0 (2 ∷ 1 ∷ 1 ∷ []))
+    ∷ []
+
+-- After an opening, whose pages are not last.
+unfoldable pub whitesAfter : List Case
+whitesAfter =
+    -- the printed page lacks 15, and what follows is the last
+    asks (galleyP single 1) (making-after (1 ∷ 0 ∷ [])) (makes 2 0 1 1 15 (1 ∷ 0 ∷ 5 ∷ 0 ∷ []))
+    -- the weight of Y is 0: at the same white the later start, and less white before that
+    ∷ asks (galleyP single 0) (making-after (1 ∷ 0 ∷ [])) (makes 3 0 2 0 15 (1 ∷ 0 ∷ 4 ∷ 0 ∷ 5 ∷ 0 ∷ []))
+    ∷ asks (galleyD single 0) (making-after (1 ∷ 0 ∷ [])) (makes 2 0 1 0 10 (1 ∷ 0 ∷ 3 ∷ 0 ∷ []))
     ∷ []

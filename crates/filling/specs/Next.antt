@@ -23,7 +23,8 @@ use Rattle.window.specs.Queue.{linesOf, Payable}
 use Rattle.window.specs.Parts.{partsOf, Both, Rises, Moved}
 use Rattle.starts.specs.Fronts.{bestFront, Fronted}
 use Rattle.starts.specs.Choice.{Starts, Above, Between}
-use Rattle.starts.specs.Read.{tableIn, sideOf, searchOf, columnsIn, countsAt, allPlaced, loadOf}
+use Rattle.rules.specs.Parts.{allPlaced}
+use Rattle.starts.specs.Read.{tableIn, sideOf, searchOf, columnsIn, countsAt, loadOf}
 use Rattle.starts.specs.Sweep.{Lent, Scratch, Summed, Knows, Known}
 use Rattle.filling.specs.declared.side.Task.{Task}
 use Rattle.filling.specs.declared.side.End.{End}

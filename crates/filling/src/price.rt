@@ -12,7 +12,7 @@ ghost use Rattle.galley.specs.Model.{modelOf, sidesIn};
 ghost use Rattle.galley.specs.Sound.{SoundStream};
 ghost use Rattle.blocks.specs.declared.Counts.{Counts};
 ghost use Rattle.blocks.specs.Counts.{placeOf, Proper};
-ghost use Rattle.starts.specs.Read.{allPlaced};
+ghost use Rattle.rules.specs.Parts.{allPlaced};
 ghost use Rattle.filling.specs.Stop.{floatsSay, stopFrom, stopAt, stopsAt, endingSide, Stopping};
 ghost use Rattle.filling.specs.Next.{waitsAt, Priceable};
 use blocks::Counts;

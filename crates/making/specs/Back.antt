@@ -6,7 +6,7 @@ use mathlib.Core.Option.{some}
 use lib.ListN.{length, drop}
 use Rattle.model.specs.Galley.{Galley, Place, streams}
 use Rattle.model.specs.Answers.{wordsOf}
-use Rattle.model.specs.Best as choice
+use Rattle.model.specs.Opening.{bestAfter}
 use Rattle.theorems.specs.pages.Graph.{State, stop}
 use Rattle.places.specs.declared.Origin.{Origin}
 use Rattle.starts.specs.Search.{Table}
@@ -26,10 +26,10 @@ lastOf g t = record { place = lastPlace g; side = lastSide (g .spec .sides) t (l
 abbrev pub counted : Galley → Origin → Table → ℕ → Stop → ℕ
 counted g from t most last = countBack (g .spec .sides) t from most last 0
 
--- The best list has as many pages as are counted back, no more than `most`, and its words are what is written, before the rest of
--- the page list.
-pub record Found (g : Galley) (from : Origin) (t : Table) (most : ℕ) (last : Stop) (ps : List Place) : Type 0 where
-  pub best : choice.best g ≡ some ps
+-- After the opening the best list has as many pages as are counted back, no more than `most`, and their words are what is written, before
+-- the rest of the page list.
+pub record Found (g : Galley) (os : List Place) (from : Origin) (t : Table) (most : ℕ) (last : Stop) (ps : List Place) : Type 0 where
+  pub best : bestAfter g os ≡ some (os ++ ps)
   pub pages : length ps ≡ counted g from t most last
   pub few : counted g from t most last ≤ most
   pub words : (ws : List ℕ) → streams g * counted g from t most last ≤ length ws

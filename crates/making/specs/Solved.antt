@@ -4,7 +4,7 @@ use mathlib.Core.Path.{_≡_}
 use mathlib.Core.List.{List, _++_}
 use lib.ListN.{length, drop}
 use Rattle.model.specs.declared.answer.Answer.{Answer}
-use Rattle.model.specs.Best.{made, madeWords}
+use Rattle.model.specs.Opening.{madeAfter, madeWordsAfter}
 use Rattle.galley.specs.declared.Galley.{Galley}
 use Rattle.galley.specs.declared.Reading.the-variants as reads
 use Rattle.galley.specs.Whole.{galleyOf}
@@ -12,26 +12,31 @@ use Rattle.galley.specs.Model.{modelOf}
 use Rattle.places.specs.declared.Origin.{Origin}
 use Rattle.filling.specs.Fill.{filled}
 use Rattle.making.specs.Make.{workNeeded, listNeeded}
+use Rattle.making.specs.Begun.{Opened}
 
--- Where making begins: nothing is placed, there is no page yet, and nothing is paid (document 01, "Making").
-abbrev pub nothingYet : Origin
-nothingYet = record { place = record { line = 0; column = 0 }; pages = 0; cost = 0 }
-
--- The bytes hold the galley, and making begins at its beginning.
-pub record Readable (bytes : List ℕ) (g : Galley) (from : Origin) : Type 0 where
+-- The bytes hold the galley.
+pub record Readable (bytes : List ℕ) (g : Galley) : Type 0 where
   pub reads : galleyOf bytes ≡ reads.Galley g
-  pub begins : from ≡ nothingYet
+
+-- Making begins where the opening ends, and so many words of the work area and the page list are long enough.
+pub record Soluble (bytes : List ℕ) (g : Galley) (opening : List ℕ) (from : Origin) (needed : ℕ) (work list : List ℕ) : Type 0 where
+  pub reads : galleyOf bytes ≡ reads.Galley g
+  pub opened : Opened bytes g opening from
+  pub is : needed ≡ workNeeded g
+  pub enough : workNeeded g ≤ length work
+  pub room : listNeeded g ≤ length list
 
 -- The work area was filled, whatever it held before, and the page list is long enough.
-pub record Solved (bytes : List ℕ) (g : Galley) (from : Origin) (work list : List ℕ) : Type 0 where
+pub record Solved (bytes : List ℕ) (g : Galley) (opening : List ℕ) (from : Origin) (work list : List ℕ) : Type 0 where
   pub reads : galleyOf bytes ≡ reads.Galley g
-  pub begins : from ≡ nothingYet
+  pub opened : Opened bytes g opening from
   pub before : List ℕ
   pub enough : workNeeded g ≤ length before
   pub is : work ≡ filled (modelOf bytes g) from before
   pub room : listNeeded g ≤ length list
 
--- The answer is that of the best list, or 11, and the words of the best list stand before the rest of the page list.
-pub record Written (bytes : List ℕ) (g : Galley) (list : List ℕ) (answer : Answer) (list′ : List ℕ) : Type 0 where
-  pub answers : answer ≡ made (modelOf bytes g)
-  pub listed : list′ ≡ madeWords (modelOf bytes g) ++ drop (length (madeWords (modelOf bytes g))) list
+-- The answer is that of the best list that begins with the opening, or 11, and its words stand before the rest of the page list.
+pub record Written (bytes : List ℕ) (g : Galley) (opening list : List ℕ) (answer : Answer) (list′ : List ℕ) : Type 0 where
+  pub answers : answer ≡ madeAfter (modelOf bytes g) opening
+  pub listed : list′
+      ≡ madeWordsAfter (modelOf bytes g) opening ++ drop (length (madeWordsAfter (modelOf bytes g) opening)) list

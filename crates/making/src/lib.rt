@@ -1,13 +1,16 @@
-// Making: the pagination with the fewest turns, for any bytes and any lent memory. Document 01, "Making".
+// Making: the pagination with the fewest turns, for any bytes and any lent memory. Document 01, "Making"; document 02, S-6.
 ghost use mathlib.Core.Path.{_≡_};
 ghost use Rattle.model.specs.declared.answer.Answer.the-variants.{Refused};
 ghost use Rattle.making.specs.Make.{Made};
-ghost use Rattle.making.specs.Solved.{nothingYet, Readable, Solved, Written};
+ghost use Rattle.making.specs.After.{MadeAfter};
+ghost use Rattle.making.specs.Solved.{Readable, Soluble, Solved, Written};
+use crate::opening::Begun;
 use galley::Galley;
 use galley::Reading;
 use model::answer::Answer;
 use places::Origin;
-use places::Place;
+
+mod opening; // opening.rt: where making begins after an opening
 
 // What making returns: its answer, and how many pages are weighed, in the plain sense (document 02, S-5).
 pub struct Making {
@@ -25,21 +28,17 @@ fn turned_away(number: u32, place: u32) -> Making
     }
 }
 
-// Where making begins: nothing is placed, there is no page yet, and nothing is paid.
-fn beginning() -> Origin
-    ensures { λ r. ⌜ r ≡ nothingYet ⌝ }
-{
-    Origin {
-        place: Place { line: 0, column: 0 },
-        pages: 0,
-        cost: 0,
-    }
-}
-
-// The best list out of a filled work area: written to the page list, and counted by marking it.
-fn best_pages(s: &[u8], g: Galley, origin: Origin, work: &[u32], pages: &mut [u32]) -> Answer
-    requires { ⌜ Solved (now s) g origin (now work) (now pages) ⌝ }
-    ensures { λ r. ⌜ Written (now (s .entry)) g (now (pages .entry)) r (now (pages .exit)) ⌝ }
+// The best list out of a filled work area: the opening and what follows it, written to the page list, and counted by marking it.
+fn best_pages(
+    s: &[u8],
+    g: Galley,
+    opening: &[u32],
+    origin: Origin,
+    work: &[u32],
+    pages: &mut [u32],
+) -> Answer
+    requires { ⌜ Solved (now s) g (now opening) origin (now work) (now pages) ⌝ }
+    ensures { λ r. ⌜ Written (now (s .entry)) g (now (opening .entry)) (now (pages .entry)) r (now (pages .exit)) ⌝ }
 {
     let last = walk::last_stop(g, work);
     if !walk::reached(g, work, last) {
@@ -49,15 +48,39 @@ fn best_pages(s: &[u8], g: Galley, origin: Origin, work: &[u32], pages: &mut [u3
         };
     }
     let p = walk::count_pages(g, work, origin, last);
-    walk::write_pages(g, work, last, p, pages);
-    let words = blocks::page_words(g) * p;
+    let begun = opening.len();
+    crate::opening::copy_words(opening, pages);
+    walk::write_pages(g, work, last, p, &mut pages[begun..]);
+    let words = begun + blocks::page_words(g) * p;
     marking::mark(s, &pages[..words])
 }
 
-// A galley that was read, made where the lent memory is long enough: 9, then 10.
-fn make_read(s: &[u8], g: Galley, origin: Origin, work: &mut [u32], pages: &mut [u32]) -> Making
-    requires { ⌜ Readable (now s) g origin ⌝ }
-    ensures { λ r. ⌜ Made (now (s .entry)) (now (work .entry)) (now (pages .entry)) (r .answer) (r .weighed) (now (work .exit)) (now (pages .exit)) ⌝ }
+// The best list from where an opening ends, in so many words of the work area, which are cleared afterwards.
+fn make_from(
+    s: &[u8],
+    g: Galley,
+    opening: &[u32],
+    origin: Origin,
+    needed: usize,
+    work: &mut [u32],
+    pages: &mut [u32],
+) -> Making
+    requires { ⌜ Soluble (now s) g (now opening) origin needed (now work) (now pages) ⌝ }
+    ensures { λ r. ⌜ MadeAfter (now (s .entry)) (now (opening .entry)) (now (work .entry)) (now (pages .entry)) (r .answer) (r .weighed) (now (work .exit)) (now (pages .exit)) ⌝ }
+{
+    filling::fill::fill(s, g, origin, work);
+    let answer = best_pages(s, g, opening, origin, work, pages);
+    places::clear(work, needed);
+    let line = origin.place.line as usize;
+    let first = starts::read::counts_at(g, line, origin.place.column as usize);
+    let weighed = weighing::weighed(s, g, first);
+    Making { answer, weighed }
+}
+
+// A galley that was read, made where the lent memory is long enough and the opening stands: 9, then 10, then 20 and 21.
+fn make_read(s: &[u8], g: Galley, opening: &[u32], work: &mut [u32], pages: &mut [u32]) -> Making
+    requires { ⌜ Readable (now s) g ⌝ }
+    ensures { λ r. ⌜ MadeAfter (now (s .entry)) (now (opening .entry)) (now (work .entry)) (now (pages .entry)) (r .answer) (r .weighed) (now (work .exit)) (now (pages .exit)) ⌝ }
 {
     let needed = places::words_needed(g.text.count, starts::read::columns_of(g));
     let room = blocks::page_words(g) * (g.text.count + g.figures.count + g.tables.count);
@@ -67,21 +90,29 @@ fn make_read(s: &[u8], g: Galley, origin: Origin, work: &mut [u32], pages: &mut 
     if pages.len() < room {
         return turned_away(10, room as u32);
     }
-    filling::fill::fill(s, g, origin, work);
-    let answer = best_pages(s, g, origin, work, pages);
-    places::clear(work, needed);
-    let weighed = weighing::weighed(s, g);
-    Making { answer, weighed }
+    let begun = crate::opening::begin_after(s, g, opening);
+    match begun {
+        Begun::Refused { number, place } => turned_away(number, place),
+        Begun::From(origin) => make_from(s, g, opening, origin, needed, work, pages),
+    }
 }
 
-// The best pages of the galley that any bytes hold, or one refusal, and the count of what is weighed. Nothing that the work area holds beforehand matters.
+// The best of the lists that begin with an opening already printed, for the galley that any bytes hold, or one refusal, and the count of
+// what is weighed. The opening is only read, and nothing that the work area holds beforehand matters.
+pub fn make_after(galley: &[u8], opening: &[u32], work: &mut [u32], pages: &mut [u32]) -> Making
+    ensures { λ r. ⌜ MadeAfter (now (galley .entry)) (now (opening .entry)) (now (work .entry)) (now (pages .entry)) (r .answer) (r .weighed) (now (work .exit)) (now (pages .exit)) ⌝ }
+{
+    let reading = galley::whole::read_galley(galley);
+    match reading {
+        Reading::Galley(g) => make_read(galley, g, opening, work, pages),
+        Reading::Refused { number, place } => turned_away(number, place),
+    }
+}
+
+// The best pages of the galley that any bytes hold, or one refusal, and the count of what is weighed: making after no opening.
 pub fn make(galley: &[u8], work: &mut [u32], pages: &mut [u32]) -> Making
     ensures { λ r. ⌜ Made (now (galley .entry)) (now (work .entry)) (now (pages .entry)) (r .answer) (r .weighed) (now (work .exit)) (now (pages .exit)) ⌝ }
 {
-    let origin = beginning();
-    let reading = galley::whole::read_galley(galley);
-    match reading {
-        Reading::Galley(g) => make_read(galley, g, origin, work, pages),
-        Reading::Refused { number, place } => turned_away(number, place),
-    }
+    let nothing = [0u32; 0];
+    make_after(galley, &nothing, work, pages)
 }

@@ -3,5 +3,7 @@ pub mod Faults
 pub mod Next
 pub mod Heights
 pub mod Rest
+pub mod Judged
 pub mod Run
 pub mod Page
+pub mod Listed

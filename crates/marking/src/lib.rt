@@ -6,6 +6,7 @@ use galley::Reading;
 use model::answer::Answer;
 
 mod heights; // heights.rt: the heights of a page, block by block
+pub mod opening; // opening.rt: pages already printed
 mod pages; // pages.rt: the loop over pages
 
 // The marking of any words for any bytes. A refused galley is refused alike; the time is proportional to the pages of the

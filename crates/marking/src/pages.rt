@@ -6,8 +6,8 @@ ghost use Rattle.galley.specs.Model.{modelOf};
 ghost use Rattle.galley.specs.Sound.{Sound};
 ghost use Rattle.blocks.specs.Counts.{pageWords, countsIn};
 ghost use Rattle.model.specs.Answers.{marked};
-ghost use Rattle.marking.specs.Parts.{WholePages};
-ghost use Rattle.marking.specs.laws.Run.{wholly};
+ghost use Rattle.marking.specs.Parts.{WholePages, CountedPages};
+ghost use Rattle.marking.specs.Judged.{JudgedPages};
 use blocks::Counts;
 use galley::Galley;
 use model::answer::Answer;
@@ -37,10 +37,17 @@ fn page_at(g: Galley, list: &[u32], from: usize) -> Counts
     }
 }
 
-// The answer for a list of whole pages: the first page that breaks a rule, and there the first of 13 to 17; then 18.
-fn judge_pages(s: &[u8], g: Galley, list: &[u32]) -> Answer
+// How pages are judged: the first page that breaks a rule, and there the first of 13 to 17; or where the last page ends, and the floats
+// that wait at the ends of leaves and the white of the pages, summed.
+pub enum Judged {
+    Broken { number: u32, page: u32 },
+    Kept { at: Counts, sums: Sums },
+}
+
+// The pages of a list judged, of which page number `last` counts as the last of its list: none does where that is 0.
+pub fn judge_pages(s: &[u8], g: Galley, list: &[u32], last: usize) -> Judged
     requires { ⌜ WholePages (now s) g (now list) ⌝ }
-    ensures { λ r. ⌜ r ≡ wholly (now (s .entry)) g (now (list .entry)) ⌝ }
+    ensures { λ r. ⌜ JudgedPages (now (s .entry)) g (now (list .entry)) last r ⌝ }
 {
     let words = blocks::page_words(g);
     let pages = list.len() / words;
@@ -55,25 +62,25 @@ fn judge_pages(s: &[u8], g: Galley, list: &[u32]) -> Answer
         tables: 0,
     };
     let mut sums = Sums { x: 0, white: 0 };
-    let answer = 'pages: loop {
+    let judged = 'pages: loop {
         if done == pages {
-            break 'pages rules::counts::finish(g, pages as u32, at, sums);
+            break 'pages Judged::Kept { at, sums };
         }
         let number = (done + 1) as u32;
         let v = page_at(g, list, words * done);
         let start = rules::rules::start_fault(s, g, at, v);
         if 0 < start {
-            break 'pages Answer::Refused {
+            break 'pages Judged::Broken {
                 number: start,
-                place: number,
+                page: number,
             };
         }
         let mut laid = crate::heights::bare_page(g, at, v);
         loop {
             if g.spec.htmax < laid.heights.tight {
-                break 'pages Answer::Refused {
+                break 'pages Judged::Broken {
                     number: 15,
-                    place: number,
+                    page: number,
                 };
             }
             if crate::heights::is_laid(laid.on, v) {
@@ -81,20 +88,42 @@ fn judge_pages(s: &[u8], g: Galley, list: &[u32]) -> Answer
             }
             laid = crate::heights::with_next(s, g, at, v, laid);
         }
-        let last = done + 1 == pages;
-        let end = rules::rules::end_fault(s, g, laid.heights.loose, Page(number), last, v);
+        let closing = done + 1 == last;
+        let end = rules::rules::end_fault(s, g, laid.heights.loose, Page(number), closing, v);
         if 0 < end {
-            break 'pages Answer::Refused {
+            break 'pages Judged::Broken {
                 number: end,
-                place: number,
+                page: number,
             };
         }
         waiting = rules::waiting::waiting_on(s, g, at, v, waiting);
-        sums = rules::counts::with_page(g, Page(number), last, laid.heights.loose, waiting, sums);
+        sums = rules::counts::with_page(
+            g,
+            Page(number),
+            closing,
+            laid.heights.loose,
+            waiting,
+            sums,
+        );
         done += 1;
         at = v;
     };
-    answer
+    judged
+}
+
+// The answer for a list of so many pages, all but the last of which another follows: the first page that breaks a rule, then 18.
+fn judge_list(s: &[u8], g: Galley, list: &[u32], pages: usize) -> Answer
+    requires { ⌜ CountedPages (now s) g (now list) pages ⌝ }
+    ensures { λ r. ⌜ r ≡ marked (modelOf (now (s .entry)) g) (now (list .entry)) ⌝ }
+{
+    let judged = judge_pages(s, g, list, pages);
+    match judged {
+        Judged::Broken { number, page } => Answer::Refused {
+            number,
+            place: page,
+        },
+        Judged::Kept { at, sums } => rules::counts::finish(g, pages as u32, at, sums),
+    }
 }
 
 // The answer for a galley that reads without refusal: 12 before any page, then the pages.
@@ -103,7 +132,7 @@ pub fn mark_read(s: &[u8], g: Galley, list: &[u32]) -> Answer
     ensures { λ r. ⌜ r ≡ marked (modelOf (now (s .entry)) g) (now (list .entry)) ⌝ }
 {
     if rules::rules::is_counted(g, list.len()) {
-        return judge_pages(s, g, list);
+        return judge_list(s, g, list, list.len() / blocks::page_words(g));
     }
     Answer::Refused {
         number: 12,

@@ -11,4 +11,5 @@ pub mod Pagination
 pub mod Order
 pub mod Best
 pub mod Weighed
+pub mod Opening
 pub mod laws

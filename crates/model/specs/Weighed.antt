@@ -4,7 +4,7 @@ use mathlib.Core.Bool.{Bool, not, _&&_}
 use mathlib.Core.List.{List, [], _∷_}
 use lib.Dec.{leb}
 use Rattle.model.specs.Gather.{pick, one, every}
-use Rattle.model.specs.Galley.{Stream, Galley, Place, streams, sizes}
+use Rattle.model.specs.Galley.{Stream, Galley, Place, count, streams, sizes}
 use Rattle.model.specs.Height.{stacked}
 use Rattle.model.specs.Rules.{forward, fits}
 use Rattle.model.specs.Best.{box}
@@ -32,6 +32,14 @@ weighs g u v = forward g u v && fits g u v
 -- The pairs of start and end that are weighed, each once, by enumeration of all pairs (document 02, S-5).
 unfoldable pub weighed : Galley → ℕ
 weighed g = sumOf (λ v. sumOf (λ u. one (weighs g u v)) (box (sizes g))) (box (sizes g))
+
+-- No count of u is below that of w: a start at or past w in every stream (document 02, S-6).
+unfoldable pub past : Galley → Place → Place → Bool
+past g w u = every (g .floats) (λ s. leb (count w s) (count u s))
+
+-- Of the pairs weighed those whose start is at or past w in every stream: w is where an opening ends (document 02, S-6).
+unfoldable pub weighedFrom : Galley → Place → ℕ
+weighedFrom g w = sumOf (λ v. sumOf (λ u. one (past g w u && weighs g u v)) (box (sizes g))) (box (sizes g))
 
 -- The greatest number up to n that passes a test, or 0 (notation).
 unfoldable pub greatest : ℕ → (ℕ → Bool) → ℕ

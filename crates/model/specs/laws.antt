@@ -10,6 +10,7 @@ pub mod Valid
 pub mod White
 pub mod Order
 pub mod Best
+pub mod Opening
 pub mod Boxes
 pub mod Together
 pub mod Weighed

@@ -65,7 +65,8 @@ fn print_counts(n: Numbers) {
     print_number(n.pages, b' ');
     print_number(n.x, b' ');
     print_number(n.y, b' ');
-    print_number(n.turns, b'\n');
+    print_number(n.turns, b' ');
+    print_number(n.white, b'\n');
 }
 
 fn main() {
@@ -79,7 +80,7 @@ fn main() {
     let mut list = [0u32; 400];
     let made = making::make(&input[..got], &mut work, &mut list);
     let answer = made.answer;
-    let n = model::answer::six_numbers(answer);
+    let n = model::answer::numbers_of(answer);
     if n.number == 0 {
         print_counts(n);
         print_pages(n.pages, &list, words_of(&input[..got]));

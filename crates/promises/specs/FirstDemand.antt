@@ -28,11 +28,11 @@ use Rattle.marking.specs.Mark.{markOf}
 use Rattle.making.specs.Make.{workNeeded, listNeeded, makeRead, makeOf, workRead, workAfter, listRead, listAfter, Made}
 use Rattle.promises.specs.Answers.{ByMarking, ByMaking, picked, of-marking, of-making}
 
--- The six numbers of an answer are those of a finished call, with number and place 0, or of a refusal with one of the numbers
--- that may be, its place, and no counts (document 01, "Numbers that turn work away").
+-- The numbers of an answer are those of a finished call, with number and place 0, or of a refusal with one of the numbers that may be,
+-- its place, and no counts (document 01, "Numbers that turn work away"; document 02, S-10).
 pub data Answered (May : ℕ → Type 0) : Numbers → Type 0 where
-  finished : {p x y t : ℕ} → Answered May (record { number = 0; place = 0; pages = p; x = x; y = y; turns = t })
-  refused : {n at : ℕ} → May n → Answered May (record { number = n; place = at; pages = 0; x = 0; y = 0; turns = 0 })
+  finished : {p x y t w : ℕ} → Answered May (record { number = 0; place = 0; pages = p; x = x; y = y; turns = t; white = w })
+  refused : {n at : ℕ} → May n → Answered May (record { number = n; place = at; pages = 0; x = 0; y = 0; turns = 0; white = 0 })
 
 -- The same of an answer.
 abbrev Ends : (ℕ → Type 0) → Answer → Type 0

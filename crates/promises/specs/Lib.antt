@@ -2,8 +2,10 @@
 pub mod Answers
 pub mod FirstDemand
 pub mod SecondDemand
+pub mod ThirdDemandAfter
 pub mod ThirdDemand
 pub mod Editions
 pub mod Limit
 pub mod Waiting
 pub mod Forecast
+pub mod Opening

@@ -1,5 +1,5 @@
 -- The second demand: marking accepts a list exactly where it is a pagination, under the published model, of the galley that
--- the bytes say, and reports that pagination's page count and goal functions. `markOf` is the contract of `mark`.
+-- the bytes say, and reports that pagination's page count, goal functions and white. `markOf` is the contract of `mark`.
 use Prim.Native.Nat.{ℕ, _+_, _-_, _*_, _/_, _≤_}
 use native.Mathlib.Nat.{zero-add}
 use native.Mathlib.Omega.{arith}
@@ -13,7 +13,7 @@ use Rattle.model.specs.Galley.{Block}
 use Rattle.model.specs.Leaf.{folioOf, leaf, sidesOf}
 use Rattle.model.specs.laws.Leaf.{leaf-mono}
 use Rattle.model.specs.Answers.{accepted, marked, wordsOf}
-use Rattle.model.specs.Pagination.{Map, Pagination, listOn, xOn, turnsOn}
+use Rattle.model.specs.Pagination.{Map, Pagination, listOn, xOn, turnsOn, whiteOver}
 use Rattle.theorems.specs.published.Theorem.{words-published, words-unique, words-counts, turn-leaves}
 use Rattle.galley.specs.declared.Stream.{Stream}
 use Rattle.galley.specs.declared.Galley.{Galley}
@@ -62,10 +62,11 @@ accepts-paginations bytes words = (
 )
 
 module _ {bytes words : List ℕ} {g : Galley} {p : ℕ} {P : Map} (m : Paginates bytes words g p P) where
-  -- The answer is its page count, X and Y over its leaves, and its turns.
+  -- The answer is its page count, X and Y over its leaves, its turns, and its white: what its pages but the last lack of htMax at their
+  -- loosest (document 02, S-10).
   pub reports : markOf bytes words
       ≡ Counted p (xOn (modelOf bytes g) P) (leaf (sidesIn g) p - leaf (sidesIn g) 1)
-      (turnsOn (modelOf bytes g) p P)
+      (turnsOn (modelOf bytes g) p P) (whiteOver (modelOf bytes g) p P)
   reports =
       mark-is bytes words g (m .says)
       ∙ ap (marked (modelOf bytes g)) (sym (m .list))
@@ -80,10 +81,14 @@ module _ {bytes words : List ℕ} {g : Galley} {p : ℕ} {P : Map} (m : Paginate
   abbrev pub Over : (ℕ → Stream → ℕ → ℕ) → ℕ
   Over number = sum (g .figures .count) (number 1 (g .figures)) + sum (g .tables .count) (number 2 (g .tables))
 
+  -- Its white.
+  abbrev pub White : ℕ
+  White = whiteOver (modelOf bytes g) p P
+
   -- X is Σ (S(P(f)) − S(P(R(f)))) over the figures and the tables, Y is S(p) − S(1), and the turns are X and Y by their weights.
   by-leaves : (S : ℕ → ℕ) → ((q : ℕ) → leaf (sidesIn g) q ≡ S q)
       → markOf bytes words
-      ≡ Counted p (Over (Apart S)) (S p - S 1) (Over (λ s st f. g .spec .alpha * Apart S s st f) + g .spec .beta * (S p - S 1))
+      ≡ Counted p (Over (Apart S)) (S p - S 1) (Over (λ s st f. g .spec .alpha * Apart S s st f) + g .spec .beta * (S p - S 1)) White
   unfolding xOn sum
   by-leaves S is =
       let M = modelOf bytes g in
@@ -100,7 +105,7 @@ module _ {bytes words : List ℕ} {g : Galley} {p : ℕ} {P : Map} (m : Paginate
   -- Single-sided: X is Σ (P(f) − P(R(f))), Y is p − 1, and the turns are the paper's Turn.S, whatever the folio.
   pub reports-single : g .spec .sides ≡ 1
       → markOf bytes words
-      ≡ Counted p (Over (Apart (λ q. q))) (p - 1) (Over (λ s st f. g .spec .alpha * Apart (λ q. q) s st f) + g .spec .beta * (p - 1))
+      ≡ Counted p (Over (Apart (λ q. q))) (p - 1) (Over (λ s st f. g .spec .alpha * Apart (λ q. q) s st f) + g .spec .beta * (p - 1)) White
   unfolding leaf sidesOf
   reports-single e = by-leaves (λ q. q) (λ q. rw e)
 
@@ -109,7 +114,7 @@ module _ {bytes words : List ℕ} {g : Galley} {p : ℕ} {P : Map} (m : Paginate
   pub reports-double : g .spec .sides ≡ 2
       → (let S : ℕ → ℕ = λ q. folioOf (g .folio) q / 2 + 1 in
       markOf bytes words
-      ≡ Counted p (Over (Apart S)) (S p - S 1) (Over (λ s st f. g .spec .alpha * Apart S s st f) + g .spec .beta * (S p - S 1)))
+      ≡ Counted p (Over (Apart S)) (S p - S 1) (Over (λ s st f. g .spec .alpha * Apart S s st f) + g .spec .beta * (S p - S 1)) White)
   unfolding leaf sidesOf
   reports-double e = by-leaves (λ q. folioOf (g .folio) q / 2 + 1) (λ q. rw e)
 
@@ -117,7 +122,7 @@ module _ {bytes words : List ℕ} {g : Galley} {p : ℕ} {P : Map} (m : Paginate
   pub reports-first : g .spec .sides ≡ 2 → g .folio ≡ 1
       → (let S : ℕ → ℕ = λ q. q / 2 + 1 in
       markOf bytes words
-      ≡ Counted p (Over (Apart S)) (S p - 1) (Over (λ s st f. g .spec .alpha * Apart S s st f) + g .spec .beta * (S p - 1)))
+      ≡ Counted p (Over (Apart S)) (S p - 1) (Over (λ s st f. g .spec .alpha * Apart S s st f) + g .spec .beta * (S p - 1)) White)
   unfolding leaf sidesOf
   reports-first e f = by-leaves (λ q. q / 2 + 1) (λ q. rw (e, f, zero-add))
 

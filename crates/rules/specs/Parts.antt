@@ -9,6 +9,7 @@ use Rattle.model.specs.Rules.{forward, closes}
 use Rattle.model.specs.Leaf.{leaf}
 use Rattle.model.specs.declared.answer.Answer.{Answer}
 use Rattle.model.specs.declared.answer.Answer.the-variants.{Counted, Refused}
+use Rattle.theorems.specs.turns.Rank.{rank}
 use Rattle.galley.specs.declared.Galley.{Galley}
 use Rattle.galley.specs.Range.{SpecRanged}
 use Rattle.galley.specs.Model.{floatsOf, sidesIn}
@@ -58,11 +59,19 @@ unfoldable pub counts : Galley → ℕ → Sums → Answer
 counts g p sums =
     let y = leavesTurned g p in Counted p (sums .x) y (g .spec .alpha * sums .x + g .spec .beta * y) (sums .white)
 
+-- Every block is placed.
+abbrev pub allPlaced : Galley → Counts → Bool
+allPlaced g at =
+    eqb (at .lines) (g .text .count) && (eqb (at .figures) (g .figures .count) && eqb (at .tables) (g .tables .count))
+
 -- The answer once p pages are judged: 18 where the last does not end at the full place, else the counts.
 unfoldable pub finished : Galley → ℕ → Counts → Sums → Answer
-finished g p at sums =
-    pick (eqb (at .lines) (g .text .count) && (eqb (at .figures) (g .figures .count) && eqb (at .tables) (g .tables .count)))
-    (counts g p sums) (Refused 18 p)
+finished g p at sums = pick (allPlaced g at) (counts g p sums) (Refused 18 p)
+
+-- What p printed pages cost with their white, where so many floats waited at the ends of their leaves: there is a page after them, so
+-- that every leaf that one of them ends is turned (document 02, S-6 and S-10).
+unfoldable pub printedCost : Galley → ℕ → Sums → ℕ
+printedCost g p sums = rank (g .spec .alpha * sums .x + g .spec .beta * leavesTurned g (p + 1)) (sums .white)
 
 -- A number of pages, and a first folio, that keep every folio within 32 bits.
 pub record PageLimits (g : Galley) (pages : ℕ) : Type 0 where

@@ -1,7 +1,7 @@
 // The counts of a list whose pages were judged.
 ghost use mathlib.Core.Path.{_≡_};
-ghost use Prim.Native.Nat.{_*_, _≤_};
-ghost use Rattle.rules.specs.Parts.{leavesTurned, PageLimits, CountLimits, finished};
+ghost use Prim.Native.Nat.{_+_, _≤_};
+ghost use Rattle.rules.specs.Parts.{leavesTurned, PageLimits, CountLimits, allPlaced, finished, printedCost};
 ghost use Rattle.rules.specs.Sums.{whiteAt, Addable, withPage};
 use crate::waiting::Waiting;
 use blocks::Counts;
@@ -53,14 +53,30 @@ fn leaves_turned(g: Galley, pages: u32) -> u32
     last.0 - first.0
 }
 
+// Whether every block is placed.
+pub fn all_placed(g: Galley, at: Counts) -> bool
+    ensures { λ r. ⌜ r ≡ allPlaced g at ⌝ }
+{
+    (at.lines == g.text.count) & ((at.figures == g.figures.count) & (at.tables == g.tables.count))
+}
+
+// What so many printed pages cost, after which a page follows: the floats that waited where a leaf ends, by α, and the leaves turned, by β,
+// in the upper half, and their white in the lower.
+pub fn printed_cost(g: Galley, pages: u32, sums: Sums) -> u64
+    requires { ⌜ CountLimits g (pages + 1) (sums .x) ⌝ }
+    ensures { λ r. ⌜ r ≡ printedCost g pages sums ⌝ }
+{
+    let y = leaves_turned(g, pages + 1);
+    let turns = g.spec.alpha * sums.x + g.spec.beta * y;
+    turns as u64 * 4294967296 + sums.white as u64
+}
+
 // 18 where the last page does not end at the full place, else p, X, Y, T, W.
 pub fn finish(g: Galley, pages: u32, at: Counts, sums: Sums) -> Answer
     requires { ⌜ CountLimits g pages (sums .x) ⌝ }
     ensures { λ r. ⌜ r ≡ finished g pages at sums ⌝ }
 {
-    if (at.lines == g.text.count)
-        & ((at.figures == g.figures.count) & (at.tables == g.tables.count))
-    {
+    if all_placed(g, at) {
         let y = leaves_turned(g, pages);
         return Answer::Counted {
             pages,

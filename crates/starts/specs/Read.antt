@@ -43,11 +43,6 @@ pub record FewFloats (g : Galley) : Type 0 where
   pub figures : g .figures .count ≤ 200
   pub tables : g .tables .count ≤ 50
 
--- Every block is placed.
-abbrev pub allPlaced : Galley → Counts → Bool
-allPlaced g at =
-    eqb (at .lines) (g .text .count) && (eqb (at .figures) (g .figures .count) && eqb (at .tables) (g .tables .count))
-
 -- The column is the last.
 abbrev pub lastColumn : Galley → ℕ → Bool
 lastColumn g column = eqb (column + 1) (columnsIn g)

@@ -6,4 +6,6 @@ pub mod Ways
 pub mod Lists
 pub mod Ties
 pub mod Theorem
+pub mod Opening
 pub mod Best
+pub mod LeastAfter

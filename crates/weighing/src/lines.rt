@@ -6,14 +6,15 @@ ghost use Rattle.model.specs.Galley as model;
 ghost use Rattle.window.specs.Sums.{Sums};
 ghost use Rattle.weighing.specs.Lines.{linePairs, Pairable};
 
-// The pairs a before i of lines whose page, with so much beside its lines, is at most `limit` high at its tightest.
-pub fn line_pairs(sums: &[u32], lines: usize, beside: u32, limit: u32) -> u64
-    requires { ⌜ Pairable (now sums) lines beside limit ⌝ }
-    ensures { λ r. ⌜ (r ≤ 4001 * 4000) × ((st : model.Stream) → Sums st lines (now (sums .entry)) → r ≡ linePairs st beside limit lines) ⌝ }
+// The pairs a before i of lines, a no earlier than `first`, whose page, with so much beside its lines, is at most `limit` high at its
+// tightest.
+pub fn line_pairs(sums: &[u32], lines: usize, first: usize, beside: u32, limit: u32) -> u64
+    requires { ⌜ Pairable (now sums) lines first beside limit ⌝ }
+    ensures { λ r. ⌜ (r ≤ 4001 * 4000) × ((st : model.Stream) → Sums st lines (now (sums .entry)) → r ≡ linePairs st first beside limit lines) ⌝ }
 {
     let mut pairs: u64 = 0;
-    let mut low = 0;
-    let mut i = 0;
+    let mut low = first;
+    let mut i = first;
     while i <= lines {
         low = window::slide::first_below(sums, window::sums::TIGHT, beside, limit + 1, low, i);
         pairs += (i - low) as u64;

@@ -1,7 +1,7 @@
 -- `barleychime_make` meets its contract: it tells making's answer and count, and leaves the lent memory as making leaves it.
 use borrow.Author.Needs.{needs}
 use mathlib.Core.Path.{ap, ap₂, _∙_}
-use Rattle.barleychime.specs.Eight.{numberOf, eightOf}
+use Rattle.barleychime.specs.Words.{numberOf, answerWords}
 use Rattle.barleychime.proofs.barleychime_make.Statement.{statement}
 use Rattle.barleychime.proofs.barleychime_make.Tie as tie
 
@@ -10,7 +10,7 @@ returns c =
     let made = c .before .before .before .before .before .before .make .ensures in
     record {
       returned = c .tell .ensures .0 ∙ ap numberOf (made .answers);
-      told = c .tell .ensures .1 ∙ ap₂ eightOf (made .answers) (made .counts);
+      told = c .tell .ensures .1 ∙ ap₂ answerWords (made .answers) (made .counts);
       clean = made .clean;
       listed = made .listed;
     }

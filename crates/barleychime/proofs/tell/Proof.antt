@@ -1,8 +1,8 @@
--- `tell` meets its contract: what is stored and what is returned are the answer's six numbers and the two words of the count.
+-- `tell` meets its contract: what is stored and what is returned are the answer's numbers and the two words of the count.
 use borrow.Author.Needs.{needs}
 use native.Mathlib.Omega.{arith}
 use mathlib.Core.Path.{ap}
-use Rattle.barleychime.specs.Eight.{wordsOfNumbers}
+use Rattle.barleychime.specs.Words.{wordsOfNumbers}
 use Rattle.barleychime.proofs.tell.Statement.{statement}
 use Rattle.barleychime.proofs.tell.Tie as tie
 
@@ -14,7 +14,7 @@ cast-high c = omega arith
 
 returns : tie.Need-returns
 returns c =
-    let n = c .before .six-numbers .ensures in
+    let n = c .before .numbers-of .ensures in
     (ap (λ n. n .number) n, ap (λ n. wordsOfNumbers n (c .before .before .args .weighed)) n)
 
 pub tell-spec : {M : Type 1} → statement M

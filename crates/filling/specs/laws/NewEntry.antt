@@ -30,7 +30,8 @@ use Rattle.starts.specs.Better.{chosen}
 use Rattle.starts.specs.Search.{Table, before, bestStart, priced, mayStop, begins, newEntry}
 use Rattle.starts.specs.Choice.{Above}
 use Rattle.starts.specs.Beside.{Sought}
-use Rattle.starts.specs.Read.{tableIn, sideOf, searchOf, allPlaced, loadOf}
+use Rattle.rules.specs.Parts.{allPlaced}
+use Rattle.starts.specs.Read.{tableIn, sideOf, searchOf, loadOf}
 use Rattle.starts.specs.Sweep.{LinesStand, LastBest}
 use Rattle.starts.specs.laws.Columns.{placed-at, within-at, sought-in}
 use Rattle.starts.specs.laws.White.{white-lines}

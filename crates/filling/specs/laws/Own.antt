@@ -22,7 +22,8 @@ use Rattle.window.specs.declared.slide.Window.{Window}
 use Rattle.window.specs.Slide.{Slidable}
 use Rattle.starts.specs.Search.{mayStop}
 use Rattle.starts.specs.Beside.{Under, Bears}
-use Rattle.starts.specs.Read.{searchOf, columnsIn, countsAt, allPlaced, loadOf}
+use Rattle.rules.specs.Parts.{allPlaced}
+use Rattle.starts.specs.Read.{searchOf, columnsIn, countsAt, loadOf}
 use Rattle.starts.specs.Sweep.{Lent, Summed}
 use Rattle.starts.specs.laws.Columns.{place-at, within-at, full-of}
 use Rattle.starts.specs.laws.Floats.{bears-own}

@@ -22,7 +22,7 @@ use Rattle.blocks.specs.Counts.{placeOf, Proper}
 use Rattle.blocks.specs.laws.Counts.{sum-floats}
 use Rattle.rules.specs.laws.Page.{closes-of, cited-by}
 use Rattle.rules.specs.laws.Walked.{waiting-of}
-use Rattle.starts.specs.Read.{allPlaced}
+use Rattle.rules.specs.Parts.{allPlaced}
 use Rattle.starts.specs.laws.Columns.{full-of}
 use Rattle.filling.specs.Stop.{stopAt, stopsAt, endingSide}
 use Rattle.filling.specs.Filled.{Light}

@@ -12,6 +12,7 @@ use Rattle.blocks.specs.Counts.{Proper}
 use Rattle.blocks.specs.laws.Counts.{within-proper}
 use Rattle.places.specs.Columns.{columns, floatSizes}
 use Rattle.places.specs.laws.Address.{area-needed}
+use Rattle.rules.specs.Parts.{allPlaced}
 use Rattle.window.specs.declared.parts.Parts.{Parts}
 use Rattle.window.specs.Slide.{whiteOf}
 use Rattle.window.specs.Queue.{linesOf, Payable}
@@ -20,7 +21,7 @@ use Rattle.window.specs.laws.Sums.{row-length}
 use Rattle.starts.specs.Search.{newEntry}
 use Rattle.starts.specs.Beside.{Bears}
 use Rattle.starts.specs.Fronts.{bestFront}
-use Rattle.starts.specs.Read.{tableIn, sideOf, searchOf, columnsIn, allPlaced}
+use Rattle.starts.specs.Read.{tableIn, sideOf, searchOf, columnsIn}
 use Rattle.starts.specs.Sweep.{Lent, Scratch, Changed}
 use Rattle.starts.specs.laws.Columns.{columns-in, sought-in}
 use Rattle.starts.specs.laws.White.{white-lines}

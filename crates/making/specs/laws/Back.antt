@@ -11,14 +11,16 @@ use lib.ListN.{length, take, drop}
 use lib.Seq.{drop-at, length-take-le, sets, sets-eq, length-sets}
 use Rattle.model.specs.Galley.{Galley, Place, Sane, streams, sizes, blocks}
 use Rattle.model.specs.Answers.{wordsOf}
-use Rattle.model.specs.Best as model
+use Rattle.model.specs.Opening.{bestAfter}
 use Rattle.model.specs.laws.Gather.{length-row}
 use Rattle.model.specs.laws.Rules.{placed}
 use Rattle.model.specs.laws.Valid.{placed-sizes}
 use Rattle.theorems.specs.optimality.Cell.{Right, Trace}
 use Rattle.theorems.specs.optimality.Theorem.{step-back, trace-length}
-use Rattle.theorems.specs.pages.Graph.{State, stop, end, Origin as Begin, beginning, Within, pageGraph, pagesTo, pagesOn}
+use Rattle.theorems.specs.turns.Bounds.{Narrow}
+use Rattle.theorems.specs.pages.Graph.{State, stop, end, Origin as Begin, Within, pageGraph, pagesTo, pagesOn}
 use Rattle.theorems.specs.pages.Laws.{page-laws, page-domain, blocksAt}
+use Rattle.theorems.specs.pages.Opening.{after, Opening}
 use Rattle.theorems.specs.pages.Best.{table-none, table-best}
 use Rattle.places.specs.declared.Place.{Place as Start}
 use Rattle.places.specs.declared.Origin.{Origin}
@@ -148,10 +150,10 @@ module _ (g : Galley) (from : Origin) (origin : Proper g (from .place)) (t : Tab
       ∙ ap (λ w. wordsOf (pagesTo us w (v ∷ after)) ++ rest) (sym (b .begun))
 
   -- So the best list that the walk meets is found.
-  walk-found : (us : List State) (last : Stop) (most : ℕ) → Walks us last → length us ≤ most
-      → model.best g ≡ some (pagesTo us (stateOf g last) []) → Found g from t most last (pagesTo us (stateOf g last) [])
+  walk-found : (os : List Place) (us : List State) (last : Stop) (most : ℕ) → Walks us last → length us ≤ most
+      → bestAfter g os ≡ some (os ++ pagesTo us (stateOf g last) []) → Found g os from t most last (pagesTo us (stateOf g last) [])
   unfolding wordsOf
-  walk-found us last most walks short is =
+  walk-found os us last most walks short is =
       let pages = trace-pages us last [] walks in
       let p : counted g from t most last ≡ length us = trace-count us last most 0 walks short ∙ omega arith in
       record {
@@ -161,29 +163,29 @@ module _ (g : Galley) (from : Origin) (origin : Proper g (from .place)) (t : Tab
         words = λ ws h. rw p (trace-words us last [] ws (drop (streams g * length us) ws) walks (rw p at h) refl);
       }
 
--- The graph from where nothing is placed, and what it tells of the best list.
-module _ (g : Galley) (sane : Sane g) (from : Origin) (begins : originOf g from ≡ beginning g) (origin : Proper g (from .place)) (t : Table)
-    (right : AllRight g from t) (fill : Filled g from t 0 (columns (floatSizes g))) where
-  right-beginning : Right (pageGraph g (beginning g)) (tableAt g t) (Within g (beginning g))
-  right-beginning = subst (λ (o : Begin). Right (pageGraph g o) (tableAt g t) (Within g o)) begins right
+-- The graph from where an opening ends, and what it tells of the best list that begins with the opening.
+module _ (g : Galley) (sane : Sane g) (narrow : Narrow g) (os : List Place) (opening : Opening g os) (from : Origin)
+    (begins : originOf g from ≡ after g os) (origin : Proper g (from .place)) (t : Table) (right : AllRight g from t) (fill : Filled g from t 0 (columns (floatSizes g))) where
+  right-after : Right (pageGraph g (after g os)) (tableAt g t) (Within g (after g os))
+  right-after = subst (λ (o : Begin). Right (pageGraph g o) (tableAt g t) (Within g o)) begins right
 
-  -- Where the table is right and the full place unreached, there is no best list.
-  pub back-none : entryOf t (lastOf g t) ≡ Unreached → model.best g ≡ none
+  -- Where the table is right and the full place unreached, no valid list begins with the opening.
+  pub back-none : entryOf t (lastOf g t) ≡ Unreached → bestAfter g os ≡ none
   unfolding tableAt finished
   back-none e =
-      table-none g sane (tableAt g t) right-beginning (ap (finished (stateOf g (lastOf g t))) e)
+      table-none g sane narrow os opening (tableAt g t) right-after (ap (finished (stateOf g (lastOf g t))) e)
 
-  -- Where it is reached, the walk back from the better side counts and writes the best list.
+  -- Where it is reached, the walk back from the better side counts and writes what follows in the best list.
   pub back-best : (most : ℕ) → blocks g ≤ most → (x : ℕ) (s : Start) → entryOf t (lastOf g t) ≡ Least x s
-      → (ps : List Place) × Found g from t most (lastOf g t) ps
+      → (ps : List Place) × Found g os from t most (lastOf g t) ps
   unfolding tableAt finished Trace pagesTo blocksAt
   back-best most enough x s e =
-      let (us, r, is, cost) = table-best g sane (tableAt g t) right-beginning x (stateOf g (lastOf g t))
+      let (us, r, is, cost) = table-best g sane narrow os opening (tableAt g t) right-after x (stateOf g (lastOf g t))
       (ap (finished (stateOf g (lastOf g t))) e) in
       go us (subst (λ (o : Begin). Trace (pageGraph g o) (tableAt g t) us end) (sym begins) r) is
     where
-      go : (us : List State) → Trace (graphOf g from) (tableAt g t) us end → model.best g ≡ some (pagesOn us)
-          → (ps : List Place) × Found g from t most (lastOf g t) ps
+      go : (us : List State) → Trace (graphOf g from) (tableAt g t) us end → bestAfter g os ≡ some (os ++ pagesOn us)
+          → (ps : List Place) × Found g os from t most (lastOf g t) ps
       go [] r is = let z : _≡_ {A = ℕ} 0 1 = cc in absurd (omega arith)
       go (u ∷ us) (n, (y, f), r) is =
           let (s′, h, begun) = finished-least (stateOf g (lastOf g t)) (entryOf t (lastOf g t)) y u f in
@@ -193,7 +195,7 @@ module _ (g : Galley) (sane : Sane g) (from : Origin) (begins : originOf g from 
           let all = placed-sizes g in
           let place = ap (placed g) (full-place g) in (
             pagesTo us (stateOf g (lastOf g t)) [],
-            walk-found g from origin t right fill us (lastOf g t) most
+            walk-found g from origin t right fill os us (lastOf g t) most
                 (record { proper = record { line = omega arith; column = last-wide g }; within = within; trace = trace }) (omega arith)
                 (rw begun at is),
           )

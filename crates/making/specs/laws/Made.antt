@@ -2,37 +2,53 @@
 use Prim.Native.Nat.{ℕ, _+_, _≤_, _<_}
 use native.Mathlib.Nat.{mul-le-mul}
 use native.Mathlib.Omega.{arith}
-use mathlib.Core.Path.{_≡_, refl, _∙_, ap}
+use mathlib.Core.Path.{_≡_, refl, sym, _∙_, ap}
+use mathlib.Core.Bool.{Bool, true, false}
 use mathlib.Core.List.{List}
+use mathlib.Core.Option.{Option, none, some}
 use lib.ListN.{length}
 use borrow.Author.Tests.{lt-ltb, le-ltb}
 use Rattle.model.specs.declared.answer.Answer.{Answer}
 use Rattle.model.specs.declared.answer.Answer.the-variants.{Refused}
-use Rattle.model.specs.Weighed.{weighed}
+use Rattle.model.specs.Galley.{zeros}
+use Rattle.model.specs.Answers.{pagesOf}
+use Rattle.model.specs.Weighed.{weighedFrom}
+use Rattle.model.specs.Opening.{endOf, openingTurned}
+use Rattle.theorems.specs.pages.Graph.{Origin as Begin, beginning}
+use Rattle.theorems.specs.pages.Opening.{end-onto}
 use Rattle.galley.specs.declared.Galley.{Galley}
 use Rattle.galley.specs.declared.Reading.the-variants as reads
 use Rattle.galley.specs.Whole.{galleyOf}
 use Rattle.galley.specs.Model.{modelOf}
 use Rattle.galley.specs.laws.Sound.{sound}
+use Rattle.blocks.specs.Counts.{placeOf, Within}
 use Rattle.places.specs.declared.Origin.{Origin}
 use Rattle.places.specs.Address.{area, wordsNeeded, Limited}
 use Rattle.places.specs.Entry.{cleared}
 use Rattle.places.specs.laws.Address.{area-needed, words-small}
-use Rattle.starts.specs.Read.{columnsIn, FewFloats}
-use Rattle.starts.specs.laws.Columns.{few-floats, columns-few, columns-in}
+use Rattle.starts.specs.Read.{columnsIn, countsAt, FewFloats}
+use Rattle.starts.specs.laws.Columns.{few-floats, columns-few, columns-in, within-at, place-at}
 use Rattle.filling.specs.Fill.{tall, filled}
 use Rattle.filling.specs.Next.{Fillable}
-use Rattle.making.specs.Make.{workNeeded, listNeeded, makeRead, makeOf, workRead, workAfter, listRead, listAfter, weighedRead, weighedOf, Made}
-use Rattle.making.specs.Solved.{Readable, Solved, Written}
+use Rattle.making.specs.Make.{workNeeded, listNeeded}
+use Rattle.making.specs.After.{stands, makeAfterRead, makeAfterOf, workMadeRead, workMadeAfter, listMadeRead, listMadeAfter, weighedAfterRead, weighedAfterOf, MadeAfter}
+use Rattle.making.specs.Begun.{Opened}
+use Rattle.making.specs.Solved.{Readable, Soluble, Solved, Written}
 use Rattle.making.specs.laws.Beyond.{cleared-filled}
+use Rattle.making.specs.laws.Written.{made-turned}
 use Rattle.making.specs.laws.Solved.{words-few}
 
--- A galley that is refused is refused alike, and nothing is written.
-pub made-refused : (bytes work list : List ℕ) (n at : ℕ) → galleyOf bytes ≡ reads.Refused n at → Made bytes work list (Refused n at) 0 work list
-unfolding makeOf makeRead weighedOf weighedRead workAfter workRead listAfter listRead
-made-refused bytes work list n at e = record { answers = rw e refl; counts = rw e refl; clean = rw e refl; listed = rw e refl }
+-- Nothing turns an opening away, or something does.
+abbrev standing : Option Answer → Bool
+standing r = elim r [ none ↦ true | some refusal ↦ false ]
 
-module _ {bytes : List ℕ} {g : Galley} {from : Origin} (asked : Readable bytes g from) where
+-- A galley that is refused is refused alike, and nothing is written.
+pub made-refused : (bytes opening work list : List ℕ) (n at : ℕ) → galleyOf bytes ≡ reads.Refused n at
+    → MadeAfter bytes opening work list (Refused n at) 0 work list
+unfolding makeAfterOf makeAfterRead weighedAfterOf weighedAfterRead workMadeAfter workMadeRead listMadeAfter listMadeRead
+made-refused bytes opening work list n at e = record { answers = rw e refl; counts = rw e refl; clean = rw e refl; listed = rw e refl }
+
+module _ {bytes : List ℕ} {g : Galley} (asked : Readable bytes g) where
   pub read-few : FewFloats g
   read-few = few-floats (sound bytes g (asked .reads))
 
@@ -45,7 +61,7 @@ module _ {bytes : List ℕ} {g : Galley} {from : Origin} (asked : Readable bytes
   needed-is wide n e is = is ∙ ap (wordsNeeded (g .text .count)) e
 
   -- and fit 32 bits.
-  pub needed-small : workNeeded g ≤ 328114008
+  pub needed-small : workNeeded g ≤ 410142510
   unfolding wordsNeeded columnsIn
   needed-small = let h = words-small (g .text .count) (columnsIn g) read-small in omega arith
 
@@ -55,16 +71,16 @@ module _ {bytes : List ℕ} {g : Galley} {from : Origin} (asked : Readable bytes
   pub room-small : listNeeded g ≤ 12750
   room-small = mul-le-mul (words-few g) list-small
 
-  forgets : (w : List ℕ) → cleared (workNeeded g) (filled (modelOf bytes g) from w) ≡ cleared (workNeeded g) w
+  forgets : (from : Origin) (w : List ℕ) → cleared (workNeeded g) (filled (modelOf bytes g) from w) ≡ cleared (workNeeded g) w
   unfolding tall columnsIn
-  forgets w =
+  forgets from w =
       let e = ap (area (g .text .count + 1)) (columns-in bytes g) ∙ area-needed (g .text .count) (columnsIn g) in
       rw e at (cleared-filled (modelOf bytes g) from w)
 
-  module _ (work list : List ℕ) (n : ℕ) (is : n ≡ workNeeded g) where
+  module _ (opening work list : List ℕ) (n : ℕ) (is : n ≡ workNeeded g) where
     -- 9: the work area is too short; its place is the words needed.
-    pub made-nine : length work < n → (at : ℕ) → at ≡ n → Made bytes work list (Refused 9 at) 0 work list
-    unfolding makeOf makeRead weighedOf weighedRead workAfter workRead listAfter listRead
+    pub made-nine : length work < n → (at : ℕ) → at ≡ n → MadeAfter bytes opening work list (Refused 9 at) 0 work list
+    unfolding makeAfterOf makeAfterRead weighedAfterOf weighedAfterRead workMadeAfter workMadeRead listMadeAfter listMadeRead
     made-nine l at e =
         let t = lt-ltb (length work) (workNeeded g) (omega arith) in
         record {
@@ -76,8 +92,8 @@ module _ {bytes : List ℕ} {g : Galley} {from : Origin} (asked : Readable bytes
 
     module _ (enough : n ≤ length work) where
       -- 10: the page list is too short.
-      pub made-ten : length list < listNeeded g → Made bytes work list (Refused 10 (listNeeded g)) 0 work list
-      unfolding makeOf makeRead weighedOf weighedRead workAfter workRead listAfter listRead
+      pub made-ten : length list < listNeeded g → MadeAfter bytes opening work list (Refused 10 (listNeeded g)) 0 work list
+      unfolding makeAfterOf makeAfterRead weighedAfterOf weighedAfterRead workMadeAfter workMadeRead listMadeAfter listMadeRead
       made-ten l =
           let t = le-ltb (length work) (workNeeded g) (omega arith) in
           let u = lt-ltb (length list) (listNeeded g) l in
@@ -88,28 +104,68 @@ module _ {bytes : List ℕ} {g : Galley} {from : Origin} (asked : Readable bytes
             listed = rw (asked .reads) (simp (t, u));
           }
 
-      pub made-fillable : Fillable bytes g from work
-      unfolding columnsIn
-      made-fillable =
-          record { sound = sound bytes g (asked .reads); cheap = rw (asked .begins) (omega arith); room = omega arith }
-
       module _ (room : listNeeded g ≤ length list) where
-        pub made-solved : (work′ : List ℕ) → work′ ≡ filled (modelOf bytes g) from work → Solved bytes g from work′ list
-        made-solved work′ e = record { reads = asked .reads; begins = asked .begins; before = work; enough = omega arith; is = e; room = room }
-
-        -- The best list, or 11: the work area is cleared, and what is weighed is counted.
-        pub made-best : (work′ work″ list′ : List ℕ) (answer : Answer) (count : ℕ) → work′ ≡ filled (modelOf bytes g) from work
-            → work″ ≡ cleared n work′ → Written bytes g list answer list′ → count ≡ weighed (modelOf bytes g)
-            → Made bytes work list answer count work″ list′
-        unfolding makeOf makeRead weighedOf weighedRead workAfter workRead listAfter listRead
-        made-best work′ work″ list′ answer count e f w c =
+        -- 20 and 21: what turns the opening away is answered, and nothing changes.
+        pub made-turned-away : (a : Answer) → openingTurned (modelOf bytes g) opening ≡ some a → MadeAfter bytes opening work list a 0 work list
+        unfolding makeAfterOf makeAfterRead weighedAfterOf weighedAfterRead workMadeAfter workMadeRead listMadeAfter listMadeRead stands
+        made-turned-away a e =
             let t = le-ltb (length work) (workNeeded g) (omega arith) in
             let u = le-ltb (length list) (listNeeded g) room in
-            let clean : work″ ≡ cleared (workNeeded g) work =
-            f ∙ ap (λ k. cleared k work′) is ∙ ap (cleared (workNeeded g)) e ∙ forgets work in
+            let (answered, unwritten) = made-turned (modelOf bytes g) opening a e in
+            let no-one : stands bytes g opening ≡ false = ap standing e in
             record {
-              answers = rw (asked .reads) (simp (t, u) (w .answers));
-              counts = rw (asked .reads) (simp (t, u) c);
-              clean = rw (asked .reads) (simp (t, u) clean);
-              listed = rw (asked .reads) (simp (t, u) (w .listed));
+              answers = rw (asked .reads) (simp (t, u) answered);
+              counts = rw (asked .reads) (simp (t, u, no-one));
+              clean = rw (asked .reads) (simp (t, u, no-one));
+              listed = rw (asked .reads) (simp (t, u, unwritten));
             }
+
+        pub made-soluble : (from : Origin) → Opened bytes g opening from → Soluble bytes g opening from n work list
+        made-soluble from opened = record { reads = asked .reads; opened = opened; is = is; enough = omega arith; room = room }
+
+-- The best list that begins with the opening.
+module _ {bytes : List ℕ} {g : Galley} {opening : List ℕ} {from : Origin} {n : ℕ} {work list : List ℕ}
+    (asked : Soluble bytes g opening from n work list) where
+  pub soluble-fillable : Fillable bytes g from work
+  unfolding columnsIn
+  soluble-fillable =
+      record { sound = sound bytes g (asked .reads); cheap = asked .opened .cheap; room = omega (arith, asked .enough) }
+
+  pub soluble-solved : (work′ : List ℕ) → work′ ≡ filled (modelOf bytes g) from work → Solved bytes g opening from work′ list
+  soluble-solved work′ e =
+      record { reads = asked .reads; opened = asked .opened; before = work; enough = asked .enough; is = e; room = asked .room }
+
+  -- The place of the origin lies within the galley.
+  pub soluble-first : Within g (countsAt g (from .place .line) (from .place .column))
+  soluble-first =
+      within-at g (from .place .line) (from .place .column) (asked .opened .proper .line)
+      (omega (arith, asked .opened .proper .column, columns-in bytes g))
+
+  -- It is where the opening ends.
+  first-is : placeOf g (countsAt g (from .place .line) (from .place .column))
+      ≡ endOf (zeros (modelOf bytes g)) (pagesOf (modelOf bytes g) opening)
+  first-is =
+      sym (place-at bytes g (from .place .line) (from .place .column))
+      ∙ ap (λ (o : Begin). o .place) (asked .opened .is)
+      ∙ end-onto (modelOf bytes g) (beginning (modelOf bytes g)) (pagesOf (modelOf bytes g) opening)
+
+  -- The best list, or 11: the work area is cleared, and what is weighed from the opening's end on is counted.
+  pub made-best : (work′ work″ list′ : List ℕ) (answer : Answer) (count : ℕ) → work′ ≡ filled (modelOf bytes g) from work
+      → work″ ≡ cleared n work′ → Written bytes g opening list answer list′
+      → count ≡ weighedFrom (modelOf bytes g) (placeOf g (countsAt g (from .place .line) (from .place .column)))
+      → MadeAfter bytes opening work list answer count work″ list′
+  unfolding makeAfterOf makeAfterRead weighedAfterOf weighedAfterRead workMadeAfter workMadeRead listMadeAfter listMadeRead stands
+  made-best work′ work″ list′ answer count e f w c =
+      let t = le-ltb (length work) (workNeeded g) (asked .enough) in
+      let u = le-ltb (length list) (listNeeded g) (asked .room) in
+      let stood : stands bytes g opening ≡ true = ap standing (asked .opened .stands) in
+      let clean : work″ ≡ cleared (workNeeded g) work =
+      f ∙ ap (λ k. cleared k work′) (asked .is) ∙ ap (cleared (workNeeded g)) e
+      ∙ forgets (record { reads = asked .reads }) from work in
+      let counted = c ∙ ap (weighedFrom (modelOf bytes g)) first-is in
+      record {
+        answers = rw (asked .reads) (simp (t, u) (w .answers));
+        counts = rw (asked .reads) (simp (t, u, stood) counted);
+        clean = rw (asked .reads) (simp (t, u, stood) clean);
+        listed = rw (asked .reads) (simp (t, u) (w .listed));
+      }

@@ -8,7 +8,6 @@ use mathlib.Core.Logic.{_⊎_, inl, inr}
 use Rattle.model.specs.Galley.{Galley, Place, count, sizes}
 use Rattle.model.specs.laws.Rules.{kept}
 use Rattle.model.specs.laws.Lists.{Inside}
-use Rattle.theorems.specs.turns.Bounds.{dearest}
 use Rattle.theorems.specs.optimality.Cell.{Right}
 use Rattle.theorems.specs.optimality.Storing as storing
 use Rattle.theorems.specs.pages.Graph.{State, stop, end, Within, Step}
@@ -17,7 +16,7 @@ use Rattle.places.specs.Order.{Earlier}
 use Rattle.places.specs.Columns.{columns, floatSizes, placeAt, columnIn}
 use Rattle.places.specs.laws.Places.{place-inside, line-at, column-at, place-of, forward-earlier}
 use Rattle.filling.specs.Fill.{Words, held, fillSide, fillSides, sideCount, fillPlace, fillColumn, fillColumns, filled}
-use Rattle.filling.specs.Filled.{Roomy, Side, Filled}
+use Rattle.filling.specs.Filled.{Roomy, Side, Light, Filled}
 use Rattle.filling.specs.laws.Entered.{side-low, side-below, below-side}
 use Rattle.filling.specs.laws.Fill.{length-sides, length-place, length-column, room-kept, side-same, side-other, earlier-next, earlier-column, filled-start, filled-next, filled-keeps, filled-place}
 use Rattle.making.specs.Shown.{originOf, graphOf, shown, tableAt, AllRight, Proper}
@@ -51,7 +50,7 @@ earlier-trans a b p r i q (inl l) (inr (e, m)) = inl (omega arith)
 earlier-trans a b p r i q (inr (e, l)) (inl m) = inl (omega arith)
 earlier-trans a b p r i q (inr (e, l)) (inr (f, m)) = inr (omega arith, omega arith)
 
-module _ (g : Galley) (from : Origin) (origin : Proper g (from .place)) (light : dearest g ≤ 251000) where
+module _ (g : Galley) (from : Origin) (origin : Proper g (from .place)) (light : Light g) where
   -- A page starts at an earlier place than it ends.
   step-earlier : (u v : Place) (b c : ℕ) → Inside (sizes g) v → Step g (originOf g from) (stop u b) (stop v c)
       → Earlier (count u 0) (columnIn g u) (count v 0) (columnIn g v)

@@ -10,7 +10,9 @@ use Rattle.model.specs.Galley.{Sides, single, double, Galley, Place, count}
 use Rattle.model.specs.Rules.{forward, closes, fits, fills, cited}
 use Rattle.model.specs.laws.Gather.{and-left, and-right, and-both}
 use Rattle.model.specs.laws.Rules.{kept, kept-allowed}
+use Rattle.model.specs.laws.White.{pageWhite}
 use Rattle.theorems.specs.turns.Waiting.{pageCost}
+use Rattle.theorems.specs.turns.Rank.{rank}
 use Rattle.theorems.specs.optimality.Graph as graph
 use Rattle.theorems.specs.optimality.Cell.{Ahead, Offer, Seen, Cell}
 use Rattle.theorems.specs.optimality.Storing.{none-reached}
@@ -22,7 +24,7 @@ use Rattle.places.specs.declared.Entry.the-variants.{Unreached, Least}
 use Rattle.places.specs.Best.{Leads, Best}
 use Rattle.places.specs.Columns.{columns, floatSizes, placeAt, columnIn}
 use Rattle.places.specs.laws.Places.{place-inside, line-at, column-at, place-of, place-tie, forward-earlier}
-use Rattle.starts.specs.Search.{Table, before, Search, goes, bestStart, priced, mayStop, begins, newEntry}
+use Rattle.starts.specs.Search.{Table, before, Search, goes, whiteFrom, bestStart, priced, mayStop, begins, newEntry}
 use Rattle.starts.specs.Choice.{Candidate, Starts, Any}
 use Rattle.starts.specs.laws.Found.{best-start}
 use Rattle.starts.specs.laws.Pages.{candidate-earlier}
@@ -52,9 +54,13 @@ module _ (g : Galley) (from : Origin) (origin : Proper g (from .place)) (t : Tab
   search = record { galley = g; table = t; line = i; column = q; side = before (g .spec .sides) c }
 
   cost : ℕ
-  cost = pageCost g c (full g (placeAt g i q)) (placeAt g i q)
+  cost = rank (pageCost g c (full g (placeAt g i q)) (placeAt g i q)) 0
 
-  -- An entry, with the page's price added, as the graph has it.
+  -- The white of the page from a place.
+  lacks : Place → ℕ
+  lacks u = pageWhite g (full g (placeAt g i q)) u (placeAt g i q)
+
+  -- An entry, with the rest of the page's price added, as the graph has it.
   now : Entry → graph.Entry ℕ State
   now e = shown g c (priced cost e)
 
@@ -102,7 +108,7 @@ module _ (g : Galley) (from : Origin) (origin : Proper g (from .place)) (t : Tab
         within = (
           place-inside g a b (omega arith) (omega arith),
           before,
-          fill .entered a b _ x (d .reached .0) earlier (omega arith) before (d .reached .1) .past,
+          fill .entered a b _ (d .reached .own) (d .reached .start) earlier (omega arith) before (d .reached .entry) .past,
         );
         next = side-after (g .spec .sides) c occurs;
         may =
@@ -118,16 +124,26 @@ module _ (g : Galley) (from : Origin) (origin : Proper g (from .place)) (t : Tab
 
   -- A start with a page to here that the table has reached is one that the search weighs.
   candidate : (u : Place) (e : ℕ) → HasPage u e → (x : ℕ) (r : Start) → t (count u 0) (columnIn g u) e ≡ Least x r
-      → Candidate search (count u 0) (columnIn g u) x
-  unfolding search
+      → Candidate search (count u 0) (columnIn g u) (x + lacks u)
+  unfolding search lacks whiteFrom
   candidate u e st x r h =
-      record { line = st .low; column = st .left; page = st .page; reached = (r, rw (← st .on-side) h) }
+      record {
+        line = st .low;
+        column = st .left;
+        page = st .page;
+        reached = record {
+          own = x;
+          start = r;
+          entry = rw (← st .on-side) h;
+          whole = ap (λ w. x + pageWhite g (full g (placeAt g i q)) w (placeAt g i q)) (st .shape);
+        };
+      }
 
   module _ (may : mayStop g i q c ≡ true) where
     -- The best start, with the price of the page, is offered by the graph,
     offered : (e : Entry) → Best (Starts search Any) e → (x : ℕ) (u : State) → now e ≡ graph.least x u
         → Offer (graphOf g from) (tableAt g t) here x u
-    unfolding now priced shown search here price cost begun
+    unfolding now priced shown search here price cost begun whiteFrom
     offered Unreached best x u h = let z : _≡_ {A = ℕ} 0 1 = cc in absurd (omega arith)
     offered (Least y r) best x u h =
         let d = best .may y r refl .1 in
@@ -138,10 +154,10 @@ module _ (g : Galley) (from : Origin) (origin : Proper g (from .place)) (t : Tab
         rw (← begins, ← sum)
         (record {
           may = page-from (r .line) (r .column) y d may;
-          cost = y;
-          start = stop (at g (d .reached .0)) (before (g .spec .sides) side);
-          reached = shown-at g t (r .line) (r .column) side (omega arith) ∙ ap (shown g side) (d .reached .1);
-          price = refl;
+          cost = d .reached .own;
+          start = stop (at g (d .reached .start)) (before (g .spec .sides) side);
+          reached = shown-at g t (r .line) (r .column) side (omega arith) ∙ ap (shown g side) (d .reached .entry);
+          price = omega (arith, d .reached .whole);
         })
 
     -- and no offer is ahead of it.
@@ -160,7 +176,7 @@ module _ (g : Galley) (from : Origin) (origin : Proper g (from .place)) (t : Tab
 
     best-ahead : (e : Entry) → Best (Starts search Any) e → (x : ℕ) (u : State) → Offer (graphOf g from) (tableAt g t) here x u
         → Ahead (graphOf g from) (now e) (graph.least x u)
-    unfolding here Step tableAt price cost shown begun
+    unfolding here Step tableAt price cost shown begun lacks
     best-ahead e best x (stop u d) o = go (t (count u 0) (columnIn g u) d) refl
       where
         st : HasPage u d
@@ -175,11 +191,12 @@ module _ (g : Galley) (from : Origin) (origin : Proper g (from .place)) (t : Tab
             let least : graph.least y (stop (at g r) (before (g .spec .sides) d)) ≡ graph.least (o .cost) (o .start) =
             sym (ap (shown g d) h) ∙ o .reached in
             let same : y ≡ o .cost = cc in
-            let sum : y + cost ≡ x = rw same (sym (o .price)) in
+            let price = o .price in
+            let sum : y + lacks u + cost ≡ x = omega arith in
             let begins : begun (count u 0) (columnIn g u) ≡ stop u d = cc (st .shape, st .on-side) in
             rw (← sum, ← begins)
-            (ahead e best (count u 0) (columnIn g u) y (st .left)
-            (best .leads (count u 0) (columnIn g u) y (tt, candidate u d st y r h)))
+            (ahead e best (count u 0) (columnIn g u) (y + lacks u) (st .left)
+            (best .leads (count u 0) (columnIn g u) (y + lacks u) (tt, candidate u d st y r h)))
     best-ahead e best x end o = absurd (o .may)
 
     -- So what the search finds is the best of all starts.

@@ -44,6 +44,12 @@ unfolding finished
 finished-least w Unreached x u h = let z : _≡_ {A = ℕ} 0 1 = cc in absurd (omega arith)
 finished-least w (Least y s) x u h = (s, cc, cc)
 
+-- The end adds nothing, wherever it is entered from.
+end-free : (g : Galley) (u : State) → price g u end ≡ 0
+unfolding price
+end-free g (stop v c) = refl
+end-free g end = refl
+
 module _ (g : Galley) where
   last-column : suc (lastPlace g .column) ≡ columns (floatSizes g)
   last-column =
@@ -87,7 +93,7 @@ module _ (g : Galley) where
 
     -- The end is right by the choice of the last side: the less dear of the two, then that of even folios.
     pub end-right : (t : Table) → Cell (graphOf g from) (tableAt g t) end (tableAt g t end)
-    unfolding Step Ahead Prefers price shown finished tableAt
+    unfolding Step Ahead Prefers shown finished tableAt
     end-right t =
         inner (λ e. let z : _≡_ {A = ℕ} 0 1 = cc in absurd (omega arith)) (record { offered = offered; best = best })
       where
@@ -112,7 +118,7 @@ module _ (g : Galley) where
               cost = c;
               start = stop (at g s) (before (g .spec .sides) last);
               reached = ap (tableAt g t) begun ∙ shown-at t (m .line) (m .column) last last-wide ∙ ap (shown g last) h;
-              price = omega arith;
+              price = omega (arith, end-free g u);
             }
 
         ahead : (b c : ℕ) → Leads (g .spec .sides) t m last b c
@@ -127,7 +133,7 @@ module _ (g : Galley) where
             let b = f .side in
             let at-full = sym (shown-at t (m .line) (m .column) b last-wide) ∙ ap (tableAt g t) (sym (f .from-full)) ∙ o .reached in
             let h = shown-least g b (t (m .line) (m .column) b) (o .cost) (o .start) at-full in
-            let e : c ≡ o .cost = omega (arith, o .price) in
+            let e : c ≡ o .cost = omega (arith, o .price, end-free g u) in
             rw (f .from-full, e)
             (ahead b (o .cost) (last-leads (g .spec .sides) t m b (o .cost) (h .start) (f .occurs) (h .entry)))
 

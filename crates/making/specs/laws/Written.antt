@@ -1,37 +1,56 @@
--- What is made where there is no best list, and where there is one.
+-- What is made where no valid list begins with the opening, and where one does.
 use Prim.Native.Nat.{ℕ}
 use native.Mathlib.Omega.{arith}
-use mathlib.Core.Path.{_≡_, sym, ap}
+use mathlib.Core.Path.{_≡_, sym, _∙_, ap}
 use mathlib.Core.List.{List, []}
 use mathlib.Core.Option.{Option, none, some}
 use Rattle.model.specs.declared.answer.Answer.{Answer}
 use Rattle.model.specs.declared.answer.Answer.the-variants.{Refused}
 use Rattle.model.specs.Galley as model
 use Rattle.model.specs.Galley.{Place}
-use Rattle.model.specs.Answers.{wordsOf, countsOf}
-use Rattle.model.specs.Best.{valid, best, made, madeWords}
+use Rattle.model.specs.Answers.{pagesOf, wordsOf, countsOf}
+use Rattle.model.specs.Best.{valid}
+use Rattle.model.specs.Opening.{validAfter, bestAfter, openingTurned, madeAfter, madeWordsAfter}
 use Rattle.model.specs.laws.Lists.{_∈_}
-use Rattle.model.specs.laws.Best.{Makes, makes, impossible, best-makes}
+use Rattle.model.specs.laws.Best.{MakesOf, makes, impossible}
+use Rattle.model.specs.laws.Opening.{after-valid, after-makes}
 
 -- The best list is valid.
-pub best-valid : (g : model.Galley) (ps : List Place) → best g ≡ some ps → ps ∈ valid g
-best-valid g ps e = go (best g) (best-makes g) e
+pub best-valid : (g : model.Galley) (os qs : List Place) → bestAfter g os ≡ some qs → qs ∈ valid g
+best-valid g os qs e = go (bestAfter g os) (after-makes g os) e
   where
-    go : (b : Option (List Place)) → Makes g b → b ≡ some ps → ps ∈ valid g
+    go : (b : Option (List Place)) → MakesOf g (validAfter g os) b → b ≡ some qs → qs ∈ valid g
     go none (impossible h) e = let z : _≡_ {A = ℕ} 0 1 = cc in absurd (omega arith)
-    go (some qs) (makes l) e = let q : qs ≡ ps = cc in rw q at (l .lawful)
+    go (some rs) (makes l) e = let q : rs ≡ qs = cc in after-valid g os qs (rw q at (l .lawful)) .0
 
--- What is made where there is no best list, and where there is one.
-pub made-none : (g : model.Galley) → best g ≡ none → (Refused 11 0 ≡ made g) × (madeWords g ≡ [])
-unfolding made madeWords
-made-none g e =
-    let answer : Option (List Place) → Answer = λ b. elim b [ none ↦ Refused 11 0 | some ps ↦ countsOf g ps ] in
-    let words : Option (List Place) → List ℕ = λ b. elim b [ none ↦ [] | some ps ↦ wordsOf ps ] in
-    (sym (ap answer e), ap words e)
+module _ (g : model.Galley) (ws : List ℕ) where
+  answer : Option (List Place) → Answer
+  answer b = elim b [ none ↦ Refused 11 0 | some ps ↦ countsOf g ps ]
 
-pub made-some : (g : model.Galley) (ps : List Place) → best g ≡ some ps → (countsOf g ps ≡ made g) × (madeWords g ≡ wordsOf ps)
-unfolding made madeWords
-made-some g ps e =
-    let answer : Option (List Place) → Answer = λ b. elim b [ none ↦ Refused 11 0 | some ps ↦ countsOf g ps ] in
-    let words : Option (List Place) → List ℕ = λ b. elim b [ none ↦ [] | some ps ↦ wordsOf ps ] in
-    (sym (ap answer e), ap words e)
+  words : Option (List Place) → List ℕ
+  words b = elim b [ none ↦ [] | some ps ↦ wordsOf ps ]
+
+  -- What turns the opening away is answered, and nothing is written.
+  pub made-turned : (a : Answer) → openingTurned g ws ≡ some a → (a ≡ madeAfter g ws) × (madeWordsAfter g ws ≡ [])
+  unfolding madeAfter madeWordsAfter answer words
+  made-turned a e = (
+    sym (ap (λ (t : Option Answer). elim t [ none ↦ answer (bestAfter g (pagesOf g ws)) | some refusal ↦ refusal ]) e),
+    ap (λ (t : Option Answer). elim t [ none ↦ words (bestAfter g (pagesOf g ws)) | some refusal ↦ [] ]) e,
+  )
+
+  module _ (stands : openingTurned g ws ≡ none) where
+    -- Where it stands, it goes by the best list that begins with it.
+    made-by : (b : Option (List Place)) → bestAfter g (pagesOf g ws) ≡ b → (madeAfter g ws ≡ answer b) × (madeWordsAfter g ws ≡ words b)
+    unfolding madeAfter madeWordsAfter answer words
+    made-by b e = (
+      ap (λ (t : Option Answer). elim t [ none ↦ answer (bestAfter g (pagesOf g ws)) | some refusal ↦ refusal ]) stands ∙ ap answer e,
+      ap (λ (t : Option Answer). elim t [ none ↦ words (bestAfter g (pagesOf g ws)) | some refusal ↦ [] ]) stands ∙ ap words e,
+    )
+
+    pub made-none : bestAfter g (pagesOf g ws) ≡ none → (Refused 11 0 ≡ madeAfter g ws) × (madeWordsAfter g ws ≡ [])
+    unfolding answer words
+    made-none e = let (a, w) = made-by none e in (sym a, w)
+
+    pub made-some : (qs : List Place) → bestAfter g (pagesOf g ws) ≡ some qs → (countsOf g qs ≡ madeAfter g ws) × (madeWordsAfter g ws ≡ wordsOf qs)
+    unfolding answer words
+    made-some qs e = let (a, w) = made-by (some qs) e in (sym a, w)

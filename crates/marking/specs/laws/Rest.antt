@@ -1,14 +1,12 @@
 -- The pages of a list of words, taken off one by one.
-use Prim.Native.Nat.{ℕ, zero, suc, _+_, _-_, _*_, _≤_, _<_}
+use Prim.Native.Nat.{ℕ, suc, _+_, _-_, _*_, _≤_, _<_}
 use native.Mathlib.Nat.{mul-add, mul-one, mul-le-mul-left}
 use native.Mathlib.Omega.{arith}
-use mathlib.Core.Path.{_≡_, refl, sym, _∙_, ap}
+use mathlib.Core.Path.{_≡_, _∙_, ap}
 use mathlib.Core.List.{List, [], _∷_}
 use lib.ListN.{length, drop}
 use lib.Seq.{drop-drop}
-use lib.Dec.{eqb}
-use borrow.Author.Tests.{eq-eqb, ne-eqb}
-use Rattle.model.specs.Answers.{chunks, pagesOf, ended}
+use Rattle.model.specs.Answers.{chunks, pagesOf}
 use Rattle.galley.specs.declared.Galley.{Galley}
 use Rattle.galley.specs.Model.{modelOf}
 use Rattle.blocks.specs.Counts.{pageWords, placeOf, countsIn}
@@ -45,12 +43,3 @@ module _ (g : Galley) (ws : List ℕ) (pages done : ℕ) (whole : length ws ≡ 
   rest-next =
       let e : pages - done ≡ suc (pages - (done + 1)) = omega arith in
       rw (e, take-of g ws (pageWords g * done) rest-long, drop-drop (pageWords g) (pageWords g * done) ws, next)
-
--- The page is the last exactly where none is left after it.
-pub rest-ended : (ws : List ℕ) (k pages done : ℕ) → done ≤ pages → ended (rest ws k pages done) ≡ eqb done pages
-unfolding rest chunks
-rest-ended ws k pages done l = go (pages - done) refl
-  where
-    go : (n : ℕ) → pages - done ≡ n → ended (chunks n k (drop (k * done) ws)) ≡ eqb done pages
-    go zero e = sym (eq-eqb done pages (omega arith))
-    go (suc n) e = sym (ne-eqb done pages (λ d. omega arith))

@@ -16,7 +16,7 @@ use Rattle.model.specs.Order.{thenBy, by, before}
 use Rattle.model.specs.Best.{valid, firstOf, best}
 use Rattle.model.specs.laws.Gather.{and-left, and-right, implies-at}
 use Rattle.model.specs.laws.Lists.{_∈_}
-use Rattle.model.specs.laws.Valid.{valid-accepted}
+use Rattle.model.specs.laws.Valid.{Accepted, valid-accepted}
 use Rattle.model.specs.laws.Order.{Preference, preference-refl, before-preference, before-antisymm}
 
 module _ {A : Type 0} (le : A → A → Bool) (o : Preference le) where
@@ -72,56 +72,69 @@ module _ {A : Type 0} (le : A → A → Bool) (o : Preference le) where
       go none (nothing e) = found (nil e)
       go (some y) (found f) = found (better x y xs f)
 
-module _ (g : Galley) where
-  -- ps is a valid list that no valid list comes before.
-  pub record Least (ps : List Place) : Type 0 where
-    pub lawful : ps ∈ valid g
-    pub ahead : (qs : List Place) → qs ∈ valid g → before g ps qs ≡ true
+-- ps is the first of some lists by the order of preference.
+pub record LeastOf (g : Galley) (all : List (List Place)) (ps : List Place) : Type 0 where
+  pub lawful : ps ∈ all
+  pub ahead : (qs : List Place) → qs ∈ all → before g ps qs ≡ true
 
+-- None of them has fewer turns than the least.
+pub least-turns : (g : Galley) {all : List (List Place)} (ps qs : List Place) → LeastOf g all ps → qs ∈ all → turns g ps ≤ turns g qs
+unfolding before thenBy by
+least-turns g ps qs a m = leb-true (turns g ps) (turns g qs) (and-left (leb (turns g ps) (turns g qs)) _ (a .ahead qs m))
+
+-- Of those with no more turns none has less white.
+pub least-white : (g : Galley) {all : List (List Place)} (ps qs : List Place) → LeastOf g all ps → qs ∈ all → turns g qs ≤ turns g ps
+    → white g ps ≤ white g qs
+unfolding before thenBy by
+least-white g ps qs a m l =
+    let rest = and-right (leb (turns g ps) (turns g qs)) (implies (leb (turns g qs) (turns g ps)) _) (a .ahead qs m) in
+    let next = implies-at (leb (turns g qs) (turns g ps)) _ rest (le-leb (turns g qs) (turns g ps) l) in
+    leb-true (white g ps) (white g qs) (and-left (leb (white g ps) (white g qs)) _ next)
+
+-- Of some lists there is none, or the first is the least one.
+pub data MakesOf (g : Galley) (all : List (List Place)) : Option (List Place) → Type 0 where
+  impossible : ((ps : List Place) → ps ∈ all → ⊥) → MakesOf g all none
+  makes : {ps : List Place} → LeastOf g all ps → MakesOf g all (some ps)
+
+-- Lists that the rules accept.
+module _ (g : Galley) (all : List (List Place)) (sound : (ps : List Place) → ps ∈ all → Accepted g ps) where
   -- The least list is one only.
-  pub least-unique : (ps qs : List Place) → Least ps → Least qs → ps ≡ qs
+  least-unique : (ps qs : List Place) → LeastOf g all ps → LeastOf g all qs → ps ≡ qs
   least-unique ps qs a b =
-      before-antisymm g ps qs (valid-accepted g ps .0 (a .lawful)) (valid-accepted g qs .0 (b .lawful))
-      (a .ahead qs (b .lawful)) (b .ahead ps (a .lawful))
+      before-antisymm g ps qs (sound ps (a .lawful)) (sound qs (b .lawful)) (a .ahead qs (b .lawful)) (b .ahead ps (a .lawful))
 
-  -- What making means: no list is valid, or the best list is the least one.
-  pub data Makes : Option (List Place) → Type 0 where
-    impossible : ((ps : List Place) → ps ∈ valid g → ⊥) → Makes none
-    makes : {ps : List Place} → Least ps → Makes (some ps)
-
-  pub best-makes : Makes (best g)
-  unfolding best
-  best-makes = go (firstOf (before g) (valid g)) (firstOf-found (before g) (before-preference g) (valid g))
+  pub first-makes : MakesOf g all (firstOf (before g) all)
+  first-makes = go (firstOf (before g) all) (firstOf-found (before g) (before-preference g) all)
     where
-      go : (r : Option (List Place)) → Found (before g) (before-preference g) (valid g) r → Makes r
+      go : (r : Option (List Place)) → Found (before g) (before-preference g) all r → MakesOf g all r
       go none (nothing e) = impossible (λ ps m. List·Memᴰ·not-nil (subst (λ l. ps ∈ l) e m))
       go (some ps) (found f) = makes (record { lawful = f .among; ahead = f .ahead })
 
-  -- Whoever has the least list has the best list.
-  pub best-is : (ps : List Place) → Least ps → best g ≡ some ps
-  best-is ps a = go (best g) best-makes
+  -- Whoever has the least list has the first,
+  pub first-is : (ps : List Place) → LeastOf g all ps → firstOf (before g) all ≡ some ps
+  first-is ps a = go (firstOf (before g) all) first-makes
     where
-      go : (r : Option (List Place)) → Makes r → r ≡ some ps
+      go : (r : Option (List Place)) → MakesOf g all r → r ≡ some ps
       go none (impossible none-valid) = absurd (none-valid ps (a .lawful))
       go (some qs) (makes b) = ap some (least-unique qs ps b a)
 
-  -- Whoever shows that no list is valid has that there is no best list.
-  pub best-none : ((ps : List Place) → ps ∈ valid g → ⊥) → best g ≡ none
-  best-none empty = go (best g) best-makes
+  -- and whoever shows that there is no list has that there is no first.
+  pub first-none : ((ps : List Place) → ps ∈ all → ⊥) → firstOf (before g) all ≡ none
+  first-none empty = go (firstOf (before g) all) first-makes
     where
-      go : (r : Option (List Place)) → Makes r → r ≡ none
+      go : (r : Option (List Place)) → MakesOf g all r → r ≡ none
       go none m = refl
       go (some qs) (makes b) = absurd (empty qs (b .lawful))
 
-  -- No valid list has fewer turns than the best.
-  pub least-turns : (ps qs : List Place) → Least ps → qs ∈ valid g → turns g ps ≤ turns g qs
-  unfolding before thenBy by
-  least-turns ps qs a m = leb-true (turns g ps) (turns g qs) (and-left (leb (turns g ps) (turns g qs)) _ (a .ahead qs m))
+module _ (g : Galley) where
+  -- ps is a valid list that no valid list comes before.
+  abbrev pub Least : List Place → Type 0
+  Least = LeastOf g (valid g)
 
-  -- Of those with no more turns none has less white.
-  pub least-white : (ps qs : List Place) → Least ps → qs ∈ valid g → turns g qs ≤ turns g ps → white g ps ≤ white g qs
-  unfolding before thenBy by
-  least-white ps qs a m l =
-      let rest = and-right (leb (turns g ps) (turns g qs)) (implies (leb (turns g qs) (turns g ps)) _) (a .ahead qs m) in
-      let next = implies-at (leb (turns g qs) (turns g ps)) _ rest (le-leb (turns g qs) (turns g ps) l) in
-      leb-true (white g ps) (white g qs) (and-left (leb (white g ps) (white g qs)) _ next)
+  -- What making means: no list is valid, or the best list is the least one.
+  abbrev pub Makes : Option (List Place) → Type 0
+  Makes = MakesOf g (valid g)
+
+  pub best-makes : Makes (best g)
+  unfolding best
+  best-makes = first-makes g (valid g) (λ ps. valid-accepted g ps .0)

@@ -10,15 +10,15 @@ use lib.ListN.{length, getD}
 use lib.Dec.{leb}
 use borrow.Author.Tests.{leb-true, le-leb}
 use Rattle.model.specs.Gather.{one, sum, total, row}
-use Rattle.model.specs.Galley.{Galley, Place, count, streams, sizes}
+use Rattle.model.specs.Galley.{Galley, Place, count, streams, zeros, sizes}
 use Rattle.model.specs.Height.{stacked, height, tightest}
 use Rattle.model.specs.Rules.{forward, fits}
 use Rattle.model.specs.Best.{box}
-use Rattle.model.specs.Weighed.{sumOf, product, weighs, weighed, mostTogether, ceiling}
-use Rattle.model.specs.laws.Gather.{and-left, and-right, and-both, total-le, total-has, row-at}
+use Rattle.model.specs.Weighed.{sumOf, product, weighs, weighed, past, weighedFrom, mostTogether, ceiling}
+use Rattle.model.specs.laws.Gather.{and-left, and-right, and-both, every-of, total-le, total-has, row-at}
 use Rattle.model.specs.laws.Lists.{Inside, ∈-unbox}
 use Rattle.model.specs.laws.Rules.{forward-at}
-use Rattle.model.specs.laws.Valid.{length-sizes}
+use Rattle.model.specs.laws.Valid.{length-sizes, count-zeros}
 use Rattle.model.specs.laws.Boxes.{sum-of-le, sum-box, total-mul, total-same, product-mul}
 use Rattle.model.specs.laws.Together.{run-few}
 
@@ -165,3 +165,25 @@ module _ (g : Galley) where
       let ends = ends-all 0 (streams g) (product 0 (streams g) (λ s. suc (most s))) in
       let both = product-mul 0 (streams g) (λ s. suc (g .stream s .size)) (λ s. suc (most s)) in
       le-trans all (le-of-eq (ends ∙ sym both))
+
+  and-le : (a b : Bool) → one (a && b) ≤ one b
+  and-le true b = le-refl (one b)
+  and-le false true = omega arith
+  and-le false false = omega arith
+
+  -- Nor does the count from a place on, which takes no pair more.
+  pub weighed-from-le : (w : Place) → weighedFrom g w ≤ weighed g
+  unfolding weighedFrom weighed
+  weighed-from-le w =
+      sum-of-le (λ v. sumOf (λ u. one (past g w u && weighs g u v)) (box (sizes g))) (λ v. sumOf (λ u. one (weighs g u v)) (box (sizes g)))
+      (box (sizes g))
+      (λ v m. sum-of-le (λ u. one (past g w u && weighs g u v)) (λ u. one (weighs g u v)) (box (sizes g)) (λ u n. and-le (past g w u) (weighs g u v)))
+
+  -- From where nothing is placed on every start counts.
+  past-zeros : (u : Place) → past g (zeros g) u ≡ true
+  unfolding past
+  past-zeros u = every-of (g .floats) (λ s. leb (count (zeros g) s) (count u s)) (λ s l. le-leb (count (zeros g) s) (count u s) (omega (arith, count-zeros g s l)))
+
+  pub weighed-from-nothing : weighedFrom g (zeros g) ≡ weighed g
+  unfolding weighedFrom weighed
+  weighed-from-nothing = simp past-zeros

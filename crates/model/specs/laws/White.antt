@@ -1,5 +1,5 @@
 -- White page by page, and how much of it there can be.
-use Prim.Native.Nat.{ℕ, suc, pred, _+_, _*_, _≤_}
+use Prim.Native.Nat.{ℕ, pred, _+_, _*_, _≤_}
 use native.Mathlib.Nat.{suc-mul, mul-le-mul-right}
 use native.Mathlib.Omega.{arith}
 use mathlib.Core.Path.{_≡_, refl}

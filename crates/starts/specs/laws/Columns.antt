@@ -25,7 +25,8 @@ use Rattle.places.specs.Columns.{columns, floatsAt, floatSizes, floatPlace, pla
 use Rattle.places.specs.laws.Columns.{inside-cons, inside-tail}
 use Rattle.places.specs.laws.Places.{sizes-cons, full-at}
 use Rattle.starts.specs.Beside.{Under, Sought}
-use Rattle.starts.specs.Read.{searchOf, columnsIn, countsAt, rowOf, FewFloats, allPlaced, lastPlace, Placed}
+use Rattle.rules.specs.Parts.{allPlaced}
+use Rattle.starts.specs.Read.{searchOf, columnsIn, countsAt, rowOf, FewFloats, lastPlace, Placed}
 
 -- A galley that was read keeps to the limits,
 pub few-floats : {bytes : List ℕ} {g : Galley} → Sound bytes g → FewFloats g

@@ -1,7 +1,7 @@
 -- The white of a pagination's page list is that of the pagination.
 use Prim.Native.Nat.{ℕ, zero, suc, pred, _+_, _-_, _≤_}
 use native.Mathlib.Omega.{arith}
-use mathlib.Core.Path.{_≡_, refl, sym, _∙_, ap}
+use mathlib.Core.Path.{_≡_, refl, sym, ap}
 use Rattle.model.specs.Gather.{sum}
 use Rattle.model.specs.Galley.{Galley, Block, Sane, zeros}
 use Rattle.model.specs.Height.{loosest}

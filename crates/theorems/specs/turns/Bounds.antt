@@ -14,10 +14,11 @@ use Rattle.model.specs.White.{white}
 use Rattle.model.specs.Best.{allowed}
 use Rattle.model.specs.laws.Gather.{sum-le}
 use Rattle.model.specs.laws.Judge.{accepts}
-use Rattle.model.specs.laws.White.{white-le}
+use Rattle.model.specs.laws.White.{pageWhite, page-white-le, white-le}
 use Rattle.theorems.specs.turns.Waiting.{dangles, waitingIn, waiting, pageSum, pageCost, costs}
 use Rattle.model.specs.laws.Valid.{pages-fit}
 use Rattle.theorems.specs.turns.Costs.{turns-are-costs}
+use Rattle.theorems.specs.turns.Rank.{rank}
 
 -- The number of floats, of all streams together: n for n figures.
 unfoldable pub allFloats : Galley → ℕ
@@ -53,6 +54,18 @@ cost-le g q last v = go last (ends (g .spec .sides) q)
     go false true = let most = mul-le-mul-left (g .spec .alpha) (waiting-le g v) in omega arith
     go false false = omega arith
 
+-- The most that a page can cost with its white: it lacks htMax.
+unfoldable pub heaviest : Galley → ℕ
+heaviest g = rank (dearest g) (g .spec .htmax)
+
+-- No page costs more with its white.
+pub weight-le : (g : Galley) (q : ℕ) (last : Bool) (u v : Place) → rank (pageCost g q last v) (pageWhite g last u v) ≤ heaviest g
+unfolding heaviest
+weight-le g q last u v =
+    let cost = cost-le g q last v in
+    let white = page-white-le g last u v in
+    omega arith
+
 -- The last page costs nothing, and each other at most the dearest.
 pub costs-le : (g : Galley) (q : ℕ) (v : Place) (vs : List Place) → costs g q (v ∷ vs) ≤ length vs * dearest g
 unfolding costs pageSum pageCost
@@ -87,6 +100,14 @@ pub record Limits (g : Galley) : Type 0 where
 pub rate-limit : (g : Galley) → Limits g → (dearest g ≤ 251000) × (blocks g ≤ 4250)
 unfolding blocks total allFloats dearest
 rate-limit g l = let weights = mul-le-mul (l .alpha) (l .floats) in omega arith
+
+-- With its white it costs at most 251,000 in the upper half and 100,000 in the lower.
+pub weight-limit : (g : Galley) → Limits g → heaviest g ≤ rank 251000 100000
+unfolding heaviest
+weight-limit g l =
+    let rate = rate-limit g l .0 in
+    let high = l .highest in
+    omega arith
 
 -- Within the limits, α·n + β for each block but one is at most 1,066,499,000.
 pub dearest-limit : (g : Galley) → Limits g → pred (blocks g) * dearest g ≤ 1066499000

@@ -6,7 +6,8 @@ use Rattle.weighing.proofs.weighed.Tie as tie
 all-pairs-requires : tie.Need-all-pairs-requires
 all-pairs-requires c κs =
     record {
-      sound = c .before .before .before .before .before .pre;
+      sound = c .before .before .before .before .before .pre .0;
+      placed = c .before .before .before .before .before .pre .1;
       summed = record { rows = c .before .before .gather .ensures; room = search needs };
     }
 

@@ -3,11 +3,12 @@ use Prim.Native.Nat.{ℕ, zero, suc, _+_, _*_, _/_, _%_, _<_}
 use native.Mathlib.Nat.{suc-mul, mul-add-div-right, mul-add-mod-self-right, mod-eq-of-lt, div-eq-of-lt}
 use native.Mathlib.Omega.{arith}
 use mathlib.Core.Path.{_≡_, _∙_, ap}
+use mathlib.Core.Bool.{_&&_}
 use mathlib.Core.List.{List, [], _∷_}
 use Rattle.model.specs.Gather.{one, sum, total, row}
 use Rattle.model.specs.Galley.{Galley, Place, streams, sizes}
 use Rattle.model.specs.Best.{box}
-use Rattle.model.specs.Weighed.{sumOf, below, weighs, weighed}
+use Rattle.model.specs.Weighed.{sumOf, below, weighs, past, weighedFrom}
 use Rattle.model.specs.laws.Gather.{sum-add, sum-zero, total-ext}
 use Rattle.model.specs.laws.Boxes.{below-ext, below-add, sum-box}
 use Rattle.places.specs.Columns.{columns, floatsAt, floatSizes, placeAt}
@@ -69,12 +70,13 @@ module _ (g : Galley) where
       ∙ total-ext (g .stream 0 .size) _ _ (λ k l. columns-all (floatSizes g) (λ v. f (k ∷ v)))
       ∙ lines-columns (g .stream 0 .size) wide (λ k c. f (placeAt g k c))
 
-  -- What is weighed, column by column.
-  pub weighed-columns : weighed g ≡ below wide (λ q. below wide (λ b. pairsFrom g b q))
-  unfolding weighed pairsFrom
-  weighed-columns =
-      places-all (λ v. sumOf (λ u. one (weighs g u v)) (box (sizes g)))
+  -- What is weighed from a place on, column by column.
+  pub weighed-columns : (w : Place) → weighedFrom g w ≡ below wide (λ q. below wide (λ b. pairsFrom g w b q))
+  unfolding weighedFrom pairsFrom
+  weighed-columns w =
+      places-all (λ v. sumOf (λ u. one (past g w u && weighs g u v)) (box (sizes g)))
       ∙ below-ext wide _ _
       (λ q l.
-      total-ext (g .stream 0 .size) _ _ (λ i h. places-all (λ u. one (weighs g u (placeAt g i q))))
-      ∙ lines-columns (g .stream 0 .size) wide (λ i b. total (g .stream 0 .size) (λ a. one (weighs g (placeAt g a b) (placeAt g i q)))))
+      total-ext (g .stream 0 .size) _ _ (λ i h. places-all (λ u. one (past g w u && weighs g u (placeAt g i q))))
+      ∙ lines-columns (g .stream 0 .size) wide
+      (λ i b. total (g .stream 0 .size) (λ a. one (past g w (placeAt g a b) && weighs g (placeAt g a b) (placeAt g i q)))))

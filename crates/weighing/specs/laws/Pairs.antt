@@ -1,21 +1,21 @@
 -- The pages from one column to another: none from a column that is not under the end's or has too tall floats between; else those of the
 -- pairs of lines, and the floats alone after any number of lines.
 use Prim.Native.Nat.{ℕ, zero, suc, _+_, _-_, _≤_, _<_}
-use native.Mathlib.Nat.{le-refl, mul-one}
-use native.Mathlib.Decide.{decLt}
+use native.Mathlib.Nat.{le-refl}
+use native.Mathlib.Decide.{decLe, decLt}
 use native.Mathlib.Omega.{arith}
 use mathlib.Core.Path.{_≡_, refl, sym, _∙_, ap}
 use mathlib.Core.Logic.{inl, inr}
 use mathlib.Core.Bool.{Bool, true, false, _&&_}
 use lib.Dec.{leb, eqb}
-use borrow.Author.Tests.{lt-ltb, le-ltb, le-leb, leb-true, eq-eqb, ne-eqb}
+use borrow.Author.Tests.{lt-ltb, le-ltb, lt-leb, le-leb, leb-true, eq-eqb, ne-eqb, eqb-true}
 use Rattle.model.specs.Gather.{one, total}
-use Rattle.model.specs.Galley.{Galley}
+use Rattle.model.specs.Galley.{Galley, Place}
 use Rattle.model.specs.Height.{stacked, tightest}
 use Rattle.model.specs.Rules.{forward, fits}
-use Rattle.model.specs.Weighed.{below, weighs}
+use Rattle.model.specs.Weighed.{below, weighs, past}
 use Rattle.model.specs.laws.Gather.{and-left, and-right, and-both, sum-add, sum-zero, total-ext}
-use Rattle.model.specs.laws.Boxes.{total-same, width}
+use Rattle.model.specs.laws.Boxes.{width}
 use Rattle.model.specs.laws.Lists.{Inside}
 use Rattle.places.specs.Columns.{columns, floatSizes, placeAt}
 use Rattle.places.specs.Order.{Earlier}
@@ -48,7 +48,7 @@ total-add : (n : ℕ) (f h : ℕ → ℕ) → total n (λ k. f k + h k) ≡ tota
 unfolding total
 total-add n f h = omega (arith, sum-add n f h)
 
-module _ (g : Galley) where
+module _ (g : Galley) (first : Place) where
   abbrev lines : ℕ
   lines = g .stream 0 .size
 
@@ -85,22 +85,36 @@ module _ (g : Galley) where
         }
 
     -- No page, no pair.
-    pairs-none : ((a i : ℕ) → Weighs a b i q → ⊥) → pairsFrom g b q ≡ 0
+    pairs-none : ((a i : ℕ) → Weighs a b i q → ⊥) → pairsFrom g first b q ≡ 0
     unfolding pairsFrom
     pairs-none none =
         total-ext lines _ _
         (λ i k.
-        total-ext lines _ _ (λ a h. ap one (not-true (weighs g (placeAt g a b) (placeAt g i q)) (λ w. none a i (weighs-at a i h k w))))
+        total-ext lines _ _
+        (λ a h.
+        ap one
+        (not-true (past g first (placeAt g a b) && weighs g (placeAt g a b) (placeAt g i q))
+        (λ w. none a i (weighs-at a i h k (and-right (past g first (placeAt g a b)) _ w)))))
         ∙ total-zero lines)
         ∙ total-zero lines
 
-    -- A column that is not under the end has none,
-    pub pairs-not-under : (Under g b q → ⊥) → pairsFrom g b q ≡ 0
+    -- A column that is not past the first place has none,
+    pub pairs-not-past : ((a : ℕ) → past g first (placeAt g a b) ≡ false) → pairsFrom g first b q ≡ 0
+    unfolding pairsFrom
+    pairs-not-past short =
+        total-ext lines _ _
+        (λ i k.
+        total-ext lines _ _ (λ a h. ap (λ t. one (t && weighs g (placeAt g a b) (placeAt g i q))) (short a))
+        ∙ total-zero lines)
+        ∙ total-zero lines
+
+    -- nor has one that is not under the end,
+    pub pairs-not-under : (Under g b q → ⊥) → pairsFrom g first b q ≡ 0
     pairs-not-under over = pairs-none (λ a i w. over (w .under))
 
-    -- nor has one that is under a column whose floats alone are too tall.
+    -- or that is under a column whose floats alone are too tall.
     pub pairs-too-tall : (c : ℕ) → Under g c q → g .spec .htmax < alone g (λ st. st .least) (g .spec .smin) c q
-        → (Under g b q → Under g b c) → pairsFrom g b q ≡ 0
+        → (Under g b q → Under g b c) → pairsFrom g first b q ≡ 0
     unfolding fits tightest
     pairs-too-tall c under tall below =
         pairs-none
@@ -134,64 +148,95 @@ module _ (g : Galley) where
         and-both (forward-under g i q k to i b (le-refl i) from under (inl before))
         (le-leb (tightest g (placeAt g i b) (placeAt g i q)) (g .spec .htmax) (omega (arith, height-alone g (λ st. st .least) (g .spec .smin) b i q)))
 
-  -- Within a column there are the pairs of lines alone.
-  pub pairs-own : (q : ℕ) → q < wide → pairsFrom g q q ≡ linePairs (g .stream 0) 0 (g .spec .htmax) lines
-  unfolding pairsFrom linePairs
-  pairs-own q to = total-ext lines _ _ (λ i k. total-ext lines _ _ (λ a h. ap one (each a i h k (decLt a i))))
-    where
-      none : (a i : ℕ) → i ≤ a → Weighs a q i q → ⊥
-      none a i l w = go (w .earlier)
-        where
-          go : Earlier a q i q → ⊥
-          go (inl m) = omega arith
-          go (inr (e, m)) = omega arith
+  -- From a column past the first place the starts are the lines from its line on.
+  module _ (line : ℕ) where
+    -- Within a column there are the pairs of lines alone.
+    pub pairs-own : (q : ℕ) → q < wide → ((a : ℕ) → past g first (placeAt g a q) ≡ leb line a)
+        → pairsFrom g first q q ≡ linePairs (g .stream 0) line 0 (g .spec .htmax) lines
+    unfolding pairsFrom linePairs
+    pairs-own q to past-at =
+        total-ext lines _ _
+        (λ i k.
+        total-ext lines _ _
+        (λ a h.
+        ap (λ t. one (t && weighs g (placeAt g a q) (placeAt g i q))) (past-at a)
+        ∙ ap (λ t. one (leb line a && t)) (each a i h k (decLt a i))))
+      where
+        none : (a i : ℕ) → i ≤ a → Weighs a q i q → ⊥
+        none a i l w = go (w .earlier)
+          where
+            go : Earlier a q i q → ⊥
+            go (inl m) = omega arith
+            go (inr (e, m)) = omega arith
 
-      each : (a i : ℕ) → a ≤ lines → i ≤ lines → Dec (a < i)
-          → weighs g (placeAt g a q) (placeAt g i q) ≡ linesFit (g .stream 0) 0 (g .spec .htmax) i a
-      each a i h k (yes l) =
-          weighs-lines q q to to a i k l (inside-all _) (inr (refl, l))
-          ∙ ap (λ n. linesFit (g .stream 0) n (g .spec .htmax) i a) (beside-none g (λ st. st .least) (g .spec .smin) q)
-      each a i h k (no l) =
-          not-true (weighs g (placeAt g a q) (placeAt g i q)) (λ w. none a i (omega arith) (weighs-at q q to to a i h k w))
-          ∙ sym (lines-none q q to to a i 0 (omega arith))
+        each : (a i : ℕ) → a ≤ lines → i ≤ lines → Dec (a < i)
+            → weighs g (placeAt g a q) (placeAt g i q) ≡ linesFit (g .stream 0) 0 (g .spec .htmax) i a
+        each a i h k (yes l) =
+            weighs-lines q q to to a i k l (inside-all _) (inr (refl, l))
+            ∙ ap (λ n. linesFit (g .stream 0) n (g .spec .htmax) i a) (beside-none g (λ st. st .least) (g .spec .smin) q)
+        each a i h k (no l) =
+            not-true (weighs g (placeAt g a q) (placeAt g i q)) (λ w. none a i (omega arith) (weighs-at q q to to a i h k w))
+            ∙ sym (lines-none q q to to a i 0 (omega arith))
 
-  -- From an earlier column under the end whose floats are not too tall there is besides the page of floats alone after each line, and
-  -- after none.
-  pub pairs-some : (b q : ℕ) → q < wide → b < q → Under g b q → alone g (λ st. st .least) (g .spec .smin) b q ≤ g .spec .htmax
-      → pairsFrom g b q
-      ≡ linePairs (g .stream 0) (beside g (λ st. st .least) (g .spec .smin) b q) (g .spec .htmax) lines + suc lines
-  unfolding pairsFrom linePairs
-  pairs-some b q to before under short =
-      total-ext lines _ (λ i. pairsTo (g .stream 0) (more b q) (g .spec .htmax) lines i + 1) (λ i k.
-      total-ext lines _ (λ a. one (linesFit (g .stream 0) (more b q) (g .spec .htmax) i a) + one (eqb a i)) (λ a h. each a i h k (decLt a i) (decLt i a))
-      ∙ total-add lines (λ a. one (linesFit (g .stream 0) (more b q) (g .spec .htmax) i a)) (λ a. one (eqb a i))
-      ∙ ap (λ n. pairsTo (g .stream 0) (more b q) (g .spec .htmax) lines i + n) (once i k))
-      ∙ total-add lines (pairsTo (g .stream 0) (more b q) (g .spec .htmax) lines) (λ i. 1)
-      ∙ ap (λ n. total lines (pairsTo (g .stream 0) (more b q) (g .spec .htmax) lines) + n) (total-same lines 1 ∙ mul-one (suc lines))
-    where
-      from : b < wide
-      from = omega arith
+    -- From an earlier column under the end whose floats are not too tall there is besides the page of floats alone after each line.
+    pub pairs-some : (b q : ℕ) → q < wide → b < q → Under g b q → alone g (λ st. st .least) (g .spec .smin) b q ≤ g .spec .htmax
+        → line ≤ lines → ((a : ℕ) → past g first (placeAt g a b) ≡ leb line a)
+        → pairsFrom g first b q
+        ≡ linePairs (g .stream 0) line (beside g (λ st. st .least) (g .spec .smin) b q) (g .spec .htmax) lines + (lines - line + 1)
+    unfolding pairsFrom linePairs
+    pairs-some b q to before under short within past-at =
+        total-ext lines _ (λ i. pairsTo (g .stream 0) line (more b q) (g .spec .htmax) lines i + one (leb line i)) (λ i k.
+        total-ext lines _ (λ a. one (leb line a && linesFit (g .stream 0) (more b q) (g .spec .htmax) i a) + one (leb line a && eqb a i)) (λ a h.
+        ap (λ t. one (t && weighs g (placeAt g a b) (placeAt g i q))) (past-at a)
+        ∙ split (leb line a) (weighs g (placeAt g a b) (placeAt g i q)) (linesFit (g .stream 0) (more b q) (g .spec .htmax) i a) (eqb a i)
+        (each a i h k (decLt a i) (decLt i a)))
+        ∙ total-add lines (λ a. one (leb line a && linesFit (g .stream 0) (more b q) (g .spec .htmax) i a)) (λ a. one (leb line a && eqb a i))
+        ∙ ap (λ n. pairsTo (g .stream 0) line (more b q) (g .spec .htmax) lines i + n) (once i k (decLe line i)))
+        ∙ total-add lines (pairsTo (g .stream 0) line (more b q) (g .spec .htmax) lines) (λ i. one (leb line i))
+        ∙ ap (λ n. total lines (pairsTo (g .stream 0) line (more b q) (g .spec .htmax) lines) + n) starts
+      where
+        from : b < wide
+        from = omega arith
 
-      once : (i : ℕ) → i ≤ lines → total lines (λ a. one (eqb a i)) ≡ 1
-      once i k =
-          width lines i (suc i) (λ a. eqb a i) (omega arith) (omega arith) (λ a l. ne-eqb a i (λ e. omega arith))
-          (λ a l h. eq-eqb a i (omega arith)) (λ a l h. ne-eqb a i (λ e. omega arith))
-          ∙ omega arith
+        split : (p x y z : Bool) → one x ≡ one y + one z → one (p && x) ≡ one (p && y) + one (p && z)
+        split true x y z e = e
+        split false x y z e = omega arith
 
-      each : (a i : ℕ) → a ≤ lines → i ≤ lines → Dec (a < i) → Dec (i < a)
-          → one (weighs g (placeAt g a b) (placeAt g i q)) ≡ one (linesFit (g .stream 0) (more b q) (g .spec .htmax) i a) + one (eqb a i)
-      each a i h k (yes l) d =
-          let page = ap one (weighs-lines b q from to a i k l under (inl before)) in
-          let apart = ap one (ne-eqb a i (λ e. omega arith)) in
-          omega arith
-      each a i h k (no l) (yes n) =
-          let none = ap one (not-true (weighs g (placeAt g a b) (placeAt g i q)) (λ w. let p = weighs-at b q from to a i h k w in omega (arith, p .line))) in
-          let short = ap one (lines-none b q from to a i (more b q) (omega arith)) in
-          let apart = ap one (ne-eqb a i (λ e. omega arith)) in
-          omega arith
-      each a i h k (no l) (no n) =
-          let e : a ≡ i = omega arith in
-          let page : one (weighs g (placeAt g a b) (placeAt g i q)) ≡ 1 = rw e (ap one (weighs-alone b q from to i k before under short)) in
-          let short = ap one (lines-none b q from to a i (more b q) (omega arith)) in
-          let same = ap one (eq-eqb a i e) in
-          omega arith
+        -- So many lines may come before the floats.
+        starts : total lines (λ i. one (leb line i)) ≡ lines - line + 1
+        starts =
+            width lines line (suc lines) (λ i. leb line i) (omega arith) (le-refl _) (λ i l. lt-leb line i l) (λ i l h. le-leb line i l)
+            (λ i l h. absurd (omega arith))
+            ∙ omega arith
+
+        once : (i : ℕ) → i ≤ lines → Dec (line ≤ i) → total lines (λ a. one (leb line a && eqb a i)) ≡ one (leb line i)
+        once i k (yes l) =
+            width lines i (suc i) (λ a. leb line a && eqb a i) (omega arith) (omega arith)
+            (λ a m. not-true (leb line a && eqb a i) (λ t. omega (arith, eqb-true a i (and-right (leb line a) (eqb a i) t))))
+            (λ a m h. and-both (le-leb line a (omega arith)) (eq-eqb a i (omega arith)))
+            (λ a m h. not-true (leb line a && eqb a i) (λ t. omega (arith, eqb-true a i (and-right (leb line a) (eqb a i) t))))
+            ∙ rw (le-leb line i l) (omega arith)
+        once i k (no l) =
+            width lines 0 0 (λ a. leb line a && eqb a i) (le-refl 0) (omega arith) (λ a m. absurd (omega arith)) (λ a m h. absurd (omega arith))
+            (λ a m h.
+            not-true (leb line a && eqb a i)
+            (λ t. omega (arith, leb-true line a (and-left (leb line a) (eqb a i) t), eqb-true a i (and-right (leb line a) (eqb a i) t))))
+            ∙ rw (lt-leb line i (omega arith)) (omega arith)
+
+        each : (a i : ℕ) → a ≤ lines → i ≤ lines → Dec (a < i) → Dec (i < a)
+            → one (weighs g (placeAt g a b) (placeAt g i q)) ≡ one (linesFit (g .stream 0) (more b q) (g .spec .htmax) i a) + one (eqb a i)
+        each a i h k (yes l) d =
+            let page = ap one (weighs-lines b q from to a i k l under (inl before)) in
+            let apart = ap one (ne-eqb a i (λ e. omega arith)) in
+            omega arith
+        each a i h k (no l) (yes n) =
+            let none = ap one (not-true (weighs g (placeAt g a b) (placeAt g i q)) (λ w. let p = weighs-at b q from to a i h k w in omega (arith, p .line))) in
+            let short = ap one (lines-none b q from to a i (more b q) (omega arith)) in
+            let apart = ap one (ne-eqb a i (λ e. omega arith)) in
+            omega arith
+        each a i h k (no l) (no n) =
+            let e : a ≡ i = omega arith in
+            let page : one (weighs g (placeAt g a b) (placeAt g i q)) ≡ 1 = rw e (ap one (weighs-alone b q from to i k before under short)) in
+            let short = ap one (lines-none b q from to a i (more b q) (omega arith)) in
+            let same = ap one (eq-eqb a i e) in
+            omega arith

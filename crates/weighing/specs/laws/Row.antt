@@ -21,10 +21,11 @@ use Rattle.starts.specs.Sweep.{Layable, floatsAlone}
 use Rattle.starts.specs.laws.Columns.{row-next, row-grows, row-of, row-figures, row-tables, row-in, tables-low, within-at, under-at}
 use Rattle.starts.specs.laws.Floats.{alone-at, floats-lay, alone-low}
 use Rattle.weighing.specs.Count.{pairsBetween, pairsInto, Between, CountableRow, RowCount, RowCounted}
-use Rattle.weighing.specs.laws.Past.{rows-in, past, between-at, over-none, tall-none, weighable-between}
+use Rattle.weighing.specs.laws.Past.{rows-in, past, short-none, between-at, over-none, tall-none, weighable-between}
 
 -- The columns of a row.
-module _ {bytes : List ℕ} {g : Galley} {sums : List ℕ} {q figures : ℕ} {heights : Heights} (asked : CountableRow bytes g sums q figures heights) where
+module _ {bytes : List ℕ} {g : Galley} {sums : List ℕ} {first : Counts} {q figures : ℕ} {heights : Heights}
+    (asked : CountableRow bytes g sums first q figures heights) where
   abbrev end : Counts
   end = countsAt g 0 q
 
@@ -35,12 +36,12 @@ module _ {bytes : List ℕ} {g : Galley} {sums : List ℕ} {q figures : ℕ} {he
   tables-few = omega (arith, end-within .tables, asked .ready .sound .tables .few)
 
   -- Before the first column none is counted: the columns past it are not under the end.
-  pub row-first : RowCount bytes g q figures noHeights (countsAt g 0 q .tables + 1) 0
+  pub row-first : RowCount bytes g first q figures noHeights (countsAt g 0 q .tables + 1) 0
   row-first =
-      let none = past (rowOf g figures + (end .tables + 1)) (rowOf g (suc figures)) (pairsInto bytes g q)
+      let none = past (rowOf g figures + (end .tables + 1)) (rowOf g (suc figures)) (pairsInto bytes g first q)
       (omega (arith, row-next g figures, tables-low g 0 q))
       (λ x l h.
-      over-none bytes g x q (omega (arith, rows-in g figures (omega (arith, asked .within, end-within .figures)))) (asked .column)
+      over-none bytes g first (asked .ready .placed) x q (omega (arith, rows-in g figures (omega (arith, asked .within, end-within .figures)))) (asked .column)
       (λ f t. omega (arith, row-in g figures x (omega arith) h .1))) in
       record {
         within = le-refl _;
@@ -49,12 +50,17 @@ module _ {bytes : List ℕ} {g : Galley} {sums : List ℕ} {q figures : ℕ} {he
         counted = omega arith;
       }
 
-  module _ {tables : Heights} {t pairs : ℕ} (run : RowCount bytes g q figures tables t pairs) where
-    -- After the last one the row is counted.
-    pub row-last : t ≡ 0 → RowCounted bytes g q figures pairs
-    row-last e =
-        let first : rowOf g figures + t ≡ rowOf g figures = omega arith in
-        record { few = omega (arith, run .few); counted = rw first at (run .counted) }
+  module _ {tables : Heights} {t pairs : ℕ} (run : RowCount bytes g first q figures tables t pairs) where
+    -- After the last one the row is counted: those before it have fewer tables than are placed first.
+    pub row-last : t ≤ first .tables → RowCounted bytes g first q figures pairs
+    row-last l =
+        let none = past (rowOf g figures) (rowOf g figures + t) (pairsInto bytes g first q) (omega arith)
+        (λ x h k.
+        let (e, at) = row-in g figures x h (omega (arith, row-next g figures, run .within, tables-low g 0 q)) in
+        short-none bytes g first (asked .ready .placed) x q
+        (omega (arith, row-next g figures, run .within, tables-low g 0 q, rows-in g figures (omega (arith, asked .within, end-within .figures))))
+        (asked .column) (λ f s. omega arith)) in
+        record { few = omega (arith, run .few); counted = omega (arith, run .counted) }
 
     -- There is room for the table before.
     pub row-room : Room bytes (g .tables) tables (countsAt g 0 q .tables)
@@ -62,7 +68,7 @@ module _ {bytes : List ℕ} {g : Galley} {sums : List ℕ} {q figures : ℕ} {he
         stacked-room bytes (g .tables) t (end .tables) tables (asked .ready .sound .tables .sound)
         (omega (arith, asked .ready .sound .tables .few)) (end-within .tables) (run .floats)
 
-    module _ (some : 0 < t) where
+    module _ (some : first .tables < t) where
       abbrev from : ℕ
       from = rowOf g figures + (t - 1)
 
@@ -100,7 +106,7 @@ module _ {bytes : List ℕ} {g : Galley} {sums : List ℕ} {q figures : ℕ} {he
 
       module _ (tables′ : Heights) (put : tables′ ≡ blockBefore bytes (g .tables) tables (t - 1) (countsAt g 0 q .tables)) where
         floats′ : Stacked (floatsOf bytes (g .tables)) (t - 1) (end .tables) tables′
-        floats′ = back-stacked bytes (g .tables) t (end .tables) tables tables′ some put (run .floats)
+        floats′ = back-stacked bytes (g .tables) t (end .tables) tables tables′ (omega arith) put (run .floats)
 
         -- Its heights can be added to those of the figures,
         pub row-lays : Layable (g .spec) heights tables′
@@ -115,27 +121,29 @@ module _ {bytes : List ℕ} {g : Galley} {sums : List ℕ} {q figures : ℕ} {he
               (rw (from-figures, from-tables) mixed) .0)
 
           -- and lines put beside them.
-          pub row-between : Between g sums (floats .tight)
+          pub row-between : Between g sums (first .lines) (floats .tight)
           row-between = weighable-between (asked .ready) (floats .tight) (rw laid (alone-low (g .spec) heights tables′ both row-lays .tight))
 
           -- Where the floats alone are too tall, that column and those before it in the row add nothing.
-          pub row-tall : g .spec .htmax < floats .tight → RowCounted bytes g q figures pairs
+          pub row-tall : g .spec .htmax < floats .tight → RowCounted bytes g first q figures pairs
           row-tall tall =
-              let none = past (rowOf g figures) (rowOf g figures + t) (pairsInto bytes g q) (omega arith)
+              let none = past (rowOf g figures) (rowOf g figures + t) (pairsInto bytes g first q) (omega arith)
               (λ x l h.
               let (e, at) = row-in g figures x l (omega (arith, row-next g figures, low)) in
-              tall-none bytes g x from q (omega (arith, from-before, asked .column)) (asked .column) from-under (omega (arith, alone-from))
+              tall-none bytes g first (asked .ready .placed) x from q (omega (arith, from-before, asked .column)) (asked .column) from-under (omega (arith, alone-from))
               (omega (arith, from-figures)) (λ k. omega (arith, from-tables))) in
               record { few = omega (arith, run .few); counted = omega (arith, run .counted) }
 
           -- Else its pages are added.
           pub row-adds : floats .tight ≤ g .spec .htmax → (more : ℕ) → more ≤ 16008001
-              → more ≡ pairsBetween (textOf bytes (g .text)) g (floats .tight) (ltb figures (countsAt g 0 q .figures) || ltb (t - 1) (countsAt g 0 q .tables))
-              → RowCount bytes g q figures tables′ (t - 1) (pairs + more)
+              → more ≡ pairsBetween (textOf bytes (g .text)) g (first .lines) (floats .tight) (ltb figures (countsAt g 0 q .figures) || ltb (t - 1) (countsAt g 0 q .tables))
+              → RowCount bytes g first q figures tables′ (t - 1) (pairs + more)
           unfolding below
           row-adds short more few e =
               let after : rowOf g figures + t ≡ suc from = omega arith in
-              let here = between-at bytes g from q (floats .tight) _ (asked .column) from-before from-under alone-from short from-some in
+              let here =
+              between-at bytes g first (asked .ready .placed) from q (floats .tight) _ (asked .column) from-before from-under
+              (omega (arith, from-figures, asked .from)) (omega (arith, from-tables)) alone-from short from-some in
               let counted = rw after at (run .counted) in
               record {
                 within = omega (arith, run .within);

@@ -48,12 +48,13 @@ reaches-readable {i = i} r =
 module _ (sums : List ℕ) (st : Stream) (gap : ℕ → ℕ) (space beside limit old i new : ℕ)
     (pairs : (k : ℕ) → k ≤ i → Pair st gap sums (2 * k + space) k) (first : FirstBelow sums space beside limit old i new) where
   -- Whatever starts before it reaches the limit by line i and from there on, since a page that grows at its end only gets higher.
-  pub end-passes : ((a e : ℕ) → a < old → i ≤ e → Reaches st gap beside limit a e) → (a e : ℕ) → a < new → i ≤ e
-      → Reaches st gap beside limit a e
-  end-passes before a e l n = go (decLe (suc a) old)
+  -- Starts before a first line may be left out of it.
+  pub end-passes-from : (low : ℕ) → ((a e : ℕ) → low ≤ a → a < old → i ≤ e → Reaches st gap beside limit a e) → (a e : ℕ) → low ≤ a → a < new
+      → i ≤ e → Reaches st gap beside limit a e
+  end-passes-from low before a e from l n = go (decLe (suc a) old)
     where
       go : Dec (suc a ≤ old) → Reaches st gap beside limit a e
-      go (yes p) = before a e p n
+      go (yes p) = before a e from p n
       go (no p) =
           let inside : a < i = omega (arith, first .to) in
           let high = first .passed a (omega arith) l in
@@ -62,6 +63,10 @@ module _ (sums : List ℕ) (st : Stream) (gap : ℕ → ℕ) (space beside limit
           let page = reach-stacked st gap a i inside in
           let grows = stacked-grows st gap a i a e (le-refl a) (omega arith) n in
           omega arith
+
+  pub end-passes : ((a e : ℕ) → a < old → i ≤ e → Reaches st gap beside limit a e) → (a e : ℕ) → a < new → i ≤ e
+      → Reaches st gap beside limit a e
+  end-passes before a e = end-passes-from 0 (λ b f from. before b f) a e (omega arith)
 
   -- Whatever starts from there on does not: a page that starts later is lower.
   pub end-opens : (a : ℕ) → new ≤ a → a < i → Reaches st gap beside limit a i → ⊥

@@ -1,46 +1,44 @@
 -- `judge_pages` meets its contract. The outer invariant is the run over the pages so far (laws/Run), the inner one the page under
 -- way with the blocks that it has so far (laws/Page); each way of leaving a page is one law of laws/Page.
-use Prim.Native.Nat.{_+_, _-_, _/_, _≤_, _<_}
+use Prim.Native.Nat.{ℕ, _-_, _/_, _≤_, _<_}
 use borrow.Author.Needs.{needs}
 use denote.Ref.{now}
 use lib.ListN.{length}
-use mathlib.Core.Path.{sym, _∙_}
+use mathlib.Core.Path.{_≡_, sym, _∙_}
+use mathlib.Core.List.{List}
+use mathlib.Core.Option.{some}
 use native.Mathlib.Omega.{arith}
+use Rattle.model.specs.declared.answer.Answer.the-variants.{Refused}
+use Rattle.galley.specs.declared.Galley.{Galley}
 use Rattle.blocks.specs.laws.Counts.{words-least}
+use Rattle.marking.specs.declared.pages.Judged.the-variants.{Broken}
+use Rattle.marking.specs.Judged.{firstFault, JudgedPages}
 use Rattle.marking.specs.laws.Next.{left}
-use Rattle.marking.specs.laws.Page.{Begun, page-left, page-there, page-few, begins, begun-proper, begun-refused, begun-ahead, run-limits, run-finished, Underway, underway-bare, underway-open, underway-more, underway-less, underway-over, underway-ended, underway-next, underway-walking, underway-addable}
+use Rattle.marking.specs.laws.Page.{run-few, Begun, page-left, page-there, page-few, run-over, begins, begun-proper, begun-refused, begun-ahead, Underway, underway-bare, underway-open, underway-more, underway-less, underway-over, underway-ended, underway-next, underway-walking, underway-addable}
 use Rattle.marking.specs.laws.Run.{Run, run-start}
 use Rattle.marking.proofs.pages.judge_pages.Statement.{statement}
 use Rattle.marking.proofs.pages.judge_pages.Tie as tie
 
 abbrev Inv-loop : tie.InvT-loop
-Inv-loop s g list words pages done at waiting sums number v start laid₀ laid = Underway s g list done at waiting sums v start laid
+Inv-loop s g list last words pages done at waiting sums number v start laid₀ laid = Underway s g list last done at waiting sums v start laid
 
 abbrev μ-loop : tie.MeasureT-loop
-μ-loop s g list words pages done at waiting sums number v start laid₀ laid = left (laid .on) v
+μ-loop s g list last words pages done at waiting sums number v start laid₀ laid = left (laid .on) v
 
 abbrev Inv-pages : tie.InvT-pages
-Inv-pages s g list words pages done₀ at₀ waiting₀ sums₀ done at waiting sums = Run s g list done at waiting sums
+Inv-pages s g list last words pages done₀ at₀ waiting₀ sums₀ done at waiting sums = Run s g list last done at waiting sums
 
 abbrev μ-pages : tie.MeasureT-pages
-μ-pages s g list words pages done₀ at₀ waiting₀ sums₀ done at waiting sums = pages - done
+μ-pages s g list last words pages done₀ at₀ waiting₀ sums₀ done at waiting sums = pages - done
 
 pages-holds : tie.Need-pages-holds Inv-loop μ-loop Inv-pages μ-pages
 pages-holds c =
     let st = c .before .before .before in
-    run-start (now (st .args .s)) (st .args .g) (st .pre .sound) (now (st .args .list))
-
-cast-finish : tie.Need-cast-finish Inv-loop μ-loop Inv-pages μ-pages
-cast-finish c = omega (arith, c .if1 .taken, c .before .pages .inv .within, c .before .before .before .before .before .pre .few)
-
-finish-requires : tie.Need-finish-requires Inv-loop μ-loop Inv-pages μ-pages
-finish-requires c κs =
-    let st = c .before .before .before .before .before in
-    run-limits (now (st .args .s)) (st .args .g) (now (st .args .list)) (st .pre) (c .before .before .page-words .ensures .1) (c .before .pages .inv) (c .if1 .taken)
+    run-start (now (st .args .s)) (st .args .g) (st .pre .sound) (now (st .args .list)) (st .args .last)
 
 -- There are few pages, and one is left.
 low : (c : tie.Else1 Inv-loop μ-loop Inv-pages μ-pages) → c .before .pages .done ≤ 4250
-low c = omega (arith, c .before .pages .inv .within, c .before .before .before .before .before .pre .few)
+low c = run-few (c .before .before .before .before .before .pre) (c .before .pages .inv)
 
 more : (c : tie.Else1 Inv-loop μ-loop Inv-pages μ-pages)
     → c .before .pages .done < length (now (c .before .before .before .before .before .args .list)) / c .before .before .page-words .result
@@ -70,7 +68,7 @@ start-fault-requires c κs =
 page : (c : tie.After-start-fault Inv-loop μ-loop Inv-pages μ-pages)
     → (let st = c .before .before .before .before .before .before .before in
     let l = c .before .before .before .pages in
-    Begun (now (st .args .s)) (st .args .g) (now (st .args .list)) (l .done) (l .at) (l .waiting) (l .sums) (c .before .page-at .result)
+    Begun (now (st .args .s)) (st .args .g) (now (st .args .list)) (st .args .last) (l .done) (l .at) (l .waiting) (l .sums) (c .before .page-at .result)
     (c .start-fault .result))
 page c =
     let st = c .before .before .before .before .before .before .before in
@@ -92,8 +90,8 @@ loop-less c = rw (c .with-next .ensures) (underway-less (c .before .before .befo
 loop-again : tie.Need-loop-again Inv-loop μ-loop Inv-pages μ-pages
 loop-again c = rw (c .with-next .ensures) (underway-more (c .before .before .before .before .before .before .loop .inv) (sym (c .before .before .is-laid .ensures) ∙ c .before .if4 .left))
 
-add-last : tie.Need-add-last Inv-loop μ-loop Inv-pages μ-pages
-add-last c = omega (arith, low (c .before .before .before .before .before .before .before .before .before .before))
+add-closing : tie.Need-add-closing Inv-loop μ-loop Inv-pages μ-pages
+add-closing c = omega (arith, low (c .before .before .before .before .before .before .before .before .before .before))
 
 end-fault-requires : tie.Need-end-fault-requires Inv-loop μ-loop Inv-pages μ-pages
 end-fault-requires c κs = (c .before .before .before .before .before .before .before .before .before .before .before .before .before .before .before .pre .sound, c .before .before .before .before .before .loop .inv .ahead .within)
@@ -115,27 +113,32 @@ pages-again : tie.Need-pages-again Inv-loop μ-loop Inv-pages μ-pages
 pages-again c =
     let end = c .before .before .before .end-fault in
     rw (c .with-page .ensures)
-    (underway-next (c .before .before .before .before .before .before .before .before .before .loop .inv) (c .before .before .before .before .before .before .if3 .left) (sym (c .before .before .before .before .before .is-laid .ensures) ∙ c .before .before .before .before .if4 .taken) (c .before .before .before .before .before .before .before .before .before .before .before .before .before .before .before .before .page-words .ensures .1) (end .result)
+    (underway-next (c .before .before .before .before .before .before .before .before .before .loop .inv) (c .before .before .before .before .before .before .if3 .left) (sym (c .before .before .before .before .before .is-laid .ensures) ∙ c .before .before .before .before .if4 .taken) (end .result)
     (end .ensures) (c .before .before .if5 .left) (c .before .waiting-on .result) (c .before .waiting-on .ensures))
 
 returns : tie.Need-returns Inv-loop μ-loop Inv-pages μ-pages
 returns c =
-    let st = c .before .before .before .before .before .before in
-    c .finish .ensures
-    ∙ run-finished (now (st .args .s)) (st .args .g) (now (st .args .list)) (st .pre) (c .before .before .before .page-words .ensures .1) (c .before .before .pages .inv)
-    (c .before .if1 .taken)
+    let st = c .before .before .before .before .before in
+    let over = run-over (now (st .args .s)) (st .args .g) (now (st .args .list)) (st .pre) (c .before .before .page-words .ensures .1) (c .before .pages .inv) (c .if1 .taken) in
+    record { fault = over .0; kept = λ at x e. let a : c .before .pages .at ≡ at = cc in let b : c .before .pages .sums ≡ x = cc in rw (← a, ← b) (over .1) }
+
+-- A rule that is broken is told with its page, and nothing is kept.
+broke : {bytes : List ℕ} {g : Galley} {ws : List ℕ} {last n q : ℕ} → some (Refused n q) ≡ firstFault bytes g ws last
+    → JudgedPages bytes g ws last (Broken n q)
+broke e = record { fault = e; kept = λ at x f. let z : _≡_ {A = ℕ} 0 1 = cc in absurd (omega arith) }
 
 returns-2 : tie.Need-returns-2 Inv-loop μ-loop Inv-pages μ-pages
-returns-2 c = begun-refused (page (c .before)) (c .if2 .taken)
+returns-2 c = broke (begun-refused (page (c .before)) (c .if2 .taken))
 
 returns-3 : tie.Need-returns-3 Inv-loop μ-loop Inv-pages μ-pages
-returns-3 c = underway-over (c .before .before .before .loop .inv) (c .if3 .taken)
+returns-3 c = broke (underway-over (c .before .before .before .loop .inv) (c .if3 .taken))
 
 returns-4 : tie.Need-returns-4 Inv-loop μ-loop Inv-pages μ-pages
 returns-4 c =
     let end = c .before .end-fault in
-    underway-ended (c .before .before .before .before .before .before .before .loop .inv) (c .before .before .before .before .if3 .left) (sym (c .before .before .before .is-laid .ensures) ∙ c .before .before .if4 .taken) (c .before .before .before .before .before .before .before .before .before .before .before .before .before .before .page-words .ensures .1) (end .result)
-    (end .ensures) (c .if5 .taken)
+    broke
+    (underway-ended (c .before .before .before .before .before .before .before .loop .inv) (c .before .before .before .before .if3 .left) (sym (c .before .before .before .is-laid .ensures) ∙ c .before .before .if4 .taken) (end .result)
+    (end .ensures) (c .if5 .taken))
 
 pub judge-pages-spec : {M : Type 1} → statement M
 judge-pages-spec =
@@ -148,8 +151,6 @@ judge-pages-spec =
     (λ c κs. search needs)
     (λ c. omega (arith, c .page-words .ensures .1, words-least (c .before .before .before .args .g)))
     pages-holds
-    cast-finish
-    finish-requires
     (λ c. omega (arith, low c))
     (λ c. omega (arith, low c))
     mul-page-at
@@ -161,7 +162,7 @@ judge-pages-spec =
     with-next-requires
     loop-less
     loop-again
-    add-last
+    add-closing
     end-fault-requires
     waiting-on-requires
     with-page-requires

@@ -9,10 +9,10 @@ use Rattle.weighing.proofs.columns.all_pairs.Statement.{statement}
 use Rattle.weighing.proofs.columns.all_pairs.Tie as tie
 
 abbrev Inv-loop : tie.InvT-loop
-Inv-loop s g sums columns pairs₀ q₀ pairs q = AllCount s g q pairs
+Inv-loop s g sums first columns pairs₀ q₀ pairs q = AllCount s g first q pairs
 
 abbrev μ-loop : tie.MeasureT-loop
-μ-loop s g sums columns pairs₀ q₀ pairs q = columns - q
+μ-loop s g sums first columns pairs₀ q₀ pairs q = columns - q
 
 loop-holds : tie.Need-loop-holds Inv-loop μ-loop
 loop-holds c = all-first (c .before .before .before .pre)

@@ -1,5 +1,5 @@
 -- `pairs_between` meets its contract: each way is that of the definition.
-use Prim.Native.Nat.{_+_}
+use Prim.Native.Nat.{_+_, _-_, _≤_}
 use native.Mathlib.Omega.{arith}
 use mathlib.Core.Path.{ap}
 use Rattle.weighing.specs.Count.{pairsBetween}
@@ -7,24 +7,19 @@ use borrow.Author.Needs.{needs}
 use Rattle.weighing.proofs.columns.pairs_between.Statement.{statement}
 use Rattle.weighing.proofs.columns.pairs_between.Tie as tie
 
-add-beside : tie.Need-add-beside
-add-beside c = search needs
-
 line-pairs-requires : tie.Need-line-pairs-requires
 line-pairs-requires c κs = let pre = c .before .before .before .pre in pre .pairable _ (omega (arith, pre .low, pre .separation))
 
-add-result : tie.Need-add-result
-add-result c = omega (arith, c .before .before .before .before .pre .pairable 0 (omega arith) .few)
-
-add-result-2 : tie.Need-add-result-2
-add-result-2 c = omega (arith, c .before .before .before .before .pre .pairable 0 (omega arith) .few, c .line-pairs .ensures .0)
+-- No more lines are left than there are.
+few : (c : tie.After-line-pairs) → c .before .before .before .before .args .g .text .count - c .before .before .before .before .args .first ≤ 4000
+few c = omega (arith, c .before .before .before .before .pre .pairable 0 (omega arith) .few)
 
 returns : tie.Need-returns
 unfolding pairsBetween
 returns c =
-    let pre = c .before .before .before .before .pre in (
-      omega (arith, pre .pairable 0 (omega arith) .few, c .line-pairs .ensures .0),
-      λ st rows. rw (c .before .before .if1 .taken) (ap (λ n. n + (c .before .before .before .before .args .g .text .count + 1)) (c .line-pairs .ensures .1 st rows)),
+    let args = c .before .before .before .before .args in (
+      omega (arith, few c, c .line-pairs .ensures .0),
+      λ st rows. rw (c .before .before .if1 .taken) (ap (λ n. n + (args .g .text .count - args .first + 1)) (c .line-pairs .ensures .1 st rows)),
     )
 
 line-pairs-requires-2 : tie.Need-line-pairs-requires-2
@@ -37,4 +32,13 @@ returns-2 c =
 
 pub pairs-between-spec : {M : Type 1} → statement M
 pairs-between-spec =
-    tie.close (tie.spec add-beside line-pairs-requires add-result add-result-2 returns line-pairs-requires-2 returns-2)
+    tie.close
+    (tie.spec
+    (λ c. search needs)
+    (λ c. omega (arith, c .before .before .before .pre .pairable 0 (omega arith) .from))
+    (λ c. omega (arith, c .before .before .before .pre .pairable 0 (omega arith) .few))
+    line-pairs-requires
+    (λ c. omega (arith, few c, c .line-pairs .ensures .0))
+    returns
+    line-pairs-requires-2
+    returns-2)

@@ -9,10 +9,10 @@ use Rattle.weighing.proofs.columns.pairs_into.Statement.{statement}
 use Rattle.weighing.proofs.columns.pairs_into.Tie as tie
 
 abbrev Inv-loop : tie.InvT-loop
-Inv-loop s g sums q end pairs₀ heights₀ b₀ pairs heights b = ColumnCount s g q heights b pairs
+Inv-loop s g sums first q end pairs₀ heights₀ b₀ pairs heights b = ColumnCount s g first q heights b pairs
 
 abbrev μ-loop : tie.MeasureT-loop
-μ-loop s g sums q end pairs₀ heights₀ b₀ pairs heights b = b
+μ-loop s g sums first q end pairs₀ heights₀ b₀ pairs heights b = b
 
 add-b : tie.Need-add-b Inv-loop μ-loop
 add-b c = rw (c .before .counts-at .ensures) (omega (arith, end-few (c .before .before .before .before .pre)))
@@ -22,35 +22,35 @@ loop-holds c = rw (c .before .counts-at .ensures) (column-first (c .before .befo
 
 block-before-requires : tie.Need-block-before-requires Inv-loop μ-loop
 block-before-requires c κs =
-    rw (c .before .before .before .counts-at .ensures) (column-room (c .before .before .before .before .before .before .pre) (c .before .loop .inv))
+    rw (c .before .before .before .before .counts-at .ensures) (column-room (c .before .before .before .before .before .before .before .pre) (c .before .before .loop .inv))
 
 returns : tie.Need-returns Inv-loop μ-loop
 returns c =
     let put = c .before .before .before in
-    let st = put .before .before in
+    let st = put .before .before .before in
     let counted = st .before .before in
-    column-tall (counted .before .before .before .pre) (st .loop .inv) (put .before .loop-test .taken) (put .block-before .result)
-    (rw (counted .counts-at .ensures) at (put .block-before .ensures)) (c .if1 .taken)
+    column-tall (counted .before .before .before .pre) (st .loop .inv) (put .before .if1 .taken) (put .block-before .result)
+    (rw (counted .counts-at .ensures) at (put .block-before .ensures)) (c .if2 .taken)
 
 pairs-of-row-requires : tie.Need-pairs-of-row-requires Inv-loop μ-loop
 pairs-of-row-requires c κs =
     let put = c .before .before .before in
-    let st = put .before .before in
+    let st = put .before .before .before in
     let counted = st .before .before in
-    column-row (counted .before .before .before .pre) (st .loop .inv) (put .before .loop-test .taken) (put .block-before .result)
+    column-row (counted .before .before .before .pre) (st .loop .inv) (put .before .if1 .taken) (put .block-before .result)
     (rw (counted .counts-at .ensures) at (put .block-before .ensures))
 
 loop-again : tie.Need-loop-again Inv-loop μ-loop
 loop-again c =
     let put = c .before .before .before .before in
-    let st = put .before .before in
+    let st = put .before .before .before in
     let counted = st .before .before in
-    column-adds (counted .before .before .before .pre) (st .loop .inv) (put .before .loop-test .taken) (put .block-before .result)
+    column-adds (counted .before .before .before .pre) (st .loop .inv) (put .before .if1 .taken) (put .block-before .result)
     (rw (counted .counts-at .ensures) at (put .block-before .ensures)) (c .pairs-of-row .result) (c .pairs-of-row .ensures)
 
 returns-2 : tie.Need-returns-2 Inv-loop μ-loop
 returns-2 c =
-    column-last (c .before .before .before .before .before .before .pre) (c .before .loop .inv) (omega (arith, c .loop-test .left))
+    column-last (c .before .before .before .before .before .before .before .pre) (c .before .before .loop .inv) (c .if1 .left)
 
 pub pairs-into-spec : {M : Type 1} → statement M
 pairs-into-spec =
@@ -65,7 +65,7 @@ pairs-into-spec =
     block-before-requires
     returns
     pairs-of-row-requires
-    (λ c. omega (arith, c .before .before .before .before .before .before .loop .inv .few, c .pairs-of-row .ensures .few))
+    (λ c. omega (arith, c .before .before .before .before .before .before .before .loop .inv .few, c .pairs-of-row .ensures .few))
     (λ c. search needs)
     loop-again
     returns-2)

@@ -7,10 +7,10 @@ use Rattle.weighing.proofs.lines.line_pairs.Statement.{statement}
 use Rattle.weighing.proofs.lines.line_pairs.Tie as tie
 
 abbrev Inv-loop : tie.InvT-loop
-Inv-loop sums lines beside limit pairs₀ low₀ i₀ pairs low i = Counting sums beside limit lines low i pairs
+Inv-loop sums lines first beside limit pairs₀ low₀ i₀ pairs low i = Counting sums first beside limit lines low i pairs
 
 abbrev μ-loop : tie.MeasureT-loop
-μ-loop sums lines beside limit pairs₀ low₀ i₀ pairs low i = lines + 1 - i
+μ-loop sums lines first beside limit pairs₀ low₀ i₀ pairs low i = lines + 1 - i
 
 first-below-requires : tie.Need-first-below-requires Inv-loop μ-loop
 first-below-requires c κs =
@@ -32,12 +32,12 @@ wide c = omega (arith, c .before .loop-test .taken, c .before .before .before .b
 loop-again : tie.Need-loop-again Inv-loop μ-loop
 loop-again c =
     let st = c .before .before .loop in
-    counting-next _ _ _ _ (st .inv) (c .before .loop-test .taken) (c .before .before .before .before .pre .few) _ (c .first-below .ensures)
+    counting-next _ _ _ _ _ (st .inv) (c .before .loop-test .taken) (c .before .before .before .before .pre .few) _ (c .first-below .ensures)
 
 returns : tie.Need-returns Inv-loop μ-loop
 returns c =
     let st = c .before .loop in
-    (omega (arith, st .inv .few, st .inv .within, c .before .before .before .pre .few), counting-end _ _ _ _ (st .inv) (omega (arith, c .loop-test .left)))
+    (omega (arith, st .inv .few, st .inv .within, c .before .before .before .pre .few), counting-end _ _ _ _ _ (st .inv) (omega (arith, c .loop-test .left)))
 
 pub line-pairs-spec : {M : Type 1} → statement M
 line-pairs-spec =
@@ -45,7 +45,7 @@ line-pairs-spec =
     (tie.spec
     Inv-loop
     μ-loop
-    (λ c. counting-start _ _ _ _)
+    (λ c. counting-start _ _ _ _ _ (c .before .pre .from))
     (λ c. omega (arith, c .before .before .before .pre .limited))
     first-below-requires
     (λ c. c .first-below .ensures .to)

@@ -1,0 +1,40 @@
+-- `make_from` meets its contract: the work area that was filled is cleared of all that filling wrote, and the count is that of the galley
+-- from the opening's end on.
+use borrow.Author.Needs.{needs}
+use native.Mathlib.Omega.{arith}
+use Rattle.galley.specs.laws.Sound.{sound}
+use Rattle.starts.specs.laws.Columns.{few-floats}
+use Rattle.making.specs.laws.Made.{soluble-fillable, soluble-solved, soluble-first, made-best}
+use Rattle.making.proofs.make_from.Statement.{statement}
+use Rattle.making.proofs.make_from.Tie as tie
+
+best-pages-requires : tie.Need-best-pages-requires
+best-pages-requires c κs = soluble-solved (c .before .before .before .before .before .before .before .before .before .before .pre) _ (c .before .before .before .before .fill .ensures)
+
+counts-at-requires : tie.Need-counts-at-requires
+counts-at-requires c κs = few-floats (sound _ _ (c .before .before .before .before .before .before .before .before .before .before .before .before .before .before .before .before .before .before .before .pre .reads))
+
+weighed-requires : tie.Need-weighed-requires
+weighed-requires c κs =
+    let pre = c .before .before .before .before .before .before .before .before .before .before .before .before .before .before .before .before .before .before .before .before .pre in
+    (sound _ _ (pre .reads), rw (c .counts-at .ensures) (soluble-first pre))
+
+returns : tie.Need-returns
+returns c =
+    made-best (c .before .before .before .before .before .before .before .before .before .before .before .before .before .before .before .before .before .before .before .before .before .pre) _ _ _ _ _ (c .before .before .before .before .before .before .before .before .before .before .before .before .before .before .before .fill .ensures) (c .before .before .before .before .before .before .clear .ensures) (c .before .before .before .before .before .before .before .before .before .before .best-pages .ensures)
+    (rw (c .before .counts-at .ensures) at (c .weighed .ensures))
+
+pub make-from-spec : {M : Type 1} → statement M
+make-from-spec =
+    tie.close
+    (tie.spec
+    (λ c κs. soluble-fillable (c .before .before .before .before .before .pre))
+    best-pages-requires
+    (λ c κs. search needs)
+    (λ c. search needs)
+    (λ c. search needs)
+    counts-at-requires
+    weighed-requires
+    (λ c. search needs)
+    (λ c. search needs)
+    returns)
