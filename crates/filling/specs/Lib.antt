@@ -2,6 +2,7 @@
 
 -- What is computed.
 pub mod Fill
+pub mod Skip
 -- What is known of the work area on the way, and what the functions ask for.
 pub mod Filled
 pub mod Stop

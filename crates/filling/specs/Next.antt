@@ -47,10 +47,11 @@ pub record Priceable (g : Galley) (waiting : ℕ) : Type 0 where
 abbrev pub priceOf : Galley → Bool → Bool → ℕ → ℕ
 priceOf g last ends waiting = pick last 0 (pick ends (g .spec .alpha * waiting + g .spec .beta) 0)
 
--- The entries before (i, j) are filled, from an origin at which little was paid.
+-- The entries before (i, j) are filled, from an origin of the galley at which little was paid.
 pub record Next (bytes : List ℕ) (task : Task) (w : List ℕ) (i j : ℕ) : Type 0 where
   pub lent : Lent bytes (task .galley) w j
   pub cheap : task .origin .cost ≤ 4600000000000000000
+  pub origin : task .origin .place .column < columnsIn (task .galley)
   pub filled : Filled (modelOf bytes (task .galley)) (task .origin) (tableIn (task .galley) w) i j
 
 -- A page ends at a place of the galley, whose counts are known, where so many floats wait, and which says so much of the page.
@@ -162,10 +163,11 @@ pub record LastNext (bytes : List ℕ) (task : Task) (w sums words : List ℕ) (
   pub column : ColumnNext bytes task w sums words j
   pub known : Known bytes (task .galley) w j 0
 
--- A galley that was read, an origin at which little was paid, and a work area as long as document 01 asks.
+-- A galley that was read, an origin in one of its columns at which little was paid, and a work area as long as document 01 asks.
 pub record Fillable (bytes : List ℕ) (g : Galley) (from : Origin) (w : List ℕ) : Type 0 where
   pub sound : Sound bytes g
   pub cheap : from .cost ≤ 4600000000000000000
+  pub origin : from .place .column < columnsIn g
   pub room : wordsNeeded (g .text .count) (columnsIn g) ≤ length w
 
 -- The table comes next: with the sums of the lines, and room for four queues.

@@ -8,4 +8,5 @@ pub mod Queues
 pub mod Own
 pub mod NewEntry
 pub mod Sides
+pub mod Skip
 pub mod Column

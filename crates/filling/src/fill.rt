@@ -1,8 +1,10 @@
 // The work area filled with the entry of every place, column by column: document 01, "Making".
 ghost use mathlib.Core.Path.{_≡_};
-ghost use Prim.Native.Nat.{suc};
+ghost use Prim.Native.Nat.{suc, _+_, _≤_};
 ghost use Rattle.galley.specs.Model.{modelOf};
+ghost use Rattle.starts.specs.Sweep.{ColumnRoom};
 ghost use Rattle.filling.specs.Fill.{fillColumn, filled};
+ghost use Rattle.filling.specs.Skip.{skipSides, skipColumn};
 ghost use Rattle.filling.specs.Next.{LastNext, ColumnNext, TableNext, Fillable};
 use crate::side::End;
 use crate::side::Task;
@@ -10,6 +12,7 @@ use crate::side::Windows;
 use blocks::Counts;
 use blocks::heights::Heights;
 use galley::Galley;
+use places::Entry;
 use places::Origin;
 use rules::waiting::Waiting;
 use window::slide::Window;
@@ -60,11 +63,40 @@ fn last_sweep(s: &[u8], task: Task, work: &mut [u32], sums: &[u32], words: &mut 
     }
 }
 
+// The sides of a place that no page reaches.
+fn skip_place(g: Galley, work: &mut [u32], i: usize, j: usize)
+    requires { ⌜ ColumnRoom g (now work) j × (i ≤ g .text .count) ⌝ }
+    ensures { λ _. ⌜ now (work .exit) ≡ skipSides (g .text .count + 1) i j (g .spec .sides) (now (work .entry)) ⌝ }
+{
+    let mut c = 0;
+    while c < g.spec.sides as usize {
+        let place = places::place_of(i, j);
+        places::store(work, g.text.count + 1, place, c, Entry::Unreached);
+        c += 1;
+    }
+}
+
+// A column before that where the search begins: nothing in it is past the origin, so that no page reaches it.
+fn skip_column(g: Galley, work: &mut [u32], j: usize)
+    requires { ⌜ ColumnRoom g (now work) j ⌝ }
+    ensures { λ _. ⌜ now (work .exit) ≡ skipColumn g j (now (work .entry)) ⌝ }
+{
+    let mut i = 0;
+    while i <= g.text.count {
+        skip_place(g, work, i, j);
+        i += 1;
+    }
+}
+
 // Column j: first the starts in the columns before it, then those in the column itself.
 fn fill_column(s: &[u8], task: Task, work: &mut [u32], sums: &[u32], words: &mut [u32], j: usize)
     requires { ⌜ ColumnNext (now s) task (now work) (now sums) (now words) j ⌝ }
     ensures { λ _. ⌜ now (work .exit) ≡ fillColumn (modelOf (now (s .entry)) (task .galley)) (task .origin) j (suc (task .galley .text .count)) 0 (now (work .entry)) ⌝ }
 {
+    if j < task.origin.place.column as usize {
+        skip_column(task.galley, work, j);
+        return;
+    }
     starts::sweep::sweep_column(s, task.galley, work, sums, words, j);
     last_sweep(s, task, work, sums, words, j);
 }

@@ -11,7 +11,7 @@ use mathlib.Core.Option.{Option, none, some}
 use lib.ListN.{length, drop}
 use lib.Dec.{ltb}
 use Rattle.model.specs.declared.answer.Answer.{Answer}
-use Rattle.model.specs.declared.answer.Answer.the-variants.{Counted, Refused}
+use Rattle.model.specs.declared.answer.Answer.the-variants.{Refused}
 use Rattle.model.specs.Gather.{pick}
 use Rattle.model.specs.Galley as model
 use Rattle.model.specs.Answers.{numbersOf, pagesOf}
@@ -62,17 +62,17 @@ turned-number a (at, inr e) = subst (λ a. Answered ByMakingAfter (numbersOf a))
 
 -- What the page model answers is told by the meaning of making.
 module _ (g : model.Galley) (ows : List ℕ) where
-  after-ends : (a : Answer) (ws : List ℕ) → MakingAfter g ows a ws → Answered ByMakingAfter (numbersOf a)
-  after-ends a ws (turned-away t h) = turned-number a h
-  after-ends (Refused n at) ws (no-list s none) = refused {n = 11} (inl (omega arith, omega arith))
-  after-ends (Counted p x y t w) ws (best-list rest s m long best whiter) = finished
+  after-ends : {a : Answer} {ws : List ℕ} → MakingAfter g ows a ws → Answered ByMakingAfter (numbersOf a)
+  after-ends (turned-away {a} t h) = turned-number a h
+  after-ends (no-list s empty) = refused {n = 11} (inl (omega arith, omega arith))
+  after-ends (best-list rest s m long best whiter) = finished
 
   -- A refusal writes nothing, and where it is not 11 the opening does not stand.
-  after-refused : (a : Answer) (ws : List ℕ) → MakingAfter g ows a ws → (n at : ℕ) → a ≡ Refused n at
+  after-refused : {a : Answer} {ws : List ℕ} → MakingAfter g ows a ws → (n at : ℕ) → a ≡ Refused n at
       → (ws ≡ []) × (¬ (n ≡ 11) → (r : Answer) × (openingTurned g ows ≡ some r))
-  after-refused a ws (turned-away t h) n at e = (refl, λ o. (a, t))
-  after-refused (Refused m there) ws (no-list s none) n at e = (refl, λ o. absurd (o (cc)))
-  after-refused (Counted p x y t w) ws (best-list rest s m long best whiter) n at e = let z : _≡_ {A = ℕ} 0 1 = cc in absurd (omega arith)
+  after-refused (turned-away {a} t h) n at e = (refl, λ o. (a, t))
+  after-refused (no-list s empty) n at e = (refl, λ o. absurd (o (cc)))
+  after-refused (best-list rest s m long best whiter) n at e = let z : _≡_ {A = ℕ} 0 1 = cc in absurd (omega arith)
 
 -- What is promised of making after an opening.
 module _ {bytes opening work list : List ℕ} {answer : Answer} {count : ℕ} {work′ list′ : List ℕ}
@@ -83,7 +83,7 @@ module _ {bytes opening work list : List ℕ} {answer : Answer} {count : ℕ} {w
       subst (λ a. Answered ByMakingAfter (numbersOf a)) (sym (m .answers))
       (of-making-after (λ a. Answered ByMakingAfter (numbersOf a)) bytes opening (length work) (length list)
       (λ n at h. refused (inl (h .0, omega (arith, h .1))))
-      (λ g e. after-ends (modelOf bytes g) opening (madeAfter (modelOf bytes g) opening) (madeWordsAfter (modelOf bytes g) opening) (making-after (modelOf bytes g) opening)))
+      (λ g e. after-ends (modelOf bytes g) opening (making-after (modelOf bytes g) opening)))
 
   -- A refusal leaves the page list untouched.
   pub after-keeps-list : (n at : ℕ) → answer ≡ Refused n at → list′ ≡ list
@@ -96,7 +96,7 @@ module _ {bytes opening work list : List ℕ} {answer : Answer} {count : ℕ} {w
       kept g true b e = refl
       kept g false true e = refl
       kept g false false e =
-          let w = after-refused (modelOf bytes g) opening (madeAfter (modelOf bytes g) opening) (madeWordsAfter (modelOf bytes g) opening)
+          let w = after-refused (modelOf bytes g) opening
           (making-after (modelOf bytes g) opening) n at e .0 in
           rw w
 
@@ -114,7 +114,7 @@ module _ {bytes opening work list : List ℕ} {answer : Answer} {count : ℕ} {w
   unsought g n at other false true e = refl
   unsought g n at other false false e =
       let (r, t) =
-      after-refused (modelOf bytes g) opening (madeAfter (modelOf bytes g) opening) (madeWordsAfter (modelOf bytes g) opening)
+      after-refused (modelOf bytes g) opening
       (making-after (modelOf bytes g) opening) n at e .1 other in
       ap (λ (o : Option Answer). elim o [ none ↦ true | some refusal ↦ false ]) t
 
@@ -163,13 +163,16 @@ module _ {bytes opening work list : List ℕ} {answer : Answer} {count : ℕ} {w
   after-limit =
       subst (λ a. Limited a) (sym (m .answers))
       (of-making-after (λ a. Limited a) bytes opening (length work) (length list) (λ n at h. (omega arith, omega arith))
-      (λ g e. limited g e (madeAfter (modelOf bytes g) opening) (madeWordsAfter (modelOf bytes g) opening) (making-after (modelOf bytes g) opening)))
+      (λ g e. limited g e (making-after (modelOf bytes g) opening)))
     where
-      limited : (g : Galley) → galleyOf bytes ≡ reads.Galley g → (a : Answer) (ws : List ℕ) → MakingAfter (modelOf bytes g) opening a ws
+      turned : {a : Answer} → ByOpening a → Limited a
+      turned (at, inl h) = subst (λ a. Limited a) (sym h) (omega arith, omega arith)
+      turned (at, inr h) = subst (λ a. Limited a) (sym h) (omega arith, omega arith)
+
+      limited : (g : Galley) → galleyOf bytes ≡ reads.Galley g → {a : Answer} {ws : List ℕ} → MakingAfter (modelOf bytes g) opening a ws
           → Limited a
-      limited g e a ws (turned-away t (at, inl h)) = subst (λ a. Limited a) (sym h) (omega arith, omega arith)
-      limited g e a ws (turned-away t (at, inr h)) = subst (λ a. Limited a) (sym h) (omega arith, omega arith)
-      limited g e (Refused n at) ws (no-list s none) = (omega arith, omega arith)
-      limited g e (Counted p x y t w) ws (best-list rest s m long best whiter) =
+      limited g e (turned-away t h) = turned h
+      limited g e (no-list s empty) = (omega arith, omega arith)
+      limited g e (best-list rest s m long best whiter) =
           subst (λ a. Limited a) m
           (marked-limited (modelOf bytes g) (reads-sane bytes g e) (reads-limits bytes g e) (opening ++ rest))

@@ -12,7 +12,7 @@ use lib.ListN.{length, take, drop}
 use lib.Seq.{take-at}
 use borrow.Author.Tests.{le-ltb}
 use Rattle.model.specs.declared.answer.Answer.{Answer}
-use Rattle.model.specs.declared.answer.Answer.the-variants.{Counted, Refused}
+use Rattle.model.specs.declared.answer.Answer.the-variants.{Refused}
 use Rattle.model.specs.Galley.{streams}
 use Rattle.model.specs.Answers.{numbersOf, accepted, marked}
 use Rattle.model.specs.Opening.{openingTurned, madeAfter, madeWordsAfter}
@@ -56,22 +56,22 @@ module _ (bytes : List ℕ) (g : Galley) (read : galleyOf bytes ≡ reads.Galley
   impossible : {A : Type 0} → true ≡ false → A
   impossible z = let q : _≡_ {A = ℕ} 0 1 = cc in absurd (omega arith)
 
-  from-making : (a : Answer) (ws : List ℕ) → MakingAfter (modelOf bytes g) opening a ws → madeAfter (modelOf bytes g) opening ≡ a
+  from-making : {a : Answer} {ws : List ℕ} → MakingAfter (modelOf bytes g) opening a ws → madeAfter (modelOf bytes g) opening ≡ a
       → madeWordsAfter (modelOf bytes g) opening ≡ ws → ThirdDemandAfter bytes g opening answer list′
-  from-making a ws (turned-away t h) e f =
+  from-making (turned-away t h) e f =
       let s = stands in
       let z : _≡_ {A = ℕ} 0 1 = cc in
       absurd (omega arith)
-  from-making (Refused n at) ws (no-list s none) e f =
+  from-making (no-list s empty) e f =
       record {
         outcome = inl (makes ∙ e);
         begins = λ a. impossible (sym a ∙ ap accepted (makes ∙ e));
         same = λ a. impossible (sym a ∙ ap accepted (makes ∙ e));
         least = λ a. impossible (sym a ∙ ap accepted (makes ∙ e));
         whitest = λ a. impossible (sym a ∙ ap accepted (makes ∙ e));
-        none = (λ _ words. ap accepted (marks (opening ++ words)) ∙ none words, λ _. makes ∙ e);
+        none = (λ _ words. ap accepted (marks (opening ++ words)) ∙ empty words, λ _. makes ∙ e);
       }
-  from-making (Counted p x y t w) ws (best-list rest s m long best whiter) e f =
+  from-making (best-list {p} rest s m long best whiter) e f =
       record {
         outcome = inr (ap accepted (makes ∙ e));
         begins = λ a. (rest, rw (makes ∙ e) first);
@@ -94,7 +94,7 @@ module _ (bytes : List ℕ) (g : Galley) (read : galleyOf bytes ≡ reads.Galley
 
   pub made-demand : ThirdDemandAfter bytes g opening answer list′
   made-demand =
-      from-making (madeAfter (modelOf bytes g) opening) (madeWordsAfter (modelOf bytes g) opening) (making-after (modelOf bytes g) opening) refl refl
+      from-making (making-after (modelOf bytes g) opening) refl refl
 
 -- The demand holds of whatever the contract of `make_after` allows.
 pub third-demand-after : {bytes opening work list : List ℕ} {answer : Answer} {count : ℕ} {work′ list′ : List ℕ}

@@ -66,6 +66,7 @@ column-last {task = task} {w} {j = j} column v words′ sized done =
                 record {
                   lent = lent-kept (done .kept) (column .next .lent);
                   cheap = column .next .cheap;
+                  origin = column .next .origin;
                   filled =
                       record {
                         entered = λ a b c x s l h k e.
@@ -141,7 +142,7 @@ module _ {bytes : List ℕ} {task : Task} {w₀ sums words₀ : List ℕ} {j : �
           (record { at = countsAt (task .galley) i j; column = j; side = 0; turns = false; waiting = waiting′ .figures + waiting′ .tables; stop = stop })
       last-place =
           record {
-            next = record { lent = lent; cheap = last .column .next .cheap; filled = run .entries };
+            next = record { lent = lent; cheap = last .column .next .cheap; origin = last .column .next .origin; filled = run .entries };
             ending = record { line = at; counts = refl; found = ap (λ (k : Waiting). k .figures + k .tables) found; stop = says };
             summed = last .column .summed;
             scratch = omega (arith, last .column .scratch, run .wordsSized);
@@ -215,6 +216,7 @@ module _ {bytes : List ℕ} {task : Task} {w₀ sums words₀ : List ℕ} (table
                       lent-filled w (table .fillable .sound) (table .fillable .cheap) (run .entries) some
                       (omega (arith, table .fillable .room, run .sized));
                   cheap = table .fillable .cheap;
+                  origin = table .fillable .origin;
                   filled = run .entries;
                 };
             summed = table .summed;

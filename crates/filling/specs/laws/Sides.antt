@@ -192,7 +192,7 @@ module _ {bytes : List ℕ} {task : Task} {w₀ sums words₀ ends₀ : List ℕ
           (record { at = end .at; column = end .column; side = c; turns = turns; waiting = end .waiting; stop = end .stop })
       sides-side =
           record {
-            next = record { lent = lent; cheap = next .next .cheap; filled = run .entries };
+            next = record { lent = lent; cheap = next .next .cheap; origin = next .next .origin; filled = run .entries };
             ending = record { line = next .ending .line; counts = next .ending .counts; found = next .ending .found; stop = next .ending .stop };
             summed = next .summed;
             scratch = omega (arith, next .scratch, run .wordsSized);

@@ -2,7 +2,7 @@
 use Prim.Native.Nat.{ℕ, _+_, _*_}
 use borrow.Author.Needs.{needs}
 use native.Mathlib.Omega.{arith}
-use mathlib.Core.Path.{_≡_, refl, ap}
+use mathlib.Core.Path.{_≡_, ap}
 use denote.Ref.{now}
 use mathlib.Core.List.{List}
 use Rattle.galley.specs.declared.Galley.{Galley}
@@ -10,14 +10,14 @@ use Rattle.galley.specs.declared.Reading.the-variants as reads
 use Rattle.galley.specs.Whole.{galleyOf}
 use Rattle.galley.specs.laws.Sound.{sound}
 use Rattle.making.specs.Make.{workNeeded}
-use Rattle.making.specs.Solved.{nothingYet, Readable}
+use Rattle.making.specs.Solved.{Readable}
 use Rattle.making.specs.laws.Made.{read-few, read-small, needed-is, needed-small, list-small, room-small}
 use Rattle.forecast.specs.laws.Forecast.{forecast-reads}
 use Rattle.forecast.proofs.forecast_read.Statement.{statement}
 use Rattle.forecast.proofs.forecast_read.Tie as tie
 
-readable : {bytes : List ℕ} {g : Galley} → galleyOf bytes ≡ reads.Galley g → Readable bytes g nothingYet
-readable e = record { reads = e; begins = refl }
+readable : {bytes : List ℕ} {g : Galley} → galleyOf bytes ≡ reads.Galley g → Readable bytes g
+readable e = record { reads = e }
 
 needed : (c : tie.After-words-needed) → c .words-needed .result ≡ workNeeded (c .before .before .before .args .g)
 needed c =

@@ -129,7 +129,12 @@ module _ {bytes : List ℕ} {g : Galley} {opening : List ℕ} {from : Origin} {n
   pub soluble-fillable : Fillable bytes g from work
   unfolding columnsIn
   soluble-fillable =
-      record { sound = sound bytes g (asked .reads); cheap = asked .opened .cheap; room = omega (arith, asked .enough) }
+      record {
+        sound = sound bytes g (asked .reads);
+        cheap = asked .opened .cheap;
+        origin = omega (arith, asked .opened .proper .column, columns-in bytes g);
+        room = omega (arith, asked .enough);
+      }
 
   pub soluble-solved : (work′ : List ℕ) → work′ ≡ filled (modelOf bytes g) from work → Solved bytes g opening from work′ list
   soluble-solved work′ e =
