@@ -5,7 +5,7 @@ use native.Mathlib.Omega.{arith}
 use mathlib.Core.Path.{_≡_, refl, sym, _∙_, ap}
 use mathlib.Core.Logic.{inl, inr}
 use mathlib.Core.Bool.{false}
-use mathlib.Core.List.{List, [], _∷_}
+use mathlib.Core.List.{List}
 use lib.ListN.{length}
 use Rattle.model.specs.Rules.{floor}
 use Rattle.galley.specs.Model.{textOf, modelOf, sidesIn}
@@ -35,7 +35,7 @@ use Rattle.filling.specs.laws.Fill.{length-place, length-column, room-ke
 use Rattle.filling.specs.laws.Over.{column-over}
 use Rattle.filling.specs.laws.Price.{dearest-light}
 use Rattle.filling.specs.laws.Own.{lines-slide, walking-down}
-use Rattle.filling.specs.laws.Queues.{queues-none}
+use Rattle.filling.specs.laws.Queues.{noEnds, queues-none}
 use Rattle.filling.specs.laws.Sides.{lent-roomy, lent-wide}
 
 -- Stores in a column before it is filled change nothing of it,
@@ -94,7 +94,7 @@ module _ {bytes : List ℕ} {task : Task} {w₀ sums words₀ : List ℕ} {j : �
 
   -- Before the first line the queues are empty.
   pub last-first : LastRun bytes task w₀ w₀ sums words₀ words₀ j (record { figures = 0; tables = 0 }) (record { low = 0; split = 0; high = 0 })
-      (0 ∷ 0 ∷ 4000 ∷ 4000 ∷ 8000 ∷ 8000 ∷ 12000 ∷ 12000 ∷ []) 0
+      noEnds 0
   last-first =
       record {
         within = omega arith;

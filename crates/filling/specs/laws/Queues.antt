@@ -26,7 +26,7 @@ noEnds = 0 ∷ 0 ∷ 4000 ∷ 4000 ∷ 8000 ∷ 8000 ∷ 12000 ∷ 12000 ∷ []
 
 -- Before the first line all queues are empty.
 pub queues-none : (g : Galley) (w sums words : List ℕ) (b : ℕ) → g .spec .sides ≤ 2
-    → Queues g w sums words (0 ∷ 0 ∷ 4000 ∷ 4000 ∷ 8000 ∷ 8000 ∷ 12000 ∷ 12000 ∷ []) b nothing nothing 0
+    → Queues g w sums words noEnds b nothing nothing 0
 queues-none g w sums words b two =
     record { rows = refl; moved = λ c l m. absurd (omega arith); still = λ c l m. still c m }
   where
