@@ -106,7 +106,7 @@
  * where the dynamic linker binds memcpy or memset at its first call, as in a program that is linked without -z now. Signal
  * handlers are not counted.
  */
-#define BARLEYCHIME_STACK_BYTES ((size_t)131072)
+#define BARLEYCHIME_STACK_BYTES ((size_t)258048)
 #define BARLEYCHIME_MARK_STACK_BYTES ((size_t)1024)
 
 /* Words of an answer, of making and of marking: every caller lends so many. */
