@@ -80,7 +80,7 @@ def data(rng, galley, others):
 def named(rng, desk):
     """A call with a name: mostly saves, so that a desk fills up; what is come back to or dropped is often held."""
     held = [layout[0] for layout in desk.layouts if layout and layout[0]]
-    call = rng.choice(('save', 'save', 'save', 'save', 'save', 'back', 'back', 'drop'))
+    call = rng.choice(('save', 'save', 'save', 'save', 'save', 'back', 'back', 'drop', 'drop'))
     if rng.random() < 0.05:
         return call, rng.choice(BAD_NAMES)
     return call, rng.choice(held if held and rng.random() < (0.15 if call == 'save' else 0.6) else NAMES)
