@@ -1,5 +1,7 @@
 // An opening, pages already printed: what turns it away, or where it ends. Document 02, S-6.
+ghost use mathlib.Core.Path.{_≡_};
 ghost use Rattle.galley.specs.Sound.{Sound};
+ghost use Rattle.marking.specs.declared.opening.Opening.the-variants.{Refused};
 ghost use Rattle.marking.specs.Judged.{OpeningJudged, Ended};
 use crate::pages::Judged;
 use blocks::Counts;
@@ -13,15 +15,19 @@ pub enum Opening {
     Ends { pages: u32, at: Counts, sums: Sums },
 }
 
+// An opening that is turned away.
+fn refused(number: u32, place: u32) -> Opening
+    ensures { λ r. ⌜ r ≡ Refused number place ⌝ }
+{
+    Opening::Refused { number, place }
+}
+
 // An opening whose pages break no rule: 21 where it places everything.
 fn opening_end(g: Galley, pages: u32, at: Counts, sums: Sums) -> Opening
     ensures { λ r. ⌜ Ended g pages at sums r ⌝ }
 {
     if rules::counts::all_placed(g, at) {
-        return Opening::Refused {
-            number: 21,
-            place: pages,
-        };
+        return refused(21, pages);
     }
     Opening::Ends { pages, at, sums }
 }
@@ -34,20 +40,15 @@ pub fn judge_opening(s: &[u8], g: Galley, opening: &[u32]) -> Opening
 {
     let words = blocks::page_words(g);
     if 0 < opening.len() % words {
-        return Opening::Refused {
-            number: 20,
-            place: 0,
-        };
+        return refused(20, 0);
     }
+    let pages = opening.len() / words;
     let judged = crate::pages::judge_pages(s, g, opening, 0);
     match judged {
         Judged::Broken {
             number: _rule,
             page,
-        } => Opening::Refused {
-            number: 20,
-            place: page,
-        },
-        Judged::Kept { at, sums } => opening_end(g, (opening.len() / words) as u32, at, sums),
+        } => refused(20, page),
+        Judged::Kept { at, sums } => opening_end(g, pages as u32, at, sums),
     }
 }

@@ -14,19 +14,20 @@ rem-if c = omega (arith, c .page-words .ensures .1, words-least (c .before .befo
 
 returns : tie.Need-returns
 returns c =
-    let st = c .before .before .before .before in
+    let st = c .before .before .before .before .before in
+    rw (c .refused .ensures)
     record {
-      told = opening-partial (now (st .args .s)) (st .args .g) (st .pre) (now (st .args .opening)) (c .before .page-words .ensures .1) (c .if1 .taken);
+      told = opening-partial (now (st .args .s)) (st .args .g) (st .pre) (now (st .args .opening)) (c .before .before .page-words .ensures .1) (c .before .if1 .taken);
       kept = λ p at x e. let z : _≡_ {A = ℕ} 0 1 = cc in absurd (omega arith);
     }
+
+div-pages : tie.Need-div-pages
+div-pages c = omega (arith, c .before .page-words .ensures .1, words-least (c .before .before .before .before .args .g))
 
 judge-pages-requires : tie.Need-judge-pages-requires
 judge-pages-requires c κs =
     let st = c .before .before .before .before in
     opening-whole (now (st .args .s)) (st .args .g) (st .pre) (now (st .args .opening)) (c .before .page-words .ensures .1) (c .if1 .left)
-
-div-opening-end : tie.Need-div-opening-end
-div-opening-end c = omega (arith, c .before .before .before .before .before .page-words .ensures .1, words-least (c .before .before .before .before .before .before .before .before .args .g))
 
 cast-opening-end : tie.Need-cast-opening-end
 cast-opening-end c =
@@ -39,11 +40,12 @@ cast-opening-end c =
 
 returns-2 : tie.Need-returns-2
 returns-2 c =
-    let st = c .before .before .before .before .before .before .before .before in
+    let st = c .before .before .before .before .before .before .before .before .before in
+    rw (c .refused2 .ensures)
     record {
       told =
-          opening-broken (now (st .args .s)) (st .args .g) (st .pre) (now (st .args .opening)) (c .before .before .before .before .before .page-words .ensures .1)
-          (c .before .before .before .before .if1 .left) _ _ (rw (c .before .judged .given .1) at (c .before .before .before .judge-pages .ensures));
+          opening-broken (now (st .args .s)) (st .args .g) (st .pre) (now (st .args .opening)) (c .before .before .before .before .before .before .page-words .ensures .1)
+          (c .before .before .before .before .before .if1 .left) _ _ (rw (c .before .before .judged .given .1) at (c .before .before .before .before .judge-pages .ensures));
       kept = λ p at x e. let z : _≡_ {A = ℕ} 0 1 = cc in absurd (omega arith);
     }
 
@@ -60,11 +62,13 @@ judge-opening-spec =
     (tie.spec
     (λ c κs. search needs)
     rem-if
+    (λ c κs. search needs)
     returns
+    div-pages
     judge-pages-requires
     (λ c. search needs)
+    (λ c κs. search needs)
     (λ c. search needs)
-    div-opening-end
     cast-opening-end
     (λ c κs. search needs)
     returns-2
