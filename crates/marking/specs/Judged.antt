@@ -63,13 +63,13 @@ pub record KeptPages (bytes : List ℕ) (g : Galley) (ws : List ℕ) (last : ℕ
   pub whitens : sums .white ≡ allLacked bytes g ws last
 
 -- The refusal that was found.
-abbrev pub told : Judged → Option Answer
-told (Broken n q) = some (Refused n q)
-told (Kept at sums) = none
+abbrev pub faultTold : Judged → Option Answer
+faultTold (Broken n q) = some (Refused n q)
+faultTold (Kept at sums) = none
 
 -- The pages of a list are judged, of which page `last` counts as the last.
 pub record JudgedPages (bytes : List ℕ) (g : Galley) (ws : List ℕ) (last : ℕ) (r : Judged) : Type 0 where
-  pub fault : told r ≡ firstFault bytes g ws last
+  pub fault : faultTold r ≡ firstFault bytes g ws last
   pub kept : (at : Counts) (sums : Sums) → r ≡ Kept at sums → KeptPages bytes g ws last at sums
 
 -- What turns an opening away.

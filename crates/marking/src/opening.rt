@@ -1,6 +1,6 @@
 // An opening, pages already printed: what turns it away, or where it ends. Document 02, S-6.
 ghost use Rattle.galley.specs.Sound.{Sound};
-ghost use Rattle.marking.specs.Judged.{KeptPages, OpeningJudged, Ended};
+ghost use Rattle.marking.specs.Judged.{OpeningJudged, Ended};
 use crate::pages::Judged;
 use blocks::Counts;
 use galley::Galley;

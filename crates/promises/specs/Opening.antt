@@ -27,14 +27,13 @@ use Rattle.galley.specs.Model.{modelOf}
 use Rattle.galley.specs.laws.Sound.{refusal-number}
 use Rattle.places.specs.Entry.{cleared}
 use Rattle.rules.specs.laws.Sane.{reads-sane}
-use Rattle.making.specs.Make.{workNeeded, listNeeded, tooShort}
+use Rattle.making.specs.Make.{workNeeded, listNeeded}
 use Rattle.making.specs.After.{stands, sought, makeAfterRead, makeAfterOf, workMadeRead, workMadeAfter, listMadeRead, listMadeAfter, weighedAfterRead, weighedAfterOf, MadeAfter}
 use Rattle.making.specs.laws.Solved.{reads-limits}
 use Rattle.forecast.specs.Forecast.{forecastRead, forecastOf}
 use Rattle.promises.specs.Answers.{ByMaking, picked}
 use Rattle.promises.specs.FirstDemand.{Answered, finished, refused}
 use Rattle.promises.specs.Limit.{Limited, marked-limited}
-use Rattle.promises.specs.Forecast.{Sought}
 
 -- The numbers with which making after an opening may refuse: those of making, and 20 and 21.
 abbrev pub ByMakingAfter : ℕ → Type 0

@@ -8,7 +8,7 @@ use lib.ListN.{length}
 use lib.Seq.{length-take-le}
 use mathlib.Core.Path.{refl, sym}
 use Rattle.galley.specs.laws.Sound.{sound}
-use Rattle.making.specs.laws.Solved.{solved-lent, walk-visits, walk-able, walk-none, walk-room, walk-small, walk-writable, walk-long, walk-written}
+use Rattle.making.specs.laws.Solved.{solved-lent, walk-visits, walk-able, walk-none, walk-room, walk-small, walk-writable, walk-written}
 use Rattle.making.proofs.best_pages.Statement.{statement}
 use Rattle.making.proofs.best_pages.Tie as tie
 

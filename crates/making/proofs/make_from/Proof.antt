@@ -1,7 +1,6 @@
 -- `make_from` meets its contract: the work area that was filled is cleared of all that filling wrote, and the count is that of the galley
 -- from the opening's end on.
 use borrow.Author.Needs.{needs}
-use native.Mathlib.Omega.{arith}
 use Rattle.galley.specs.laws.Sound.{sound}
 use Rattle.starts.specs.laws.Columns.{few-floats}
 use Rattle.making.specs.laws.Made.{soluble-fillable, soluble-solved, soluble-first, made-best}

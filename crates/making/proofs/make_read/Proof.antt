@@ -4,7 +4,7 @@ use borrow.Author.Needs.{needs}
 use denote.Ref.{now}
 use lib.ListN.{length}
 use native.Mathlib.Omega.{arith}
-use mathlib.Core.Path.{_≡_, refl, sym, _∙_}
+use mathlib.Core.Path.{_≡_, refl, sym}
 use Rattle.galley.specs.laws.Sound.{sound}
 use Rattle.making.specs.Make.{workNeeded, listNeeded}
 use Rattle.making.specs.laws.Made.{read-few, read-small, needed-is, needed-small, list-small, room-small, made-nine, made-ten, made-turned-away, made-soluble}

@@ -6,25 +6,23 @@ use native.Mathlib.Decide.{decLt}
 use native.Mathlib.Omega.{arith}
 use mathlib.Core.Path.{_≡_, refl, sym, _∙_, ap}
 use mathlib.Core.Logic.{_⊎_, inl, inr}
-use mathlib.Core.Bool.{true, false}
-use mathlib.Core.List.{List, [], _++_}
-use mathlib.Core.Option.{Option, none, some}
+use mathlib.Core.Bool.{true}
+use mathlib.Core.List.{List, []}
+use mathlib.Core.Option.{none, some}
 use lib.ListN.{length, length-append}
 use borrow.Author.Tests.{eq-eqb}
 use Rattle.model.specs.declared.answer.Answer.{Answer}
-use Rattle.model.specs.Galley as model
-use Rattle.model.specs.Galley.{Place, zeros, streams}
+use Rattle.model.specs.Galley.{Place, zeros}
 use Rattle.model.specs.Leaf.{leaf}
 use Rattle.model.specs.Answers.{pagesOf}
-use Rattle.model.specs.Opening.{endOf, openingTurned}
+use Rattle.model.specs.Opening.{openingTurned}
 use Rattle.model.specs.laws.Gather.{and-both}
 use Rattle.model.specs.laws.Words.{length-pages}
 use Rattle.model.specs.laws.Rules.{placed}
-use Rattle.theorems.specs.turns.Waiting.{waiting, pageSum, atEnd}
 use Rattle.theorems.specs.turns.Rank.{rank}
 use Rattle.theorems.specs.turns.Bounds.{heaviest, weight-limit}
-use Rattle.theorems.specs.pages.Graph.{Origin as Begin, beginning, full}
-use Rattle.theorems.specs.pages.Opening.{after, Opening, pages-onto, end-onto, end-cost, end-dear, end-few}
+use Rattle.theorems.specs.pages.Graph.{beginning, full}
+use Rattle.theorems.specs.pages.Opening.{after, pages-onto, end-onto, end-cost, end-dear}
 use Rattle.theorems.specs.pages.LeastAfter.{ByOpening, Whole, opening-or}
 use Rattle.galley.specs.declared.Galley.{Galley}
 use Rattle.galley.specs.Model.{modelOf, sidesIn}
@@ -33,17 +31,16 @@ use Rattle.blocks.specs.declared.Counts.{Counts}
 use Rattle.blocks.specs.Counts.{placeOf, Within}
 use Rattle.blocks.specs.laws.Counts.{streams-of, same-of, within-proper}
 use Rattle.rules.specs.declared.counts.Sums.{Sums}
-use Rattle.rules.specs.Parts.{leavesTurned, allPlaced, CountLimits, printedCost}
+use Rattle.rules.specs.Parts.{leavesTurned, allPlaced, printedCost}
 use Rattle.marking.specs.declared.opening.Opening.the-variants as opening
 use Rattle.marking.specs.Parts.{pagesIn}
 use Rattle.marking.specs.Judged.{waited, KeptPages, OpeningJudged}
 use Rattle.marking.specs.laws.Judged.{lacked-open}
 use Rattle.places.specs.declared.Origin.{Origin}
-use Rattle.places.specs.Columns.{columns, floatSizes, placeAt}
-use Rattle.starts.specs.Read.{columnsIn, countsAt, rowOf, FewFloats}
+use Rattle.places.specs.Columns.{placeAt}
+use Rattle.starts.specs.Read.{columnsIn, countsAt, rowOf}
 use Rattle.starts.specs.laws.Columns.{few-floats, columns-in, row-figures, row-tables, place-at, placed-at}
 use Rattle.filling.specs.laws.Price.{sound-limits}
-use Rattle.making.specs.Shown.{originOf}
 use Rattle.making.specs.Begun.{originAfter, Ending, Opened}
 
 -- Counts are found again at their column.

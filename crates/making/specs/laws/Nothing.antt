@@ -1,19 +1,17 @@
 -- Making is making after no opening.
 use Prim.Native.Nat.{ℕ}
-use mathlib.Core.Path.{_≡_, refl, sym, _∙_, ap}
-use mathlib.Core.Bool.{Bool, true, false, not, _&&_, _||_}
-use mathlib.Core.List.{List, [], _++_}
+use mathlib.Core.Path.{_≡_, refl, _∙_, ap}
+use mathlib.Core.Bool.{Bool, true, false, not, _&&_}
+use mathlib.Core.List.{List, []}
 use mathlib.Core.Option.{Option, none, some}
-use lib.ListN.{length, drop}
-use lib.Dec.{ltb}
+use lib.ListN.{length}
 use Rattle.model.specs.declared.answer.Answer.{Answer}
 use Rattle.model.specs.declared.answer.Answer.the-variants.{Refused}
 use Rattle.model.specs.Gather.{pick}
 use Rattle.model.specs.Galley.{zeros}
 use Rattle.model.specs.Answers.{pagesOf}
-use Rattle.model.specs.Best.{made, madeWords}
 use Rattle.model.specs.Weighed.{weighed, weighedFrom}
-use Rattle.model.specs.Opening.{endOf, openingTurned, madeAfter, madeWordsAfter}
+use Rattle.model.specs.Opening.{endOf}
 use Rattle.model.specs.laws.Weighed.{weighed-from-nothing}
 use Rattle.model.specs.laws.Opening.{no-pages, nothing-turned, made-after-nothing, words-after-nothing}
 use Rattle.galley.specs.declared.Galley.{Galley}
@@ -23,7 +21,7 @@ use Rattle.galley.specs.Whole.{galleyOf}
 use Rattle.galley.specs.Model.{modelOf}
 use Rattle.rules.specs.laws.Sane.{reads-sane}
 use Rattle.places.specs.Entry.{cleared}
-use Rattle.making.specs.Make.{workNeeded, listNeeded, tooShort, makeRead, makeOf, workRead, workAfter, listRead, listAfter, weighedRead, weighedOf, Made}
+use Rattle.making.specs.Make.{workNeeded, tooShort, makeRead, makeOf, workRead, workAfter, listRead, listAfter, weighedRead, weighedOf, Made}
 use Rattle.making.specs.After.{stands, sought, makeAfterRead, makeAfterOf, workMadeRead, workMadeAfter, listMadeRead, listMadeAfter, weighedAfterRead, weighedAfterOf, MadeAfter}
 
 module _ (bytes : List ℕ) (g : Galley) (read : galleyOf bytes ≡ reads.Galley g) where

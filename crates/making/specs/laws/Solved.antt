@@ -10,7 +10,6 @@ use lib.ListN.{length, take, drop, length-append, length-drop}
 use lib.Seq.{take-all, drop-length, take-at, drop-at, drop-drop}
 use Rattle.model.specs.declared.answer.Answer.{Answer}
 use Rattle.model.specs.declared.answer.Answer.the-variants.{Refused}
-use Rattle.model.specs.Galley as model
 use Rattle.model.specs.Galley.{Place, streams}
 use Rattle.model.specs.Answers.{pagesOf, wordsOf, marked}
 use Rattle.model.specs.Best.{valid}
@@ -257,12 +256,6 @@ module _ {bytes : List ℕ} {g : Galley} {opening : List ℕ} {from : Origin} {w
 
           all-long : length (opening ++ wordsOf (found e .0)) ≡ length opening + pageWords g * p
           all-long = length-append opening (wordsOf (found e .0)) ∙ omega (arith, rest-long)
-
-          pub walk-long : length list′ ≡ length list
-          walk-long =
-              ap length words
-              ∙ length-append (opening ++ wordsOf (found e .0)) (drop (length opening + pageWords g * p) list)
-              ∙ omega (arith, all-long, length-drop (length opening + pageWords g * p) list, walk-room)
 
           -- Marking what is written answers as making does.
           pub walk-written : (answer : Answer) → answer ≡ markOf bytes (take (length opening + pageWords g * p) list′)

@@ -1,5 +1,5 @@
 -- The answer for the words of a list or of an opening, from how their pages were judged.
-use Prim.Native.Nat.{ℕ, suc, _+_, _*_, _/_, _%_, _≤_, _<_}
+use Prim.Native.Nat.{ℕ, _+_, _*_, _/_, _%_, _≤_, _<_}
 use native.Mathlib.Nat.{mul-comm, div-add-mod'}
 use native.Mathlib.Omega.{arith}
 use mathlib.Core.Path.{_≡_, refl, sym, _∙_, ap}
@@ -7,12 +7,10 @@ use mathlib.Core.Bool.{Bool, true, false}
 use mathlib.Core.List.{List}
 use mathlib.Core.Option.{Option, none, some}
 use lib.ListN.{length}
-use lib.Dec.{eqb}
 use borrow.Author.Tests.{eq-eqb, ne-eqb}
 use Rattle.model.specs.declared.answer.Answer.{Answer}
 use Rattle.model.specs.declared.answer.Answer.the-variants.{Refused}
 use Rattle.model.specs.Gather.{pick}
-use Rattle.model.specs.Galley as model
 use Rattle.model.specs.Galley.{streams, zeros, sizes, blocks}
 use Rattle.model.specs.Turns.{xOf, yOf, turns}
 use Rattle.model.specs.White.{white}
@@ -30,11 +28,10 @@ use Rattle.galley.specs.Sound.{Sound}
 use Rattle.galley.specs.Model.{modelOf}
 use Rattle.blocks.specs.declared.Counts.{Counts}
 use Rattle.blocks.specs.Counts.{pageWords}
-use Rattle.blocks.specs.laws.Counts.{streams-of, blocks-of, same-of, within-proper, words-least}
+use Rattle.blocks.specs.laws.Counts.{streams-of, blocks-of, same-of, within-proper}
 use Rattle.rules.specs.declared.counts.Sums.{Sums}
 use Rattle.rules.specs.Parts.{leavesTurned, allPlaced, counts, CountLimits, finished}
 use Rattle.rules.specs.laws.Sane.{sound-sane}
-use Rattle.marking.specs.declared.pages.Judged.{Judged}
 use Rattle.marking.specs.declared.pages.Judged.the-variants.{Broken, Kept}
 use Rattle.marking.specs.declared.opening.Opening.{Opening}
 use Rattle.marking.specs.declared.opening.Opening.the-variants as opening
@@ -155,9 +152,6 @@ module _ {bytes : List ℕ} {g : Galley} {ws : List ℕ} {pages : ℕ} (asked : 
 
 -- An opening, none of whose pages counts as the last.
 module _ (bytes : List ℕ) (g : Galley) (so : Sound bytes g) (ws : List ℕ) {words : ℕ} (is : words ≡ pageWords g) where
-  some-words : 0 < words
-  some-words = omega (arith, words-least g)
-
   -- An incomplete page turns it away before any page.
   pub opening-partial : 0 < length ws % words → some (Refused 20 0) ≡ openingTurned (modelOf bytes g) ws
   unfolding openingTurned

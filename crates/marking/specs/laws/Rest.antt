@@ -4,7 +4,7 @@ use native.Mathlib.Nat.{mul-add, mul-one, mul-le-mul-left}
 use native.Mathlib.Omega.{arith}
 use mathlib.Core.Path.{_≡_, _∙_, ap}
 use mathlib.Core.List.{List, [], _∷_}
-use lib.ListN.{length, drop}
+use lib.ListN.{length}
 use lib.Seq.{drop-drop}
 use Rattle.model.specs.Answers.{chunks, pagesOf}
 use Rattle.galley.specs.declared.Galley.{Galley}

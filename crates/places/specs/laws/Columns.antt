@@ -4,8 +4,6 @@ use native.Mathlib.Nat.{suc-mul, mul-le-mul-right, mul-add-div-right, mul-add-mo
 use native.Mathlib.Omega.{arith}
 use mathlib.Core.Path.{_≡_, refl, _∙_, ap}
 use mathlib.Core.List.{List, [], _∷_}
-use lib.ListN.{length}
-use Rattle.model.specs.Gather.{row}
 use Rattle.model.specs.laws.Lists.{Inside}
 use Rattle.places.specs.Columns.{columns, columnOf, floatsAt}
 
@@ -76,15 +74,6 @@ pub column-empty : (ns : List ℕ) → columnOf ns [] ≡ 0
 unfolding columnOf
 column-empty [] = refl
 column-empty (n ∷ ns) = refl
-
-pub floats-none : (ns : List ℕ) (a : ℕ) → floatsAt ns 0 ≡ row a (length ns) (λ s. 0)
-unfolding floatsAt row
-floats-none [] a = refl
-floats-none (n ∷ ns) a =
-    let some = columns-some ns in
-    let q : 0 / columns ns ≡ 0 = div-eq-of-lt some in
-    let r : 0 % columns ns ≡ 0 = mod-eq-of-lt some in
-    rw (q, r) (ap (λ x. 0 ∷ x) (floats-none ns (suc a)))
 
 -- and everything at the last.
 pub inside-all : (ns : List ℕ) → Inside ns ns

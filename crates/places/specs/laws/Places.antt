@@ -10,7 +10,7 @@ use lib.ListN.{length, getD, List·getD-eq-default}
 use lib.Dec.{eqb}
 use borrow.Author.Tests.{eq-eqb, ne-eqb}
 use Rattle.model.specs.Gather.{row}
-use Rattle.model.specs.Galley.{Galley, Place, count, streams, zeros, sizes}
+use Rattle.model.specs.Galley.{Galley, Place, count, streams, sizes}
 use Rattle.model.specs.Answers.{same}
 use Rattle.model.specs.Order.{lex, geb}
 use Rattle.model.specs.Rules.{forward}
@@ -19,7 +19,7 @@ use Rattle.model.specs.laws.Rules.{Forward, forward-at, placed, placed-grows}
 use Rattle.model.specs.laws.Lists.{Inside}
 use Rattle.model.specs.laws.Valid.{same-true, same-refl}
 use Rattle.places.specs.Columns.{columns, floatsAt, floatSizes, floatPlace, placeAt, columnIn}
-use Rattle.places.specs.laws.Columns.{inside-head, inside-tail, inside-cons, column-below, floats-of-column, floats-inside, column-of-floats, column-grows, column-empty, floats-none, floats-all}
+use Rattle.places.specs.laws.Columns.{inside-head, inside-tail, inside-cons, column-below, floats-of-column, floats-inside, column-of-floats, column-grows, column-empty, floats-all}
 use Rattle.places.specs.Order.{Earlier, NoLater}
 use Rattle.places.specs.laws.Ties.{place-first}
 
@@ -28,14 +28,6 @@ module _ (g : Galley) where
   pub sizes-cons : sizes g ≡ g .stream 0 .size ∷ floatSizes g
   unfolding sizes streams floatSizes row
   sizes-cons = refl
-
-  -- The first place is that of no line and column 0.
-  pub place-none : zeros g ≡ placeAt g 0 0
-  unfolding zeros streams placeAt row floatSizes
-  place-none =
-      ap (λ x. 0 ∷ x)
-      (ap (λ k. row 1 k (λ s. 0)) (sym (length-row 1 (g .floats) (λ s. g .stream s .size)))
-      ∙ sym (floats-none (row 1 (g .floats) (λ s. g .stream s .size)) 1))
 
   -- The full place is that of all lines and the last column.
   pub place-all : (c : ℕ) → suc c ≡ columns (floatSizes g) → placeAt g (g .stream 0 .size) c ≡ sizes g

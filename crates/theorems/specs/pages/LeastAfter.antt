@@ -26,7 +26,7 @@ use Rattle.model.specs.laws.Gather.{and-both}
 use Rattle.model.specs.laws.Lists.{_∈_}
 use Rattle.model.specs.laws.Words.{Shaped, chunks-shaped, words-chunks, length-words}
 use Rattle.model.specs.laws.Valid.{valid-accepted, accepted-valid}
-use Rattle.model.specs.laws.Best.{LeastOf, MakesOf, impossible, makes, least-turns, least-white}
+use Rattle.model.specs.laws.Best.{MakesOf, impossible, makes, least-turns, least-white}
 use Rattle.model.specs.laws.Opening.{after-valid, valid-after, after-makes}
 use Rattle.theorems.specs.turns.LeastTurns.{valid-counts}
 use Rattle.theorems.specs.pages.Graph.{Origin, beginning, full}

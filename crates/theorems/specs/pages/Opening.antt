@@ -1,6 +1,6 @@
 -- An opening, pages already printed: the origin that it leads to, and that a list which begins with it is accepted, costs and compares as
 -- what follows does from that origin on.
-use Prim.Native.Nat.{ℕ, suc, _+_, _-_, _*_, _≤_, _<_}
+use Prim.Native.Nat.{ℕ, suc, _+_, _-_, _*_, _≤_}
 use native.Mathlib.Nat.{suc-mul, mul-zero, mul-one, mul-add, mul-le-mul-right}
 use native.Mathlib.Omega.{arith}
 use mathlib.Core.Path.{_≡_, refl, sym, _∙_, ap}
@@ -164,7 +164,7 @@ module _ (g : Galley) where
       dear-onto (printed g o v) vs
       (and-right (allowed g (suc (o .pages)) false (o .place) v) (passes g (printed g o v) vs) h) (omega arith)
 
-  -- which is by α what waited at the ends of its leaves, and by β the leaves turned to the page after it, with its white,
+  -- which is by α what waited at the ends of its leaves, and by β the leaves turned to the page after it, with its white.
   cost-onto : (o : Origin) (os : List Place)
       → onto g o os .cost + rank (g .spec .beta * leaf (g .spec .sides) (suc (o .pages))) 0
       ≡ o .cost
@@ -186,17 +186,6 @@ module _ (g : Galley) where
       page true = let z = mul-one (g .spec .beta) in omega arith
       page false = let y = mul-zero (g .spec .alpha) in let z = mul-zero (g .spec .beta) in omega arith
 
-  -- and each of its pages places a block.
-  few-onto : (o : Origin) (os : List Place) → passes g o os ≡ true → o .pages ≤ placed g (o .place)
-      → onto g o os .pages ≤ placed g (onto g o os .place)
-  unfolding passes onto
-  few-onto o [] h d = d
-  few-onto o (v ∷ vs) h d =
-      let may = and-left (allowed g (suc (o .pages)) false (o .place) v) (passes g (printed g o v) vs) h in
-      few-onto (printed g o v) vs
-      (and-right (allowed g (suc (o .pages)) false (o .place) v) (passes g (printed g o v) vs) h)
-      (omega (arith, placed-grows g (o .place) v (kept may .rule13)))
-
   module _ (os : List Place) (opening : Opening g os) where
     pub end-inside : Inside (sizes g) (after g os .place)
     end-inside = inside-onto (beginning g) os (opening .shaped) (opening .passed) (zeros-inside g)
@@ -215,9 +204,6 @@ module _ (g : Galley) where
         let all = ap (λ n. g .spec .beta * n) split ∙ mul-add (g .spec .beta) first (past - first) in
         let cost = cost-onto (beginning g) os in
         omega arith
-
-    pub end-few : after g os .pages ≤ placed g (after g os .place)
-    end-few = few-onto (beginning g) os (opening .passed) (omega arith)
 
     -- There is a page after an opening.
     not-all : Follows g (after g os) [] → ⊥

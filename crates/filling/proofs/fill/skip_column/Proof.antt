@@ -16,8 +16,7 @@ abbrev μ-loop : tie.MeasureT-loop
 skip-place-requires : tie.Need-skip-place-requires Inv-loop μ-loop
 skip-place-requires c κs =
     let start = c .before .before .before .before .before in
-    let st = c .before .before .before .loop in
-    (
+    let st = c .before .before .before .loop in (
       record { wide = start .pre .wide; two = start .pre .two; room = omega (arith, start .pre .room, st .inv .sized) },
       omega (arith, c .before .if1 .taken),
     )

@@ -2,8 +2,6 @@
 use Prim.Native.Nat.{_*_, _+_, _≤_}
 use native.Mathlib.Nat.{mul-le-mul}
 use native.Mathlib.Omega.{arith}
-use mathlib.Core.Path.{_≡_, _∙_, ap}
-use borrow.Author.Needs.{needs}
 use Rattle.making.proofs.opening.origin_after.Statement.{statement}
 use Rattle.making.proofs.opening.origin_after.Tie as tie
 
