@@ -9,6 +9,7 @@ use Rattle.model.specs.Answers.{numbersOf, pagesOf, marked}
 use Rattle.model.specs.Best.{made, madeWords}
 use Rattle.model.specs.Weighed.{weighed, weighedFrom, ceiling}
 use Rattle.model.specs.Opening.{endOf, madeAfter, madeWordsAfter}
+use Rattle.model.specs.Book.{bookMade, bookWords}
 
 -- A line or figure: its height, the least and greatest space after it, whether a page may end there, and what cites it.
 pub record Block : Type 0 where
@@ -42,13 +43,14 @@ galleyOf sp lines figures =
     record { spec = sp; floats = 1; stream = λ s. elim s [ zero ↦ streamOf lines | suc t ↦ streamOf figures ] }
 
 -- What is asked: a making, the marking of a list of words, or what is weighed and told of it beforehand; and a making, or what is weighed,
--- after an opening.
+-- after an opening; and the making of a book of which the galley is the first chapter and these are the later ones.
 pub data Question : Type 0 where
   making : Question
   marking : List ℕ → Question
   weighing : Question
   making-after : List ℕ → Question
   weighing-after : List ℕ → Question
+  binding : List Galley → Question
 
 -- What is answered: the numbers of an answer, the words of the list that is made, and where that is asked the pages weighed and their
 -- ceiling.
@@ -91,3 +93,4 @@ answered g (marking ws) = record { numbers = numbersOf (marked g ws); list = [];
 answered g weighing = counts (weighed g) (ceiling g)
 answered g (making-after ws) = record { numbers = numbersOf (madeAfter g ws); list = madeWordsAfter g ws; counted = [] }
 answered g (weighing-after ws) = counts (weighedFrom g (endOf (zeros g) (pagesOf g ws))) (ceiling g)
+answered g (binding later) = record { numbers = numbersOf (bookMade (g ∷ later)); list = bookWords (g ∷ later); counted = [] }

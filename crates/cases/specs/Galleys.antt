@@ -143,6 +143,22 @@ unfoldable pub galleyR : ℕ → ℕ → Galley
 galleyR tall weight =
     galleyOf (spec 0 30 0 0 single weight weight) (line 9 true ∷ line 9 true ∷ line 9 true ∷ []) (figure tall 1 ∷ [])
 
+-- Galley S: a line of 20 that cites a figure of 20, on pages of up to 20 as those of galleys D and P.
+unfoldable pub galleyS : Sides → Galley
+galleyS sides = galleyOf (spec 0 20 0 0 sides 1 1) (line 20 true ∷ []) (figure 20 1 ∷ [])
+
+-- Galley T: some lines and figures on pages of 20, no less, double-sided from folio 1.
+unfoldable pub galleyT : List Block → List Block → Galley
+galleyT = galleyOf (spec 20 20 0 0 (double 1) 1 1)
+
+-- Galley U: a line of 5 on pages of up to 20, with the sidedness and the weight of Y left open.
+unfoldable pub galleyU : Sides → ℕ → Galley
+galleyU sides β = galleyOf (spec 0 20 0 0 sides 1 β) (line 5 true ∷ []) []
+
+-- Galley V: galley K without its table.
+unfoldable pub galleyV : Galley
+galleyV = galleyOf (spec 0 40 0 0 single 1 1) three (figure 20 1 ∷ [])
+
 -- A galley in which figure k is kept with the one after it.
 unfoldable pub keeping : ℕ → Galley → Galley
 keeping k g =

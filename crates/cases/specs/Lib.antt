@@ -8,5 +8,6 @@ pub mod Tables
 pub mod Weighings
 pub mod Openings
 pub mod Whites
+pub mod Books
 pub mod Table
 pub mod Agrees

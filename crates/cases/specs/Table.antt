@@ -8,8 +8,9 @@ use Rattle.cases.specs.Tables.{tablesMade, tablesHigh, tablesRefused}
 use Rattle.cases.specs.Weighings.{weighings}
 use Rattle.cases.specs.Openings.{openingsMade, openingsTurned, openingsWeighed}
 use Rattle.cases.specs.Whites.{whitesLeft, whitesAfter}
+use Rattle.cases.specs.Books.{books}
 
 unfoldable pub table : List Case
 table =
     starred ++ makings ++ heights ++ refusals ++ folios ++ keepings ++ closings ++ tablesMade ++ tablesHigh ++ tablesRefused ++ weighings
-    ++ openingsMade ++ openingsTurned ++ openingsWeighed ++ whitesLeft ++ whitesAfter
+    ++ openingsMade ++ openingsTurned ++ openingsWeighed ++ whitesLeft ++ whitesAfter ++ books

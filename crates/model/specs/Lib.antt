@@ -13,4 +13,5 @@ pub mod Best
 pub mod Weighed
 pub mod Opening
 pub mod Loosened
+pub mod Book
 pub mod laws

@@ -15,3 +15,4 @@ pub mod Boxes
 pub mod Together
 pub mod Weighed
 pub mod Loosened
+pub mod Book

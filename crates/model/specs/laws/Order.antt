@@ -157,6 +157,15 @@ module _ (g : Galley) where
   unfolding before
   before-preference = search (leb-preference, geb-preference, by-preference, lex-preference, thenBy-preference) depth 9
 
+  -- Two accepted lists with the same starts are the same list.
+  pub starts-same : (ps qs : List Place) → Accepted g ps → Accepted g qs → startsOf (zeros g) ps [] ≡ startsOf (zeros g) qs [] → ps ≡ qs
+  starts-same ps qs a b starts =
+      let back : reverse (zeros g ∷ ps) ≡ reverse (zeros g ∷ qs) =
+      sym (starts-reverse (allowed g) (sizes g) 1 (zeros g) ps [] (a .taken))
+      ∙ ap (λ r. sizes g ∷ r) starts
+      ∙ starts-reverse (allowed g) (sizes g) 1 (zeros g) qs [] (b .taken) in
+      tail-eq-of-cons-eq (sym (reverse-reverse (zeros g ∷ ps)) ∙ ap reverse back ∙ reverse-reverse (zeros g ∷ qs))
+
   -- Two accepted lists that each come before the other are the same list.
   pub before-antisymm : (ps qs : List Place) → Accepted g ps → Accepted g qs → before g ps qs ≡ true → before g qs ps ≡ true → ps ≡ qs
   unfolding before by
@@ -167,10 +176,5 @@ module _ (g : Galley) where
       let k″ = thenBy-last _ _ qs ps k′ h′ in
       let h‴ = thenBy-last _ _ ps qs h″ k″ in
       let k‴ = thenBy-last _ _ qs ps k″ h″ in
-      let starts : startsOf (zeros g) ps [] ≡ startsOf (zeros g) qs [] =
-      lex-antisymm _ (search (lex-antisymm, geb-antisymm)) (startsOf (zeros g) ps []) (startsOf (zeros g) qs []) h‴ k‴ in
-      let back : reverse (zeros g ∷ ps) ≡ reverse (zeros g ∷ qs) =
-      sym (starts-reverse (allowed g) (sizes g) 1 (zeros g) ps [] (a .taken))
-      ∙ ap (λ r. sizes g ∷ r) starts
-      ∙ starts-reverse (allowed g) (sizes g) 1 (zeros g) qs [] (b .taken) in
-      tail-eq-of-cons-eq (sym (reverse-reverse (zeros g ∷ ps)) ∙ ap reverse back ∙ reverse-reverse (zeros g ∷ qs))
+      starts-same ps qs a b
+      (lex-antisymm _ (search (lex-antisymm, geb-antisymm)) (startsOf (zeros g) ps []) (startsOf (zeros g) qs []) h‴ k‴)
