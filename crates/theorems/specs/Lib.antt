@@ -6,5 +6,7 @@ pub mod optimality
 pub mod turns
 -- The instance: pages as a graph from any origin, and its best way as the best list.
 pub mod pages
+-- Books, whose chapters are such lists.
+pub mod books
 -- The published model: document 01's rules and numbers are the paper's.
 pub mod published
