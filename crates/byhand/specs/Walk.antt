@@ -1,6 +1,7 @@
 -- What walks by hand share, whatever the function. It has no `&mut`, and all that it is passed is Copy: what the arguments own
 -- is had twice, one copy is put aside for the exit, and the walk goes on with the other.
 --     Passed                      what a walk knows of an argument's type
+--     met                         a walk from the entry is the function's statement
 --     Walks, proved               what a walk shows, and that it is the function's statement
 --     calls                       a call: what the arguments own becomes what the result owns, and what is ensured is learned
 --     ends                        the exit: what is ensured is shown, and the copy put aside is handed back
@@ -36,7 +37,7 @@ use denote.Triple.Statement.{Contract}
 use denote.Triple.Call.{calls-at}
 use denote.Triple.Clauses.{Ended, Clauses, Lasts, atExit, lasts, ensured, closing}
 use denote.Triple.End.{Kepts, Fins}
-use denote.Triple.Entry.{Args, Res, alive}
+use denote.Triple.Entry.{Args, Res, alive, onEntry}
 use denote.Triple.Spec.{Meets, tripleOf}
 use denote.Triple.Table.{entered, cited}
 use denote.Triple.Walked.{says, Stays, fitsOf, hasOf, onExit, walkOf, AllGo, goes-silent, ends-at, walked, walk-meets}
@@ -146,13 +147,33 @@ module _ {M : Type 1} {𝓤 : URA M} {H : Heap 𝓤} (𝓜 : Model 𝓤 H) (𝓖
   open MachineTables (tables 𝓤 H 𝓜 𝓡 γ) using (C, Λ)
 
   -- a table of calls is monotone under a frame, which the call rule asks
-  framed : FmC 𝓤 H (W .laws) C
+  pub framed : FmC 𝓤 H (W .laws) C
   unfolding tablesOf
   framed = fmOf 𝓤 H (W .laws) (tablesOf 𝓤 H 𝓜 (tables 𝓤 H 𝓜 𝓡 γ))
 
   module _ (f : Fn) (T : Ended) (c : Clauses 𝓤 T) where
     abbrev ss : List (Slot (T .signature .lifetimes))
     ss = T .signature .params
+
+    -- A walk from the entry is the function's statement, whatever is had of each argument at exit.
+    pub met : (k : Name) → Closed 𝓤 H C Λ k f → (hs : Stays ss (T .kept)) → AllGo 𝓤 H (𝓖 .A) W (T .signature .lifetimes) ss (T .kept) hs
+        → (sp : (κs : Lfts (T .signature .lifetimes)) → Spells (typesAt ss κs))
+        → ((κs : Lfts (T .signature .lifetimes)) → Tellss (typesAt ss κs) (Ises (typesAt ss κs)) (sp κs))
+        → ((κs : Lfts (T .signature .lifetimes)) (qs : Shares (T .signature .lifetimes))
+        (bounds : AllOutlive (T .signature .lifetimes) (T .signature .outlives) κs) (a : Args (T .signature) κs)
+        (g : c κs a .ghost) → let vss = valss (typesAt ss κs) (sp κs) a in Are (typesAt ss κs) (Ises (typesAt ss κs)) a vss
+        → ent 𝓤 (onEntry 𝓤 H (𝓖 .A) (T .signature) κs qs a vss)
+        (WpFn 𝓤 H C Λ f (flat (typesAt ss κs) vss) (walkOf 𝓤 H (𝓖 .A) T hs c .post ((κs, qs, bounds, a, vss), g))))
+        → Meets 𝓤 H (𝓖 .A) (T .signature) (C k) (closing 𝓤 H (𝓖 .A) T c)
+    unfolding tablesOf
+    met k closed hs gos sp tells walk =
+        let A : Atoms 𝓤 = 𝓖 .A in
+        entered 𝓤 H (tripleOf 𝓤 H A (T .signature) (closing 𝓤 H A T c)) C Λ k f closed
+        (walk-meets 𝓤 H A T hs W gos c (WpFn 𝓤 H C Λ f)
+        (WpFn-mono 𝓤 H (W .laws) (tablesOf 𝓤 H 𝓜 (tables 𝓤 H 𝓜 𝓡 γ)) f)
+        (walked 𝓤 H A T hs c (WpFn 𝓤 H C Λ f) sp tells (λ κs qs bounds a g are.
+        let E : SProp 𝓤 = onEntry 𝓤 H A (T .signature) κs qs a (valss (typesAt ss κs) (sp κs) a) in
+        via 𝓤 E (fst∗ 𝓤 E (c κs a .requires g)) (walk κs qs bounds a g are))))
 
     -- from the arguments' two copies, the function runs to what `ends` gives
     abbrev pub Walks : Call W T c → Type 1
@@ -165,22 +186,15 @@ module _ {M : Type 1} {𝓤 : URA M} {H : Heap 𝓤} (𝓜 : Model 𝓤 H) (𝓖
         (g : c κs a .ghost) → let vss = valss (typesAt ss κs) (spelled W ss ps κs) a in
         Are (typesAt ss κs) (Ises (typesAt ss κs)) a vss → Walks ((κs, qs, bounds, a, vss), g))
         → Meets 𝓤 H (𝓖 .A) (T .signature) (C k) (closing 𝓤 H (𝓖 .A) T c)
-    unfolding tablesOf
     proved k closed ps walk =
-        let A : Atoms 𝓤 = 𝓖 .A in
-        let hs : Stays ss (T .kept) = kept ss (T .kept) in
-        entered 𝓤 H (tripleOf 𝓤 H A (T .signature) (closing 𝓤 H A T c)) C Λ k f closed
-        (walk-meets 𝓤 H A T hs W (goes W ss (T .kept) ps) c (WpFn 𝓤 H C Λ f)
-        (WpFn-mono 𝓤 H (W .laws) (tablesOf 𝓤 H 𝓜 (tables 𝓤 H 𝓜 𝓡 γ)) f)
-        (walked 𝓤 H A T hs c (WpFn 𝓤 H C Λ f) (spelled W ss ps) (told W ss ps) (λ κs qs bounds a g are.
+        met k closed (kept ss (T .kept)) (goes W ss (T .kept) ps) (spelled W ss ps) (told W ss ps) (λ κs qs bounds a g are.
         let vss = valss (typesAt ss κs) (spelled W ss ps κs) a in
         let P : Fml = owns (typesAt ss κs) a vss in
-        let L : SProp 𝓤 = alive 𝓤 H A (T .signature) κs qs in
-        via 𝓤 (sep 𝓤 L (sem 𝓤 H A P)) (fst∗ 𝓤 (sep 𝓤 L (sem 𝓤 H A P)) (c κs a .requires g))
-        (via 𝓤 (⋆ 𝓤 H A (‵ P ∷ raw L ∷ ‵ P ∷ []))
+        let L : SProp 𝓤 = alive 𝓤 H (𝓖 .A) (T .signature) κs qs in
+        via 𝓤 (⋆ 𝓤 H (𝓖 .A) (‵ P ∷ raw L ∷ ‵ P ∷ []))
         (qed W (raw L ∷ ‵ P ∷ []) ∵
         move ! (1 ∷ []) $ use1 W (‵ P ⊛ ‵ P) (twice W κs ss ps a vss) $ split ! $ move ! (0 ∷ 2 ∷ []) $ done !)
-        (walk κs qs bounds a g are .prf)))))
+        (walk κs qs bounds a g are .prf))
 
   -- The callee f is the routine r. What it ensures is the fact φ. Its operands are read while the arguments and the tokens
   -- are one item.

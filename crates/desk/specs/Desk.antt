@@ -10,7 +10,7 @@ use Rattle.model.specs.Answers.{accepted}
 use Rattle.model.specs.Gather.{pick}
 use Rattle.marking.specs.Mark.{markOf}
 use Rattle.desk.specs.declared.Desk.{Desk}
-use Rattle.desk.specs.declared.Layout.{Layout}
+use Rattle.layouts.specs.declared.Layout.{Layout}
 use Rattle.desk.specs.declared.Told.{Told}
 use Rattle.desk.specs.declared.Done.{Done}
 use Rattle.desk.specs.Pages.{wordsOn, isInner, withEnd}

@@ -4,9 +4,9 @@ use mathlib.Core.List.{List, [], _∷_}
 use lib.ListN.{take}
 use Rattle.model.specs.Gather.{pick}
 use Rattle.desk.specs.declared.Desk.{Desk}
-use Rattle.desk.specs.declared.Layout.{Layout}
+use Rattle.layouts.specs.declared.Layout.{Layout}
 use Rattle.desk.specs.Pages.{wordsOn}
-use Rattle.desk.specs.Names.{isNamed}
+use Rattle.layouts.specs.Names.{isNamed}
 
 -- Under a name is nothing, or a list.
 pub data Kept : Type 0 where

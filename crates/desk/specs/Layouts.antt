@@ -7,7 +7,7 @@ use lib.ListN.{length, getD, set}
 use Rattle.model.specs.Gather.{pick}
 use Rattle.desk.specs.declared.Desk.{Desk}
 use Rattle.desk.specs.declared.Done.{Done}
-use Rattle.desk.specs.Names.{isName, findNamed, roomFor, layoutOf, noLayout, freed}
+use Rattle.layouts.specs.Names.{isName, findNamed, roomFor, layoutOf, noLayout, freed}
 use Rattle.desk.specs.Desk.{putIn, layIn}
 
 -- A refusal changes nothing (document 02, S-8).

@@ -1,7 +1,5 @@
 -- The desk, in the order of reading: its list, what each call leaves and answers, and the laws.
-pub mod Words
 pub mod Pages
-pub mod Names
 pub mod Opening
 pub mod Desk
 pub mod Layouts

@@ -15,7 +15,7 @@ use Rattle.marking.specs.Mark.{markOf}
 use Rattle.desk.specs.declared.Desk.{Desk}
 use Rattle.desk.specs.declared.Told.{Told}
 use Rattle.desk.specs.Pages.{widthOf}
-use Rattle.desk.specs.Names.{freeLayout}
+use Rattle.layouts.specs.Names.{freeLayout}
 
 -- A list that 192 words have room for.
 abbrev pub Short : List ℕ → Type 0

@@ -20,7 +20,7 @@ use Rattle.desk.specs.declared.Told.{Told}
 use Rattle.desk.specs.Pages.{pagesOn, inForce, isInner, withEnd}
 use Rattle.desk.specs.Opening.{closed, opened, openOn, openRead, openDesk}
 use Rattle.desk.specs.Desk.{askOff, askDesk, commitDesk}
-use Rattle.desk.specs.Names.{isName}
+use Rattle.layouts.specs.Names.{isName}
 use Rattle.desk.specs.Held.{Unheld, Held, heldOn}
 use Rattle.desk.specs.Calls.{Call, Answered, Asked, Committed, Saved, CameBack, Dropped, afterCalls, answered, Trying, Known}
 use Rattle.desk.specs.Calls.{learn, learnAll, atOpening}

@@ -1,8 +1,5 @@
 -- The laws behind the desk.
-pub mod Words
 pub mod Pages
-pub mod Names
-pub mod Layouts
 pub mod Held
 pub mod Opening
 pub mod Trying

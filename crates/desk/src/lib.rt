@@ -11,21 +11,10 @@ ghost use Rattle.desk.specs.Desk.{cleared, pended, putIn, layIn, afterAs
 ghost use Rattle.desk.specs.Layouts.{saveDesk, backDesk, dropDesk};
 ghost use Rattle.desk.specs.Opening.{closed, Short, opened, openOn, openDesk};
 use galley::Reading;
+use layouts::Layout;
 use model::answer::Answer;
 
-mod layouts; // layouts.rt: the layouts of a desk, by their names
-mod names; // names.rt: the names of layouts
 mod pages; // pages.rt: the pages of the list in force, and one of them with another end
-mod words; // words.rt: words copied over the first of others
-
-// A list under a name: the bytes of the name, how many there are, and the words of the list. A layout whose name has no bytes is
-// free.
-#[repr(C)]
-pub struct Layout {
-    pub len: u32,
-    pub name: [u8; 16],
-    pub list: [u32; 192],
-}
 
 // The count of pages and the words of a page, what is pending, which is a page and its new end, the list in force, and eight layouts.
 // Count and words stand once: all lists of a desk have as many pages.
@@ -132,7 +121,7 @@ fn desk_of(list: &[u32], pages: u32) -> Desk
 {
     let width = pages::width_of(list.len(), pages);
     let mut all = [0; 192];
-    words::copy_words(list, list.len(), &mut all);
+    layouts::words::copy_words(list, list.len(), &mut all);
     let end = [0; 3];
     let free = layouts::free();
     let layouts = [free; 8];
@@ -186,7 +175,7 @@ fn open_read(galley: &[u8], list: &[u32], d: Desk) -> Told
 pub fn open(galley: &[u8], list: &[u32], d: Desk) -> Told
     ensures { λ r. ⌜ r ≡ openDesk (now (galley .entry)) (now (list .entry)) d ⌝ }
 {
-    let reading = galley::whole::read_galley(galley);
+    let reading = reading::read_galley(galley);
     match reading {
         Reading::Galley(_g) => open_read(galley, list, d),
         Reading::Refused { number, place } => {
@@ -253,7 +242,7 @@ pub fn list(d: Desk, pages: &mut [u32; 192]) -> u32
 {
     let words = pages::words_on(d);
     let all = d.list;
-    words::copy_words(&all, words, pages);
+    layouts::words::copy_words(&all, words, pages);
     pages::pages_on(d)
 }
 
@@ -261,7 +250,7 @@ pub fn list(d: Desk, pages: &mut [u32; 192]) -> u32
 pub fn save(name: &[u8], d: Desk) -> Done
     ensures { λ r. ⌜ r ≡ saveDesk (now (name .entry)) d ⌝ }
 {
-    if !names::is_name(name) {
+    if !layouts::names::is_name(name) {
         return Done {
             desk: d,
             number: 25,
@@ -285,7 +274,7 @@ pub fn save(name: &[u8], d: Desk) -> Done
 pub fn back(name: &[u8], d: Desk) -> Done
     ensures { λ r. ⌜ r ≡ backDesk (now (name .entry)) d ⌝ }
 {
-    if !names::is_name(name) {
+    if !layouts::names::is_name(name) {
         return Done {
             desk: d,
             number: 25,
@@ -309,7 +298,7 @@ pub fn back(name: &[u8], d: Desk) -> Done
 pub fn drop(name: &[u8], d: Desk) -> Done
     ensures { λ r. ⌜ r ≡ dropDesk (now (name .entry)) d ⌝ }
 {
-    if !names::is_name(name) {
+    if !layouts::names::is_name(name) {
         return Done {
             desk: d,
             number: 25,

@@ -52,7 +52,8 @@ abbrev pub citation : List ℕ → Stream → ℕ → ℕ
 citation bytes floats k = fieldOf bytes floats citeAt k
 
 -- From 1 to 4,000 lines, up to 200 figures and up to 50 tables, each read where its number says, every field in range, citations that name
--- lines and never decrease, and nothing between or after the records.
+-- lines and never decrease, and nothing between or after the records. The first folio is in range, whether the bytes name it or not: a
+-- chapter of a book opens on another (document 02, S-9).
 pub record Sound (bytes : List ℕ) (g : Galley) : Type 0 where
   pub someLines : 1 ≤ g .text .count
   pub fewLines : g .text .count ≤ 4000
@@ -61,7 +62,6 @@ pub record Sound (bytes : List ℕ) (g : Galley) : Type 0 where
   pub specRead : recordAt bytes 0 ≡ found.Spec (g .spec)
   pub someFolio : 1 ≤ g .folio
   pub fewFolios : g .folio ≤ 9999
-  pub opens : Opening bytes g
   pub text : SoundStream bytes (g .text)
   pub textRead : Reads bytes (g .text) (λ at. found.Line (lineOf bytes at))
   pub legals : (k : ℕ) → 1 ≤ k → k ≤ g .text .count → fieldOf bytes (g .text) legalAt k ≤ 1

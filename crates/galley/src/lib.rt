@@ -1,10 +1,7 @@
-// A galley's bytes: one record read at a place, the reader that goes through them, and the whole galley. Nothing is copied and
-// nothing is written. Document 01, "The galley file".
+// A galley's bytes: its words and marks, the ranges of its fields, which mark fits where, and what reading gives. Document 01, "The galley
+// file".
 pub mod place; // place.rt: which mark fits where
-mod range; // range.rt: the ranges of the fields
-pub mod reader; // reader.rt: the reader over the lent bytes
-mod records; // records.rt: the record at an offset
-pub mod whole; // whole.rt: a galley, record by record
+pub mod range; // range.rt: the ranges of the fields
 pub mod word; // word.rt: bytes, fields and marks
 
 // The page specification that `GS` holds, or `G2` in its second edition; the least height of the last page is 0 in the first.

@@ -16,7 +16,7 @@ use galley::Stream;
 pub extern "C" fn galley_probe_read(bytes: &[u8], out: &mut [u32; 15])
     ensures { λ r. ⌜ now (out .exit) ≡ wordsOf (galleyOf (now (bytes .entry))) ⌝ }
 {
-    let reading = galley::whole::read_galley(bytes);
+    let reading = reading::read_galley(bytes);
     match reading {
         Reading::Galley(g) => {
             let spec = g.spec;
@@ -69,7 +69,7 @@ fn stream_at(g: Galley, number: usize) -> Stream
 pub extern "C" fn galley_probe_block(bytes: &[u8], number: usize, k: usize, out: &mut [u32; 5])
     ensures { λ r. ⌜ now (out .exit) ≡ blockWords (now (bytes .entry)) number k (galleyOf (now (bytes .entry))) ⌝ }
 {
-    let reading = galley::whole::read_galley(bytes);
+    let reading = reading::read_galley(bytes);
     let Reading::Galley(g) = reading else {
         *out = [0, 0, 0, 0, 0];
         return;
@@ -116,7 +116,7 @@ pub extern "C" fn galley_probe_waiting(
 ) -> u32
     ensures { λ r. ⌜ r ≡ waitingOf (now (bytes .entry)) number i j (galleyOf (now (bytes .entry))) ⌝ }
 {
-    let reading = galley::whole::read_galley(bytes);
+    let reading = reading::read_galley(bytes);
     let Reading::Galley(g) = reading else {
         return 0;
     };

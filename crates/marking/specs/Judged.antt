@@ -6,11 +6,10 @@ use mathlib.Core.Option.{Option, none, some}
 use lib.Dec.{eqb}
 use Rattle.model.specs.declared.answer.Answer.{Answer}
 use Rattle.model.specs.declared.answer.Answer.the-variants.{Refused}
-use Rattle.model.specs.Gather.{pick}
 use Rattle.model.specs.Galley as model
 use Rattle.model.specs.Rules.{broken}
 use Rattle.model.specs.Answers.{pagesOf}
-use Rattle.model.specs.Opening.{endOf, openingTurned}
+use Rattle.model.specs.Opening.{endOf}
 use Rattle.model.specs.laws.White.{pageWhite}
 use Rattle.theorems.specs.turns.Waiting.{waiting, pageSum, atEnd}
 use Rattle.galley.specs.declared.Galley.{Galley}
@@ -18,11 +17,8 @@ use Rattle.galley.specs.Model.{modelOf}
 use Rattle.blocks.specs.declared.Counts.{Counts}
 use Rattle.blocks.specs.Counts.{placeOf, Within}
 use Rattle.rules.specs.declared.counts.Sums.{Sums}
-use Rattle.rules.specs.Parts.{allPlaced}
 use Rattle.marking.specs.declared.pages.Judged.{Judged}
 use Rattle.marking.specs.declared.pages.Judged.the-variants.{Broken, Kept}
-use Rattle.marking.specs.declared.opening.Opening.{Opening}
-use Rattle.marking.specs.declared.opening.Opening.the-variants as opening
 use Rattle.marking.specs.Parts.{pagesIn}
 
 -- A broken rule refuses its page; otherwise it is as after the page.
@@ -71,18 +67,3 @@ faultTold (Kept at sums) = none
 pub record JudgedPages (bytes : List ℕ) (g : Galley) (ws : List ℕ) (last : ℕ) (r : Judged) : Type 0 where
   pub fault : faultTold r ≡ firstFault bytes g ws last
   pub kept : (at : Counts) (sums : Sums) → r ≡ Kept at sums → KeptPages bytes g ws last at sums
-
--- What turns an opening away.
-abbrev pub turned : Opening → Option Answer
-turned (opening.Refused n at) = some (Refused n at)
-turned (opening.Ends pages at sums) = none
-
--- 21 where everything is placed, else the end of an opening of so many pages.
-abbrev pub Ended : Galley → ℕ → Counts → Sums → Opening → Type 0
-Ended g pages at sums r = r ≡ pick (allPlaced g at) (opening.Refused 21 pages) (opening.Ends pages at sums)
-
--- The words of an opening are judged.
-pub record OpeningJudged (bytes : List ℕ) (g : Galley) (ws : List ℕ) (r : Opening) : Type 0 where
-  pub told : turned r ≡ openingTurned (modelOf bytes g) ws
-  pub kept : (pages : ℕ) (at : Counts) (sums : Sums) → r ≡ opening.Ends pages at sums
-      → (pages ≡ pagesIn g ws) × KeptPages bytes g ws 0 at sums

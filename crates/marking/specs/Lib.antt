@@ -2,5 +2,4 @@
 pub mod Mark
 pub mod Parts
 pub mod Judged
-pub mod Heights
 pub mod laws

@@ -1,7 +1,5 @@
--- The laws behind marking: a galley that was read, one page's tests, its next block, its heights, and the run over the pages.
+-- The laws behind marking: one page's tests, and the run over the pages.
 pub mod Faults
-pub mod Next
-pub mod Heights
 pub mod Rest
 pub mod Judged
 pub mod Run

@@ -5,16 +5,14 @@ ghost use Rattle.marking.specs.Mark.{markOf};
 use galley::Reading;
 use model::answer::Answer;
 
-mod heights; // heights.rt: the heights of a page, block by block
-pub mod opening; // opening.rt: pages already printed
-mod pages; // pages.rt: the loop over pages
+pub mod pages; // pages.rt: the loop over pages
 
 // The marking of any words for any bytes. A refused galley is refused alike; the time is proportional to the pages of the
 // list and the lines, figures and tables on them.
 pub fn mark(galley: &[u8], list: &[u32]) -> Answer
     ensures { λ r. ⌜ r ≡ markOf (now (galley .entry)) (now (list .entry)) ⌝ }
 {
-    let reading = galley::whole::read_galley(galley);
+    let reading = reading::read_galley(galley);
     match reading {
         Reading::Galley(g) => pages::mark_read(galley, g, list),
         Reading::Refused { number, place } => Answer::Refused { number, place },

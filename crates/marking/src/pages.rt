@@ -68,14 +68,14 @@ pub fn judge_pages(s: &[u8], g: Galley, list: &[u32], last: usize) -> Judged
         }
         let number = (done + 1) as u32;
         let v = page_at(g, list, words * done);
-        let start = rules::rules::start_fault(s, g, at, v);
+        let start = judging::start_fault(s, g, at, v);
         if 0 < start {
             break 'pages Judged::Broken {
                 number: start,
                 page: number,
             };
         }
-        let mut laid = crate::heights::bare_page(g, at, v);
+        let mut laid = laying::bare_page(g, at, v);
         loop {
             if g.spec.htmax < laid.heights.tight {
                 break 'pages Judged::Broken {
@@ -83,13 +83,13 @@ pub fn judge_pages(s: &[u8], g: Galley, list: &[u32], last: usize) -> Judged
                     page: number,
                 };
             }
-            if crate::heights::is_laid(laid.on, v) {
+            if laying::is_laid(laid.on, v) {
                 break;
             }
-            laid = crate::heights::with_next(s, g, at, v, laid);
+            laid = laying::with_next(s, g, at, v, laid);
         }
         let closing = done + 1 == last;
-        let end = rules::rules::end_fault(s, g, laid.heights.loose, Page(number), closing, v);
+        let end = judging::end_fault(s, g, laid.heights.loose, Page(number), closing, v);
         if 0 < end {
             break 'pages Judged::Broken {
                 number: end,
@@ -97,14 +97,7 @@ pub fn judge_pages(s: &[u8], g: Galley, list: &[u32], last: usize) -> Judged
             };
         }
         waiting = rules::waiting::waiting_on(s, g, at, v, waiting);
-        sums = rules::counts::with_page(
-            g,
-            Page(number),
-            closing,
-            laid.heights.loose,
-            waiting,
-            sums,
-        );
+        sums = counting::with_page(g, Page(number), closing, laid.heights.loose, waiting, sums);
         done += 1;
         at = v;
     };
@@ -122,7 +115,7 @@ fn judge_list(s: &[u8], g: Galley, list: &[u32], pages: usize) -> Answer
             number,
             place: page,
         },
-        Judged::Kept { at, sums } => rules::counts::finish(g, pages as u32, at, sums),
+        Judged::Kept { at, sums } => counting::finish(g, pages as u32, at, sums),
     }
 }
 
@@ -131,7 +124,7 @@ pub fn mark_read(s: &[u8], g: Galley, list: &[u32]) -> Answer
     requires { ⌜ Sound (now s) g ⌝ }
     ensures { λ r. ⌜ r ≡ marked (modelOf (now (s .entry)) g) (now (list .entry)) ⌝ }
 {
-    if rules::rules::is_counted(g, list.len()) {
+    if judging::is_counted(g, list.len()) {
         return judge_list(s, g, list, list.len() / blocks::page_words(g));
     }
     Answer::Refused {

@@ -21,6 +21,11 @@ and-true : (a : Bool) → (a && true) ≡ a
 and-true true = refl
 and-true false = refl
 
+-- Of two numbers that follow each other, whichever it is lies between them.
+between : (b : Bool) (n : ℕ) → (n ≤ pick b n (suc n)) × (pick b n (suc n) ≤ suc n)
+between true n = (omega arith, omega arith)
+between false n = (omega arith, omega arith)
+
 module _ (g : Galley) where
   -- A test of each float stream is one of the figures and one of the tables, where it holds without tables,
   pub each-floats : (f : ℕ → Bool) → (g .tables .count ≡ 0 → f 2 ≡ true) → each (floatStreams g) f ≡ (f 1 && f 2)
@@ -52,34 +57,18 @@ module _ (g : Galley) where
   -- The figures' stream is always there.
   pub floats-some : 1 ≤ floatStreams g
   unfolding floatStreams
-  floats-some = go (eqb (g .tables .count) 0)
-    where
-      go : (b : Bool) → 1 ≤ pick b 1 2
-      go true = omega arith
-      go false = omega arith
+  floats-some = between (eqb (g .tables .count) 0) 1 .0
 
   pub floats-few : floatStreams g ≤ 2
   unfolding floatStreams
-  floats-few = go (eqb (g .tables .count) 0)
-    where
-      go : (b : Bool) → pick b 1 2 ≤ 2
-      go true = omega arith
-      go false = omega arith
+  floats-few = between (eqb (g .tables .count) 0) 1 .1
 
   -- A page has two words or three.
   pub words-least : 2 ≤ pageWords g
-  words-least = go (eqb (g .tables .count) 0)
-    where
-      go : (b : Bool) → 2 ≤ pick b 2 3
-      go true = omega arith
-      go false = omega arith
+  words-least = between (eqb (g .tables .count) 0) 2 .0
 
   pub words-most : pageWords g ≤ 3
-  words-most = go (eqb (g .tables .count) 0)
-    where
-      go : (b : Bool) → pick b 2 3 ≤ 3
-      go true = omega arith
-      go false = omega arith
+  words-most = between (eqb (g .tables .count) 0) 2 .1
 
   module _ (bytes : List ℕ) where
     -- A page has a word for each stream.

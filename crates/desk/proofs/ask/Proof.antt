@@ -47,13 +47,5 @@ pub ask-spec : {M : Type 1} → statement M
 ask-spec =
     tie.close
     (tie.spec
-    (λ c κs. search needs)
-    (λ c κs. search needs)
-    returns
-    with-end-requires
-    (λ c κs. search needs)
-    array-share-prefix-altered
-    slice-aggregate-mark
-    (λ c κs. search needs)
-    (λ c κs. search needs)
-    returns-2)
+    (λ c κs. search needs) (λ c κs. search needs) returns with-end-requires (λ c κs. search needs) array-share-prefix-altered
+    slice-aggregate-mark (λ c κs. search needs) (λ c κs. search needs) returns-2)

@@ -5,7 +5,7 @@ use native.Mathlib.Omega.{arith}
 use mathlib.Core.Path.{sym, _∙_}
 use lib.ListN.{length}
 use Rattle.desk.specs.Layouts.{backDesk}
-use Rattle.desk.specs.laws.Names.{name-few}
+use Rattle.layouts.specs.laws.Names.{name-few}
 use Rattle.desk.proofs.back.Statement.{statement}
 use Rattle.desk.proofs.back.Tie as tie
 
@@ -43,11 +43,4 @@ returns-3 c =
 
 pub back-spec : {M : Type 1} → statement M
 back-spec = tie.close (tie.spec
-    (λ c κs. search needs)
-    returns
-    find-requires
-    (λ c. search needs)
-    (λ c. search needs)
-    (λ c κs. search needs)
-    returns-2
-    returns-3)
+    (λ c κs. search needs) returns find-requires (λ c. search needs) (λ c. search needs) (λ c κs. search needs) returns-2 returns-3)

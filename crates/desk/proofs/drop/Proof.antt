@@ -5,7 +5,7 @@ use native.Mathlib.Omega.{arith}
 use mathlib.Core.Path.{sym, _∙_}
 use lib.ListN.{length}
 use Rattle.desk.specs.Layouts.{dropDesk}
-use Rattle.desk.specs.laws.Names.{name-few}
+use Rattle.layouts.specs.laws.Names.{name-few}
 use Rattle.desk.proofs.drop.Statement.{statement}
 use Rattle.desk.proofs.drop.Tie as tie
 
@@ -47,10 +47,4 @@ returns-3 c =
 
 pub drop-spec : {M : Type 1} → statement M
 drop-spec = tie.close (tie.spec
-    (λ c κs. search needs)
-    returns
-    find-requires
-    without-requires
-    (λ c κs. search needs)
-    returns-2
-    returns-3)
+    (λ c κs. search needs) returns find-requires without-requires (λ c κs. search needs) returns-2 returns-3)

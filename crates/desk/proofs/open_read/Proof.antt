@@ -42,10 +42,4 @@ pub open-read-spec : {M : Type 1} → statement M
 open-read-spec =
     tie.close
     (tie.spec
-    (λ c κs. search needs)
-    (λ c κs. search needs)
-    (λ c κs. search needs)
-    desk-of-requires
-    returns
-    (λ c κs. search needs)
-    returns-2)
+    (λ c κs. search needs) (λ c κs. search needs) (λ c κs. search needs) desk-of-requires returns (λ c κs. search needs) returns-2)

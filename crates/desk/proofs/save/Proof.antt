@@ -5,7 +5,7 @@ use native.Mathlib.Omega.{arith}
 use mathlib.Core.Path.{sym, _∙_}
 use lib.ListN.{length}
 use Rattle.desk.specs.Layouts.{saveDesk}
-use Rattle.desk.specs.laws.Names.{name-few}
+use Rattle.layouts.specs.laws.Names.{name-few}
 use Rattle.desk.proofs.save.Statement.{statement}
 use Rattle.desk.proofs.save.Tie as tie
 
@@ -48,10 +48,4 @@ returns-3 c =
 
 pub save-spec : {M : Type 1} → statement M
 save-spec = tie.close (tie.spec
-    (λ c κs. search needs)
-    returns
-    room-for-requires
-    with-layout-requires
-    (λ c κs. search needs)
-    returns-2
-    returns-3)
+    (λ c κs. search needs) returns room-for-requires with-layout-requires (λ c κs. search needs) returns-2 returns-3)

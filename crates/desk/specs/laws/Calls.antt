@@ -10,11 +10,11 @@ use Rattle.model.specs.Answers.{accepted, same}
 use Rattle.model.specs.Gather.{pick}
 use Rattle.marking.specs.Mark.{markOf}
 use Rattle.desk.specs.declared.Desk.{Desk}
-use Rattle.desk.specs.declared.Layout.{Layout}
+use Rattle.layouts.specs.declared.Layout.{Layout}
 use Rattle.desk.specs.declared.Told.{Told}
 use Rattle.desk.specs.declared.Done.{Done}
 use Rattle.desk.specs.Pages.{pagesOn, wordsOn, inForce, isInner}
-use Rattle.desk.specs.Names.{isName, findNamed, roomFor}
+use Rattle.layouts.specs.Names.{isName, findNamed, roomFor}
 use Rattle.desk.specs.Desk.{pended, cleared, altered, afterAsk, askOff, askDesk, putIn, layIn, commitBy, commitDesk}
 use Rattle.desk.specs.Layouts.{refused, saved, cameBack, dropped, saveDesk, backDesk, dropDesk}
 use Rattle.desk.specs.Held.{Kept, Unheld, Held, heldIn, cut, heldOn}

@@ -12,10 +12,10 @@ use Rattle.model.specs.Answers.{same}
 use Rattle.model.specs.Gather.{pick}
 use Rattle.model.specs.laws.Gather.{and-left, and-right}
 use Rattle.model.specs.laws.Valid.{same-true, same-refl}
-use Rattle.desk.specs.declared.Layout.{Layout}
-use Rattle.desk.specs.Names.{isName, isNamed, findNamed, roomFor, padded, layoutOf, noLayout, freed}
+use Rattle.layouts.specs.declared.Layout.{Layout}
+use Rattle.layouts.specs.Names.{isName, isNamed, findNamed, roomFor, padded, layoutOf, noLayout, freed}
 use Rattle.desk.specs.Held.{Unheld, Held, heldIn}
-use Rattle.desk.specs.laws.Names.{name-some}
+use Rattle.layouts.specs.laws.Names.{name-some}
 
 -- One of two is not the other.
 apart : {A : Type 0} (b : Bool) → b ≡ true → b ≡ false → A

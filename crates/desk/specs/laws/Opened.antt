@@ -20,7 +20,7 @@ use Rattle.desk.specs.declared.Desk.{Desk}
 use Rattle.desk.specs.declared.Told.{Told}
 use Rattle.desk.specs.Pages.{pagesOn, wordsOn, inForce, isInner, widthOf}
 use Rattle.desk.specs.Opening.{closed, opened, openOn, openRead, openDesk}
-use Rattle.desk.specs.Names.{isName, freeLayout}
+use Rattle.layouts.specs.Names.{isName, freeLayout}
 use Rattle.desk.specs.Held.{Unheld, heldIn, cut, heldOn}
 use Rattle.desk.specs.Calls.{None, atOpening}
 use Rattle.desk.specs.laws.Held.{free-unnamed}

@@ -23,7 +23,7 @@ use Rattle.galley.specs.laws.Underway.{read-on}
 use Rattle.galley.specs.laws.Stand.{begun, spec-first}
 use Rattle.galley.specs.laws.Reached.{Reached, reached-none}
 use Rattle.galley.specs.laws.Step.{Fine, step-fine}
-use Rattle.galley.specs.laws.Sound.{sound}
+use Rattle.galley.specs.laws.Sound.{sound, opening}
 use Rattle.galley.specs.declared.Galley.{Galley}
 use Rattle.galley.specs.declared.Spec.{Spec}
 use Rattle.galley.specs.declared.Stream.{Stream}
@@ -182,7 +182,7 @@ module _ {bytes bytes′ : List ℕ} (like : Alike bytes bytes′) (g g′ : Gal
 
   -- The text stands past htMin, and so do the other streams.
   far-text : 6 ≤ g .text .first
-  far-text = go (sound bytes g read .opens)
+  far-text = go (opening bytes g read)
     where
       large : 30 ≤ specSize (g .spec .edition)
       large = spec-large (g .spec .edition)

@@ -14,7 +14,7 @@ use Rattle.galley.specs.Whole.{moved, withFolio, withLine, withFigure, w
 use Rattle.galley.specs.Range.{FolioRanged}
 use Rattle.galley.specs.laws.Pick.{pick-has}
 use Rattle.galley.specs.laws.Place.{spec-kind, spec-small, Fits}
-use Rattle.galley.specs.laws.Reached.{specIn, counted-more, Head, Reached, reached-empty, reads-more, floats-none, floats-kept, floats-more}
+use Rattle.galley.specs.laws.Reached.{specIn, galleyIn, counted-more, Shape, Head, Floats, Reached, reached-empty, reads-more, floats-none, floats-kept, floats-more}
 use Rattle.galley.specs.declared.Kind.{Kind}
 use Rattle.galley.specs.declared.Spec.{Spec}
 use Rattle.galley.specs.declared.Line.{Line}
@@ -123,6 +123,22 @@ module _ (bytes : List ℕ) (so : Sofar) (r : Reached bytes so) where
         tables = floats-none bytes _ table _ _ (omega arith) tables;
       })
 
+  -- One float more, of whichever stream, leaves the lines, the head and the text as they were.
+  float-reached : (next : Sofar) → spec ≤ so .stage → line < next .stage → next .folio ≡ so .folio → next .first ≡ so .first
+      → next .lines ≡ so .lines → Shape bytes next → next .count ≤ 4000
+      → Floats bytes next figure (galleyIn bytes next .figures) (λ at. found.Figure (floatOf (isKept bytes at) bytes at))
+      → Floats bytes next table (galleyIn bytes next .tables) (λ at. found.Table (floatOf false bytes at)) → Reached bytes next
+  float-reached next begun past folio first lines shape few figures tables =
+      record {
+        shape = shape;
+        count = few;
+        lines = record { here = λ e. absurd (omega arith); before = λ l. absurd (omega arith) };
+        head = head-kept next begun (omega arith) folio first;
+        text = rw (first, lines) (r .text);
+        figures = figures;
+        tables = tables;
+      }
+
   -- A figure comes after a line, before any table.
   pub figure-reached : (f : Float) → Fits (kindOf FG) so → recordAt bytes (so .at) ≡ found.Figure f
       → f ≡ floatOf (isKept bytes (so .at)) bytes (so .at) → so .at + kindOf FG .size ≤ length bytes → 1 ≤ f .cite → f .cite ≤ so .lines
@@ -136,25 +152,11 @@ module _ (bytes : List ℕ) (so : Sofar) (r : Reached bytes so) where
       let more = counted-more figure (so .figures) so (r .figures .counted) late in
       let few = rw more at (more-few (kindOf FG) fits (omega arith)) in
       rw more
-      (record {
-        shape =
-            record {
-              fewLines = shape .fewLines;
-              fewFigures = few;
-              fewTables = omega arith;
-              first = shape .first;
-              due = omega arith;
-              within = there;
-            };
-        count = omega (arith, few);
-        lines = record { here = λ e. absurd (omega arith); before = λ l. absurd (omega arith) };
-        head = head-kept _ (fits .soon) (omega arith) refl refl;
-        text = r .text;
-        figures =
-            floats-more (r .figures) _ refl late (rw here (e ∙ ap found.Figure same)) (rw here (sym (ap (λ (f : Float). f .cite) same))) one within
-            grows refl refl;
-        tables = floats-none bytes _ table _ _ (omega arith) tables;
-      })
+      (float-reached _ (fits .soon) (omega arith) refl refl refl
+      (record { fewLines = shape .fewLines; fewFigures = few; fewTables = omega arith; first = shape .first; due = omega arith; within = there })
+      (omega (arith, few))
+      (floats-more (r .figures) _ refl late (rw here (e ∙ ap found.Figure same)) (rw here (sym (ap (λ (f : Float). f .cite) same))) one within grows refl refl)
+      (floats-none bytes _ table _ _ (omega arith) tables))
 
   -- A table comes after a line.
   pub table-reached : (f : Float) → Fits (kindOf TB) so → recordAt bytes (so .at) ≡ found.Table f → f ≡ floatOf false bytes (so .at)
@@ -168,22 +170,7 @@ module _ (bytes : List ℕ) (so : Sofar) (r : Reached bytes so) where
       let more = counted-more table (so .tables) so (r .tables .counted) late in
       let few = rw more at (more-few (kindOf TB) fits (omega arith)) in
       rw more
-      (record {
-        shape =
-            record {
-              fewLines = shape .fewLines;
-              fewFigures = shape .fewFigures;
-              fewTables = few;
-              first = shape .first;
-              due = omega arith;
-              within = there;
-            };
-        count = omega (arith, few);
-        lines = record { here = λ e. absurd (omega arith); before = λ l. absurd (omega arith) };
-        head = head-kept _ (fits .soon) (omega arith) refl refl;
-        text = r .text;
-        figures = floats-kept (r .figures) _ refl (omega arith);
-        tables =
-            floats-more (r .tables) _ refl late (rw here (e ∙ ap found.Table same)) (rw here (sym (ap (λ (f : Float). f .cite) same))) one within
-            grows refl refl;
-      })
+      (float-reached _ (fits .soon) (omega arith) refl refl refl
+      (record { fewLines = shape .fewLines; fewFigures = shape .fewFigures; fewTables = few; first = shape .first; due = omega arith; within = there })
+      (omega (arith, few)) (floats-kept (r .figures) _ refl (omega arith))
+      (floats-more (r .tables) _ refl late (rw here (e ∙ ap found.Table same)) (rw here (sym (ap (λ (f : Float). f .cite) same))) one within grows refl refl))

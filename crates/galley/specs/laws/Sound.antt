@@ -5,7 +5,7 @@ use mathlib.Core.List.{List}
 use mathlib.Core.Path.{_≡_}
 use lib.ListN.{length}
 use Rattle.galley.specs.Whole.{beginning, settled, readFrom, galleyOf}
-use Rattle.galley.specs.Sound.{Sound}
+use Rattle.galley.specs.Sound.{Opening, Sound}
 use Rattle.galley.specs.laws.Reached.{Reached, reached-none}
 use Rattle.galley.specs.laws.Step.{Right, Fine, step-fine}
 use Rattle.galley.specs.declared.Galley.{Galley}
@@ -34,7 +34,12 @@ galley-right bytes = read-right bytes (suc (length bytes)) beginning (reached-no
 -- A galley that reads without refusal is sound.
 pub sound : (bytes : List ℕ) (g : Galley) → galleyOf bytes ≡ reads.Galley g → Sound bytes g
 unfolding Right
-sound bytes g h = rw h at (galley-right bytes)
+sound bytes g h = (rw h at (galley-right bytes)) .0
+
+-- Its first folio stands in an `FO`, or is 1.
+pub opening : (bytes : List ℕ) (g : Galley) → galleyOf bytes ≡ reads.Galley g → Opening bytes g
+unfolding Right
+opening bytes g h = (rw h at (galley-right bytes)) .1
 
 -- A galley that is refused is refused with a number from 1 to 8.
 pub refusal-number : (bytes : List ℕ) (number place : ℕ) → galleyOf bytes ≡ reads.Refused number place → (1 ≤ number) × (number ≤ 8)

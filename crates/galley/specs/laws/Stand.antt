@@ -16,6 +16,7 @@ use Rattle.galley.specs.declared.Kind.{Kind}
 use Rattle.galley.specs.declared.Spec.{Spec}
 use Rattle.galley.specs.declared.Line.{Line}
 use Rattle.galley.specs.declared.Float.{Float}
+use Rattle.galley.specs.declared.Record.{Record}
 use Rattle.galley.specs.declared.Record.the-variants as found
 use Rattle.galley.specs.declared.Reading.the-variants as reads
 use Rattle.galley.specs.declared.Sofar.{Sofar}
@@ -59,18 +60,20 @@ module _ (bytes : List ℕ) (so : Sofar) where
         le-ltb cite (moved so kind .last) grows,
       )
 
-  pub figure-step : (f : Float) → recordAt bytes (so .at) ≡ found.Figure f → Fits (kindOf FG) so
-      → 1 ≤ f .cite → f .cite ≤ so .lines → moved so (kindOf FG) .last ≤ f .cite
-      → stepFrom bytes so ≡ On (withFigure (moved so (kindOf FG)) (f .cite))
+  -- A float of a stream goes on where it fits and is rightly cited.
+  abbrev FloatStep : ℕ → (Sofar → ℕ → Sofar) → (Float → Record) → Type 0
+  FloatStep mark with-one due =
+      (f : Float) → recordAt bytes (so .at) ≡ due f → Fits (kindOf mark) so → 1 ≤ f .cite → f .cite ≤ so .lines
+      → moved so (kindOf mark) .last ≤ f .cite → stepFrom bytes so ≡ On (with-one (moved so (kindOf mark)) (f .cite))
+
+  pub figure-step : FloatStep FG withFigure found.Figure
   unfolding Found after
   figure-step f e fits one within grows =
       let h = rw e at (found-at bytes (so .at)) in
       rw (figure-kind (f .kept)) at (fit-step (figureMark (f .kept)) (h .marked) (h .there) (rw (figure-kind (f .kept)) fits))
       ∙ rw e (cited-on (kindOf FG) (f .cite) _ one within grows)
 
-  pub table-step : (f : Float) → recordAt bytes (so .at) ≡ found.Table f → Fits (kindOf TB) so
-      → 1 ≤ f .cite → f .cite ≤ so .lines → moved so (kindOf TB) .last ≤ f .cite
-      → stepFrom bytes so ≡ On (withTable (moved so (kindOf TB)) (f .cite))
+  pub table-step : FloatStep TB withTable found.Table
   unfolding Found after
   table-step f e fits one within grows =
       let h = rw e at (found-at bytes (so .at)) in

@@ -14,7 +14,7 @@ use Rattle.galley.specs.Record.{isSecond, blockOf, lineOf, recordAt}
 use Rattle.galley.specs.Whole.{Opened, moved, refused, cited, closed, after, stepFrom}
 use Rattle.galley.specs.Block.{offset}
 use Rattle.galley.specs.Range.{BlockRanged, LineRanged}
-use Rattle.galley.specs.Sound.{SoundFloats, Sound}
+use Rattle.galley.specs.Sound.{SoundFloats, Sound, Opening}
 use Rattle.galley.specs.laws.Pick.{pick-has, or-false}
 use Rattle.galley.specs.laws.Place.{kind-sized, figure-kind, Fits, unfit-fits}
 use Rattle.galley.specs.laws.Record.{SpecFine, Found, spec-room, found-at}
@@ -35,7 +35,7 @@ use Rattle.galley.specs.declared.Step.the-variants.{On, Done}
 
 -- A galley is sound, and a refusal has a number from 1 to 8.
 unfoldable pub Right : List ℕ → Reading → Type 0
-Right bytes (reads.Galley g) = Sound bytes g
+Right bytes (reads.Galley g) = Sound bytes g × Opening bytes g
 Right bytes (reads.Refused number place) = (1 ≤ number) × (number ≤ 8)
 
 -- Where reading goes on, it has come farther, and what was read is known; where it is done, the answer is right.
@@ -118,7 +118,7 @@ module _ (bytes : List ℕ) (so : Sofar) (r : Reached bytes so) where
       let whole = ltb-false (so .at + 2) (length bytes) none in
       let line : (k : ℕ) → 1 ≤ k → k ≤ g .text .count → LineRanged (lineOf bytes (offset (g .text) k))
       = λ k one h. line-read-ranged bytes (offset (g .text) k) (r .text k one h) in
-      record {
+      let known : Sound bytes g = record {
         someLines = fits .timely (omega arith);
         fewLines = shape .fewLines;
         specRanged = spec-read-fine bytes 0 (r .head .specRead (fits .soon)) .ranged;
@@ -126,7 +126,6 @@ module _ (bytes : List ℕ) (so : Sofar) (r : Reached bytes so) where
         specRead = r .head .specRead (fits .soon);
         someFolio = r .head .folio .some;
         fewFolios = r .head .folio .few;
-        opens = r .head .opens (fits .soon);
         text = record { within = omega arith; ranged = λ k one h. line k one h .block };
         textRead = r .text;
         legals = λ k one h. line k one h .legals;
@@ -135,7 +134,8 @@ module _ (bytes : List ℕ) (so : Sofar) (r : Reached bytes so) where
         follow = refl;
         followTables = refl;
         ends = omega arith;
-      })
+      } in
+      (known, r .head .opens (fits .soon)))
 
   -- What the record at an offset says decides how reading goes on.
   after-fine : (found : Record) → recordAt bytes (so .at) ≡ found → Found bytes (so .at) found → Fits (kindOf (markAt bytes (so .at))) so

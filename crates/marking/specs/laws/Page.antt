@@ -22,13 +22,13 @@ use Rattle.rules.specs.laws.Page.{ahead}
 use Rattle.rules.specs.Waiting.{waitingOf, WalkingOn}
 use Rattle.rules.specs.Sums.{Addable, withPage}
 use Rattle.rules.specs.laws.Walked.{waiting-few}
-use Rattle.marking.specs.declared.heights.Laid.{Laid}
+use Rattle.laying.specs.declared.Laid.{Laid}
 use Rattle.marking.specs.Parts.{pagesIn, WholePages}
 use Rattle.marking.specs.Judged.{firstFault, KeptPages}
-use Rattle.marking.specs.Heights.{barePage, isLaid, withNext, Open}
+use Rattle.laying.specs.Heights.{barePage, isLaid, withNext, Open}
 use Rattle.marking.specs.laws.Faults.{broken-start, goes-forward, broken-over, broken-end}
-use Rattle.marking.specs.laws.Next.{left}
-use Rattle.marking.specs.laws.Heights.{SoFar, so-far-bare, so-far-open, so-far-next, so-far-less, page-over, page-fits, page-loose, page-fills}
+use Rattle.laying.specs.laws.Next.{left}
+use Rattle.laying.specs.laws.Heights.{SoFar, so-far-bare, so-far-open, so-far-next, so-far-less, page-over, page-fits, page-loose, page-fills}
 use Rattle.marking.specs.laws.Rest.{rest-long}
 use Rattle.marking.specs.laws.Run.{Run, pageAt, brokenAt, run-refused, run-next, run-kept}
 

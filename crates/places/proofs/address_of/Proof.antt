@@ -26,11 +26,4 @@ pub address-of-spec : {M : Type 1} → statement M
 address-of-spec =
     tie.close
     (tie.spec
-    (λ c. search needs)
-    mul-result
-    (λ c. search needs)
-    add-result
-    mul-result-2
-    (λ c. search needs)
-    add-result-2
-    returns)
+    (λ c. search needs) mul-result (λ c. search needs) add-result mul-result-2 (λ c. search needs) add-result-2 returns)

@@ -32,21 +32,6 @@ pub put-spec : {M : Type 1} → statement M
 put-spec =
     tie.close
     (tie.spec
-    (λ c. search needs)
-    (λ c. search needs)
-    (λ c κs. search needs)
-    (λ c. search needs)
-    (λ c. search needs)
-    slice-write-work-2
-    (λ c κs. search needs)
-    (λ c. search needs)
-    (λ c. search needs)
-    slice-write-work-3
-    (λ c. search needs)
-    (λ c. search needs)
-    slice-write-work-4
-    (λ c. search needs)
-    (λ c. search needs)
-    slice-write-work-5
-    (λ c. search needs)
-    returns)
+    (λ c. search needs) (λ c. search needs) (λ c κs. search needs) (λ c. search needs) (λ c. search needs) slice-write-work-2
+    (λ c κs. search needs) (λ c. search needs) (λ c. search needs) slice-write-work-3 (λ c. search needs) (λ c. search needs)
+    slice-write-work-4 (λ c. search needs) (λ c. search needs) slice-write-work-5 (λ c. search needs) returns)

@@ -51,14 +51,14 @@ module _ (g : Galley) where
   column-at i c k = column-of-floats (floatSizes g) c k
 
   -- A place of the galley has a line and a column, and is theirs.
-  pub record Placed (v : Place) : Type 0 where
+  pub record Located (v : Place) : Type 0 where
     pub line : count v 0 ≤ g .stream 0 .size
     pub column : columnIn g v < columns (floatSizes g)
     pub floats : Inside (floatSizes g) (floatPlace v)
     pub shape : v ≡ count v 0 ∷ floatPlace v
     pub is : v ≡ placeAt g (count v 0) (columnIn g v)
 
-  pub place-of : (v : Place) → Inside (sizes g) v → Placed v
+  pub place-of : (v : Place) → Inside (sizes g) v → Located v
   unfolding columnIn floatPlace placeAt count
   place-of [] h = absurd (omega (arith, rw sizes-cons at (h .long)))
   place-of (i ∷ js) h =

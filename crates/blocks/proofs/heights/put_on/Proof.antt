@@ -63,14 +63,4 @@ pub put-on-spec : {M : Type 1} → statement M
 put-on-spec =
     tie.close
     (tie.spec
-    (λ c κs. search needs)
-    field-requires-2
-    field-requires-3
-    add-t11
-    add-t12
-    add-t13
-    add-t14
-    returns
-    add-t15
-    add-t16
-    returns-2)
+    (λ c κs. search needs) field-requires-2 field-requires-3 add-t11 add-t12 add-t13 add-t14 returns add-t15 add-t16 returns-2)

@@ -25,9 +25,6 @@ judge-list-spec =
     tie.close
     (tie.spec
     (λ c κs. c .before .before .pre .list)
-    (λ c. search needs)
-    (λ c. search needs)
+    (λ c. search needs) (λ c. search needs)
     (λ c. omega (arith, c .before .before .before .before .before .before .pre .few))
-    finish-requires
-    returns
-    returns-2)
+    finish-requires returns returns-2)

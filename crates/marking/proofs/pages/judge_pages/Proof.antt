@@ -13,7 +13,7 @@ use Rattle.galley.specs.declared.Galley.{Galley}
 use Rattle.blocks.specs.laws.Counts.{words-least}
 use Rattle.marking.specs.declared.pages.Judged.the-variants.{Broken}
 use Rattle.marking.specs.Judged.{firstFault, JudgedPages}
-use Rattle.marking.specs.laws.Next.{left}
+use Rattle.laying.specs.laws.Next.{left}
 use Rattle.marking.specs.laws.Page.{run-few, Begun, page-left, page-there, page-few, run-over, begins, begun-proper, begun-refused, begun-ahead, Underway, underway-bare, underway-open, underway-more, underway-less, underway-over, underway-ended, underway-next, underway-walking, underway-addable}
 use Rattle.marking.specs.laws.Run.{Run, run-start}
 use Rattle.marking.proofs.pages.judge_pages.Statement.{statement}
@@ -144,32 +144,11 @@ pub judge-pages-spec : {M : Type 1} → statement M
 judge-pages-spec =
     tie.close
     (tie.spec
-    Inv-loop
-    μ-loop
-    Inv-pages
-    μ-pages
-    (λ c κs. search needs)
+    Inv-loop μ-loop Inv-pages μ-pages (λ c κs. search needs)
     (λ c. omega (arith, c .page-words .ensures .1, words-least (c .before .before .before .args .g)))
     pages-holds
     (λ c. omega (arith, low c))
     (λ c. omega (arith, low c))
-    mul-page-at
-    page-at-requires
-    start-fault-requires
-    bare-page-requires
-    loop-holds
-    (λ c κs. search needs)
-    with-next-requires
-    loop-less
-    loop-again
-    add-closing
-    end-fault-requires
-    waiting-on-requires
-    with-page-requires
-    add-done
-    pages-less
-    pages-again
-    returns
-    returns-2
-    returns-3
-    returns-4)
+    mul-page-at page-at-requires start-fault-requires bare-page-requires loop-holds (λ c κs. search needs) with-next-requires loop-less
+    loop-again add-closing end-fault-requires waiting-on-requires with-page-requires add-done pages-less pages-again returns returns-2
+    returns-3 returns-4)

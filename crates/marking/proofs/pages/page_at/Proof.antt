@@ -36,10 +36,8 @@ page-at-spec =
     (λ c. omega (arith, c .before .before .before .pre, c .before .before .before .fits))
     (λ c. omega arith)
     (λ c. omega (arith, c .before .before .before .before .pre, words-least (c .before .before .before .before .args .g)))
-    (λ c κs. search needs)
-    returns
+    (λ c κs. search needs) returns
     (λ c. omega (arith, c .before .before .before .before .before .before .before .pre, c .before .before .before .before .before .before .before .fits, three c))
     (λ c. omega arith)
     (λ c. omega (arith, c .before .before .before .before .before .before .before .before .pre, three (c .before)))
-    (λ c κs. search needs)
-    returns-2)
+    (λ c κs. search needs) returns-2)

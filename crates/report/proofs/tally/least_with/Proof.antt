@@ -10,7 +10,6 @@ unfolding leastWith
 least-with-spec =
     tie.close
     (tie.spec
-    (λ c κs. search needs)
-    (λ c κs. search needs)
+    (λ c κs. search needs) (λ c κs. search needs)
     (λ c. simp (eq-eqb _ _ (c .if1 .taken), c .before .before .wide .ensures))
     (λ c. simp (ne-eqb _ _ (c .before .if1 .left), c .lesser .ensures, c .before .before .before .wide .ensures)))

@@ -1,7 +1,0 @@
--- `galley::records::spec_at` meets its contract. Its fields are those of a specification.
-use borrow.Author.Needs.{needs}
-use Rattle.galley.proofs.records.spec_at.Statement.{statement}
-use Rattle.galley.proofs.records.spec_at.Tie as tie
-
-pub spec-at-spec : {M : Type 1} → statement M
-spec-at-spec = tie.close (tie.spec (λ c κs. search needs) (λ c κs. search needs) (λ c κs. search needs) (λ c. cc))

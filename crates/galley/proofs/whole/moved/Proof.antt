@@ -1,7 +1,0 @@
--- `galley::whole::moved` meets its contract. It says what the definition says, and small sums fit.
-use borrow.Author.Needs.{needs}
-use Rattle.galley.proofs.whole.moved.Statement.{statement}
-use Rattle.galley.proofs.whole.moved.Tie as tie
-
-pub moved-spec : {M : Type 1} → statement M
-moved-spec = tie.close (tie.spec (λ c κs. search needs) (λ c κs. search needs) (λ c. search needs) (λ c. cc))

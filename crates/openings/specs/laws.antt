@@ -1,0 +1,2 @@
+-- The laws behind openings.
+pub mod Judged

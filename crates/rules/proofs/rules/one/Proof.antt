@@ -1,7 +1,0 @@
--- `one` meets its contract: by its test.
-use native.Mathlib.Omega.{arith}
-use Rattle.rules.proofs.rules.one.Statement.{statement}
-use Rattle.rules.proofs.rules.one.Tie as tie
-
-pub one-spec : {M : Type 1} → statement M
-one-spec = tie.close (tie.spec (λ c. (rw (c .if1 .taken), omega arith)) (λ c. (rw (c .if1 .left), omega arith)))
