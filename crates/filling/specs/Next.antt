@@ -12,6 +12,7 @@ use Rattle.blocks.specs.declared.Counts.{Counts}
 use Rattle.blocks.specs.Heights.{noHeights}
 use Rattle.rules.specs.Waiting.{waitingOf}
 use Rattle.places.specs.declared.Origin.{Origin}
+use Rattle.places.specs.declared.Entry.the-variants.{Unreached}
 use Rattle.places.specs.Address.{wordsNeeded}
 use Rattle.places.specs.Best.{Best}
 use Rattle.window.specs.declared.slide.Load.{Load}
@@ -25,7 +26,8 @@ use Rattle.starts.specs.Fronts.{bestFront, Fronted}
 use Rattle.starts.specs.Choice.{Starts, Above, Between}
 use Rattle.rules.specs.Parts.{allPlaced}
 use Rattle.starts.specs.Read.{tableIn, sideOf, searchOf, columnsIn, countsAt, loadOf}
-use Rattle.starts.specs.Sweep.{Lent, Scratch, Summed, Knows, Known}
+use Rattle.starts.specs.Look.{Found}
+use Rattle.starts.specs.Sweep.{Lent, Scratch, Summed, Knows, Known, Clean}
 use Rattle.filling.specs.declared.side.Task.{Task}
 use Rattle.filling.specs.declared.side.End.{End}
 use Rattle.filling.specs.declared.side.Windows.{Windows}
@@ -51,6 +53,7 @@ priceOf g last ends waiting = pick last 0 (pick ends (g .spec .alpha * waiting +
 pub record Next (bytes : List ℕ) (task : Task) (w : List ℕ) (i j : ℕ) : Type 0 where
   pub lent : Lent bytes (task .galley) w j
   pub cheap : task .origin .cost ≤ 4600000000000000000
+  pub line : task .origin .place .line ≤ task .galley .text .count
   pub origin : task .origin .place .column < columnsIn (task .galley)
   pub filled : Filled (modelOf bytes (task .galley)) (task .origin) (tableIn (task .galley) w) i j
 
@@ -61,27 +64,37 @@ pub record Ending (bytes : List ℕ) (g : Galley) (end : End) : Type 0 where
   pub found : end .waiting ≡ waitsAt bytes g (end .at)
   pub stop : end .stop ≡ stopAt bytes g (end .at)
 
--- The load of a page of lines alone: nothing beside them.
-abbrev pub plain : Galley → Load
-plain g = loadOf g 0 noHeights (g .spec .htmin)
+-- The load of a page of lines alone, which is no lower than `least`: nothing beside them, and no start before the origin's line.
+abbrev pub bare : Task → ℕ → Load
+bare task least = loadOf (task .galley) 0 noHeights least (task .origin .place .line)
+
+-- That of a page that is not the last.
+abbrev pub plain : Task → Load
+plain task = bare task (task .galley .spec .htmin)
+
+-- No line of column b before the origin's is reached on a side, of those above line i.
+abbrev pub Before : Task → List ℕ → ℕ → ℕ → ℕ → Type 0
+Before task w b side i = (a : ℕ) → a < task .origin .place .line → a < i → linesOf w (task .galley .text .count + 1) b side a ≡ Unreached
 
 -- What is known of the starts of a page that ends at a place, on a side.
 abbrev pub StartsFor : List ℕ → Galley → List ℕ → End → (ℕ → ℕ → Type 0) → ℕ → ℕ → ℕ → Type 0
 StartsFor bytes g w end P = Starts (searchOf bytes g w (end .at .lines) (end .column) (sideOf g (end .side))) P
 
 -- The lines above in the column can be weighed, and the better of the queues' fronts is the best of them but for the last page.
-pub record LinesAbove (bytes : List ℕ) (g : Galley) (w sums words : List ℕ) (parts : Parts) (end : End) : Type 0 where
-  pub lent : Lent bytes g w (end .column)
-  pub line : end .at .lines ≤ g .text .count
-  pub counts : end .at ≡ countsAt g (end .at .lines) (end .column)
-  pub full : end .stop .full ≡ allPlaced g (end .at)
+pub record LinesAbove (bytes : List ℕ) (task : Task) (w sums words : List ℕ) (parts : Parts) (end : End) : Type 0 where
+  pub lent : Lent bytes (task .galley) w (end .column)
+  pub begin : task .origin .place .line ≤ task .galley .text .count
+  pub before : Before task w (end .column) (sideOf (task .galley) (end .side)) (end .at .lines)
+  pub line : end .at .lines ≤ task .galley .text .count
+  pub counts : end .at ≡ countsAt (task .galley) (end .at .lines) (end .column)
+  pub full : end .stop .full ≡ allPlaced (task .galley) (end .at)
   pub side : end .side ≤ 1
-  pub summed : Summed bytes g sums
-  pub costs : Payable (linesOf w (g .text .count + 1) (end .column) (sideOf g (end .side))) (end .at .lines)
-  pub front : Fronted sums words parts (end .column) (plain g) (end .at .lines)
-  pub best : allPlaced g (end .at) ≡ false
-      → Best (StartsFor bytes g w end (Above (end .column) (end .at .lines)))
-      (bestFront sums words parts (end .column) (plain g) (end .at .lines))
+  pub summed : Summed bytes (task .galley) sums
+  pub costs : Payable (linesOf w (task .galley .text .count + 1) (end .column) (sideOf (task .galley) (end .side))) (end .at .lines)
+  pub front : Fronted sums words parts (end .column) (plain task) (end .at .lines)
+  pub best : allPlaced (task .galley) (end .at) ≡ false
+      → Best (StartsFor bytes (task .galley) w end (Above (end .column) (end .at .lines)))
+      (bestFront sums words parts (end .column) (plain task) (end .at .lines))
 
 -- The entry of a place on a side comes next.
 pub record EntryNext (bytes : List ℕ) (task : Task) (w sums words : List ℕ) (parts : Parts) (end : End) : Type 0 where
@@ -89,13 +102,13 @@ pub record EntryNext (bytes : List ℕ) (task : Task) (w sums words : List ℕ) 
   pub ending : Ending bytes (task .galley) end
   pub turns : end .turns ≡ turnsOn (task .galley) (end .side)
   pub side : Side (modelOf bytes (task .galley) .spec .sides) (end .side)
-  pub above : LinesAbove bytes (task .galley) w sums words parts end
+  pub above : LinesAbove bytes task w sums words parts end
   pub known : Knows bytes (task .galley) w (end .at .lines) (end .column) (end .side) (Between 0 (end .column))
 
 -- The windows of line i, for pages of lines alone.
-pub record Slides (bytes : List ℕ) (g : Galley) (windows : Windows) (i : ℕ) : Type 0 where
+pub record Slides (bytes : List ℕ) (task : Task) (windows : Windows) (i : ℕ) : Type 0 where
   pub rises : Rises (windows .from) (windows .to)
-  pub opened : Open (textOf bytes (g .text)) (plain g) (windows .to) i
+  pub opened : Open (textOf bytes (task .galley .text)) (plain task) (windows .to) i
 
 -- One side of a place comes next: its words hold the best start in an earlier column, and its queues the starts above.
 pub record SideNext (bytes : List ℕ) (task : Task) (w sums words : List ℕ) (parts : Parts) (windows : Windows) (end : End)
@@ -104,7 +117,7 @@ pub record SideNext (bytes : List ℕ) (task : Task) (w sums words : List ℕ) (
   pub ending : Ending bytes (task .galley) end
   pub summed : Summed bytes (task .galley) sums
   pub scratch : Scratch words
-  pub slides : Slides bytes (task .galley) windows (end .at .lines)
+  pub slides : Slides bytes task windows (end .at .lines)
   pub occurs : end .side < task .galley .spec .sides
   pub turns : end .turns ≡ turnsOn (task .galley) (end .side)
   pub held : Both (linesOf w (task .galley .text .count + 1) (end .column) (sideOf (task .galley) (end .side))) sums words
@@ -142,7 +155,7 @@ pub record PlaceNext (bytes : List ℕ) (task : Task) (w sums words ends : List 
   pub ending : Ending bytes (task .galley) end
   pub summed : Summed bytes (task .galley) sums
   pub scratch : Scratch words
-  pub slides : Slides bytes (task .galley) windows (end .at .lines)
+  pub slides : Slides bytes task windows (end .at .lines)
   pub queued : Queues (task .galley) w sums words ends (end .column) (windows .from) (windows .to) 0
   pub waits : Waits bytes (task .galley) w (end .column) (2 * end .at .lines)
 
@@ -158,15 +171,28 @@ pub record ColumnNext (bytes : List ℕ) (task : Task) (w sums words : List ℕ)
   pub summed : Summed bytes (task .galley) sums
   pub scratch : Scratch words
 
--- Its starts in earlier columns are known.
-pub record LastNext (bytes : List ℕ) (task : Task) (w sums words : List ℕ) (j : ℕ) : Type 0 where
+-- No line of column j from the origin's on and before r has a start in an earlier column, nor is it the origin's.
+pub record Begun (task : Task) (w : List ℕ) (j r : ℕ) : Type 0 where
+  pub found : Found (task .galley) w j (task .origin .place .line) r
+  pub later : (i : ℕ) → i < r → (i ≡ task .origin .place .line) × (j ≡ task .origin .place .column) → ⊥
+
+-- Its starts in earlier columns are known, and a place without one is empty.
+pub record Gathered (bytes : List ℕ) (task : Task) (w sums words : List ℕ) (j : ℕ) : Type 0 where
   pub column : ColumnNext bytes task w sums words j
   pub known : Known bytes (task .galley) w j 0
+  pub clean : Clean (task .galley) w j
 
--- A galley that was read, an origin in one of its columns at which little was paid, and a work area as long as document 01 asks.
+-- The first of its lines that a page may reach is one of the galley's.
+pub record LastNext (bytes : List ℕ) (task : Task) (w sums words : List ℕ) (j first : ℕ) : Type 0 where
+  pub gathered : Gathered bytes task w sums words j
+  pub begun : Begun task w j first
+  pub within : first ≤ task .galley .text .count
+
+-- A galley that was read, an origin at one of its lines and columns at which little was paid, and a work area as long as document 01 asks.
 pub record Fillable (bytes : List ℕ) (g : Galley) (from : Origin) (w : List ℕ) : Type 0 where
   pub sound : Sound bytes g
   pub cheap : from .cost ≤ 4600000000000000000
+  pub line : from .place .line ≤ g .text .count
   pub origin : from .place .column < columnsIn g
   pub room : wordsNeeded (g .text .count) (columnsIn g) ≤ length w
 

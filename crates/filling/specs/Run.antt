@@ -39,7 +39,7 @@ pub record LastRun (bytes : List ℕ) (task : Task) (w₀ w sums words₀ words 
   pub entries : Filled (modelOf bytes (task .galley)) (task .origin) (tableIn (task .galley) w) i j
   pub run : fillColumn (modelOf bytes (task .galley)) (task .origin) j (suc (task .galley .text .count) - i) i w
       ≡ fillColumn (modelOf bytes (task .galley)) (task .origin) j (suc (task .galley .text .count)) 0 w₀
-  pub slid : Ends (textOf bytes (task .galley .text)) (plain (task .galley)) window i
+  pub slid : Ends (textOf bytes (task .galley .text)) (plain task) window i
   pub queued : Queues (task .galley) w sums words ends j window window 0
   pub waits : Waits bytes (task .galley) w j (2 * i)
 

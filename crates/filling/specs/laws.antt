@@ -7,6 +7,8 @@ pub mod Costs
 pub mod Queues
 pub mod Own
 pub mod NewEntry
+pub mod First
 pub mod Sides
 pub mod Skip
 pub mod Column
+pub mod Columns

@@ -5,7 +5,7 @@ ghost use Rattle.galley.specs.Model.{modelOf};
 ghost use Rattle.starts.specs.Sweep.{ColumnRoom};
 ghost use Rattle.filling.specs.Fill.{fillColumn, filled};
 ghost use Rattle.filling.specs.Skip.{skipSides, skipColumn};
-ghost use Rattle.filling.specs.Next.{LastNext, ColumnNext, TableNext, Fillable};
+ghost use Rattle.filling.specs.Next.{Begun, LastNext, ColumnNext, TableNext, Fillable};
 use crate::side::End;
 use crate::side::Task;
 use crate::side::Windows;
@@ -15,30 +15,36 @@ use galley::Galley;
 use places::Entry;
 use places::Origin;
 use rules::waiting::Waiting;
-use window::slide::Window;
 
-// The places of column j, from no line to all lines, each of which holds its best start in an earlier column. A start in the column
-// itself has its entry there by the time that a queue takes it up. All have the figures and tables of the column's top.
-fn last_sweep(s: &[u8], task: Task, work: &mut [u32], sums: &[u32], words: &mut [u32], j: usize)
-    requires { ⌜ LastNext (now s) task (now work) (now sums) (now words) j ⌝ }
+// The places of column j, from its first line that has a start to all lines, each of which holds its best start in an earlier column. A
+// start in the column itself has its entry there by the time that a queue takes it up, and no line before the first is one. All have the
+// figures and tables of the column's top.
+fn last_sweep(
+    s: &[u8],
+    task: Task,
+    work: &mut [u32],
+    sums: &[u32],
+    words: &mut [u32],
+    j: usize,
+    first: usize,
+)
+    requires { ⌜ LastNext (now s) task (now work) (now sums) (now words) j first ⌝ }
     ensures { λ _. ⌜ now (work .exit) ≡ fillColumn (modelOf (now (s .entry)) (task .galley)) (task .origin) j (suc (task .galley .text .count)) 0 (now (work .entry)) ⌝ }
 {
     let g = task.galley;
     let least = rules::rules::floor_of(g, false);
-    let load = starts::read::load_of(g, 0, Heights { tight: 0, loose: 0 }, least);
+    let begin = task.origin.place.line as usize;
+    let load = starts::read::load_of(g, 0, Heights { tight: 0, loose: 0 }, least, begin);
     let top = starts::read::counts_at(g, 0, j);
     let floats = crate::price::floats_of(s, g, top);
     let mut waiting = Waiting {
         figures: 0,
         tables: 0,
     };
-    let mut span = Window {
-        low: 0,
-        split: 0,
-        high: 0,
-    };
+    let shut = window::slide::shut(load);
+    let mut span = window::slide::slide(sums, load, shut, first);
     let mut ends = [0, 0, 4000, 4000, 8000, 8000, 12000, 12000];
-    let mut i = 0;
+    let mut i = first;
     while i <= g.text.count {
         let at = Counts {
             lines: i,
@@ -88,7 +94,20 @@ fn skip_column(g: Galley, work: &mut [u32], j: usize)
     }
 }
 
-// Column j: first the starts in the columns before it, then those in the column itself.
+// The first line of column j that a page may reach: in the origin's column that of the origin, else the first from there on that has a
+// start in an earlier column; one past the last line where none has.
+fn first_start(task: Task, work: &[u32], j: usize) -> usize
+    requires { ⌜ ColumnRoom (task .galley) (now work) j × (task .origin .place .line ≤ task .galley .text .count) ⌝ }
+    ensures { λ r. ⌜ Begun task (now (work .entry)) j r ⌝ }
+{
+    let line = task.origin.place.line as usize;
+    if j == task.origin.place.column as usize {
+        return line;
+    }
+    starts::look::first_line(task.galley, work, j, line)
+}
+
+// Column j: first the starts in the columns before it, then those in the column itself. Where there is neither it is left unreached.
 fn fill_column(s: &[u8], task: Task, work: &mut [u32], sums: &[u32], words: &mut [u32], j: usize)
     requires { ⌜ ColumnNext (now s) task (now work) (now sums) (now words) j ⌝ }
     ensures { λ _. ⌜ now (work .exit) ≡ fillColumn (modelOf (now (s .entry)) (task .galley)) (task .origin) j (suc (task .galley .text .count)) 0 (now (work .entry)) ⌝ }
@@ -97,8 +116,14 @@ fn fill_column(s: &[u8], task: Task, work: &mut [u32], sums: &[u32], words: &mut
         skip_column(task.galley, work, j);
         return;
     }
-    starts::sweep::sweep_column(s, task.galley, work, sums, words, j);
-    last_sweep(s, task, work, sums, words, j);
+    let line = task.origin.place.line as usize;
+    let origin = starts::read::counts_at(task.galley, line, task.origin.place.column as usize);
+    starts::sweep::sweep_column(s, task.galley, work, sums, words, j, origin);
+    let first = first_start(task, work, j);
+    if task.galley.text.count < first {
+        return;
+    }
+    last_sweep(s, task, work, sums, words, j, first);
 }
 
 // All columns.

@@ -43,18 +43,20 @@ pub struct End {
 // queues hold only the starts of pages that are high enough.
 fn lines_above(
     s: &[u8],
-    g: Galley,
+    task: Task,
     work: &[u32],
     sums: &[u32],
     words: &[u32],
     parts: Parts,
     end: End,
 ) -> Entry
-    requires { ⌜ LinesAbove (now s) g (now work) (now sums) (now words) parts end ⌝ }
-    ensures { λ r. ⌜ Best (Starts (searchOf (now (s .entry)) g (now (work .entry)) (end .at .lines) (end .column) (sideOf g (end .side))) (Above (end .column) (end .at .lines))) r ⌝ }
+    requires { ⌜ LinesAbove (now s) task (now work) (now sums) (now words) parts end ⌝ }
+    ensures { λ r. ⌜ Best (Starts (searchOf (now (s .entry)) (task .galley) (now (work .entry)) (end .at .lines) (end .column) (sideOf (task .galley) (end .side))) (Above (end .column) (end .at .lines))) r ⌝ }
 {
+    let g = task.galley;
     let least = rules::rules::floor_of(g, end.stop.full);
-    let load = starts::read::load_of(g, 0, Heights { tight: 0, loose: 0 }, least);
+    let begin = task.origin.place.line as usize;
+    let load = starts::read::load_of(g, 0, Heights { tight: 0, loose: 0 }, least, begin);
     if !end.stop.full {
         return starts::fronts::best_front(sums, words, parts, end.column, load, end.at.lines);
     }
@@ -86,7 +88,7 @@ fn new_entry(
     }
     let place = places::place_of(end.at.lines, end.column);
     let held = places::entry_of(work, g.text.count + 1, place, end.side);
-    let lines = lines_above(s, g, work, sums, words, parts, end);
+    let lines = lines_above(s, task, work, sums, words, parts, end);
     let start = starts::choice::choose(held, lines);
     let Entry::Least(x, from) = start else {
         return Entry::Unreached;

@@ -9,6 +9,7 @@ pub mod Choice
 pub mod Beside
 -- A galley that was read: what the functions ask for, and what holds on the way.
 pub mod Read
+pub mod Look
 pub mod Sweep
 pub mod Swept
 pub mod laws

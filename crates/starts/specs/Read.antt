@@ -51,14 +51,16 @@ lastColumn g column = eqb (column + 1) (columnsIn g)
 abbrev pub lastPlace : Galley → ℕ → ℕ → Bool
 lastPlace g i j = eqb i (g .text .count) && lastColumn g j
 
--- What a page of lines and these floats has beside its lines, with so many separations, and the heights that it must keep to.
-abbrev pub loadOf : Galley → ℕ → Heights → ℕ → Load
-loadOf g separations floats least =
+-- What a page of lines and these floats has beside its lines, with so many separations, the heights that it must keep to, and the first
+-- line that it may start from.
+abbrev pub loadOf : Galley → ℕ → Heights → ℕ → ℕ → Load
+loadOf g separations floats least first =
     record {
       tight = floats .tight + separations * g .spec .smin;
       loose = floats .loose + separations * g .spec .smax;
       htmin = least;
       htmax = g .spec .htmax;
+      first = first;
     }
 
 -- (i, j) is a place of a galley that was read, by line and column.

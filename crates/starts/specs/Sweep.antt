@@ -22,7 +22,7 @@ use Rattle.places.specs.Best.{Affordable, Best}
 use Rattle.window.specs.declared.slide.Load.{Load}
 use Rattle.window.specs.declared.slide.Window.{Window}
 use Rattle.window.specs.Sums.{Sums}
-use Rattle.window.specs.Slide.{Slidable, Open}
+use Rattle.window.specs.Slide.{shutAt, Slidable, Open}
 use Rattle.window.specs.Queue.{linesOf, Lines, Payable}
 use Rattle.starts.specs.declared.sweep.Pass.{Pass}
 use Rattle.starts.specs.declared.sweep.Row.{Row}
@@ -53,7 +53,7 @@ pub record Summed (bytes : List ℕ) (g : Galley) (sums : List ℕ) : Type 0 whe
 
 -- What a page of the pass has beside its lines.
 abbrev pub passLoad : Galley → Pass → Load
-passLoad g pass = loadOf g 1 (pass .heights) (pass .least)
+passLoad g pass = loadOf g 1 (pass .heights) (pass .least) (pass .first)
 
 -- A pass leads to a later column from one that has no more of any stream, and the floats between, with these heights alone, are not
 -- too tall.
@@ -82,11 +82,12 @@ pub record Ended (g : Galley) (w : List ℕ) (i c : ℕ) (pass : Pass) : Type 0 
   pub end : Stands w (g .text .count + 1) (record { line = i; column = pass .to }) c
   pub side : c ≤ 1
 
--- The lines of a column stand in the work area with small costs, and their window can be found from the first line on.
+-- The lines of a column stand in the work area with small costs, and their window can be found from the first one that is reached on.
 pub record LinesStand (g : Galley) (w sums : List ℕ) (load : Load) (column side : ℕ) : Type 0 where
   pub stands : (a : ℕ) → a ≤ g .text .count → Stands w (g .text .count + 1) (record { line = a; column = column }) side
   pub costs : Payable (linesOf w (g .text .count + 1) column side) (g .text .count)
-  pub slides : Slidable sums load (record { low = 0; split = 0; high = 0 }) (g .text .count)
+  pub first : load .first ≤ g .text .count
+  pub slides : Slidable sums load (shutAt load) (g .text .count)
 
 -- The entry is the best of the lines of a column in the window of the last line.
 pub record LastBest (g : Galley) (w sums : List ℕ) (load : Load) (column side : ℕ) (e : Entry) : Type 0 where
@@ -141,11 +142,19 @@ pub record ColumnRoom (g : Galley) (w : List ℕ) (j : ℕ) : Type 0 where
   pub two : g .spec .sides ≤ 2
   pub room : wordsNeeded (g .text .count) (columnsIn g) ≤ length w
 
--- The places of column j before number n are unreached.
-abbrev pub Blank : Galley → List ℕ → ℕ → ℕ → Type 0
-Blank g w j n = (k c : ℕ) → k ≤ g .text .count → c < g .spec .sides → number c k < n → tableIn g w k j c ≡ Unreached
+-- Place (k, j) has the words of an unreached place on side c: to store that once more changes nothing.
+abbrev pub Empty : Galley → List ℕ → ℕ → ℕ → ℕ → Type 0
+Empty g w k j c = stored w (address (g .text .count + 1) k j c) Unreached ≡ w
 
--- The places of column j from number n on and before m are unreached too, and nothing else has changed.
+-- The places of column j before number n are empty.
+abbrev pub Blank : Galley → List ℕ → ℕ → ℕ → Type 0
+Blank g w j n = (k c : ℕ) → k ≤ g .text .count → c < g .spec .sides → number c k < n → Empty g w k j c
+
+-- Every unreached place of column j is empty.
+abbrev pub Clean : Galley → List ℕ → ℕ → Type 0
+Clean g w j = (k c : ℕ) → k ≤ g .text .count → c < g .spec .sides → tableIn g w k j c ≡ Unreached → Empty g w k j c
+
+-- The places of column j from number n on and before m are empty too, and nothing else has changed.
 pub record Cleared (g : Galley) (w v : List ℕ) (j n m : ℕ) : Type 0 where
   pub sized : length v ≡ length w
   pub blank : Blank g w j n → Blank g v j m

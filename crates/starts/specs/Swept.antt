@@ -9,6 +9,7 @@ use Rattle.model.specs.Rules.{floor}
 use Rattle.galley.specs.declared.Galley.{Galley}
 use Rattle.galley.specs.Model.{textOf, floatsOf, modelOf}
 use Rattle.rules.specs.Sums.{whiteAt}
+use Rattle.blocks.specs.declared.Counts.{Counts}
 use Rattle.blocks.specs.declared.heights.Heights.{Heights}
 use Rattle.blocks.specs.Heights.{Stacked}
 use Rattle.window.specs.declared.slide.Window.{Window}
@@ -20,17 +21,21 @@ use Rattle.window.specs.Windows.{Kept}
 use Rattle.starts.specs.declared.sweep.Pass.{Pass}
 use Rattle.starts.specs.declared.sweep.Row.{Row}
 use Rattle.starts.specs.Read.{sideOf, countsAt, rowOf}
-use Rattle.starts.specs.Sweep.{Lent, Scratch, Summed, passLoad, Passing, Known, number, Swept, Scratched, sweepEnd, rowTop}
+use Rattle.starts.specs.Look.{Quiet, PastOrigin}
+use Rattle.starts.specs.Sweep.{Lent, Scratch, Summed, passLoad, Passing, Known, number, Swept, Scratched, sweepEnd, Clean, rowTop}
 
 -- A column that no start is known of: the starts in the columns before it are to be known.
-pub record ColumnSweep (bytes : List ℕ) (g : Galley) (w sums words : List ℕ) (j : ℕ) : Type 0 where
+pub record ColumnSweep (bytes : List ℕ) (g : Galley) (w sums words : List ℕ) (j : ℕ) (origin : Counts) : Type 0 where
   pub lent : Lent bytes g w j
+  pub past : PastOrigin g w j origin
   pub summed : Summed bytes g sums
   pub scratch : Scratch words
 
 -- The starts in rows from that of b figures on are known.
-pub record ColumnSweepRun (bytes : List ℕ) (g : Galley) (w₀ w words₀ words : List ℕ) (j : ℕ) (heights : Heights) (b : ℕ) : Type 0 where
+pub record ColumnSweepRun (bytes : List ℕ) (g : Galley) (w₀ w words₀ words : List ℕ) (j : ℕ) (origin : Counts) (heights : Heights) (b : ℕ)
+    : Type 0 where
   pub lent : Lent bytes g w j
+  pub past : PastOrigin g w j origin
   pub scratch : Scratch words
   pub within : b ≤ suc (countsAt g 0 j .figures)
   pub sized : length w ≡ length w₀
@@ -39,14 +44,16 @@ pub record ColumnSweepRun (bytes : List ℕ) (g : Galley) (w₀ w words₀ words
   pub known : Known bytes g w j (rowOf g b)
   pub kept : Scratched g j w₀ w
 
--- The starts in all columns before are known, and nothing else has changed.
+-- The starts in all columns before are known, a place without one is empty, and nothing else has changed.
 pub record ColumnSwept (bytes : List ℕ) (g : Galley) (w v : List ℕ) (j : ℕ) : Type 0 where
   pub known : Known bytes g v j 0
+  pub clean : Clean g v j
   pub kept : Scratched g j w v
 
 -- A row whose starts are to be known, those in later rows being known.
 pub record RowSweep (bytes : List ℕ) (g : Galley) (w sums words : List ℕ) (row : Row) : Type 0 where
   pub lent : Lent bytes g w (row .to)
+  pub past : PastOrigin g w (row .to) (row .origin)
   pub summed : Summed bytes g sums
   pub scratch : Scratch words
   pub end : row .end ≡ countsAt g 0 (row .to)
@@ -71,9 +78,14 @@ pub record RowSwept (bytes : List ℕ) (g : Galley) (w v : List ℕ) (row : Row)
   pub known : Known bytes g v (row .to) (rowOf g (row .figures))
   pub kept : Scratched g (row .to) w v
 
+-- No line of the pass before its first is reached.
+abbrev pub Early : Galley → List ℕ → Pass → Type 0
+Early g w pass = Quiet g w (pass .from) (g .spec .sides) 0 (pass .first)
+
 -- A pass whose starts are to be known, those in later columns being known.
 pub record Sweep (bytes : List ℕ) (g : Galley) (w sums words : List ℕ) (pass : Pass) : Type 0 where
   pub lent : Lent bytes g w (pass .to)
+  pub early : Early g w pass
   pub summed : Summed bytes g sums
   pub scratch : Scratch words
   pub passing : Passing bytes g pass
@@ -87,7 +99,7 @@ Windowed bytes g words pass P = Kept (textOf bytes (g .text)) (passLoad g pass) 
 
 -- Line k is one of those that the sweep takes.
 abbrev pub Taken : Galley → Pass → ℕ → Type 0
-Taken g pass k = k < sweepEnd g pass
+Taken g pass k = (pass .first ≤ k) × (k < sweepEnd g pass)
 
 -- The sides before c are swept, and the windows are kept if there is one.
 pub record SweepRun (bytes : List ℕ) (g : Galley) (w₀ w words₀ words : List ℕ) (pass : Pass) (c : ℕ) : Type 0 where
@@ -106,6 +118,8 @@ pub record SweepDone (bytes : List ℕ) (g : Galley) (w v : List ℕ) (pass : Pa
 -- Side c of a pass, the sides before it being swept.
 pub record SideSweep (bytes : List ℕ) (g : Galley) (w sums words : List ℕ) (c : ℕ) (pass : Pass) : Type 0 where
   pub lent : Lent bytes g w (pass .to)
+  pub early : Early g w pass
+  pub first : pass .first ≤ g .text .count
   pub summed : Summed bytes g sums
   pub scratch : Scratch words
   pub passing : Passing bytes g pass
@@ -118,6 +132,7 @@ pub record SideSweep (bytes : List ℕ) (g : Galley) (w sums words : List ℕ) (
 -- Side c has come to line i.
 pub record SideRun (bytes : List ℕ) (g : Galley) (w₀ w sums words₀ words : List ℕ) (c : ℕ) (pass : Pass) (parts : Parts)
     (window : Window) (i : ℕ) : Type 0 where
+  pub from : pass .first ≤ i
   pub within : i ≤ sweepEnd g pass
   pub sized : length w ≡ length w₀
   pub wordsSized : length words ≡ length words₀
@@ -136,6 +151,8 @@ pub record SideDone (bytes : List ℕ) (g : Galley) (w v words : List ℕ) (c : 
 -- The last line of the last column on side c, the lines that the sweep takes being swept.
 pub record LastLine (bytes : List ℕ) (g : Galley) (w sums : List ℕ) (c : ℕ) (pass : Pass) : Type 0 where
   pub lent : Lent bytes g w (pass .to)
+  pub early : Early g w pass
+  pub first : pass .first ≤ g .text .count
   pub summed : Summed bytes g sums
   pub passing : Passing bytes g pass
   pub occurs : c < g .spec .sides

@@ -11,9 +11,11 @@ pub mod Lines
 pub mod Lending
 pub mod Fronts
 pub mod Cells
+pub mod Clean
 pub mod Pass
+pub mod Past
+pub mod Look
 pub mod Side
 pub mod Sweeping
-pub mod Past
 pub mod Row
 pub mod Rows

@@ -38,11 +38,7 @@ pub fn last_lines(
     requires { ⌜ LinesStand g (now work) (now sums) load column side ⌝ }
     ensures { λ r. ⌜ LastBest g (now (work .entry)) (now (sums .entry)) load column side r ⌝ }
 {
-    let first = Window {
-        low: 0,
-        split: 0,
-        high: 0,
-    };
-    let window = window::slide::slide(sums, load, first, g.text.count);
+    let shut = window::slide::shut(load);
+    let window = window::slide::slide(sums, load, shut, g.text.count);
     best_line(work, g.text.count + 1, column, side, window)
 }

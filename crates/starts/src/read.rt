@@ -34,7 +34,7 @@ pub fn counts_at(g: Galley, line: usize, column: usize) -> Counts
 }
 
 // The side of a page by its number: 1 for an odd page of double-sided work, else 0.
-fn side_of(g: Galley, page: u32) -> usize
+pub fn side_of(g: Galley, page: u32) -> usize
     ensures { λ r. ⌜ r ≡ side (sidesIn g) page ⌝ }
 {
     if g.spec.sides == 2 {
@@ -62,10 +62,11 @@ pub fn side_before(g: Galley, c: usize) -> usize
     0
 }
 
-// What a page of lines and these floats has beside its lines, with so many separations, and the heights that it must keep to.
-pub fn load_of(g: Galley, separations: u32, floats: Heights, least: u32) -> Load
+// What a page of lines and these floats has beside its lines, with so many separations, the heights that it must keep to, and the first
+// line that it may start from.
+pub fn load_of(g: Galley, separations: u32, floats: Heights, least: u32, first: usize) -> Load
     requires { ⌜ Separable (g .spec) separations floats ⌝ }
-    ensures { λ r. ⌜ r ≡ loadOf g separations floats least ⌝ }
+    ensures { λ r. ⌜ r ≡ loadOf g separations floats least first ⌝ }
 {
     let page = blocks::heights::separated(g, separations, floats);
     Load {
@@ -73,5 +74,6 @@ pub fn load_of(g: Galley, separations: u32, floats: Heights, least: u32) -> Load
         loose: page.loose,
         htmin: least,
         htmax: g.spec.htmax,
+        first,
     }
 }

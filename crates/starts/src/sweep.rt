@@ -3,32 +3,34 @@
 // in the place's own words. Columns are taken back in their order, row by row: a row has as many figures throughout, and its columns
 // differ in tables.
 ghost use mathlib.Core.Path.{_≡_};
-ghost use Prim.Native.Nat.{_+_, _≤_, _<_};
+ghost use Prim.Native.Nat.{_+_, _≤_};
 ghost use Rattle.places.specs.Address.{Stands};
 ghost use Rattle.places.specs.Best.{Affordable};
 ghost use Rattle.starts.specs.Read.{tableIn};
-ghost use Rattle.starts.specs.Sweep.{aloneOf, weighed, Ended, Wide, sweepEnd, number, ColumnRoom, Cleared, Layable, floatsAlone, rowTop};
+ghost use Rattle.starts.specs.Sweep.{aloneOf, weighed, Ended, Wide, sweepEnd, Layable, floatsAlone, rowTop};
 ghost use Rattle.starts.specs.Swept.{ColumnSweep, ColumnSwept, RowSweep, RowSwept, Sweep, SweepDone, SideSweep, SideDone, LastLine, LineDone};
 use blocks::Counts;
 use blocks::heights::Heights;
 use galley::Galley;
 use places::Entry;
 use window::queue::Source;
-use window::slide::Window;
 
 // One sweep: starts in column `from`, for pages that end in column `to` and are no lower than `least`. A page of the floats between
 // alone has these heights, the separation of figures and tables with them, and this white; beside lines they have one separation more.
+// No line of column `from` before `first` is reached.
 pub struct Pass {
     pub from: usize,
     pub to: usize,
     pub heights: Heights,
     pub least: u32,
     pub white: u32,
+    pub first: usize,
 }
 
 // The columns with so many figures, for pages that end in column `to`, where so much is placed: the figures between have these
-// heights.
+// heights. The search begins where `origin` is placed.
 pub struct Row {
+    pub origin: Counts,
     pub figures: usize,
     pub heights: Heights,
     pub end: Counts,
@@ -72,7 +74,8 @@ fn sweep_end(g: Galley, pass: Pass) -> usize
     g.text.count + 1
 }
 
-// The starts of a pass weighed on side c for every line that the sweep takes.
+// The starts of a pass weighed on side c for every line that the sweep takes. Before the first reached line of their column there are
+// none to weigh, of lines or of floats alone.
 fn sweep_side(
     s: &[u8],
     g: Galley,
@@ -85,7 +88,7 @@ fn sweep_side(
     requires { ⌜ SideSweep (now s) g (now work) (now sums) (now words) c pass ⌝ }
     ensures { λ _. ⌜ SideDone (now (s .entry)) g (now (work .entry)) (now (work .exit)) (now (words .exit)) c pass ⌝ }
 {
-    let load = crate::read::load_of(g, 1, pass.heights, pass.least);
+    let load = crate::read::load_of(g, 1, pass.heights, pass.least, pass.first);
     let side = crate::read::side_before(g, c);
     let end = sweep_end(g, pass);
     let source = Source {
@@ -94,12 +97,8 @@ fn sweep_side(
         side,
     };
     let mut parts = window::parts::no_parts();
-    let mut starts = Window {
-        low: 0,
-        split: 0,
-        high: 0,
-    };
-    let mut i = 0;
+    let mut starts = window::slide::shut(load);
+    let mut i = pass.first;
     while i < end {
         let before = starts;
         starts = window::windows::window_of(sums, load, words, before, i, c);
@@ -125,47 +124,27 @@ fn last_line(s: &[u8], g: Galley, work: &mut [u32], sums: &[u32], c: usize, pass
         heights,
         least: rules::rules::floor_of(g, true),
         white: 0,
+        first: pass.first,
     };
-    let load = crate::read::load_of(g, 1, heights, last.least);
+    let load = crate::read::load_of(g, 1, heights, last.least, pass.first);
     let side = crate::read::side_before(g, c);
     let lines = crate::last::last_lines(g, work, sums, load, pass.from, side);
     improve(g, work, lines, g.text.count, c, last);
 }
 
-// The starts of a pass weighed for every line of the column on every side that occurs.
+// The starts of a pass weighed for every line of the column on every side that occurs. Where no line of their column is reached there
+// are none.
 fn sweep(s: &[u8], g: Galley, work: &mut [u32], sums: &[u32], words: &mut [u32], pass: Pass)
     requires { ⌜ Sweep (now s) g (now work) (now sums) (now words) pass ⌝ }
     ensures { λ _. ⌜ SweepDone (now (s .entry)) g (now (work .entry)) (now (work .exit)) pass ⌝ }
 {
+    if g.text.count < pass.first {
+        return;
+    }
     let mut c = 0;
     while c < g.spec.sides as usize {
         sweep_side(s, g, work, sums, words, c, pass);
         last_line(s, g, work, sums, c, pass);
-        c += 1;
-    }
-}
-
-// Every line of column j made unreached on side c.
-fn clear_side(g: Galley, work: &mut [u32], j: usize, c: usize)
-    requires { ⌜ ColumnRoom g (now work) j × (c < g .spec .sides) ⌝ }
-    ensures { λ _. ⌜ Cleared g (now (work .entry)) (now (work .exit)) j (number c 0) (number (c + 1) 0) ⌝ }
-{
-    let mut i = 0;
-    while i <= g.text.count {
-        let place = places::place_of(i, j);
-        places::store(work, g.text.count + 1, place, c, Entry::Unreached);
-        i += 1;
-    }
-}
-
-// The same on every side that occurs.
-fn clear_column(g: Galley, work: &mut [u32], j: usize)
-    requires { ⌜ ColumnRoom g (now work) j ⌝ }
-    ensures { λ _. ⌜ Cleared g (now (work .entry)) (now (work .exit)) j 0 (number 2 0) ⌝ }
-{
-    let mut c = 0;
-    while c < g.spec.sides as usize {
-        clear_side(g, work, j, c);
         c += 1;
     }
 }
@@ -197,15 +176,15 @@ fn row_top(row: Row) -> usize
 }
 
 // The best starts in the columns of a row, for every place of the column where the pages end: back to the first whose floats to that
-// column are too tall alone.
+// column are too tall alone, or to the tables of the origin.
 fn sweep_row(s: &[u8], g: Galley, work: &mut [u32], sums: &[u32], words: &mut [u32], row: Row)
     requires { ⌜ RowSweep (now s) g (now work) (now sums) (now words) row ⌝ }
     ensures { λ _. ⌜ RowSwept (now (s .entry)) g (now (work .entry)) (now (work .exit)) row ⌝ }
 {
-    let first = row.figures * (g.tables.count + 1);
+    let row_from = row.figures * (g.tables.count + 1);
     let mut tables = Heights { tight: 0, loose: 0 };
     let mut t = row_top(row);
-    while 0 < t {
+    while row.origin.tables < t {
         t -= 1;
         tables = blocks::heights::block_before(s, g.tables, tables, t, row.end.tables);
         let both = (row.figures < row.end.figures) & (t < row.end.tables);
@@ -213,19 +192,21 @@ fn sweep_row(s: &[u8], g: Galley, work: &mut [u32], sums: &[u32], words: &mut [u
         if g.spec.htmax < floats.tight {
             return;
         }
+        let from = row_from + t;
         let pass = Pass {
-            from: first + t,
+            from,
             to: row.to,
             heights: floats,
             least: row.least,
             white: rules::counts::white_at(g, false, floats.loose),
+            first: crate::look::first_line(g, work, from, row.origin.lines),
         };
         sweep(s, g, work, sums, words, pass);
     }
 }
 
 // The best starts in the columns before j, for every place of column j: row by row, back to the first whose figures to column j are
-// too tall alone.
+// too tall alone, or to the figures of the origin. The search begins where `origin` is placed, and nothing before it is a start.
 pub fn sweep_column(
     s: &[u8],
     g: Galley,
@@ -233,22 +214,24 @@ pub fn sweep_column(
     sums: &[u32],
     words: &mut [u32],
     j: usize,
+    origin: Counts,
 )
-    requires { ⌜ ColumnSweep (now s) g (now work) (now sums) (now words) j ⌝ }
+    requires { ⌜ ColumnSweep (now s) g (now work) (now sums) (now words) j origin ⌝ }
     ensures { λ _. ⌜ ColumnSwept (now (s .entry)) g (now (work .entry)) (now (work .exit)) j ⌝ }
 {
-    clear_column(g, work, j);
+    crate::clear::clear_column(g, work, j);
     let end = crate::read::counts_at(g, 0, j);
     let least = rules::rules::floor_of(g, false);
     let mut heights = Heights { tight: 0, loose: 0 };
     let mut b = end.figures + 1;
-    while 0 < b {
+    while origin.figures < b {
         b -= 1;
         heights = blocks::heights::block_before(s, g.figures, heights, b, end.figures);
         if g.spec.htmax < heights.tight {
             return;
         }
         let row = Row {
+            origin,
             figures: b,
             heights,
             end,

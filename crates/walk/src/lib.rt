@@ -83,7 +83,7 @@ pub fn reached(g: Galley, work: &[u32], at: Stop) -> bool
 }
 
 // Where the page before stops.
-fn page_before(g: Galley, work: &[u32], at: Stop) -> Stop
+pub fn page_before(g: Galley, work: &[u32], at: Stop) -> Stop
     requires { ⌜ WorkArea g (now work) × Visits g at ⌝ }
     ensures { λ r. ⌜ r ≡ back (sidesIn g) (tableIn g (now (work .entry))) at ⌝ }
 {

@@ -61,15 +61,26 @@ whiteOf st load i a = load .htmax - (stacked st (st .most) a i + load .loose)
 abbrev pub Enough : Stream → Load → ℕ → ℕ → Type 0
 Enough st load a i = Reaches st (st .most) (load .loose) (load .htmin) a i
 
--- Whatever starts before `low` is too tall by line i and stays so, whatever starts before `split` is full, and whatever starts before
--- `high` is full enough.
+-- The window of no line, at the first that a page may start from.
+abbrev pub shutAt : Load → Window
+shutAt load = record { low = load .first; split = load .first; high = load .first }
+
+-- No end of the window is before the first line that a page may start from.
+pub record Since (load : Load) (window : Window) : Type 0 where
+  pub low : load .first ≤ window .low
+  pub split : load .first ≤ window .split
+  pub high : load .first ≤ window .high
+
+-- Of the lines from the first on that a page may start from, whatever starts before `low` is too tall by line i and stays so, whatever
+-- starts before `split` is full, and whatever starts before `high` is full enough.
 pub record Ends (st : Stream) (load : Load) (window : Window) (i : ℕ) : Type 0 where
   pub low : window .low ≤ i
   pub split : window .split ≤ i
   pub high : window .high ≤ i
-  pub passed : (a e : ℕ) → a < window .low → i ≤ e → Tall st load a e
-  pub whole : (a e : ℕ) → a < window .split → i ≤ e → Full st load a e
-  pub filled : (a e : ℕ) → a < window .high → i ≤ e → Enough st load a e
+  pub since : Since load window
+  pub passed : (a e : ℕ) → load .first ≤ a → a < window .low → i ≤ e → Tall st load a e
+  pub whole : (a e : ℕ) → load .first ≤ a → a < window .split → i ≤ e → Full st load a e
+  pub filled : (a e : ℕ) → load .first ≤ a → a < window .high → i ≤ e → Enough st load a e
 
 -- The window is that of line i: from `low` on pages are not too tall, from `split` on they are not full, and from `high` on they are
 -- not full enough.

@@ -1,16 +1,18 @@
 // The ends of a window of starting lines, moved on as the page's last line moves on. Heights are compared as sums, never as
 // differences.
 ghost use mathlib.Core.Path.{_≡_};
-ghost use Rattle.window.specs.Slide.{reachedOf, Readable, Reachable, Slidable, FirstBelow, Slid};
+ghost use Rattle.window.specs.Slide.{reachedOf, shutAt, Readable, Reachable, Slidable, FirstBelow, Slid};
 use crate::sums::LOOSE;
 use crate::sums::TIGHT;
 
-// What a page has beside its lines, and the heights that it must keep to.
+// What a page has beside its lines, the heights that it must keep to, and the first line that it may start from: the lines before that
+// one are no starts, and no window goes back to them.
 pub struct Load {
     pub tight: u32,
     pub loose: u32,
     pub htmin: u32,
     pub htmax: u32,
+    pub first: usize,
 }
 
 // A window of starting lines: from `low` on pages are not too tall, before `split` they reach htMax at their loosest and have no
@@ -19,6 +21,17 @@ pub struct Window {
     pub low: usize,
     pub split: usize,
     pub high: usize,
+}
+
+// The window of no line, at the first that a page may start from.
+pub fn shut(load: Load) -> Window
+    ensures { λ r. ⌜ r ≡ shutAt load ⌝ }
+{
+    Window {
+        low: load.first,
+        split: load.first,
+        high: load.first,
+    }
 }
 
 // How far a page to line i reaches from the first line on, with `beside` added to its lines. `space` says which sums are taken, TIGHT

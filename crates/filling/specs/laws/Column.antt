@@ -1,9 +1,9 @@
--- The lines of a column one after another, and the columns: what is left makes of the words what the whole makes of those at the start.
+-- The lines of a column one after another: what is left makes of the words what the whole makes of those at the start.
 use Prim.Native.Nat.{ℕ, suc, _+_, _-_, _*_, _≤_, _<_}
 use native.Mathlib.Numerals.{add-one}
 use native.Mathlib.Omega.{arith}
 use mathlib.Core.Path.{_≡_, refl, sym, _∙_, ap}
-use mathlib.Core.Logic.{inl, inr}
+use mathlib.Core.Logic.{_⊎_, inl, inr}
 use mathlib.Core.Bool.{false}
 use mathlib.Core.List.{List}
 use lib.ListN.{length}
@@ -12,28 +12,30 @@ use Rattle.galley.specs.Model.{textOf, modelOf, sidesIn}
 use Rattle.rules.specs.declared.waiting.Waiting.{Waiting}
 use Rattle.rules.specs.Waiting.{waitingOf}
 use Rattle.rules.specs.laws.Walked.{walking-none, walking-here}
+use Rattle.places.specs.declared.Entry.the-variants.{Unreached}
 use Rattle.places.specs.Order.{Earlier}
-use Rattle.places.specs.Columns.{columns, floatSizes}
 use Rattle.window.specs.declared.slide.Window.{Window}
-use Rattle.window.specs.Slide.{Slidable, Open, Slid}
+use Rattle.window.specs.Slide.{shutAt, Slidable, Open, Slid}
 use Rattle.window.specs.laws.Slide.{ends-first, ends-next}
-use Rattle.starts.specs.Read.{tableIn, columnsIn, countsAt}
+use Rattle.starts.specs.Read.{tableIn, sideOf, countsAt}
 use Rattle.starts.specs.Sweep.{Lent, Scratched, fresh, more}
 use Rattle.starts.specs.Swept.{ColumnSwept}
-use Rattle.starts.specs.laws.Columns.{columns-in, within-at}
+use Rattle.starts.specs.laws.Columns.{within-at}
 use Rattle.starts.specs.laws.Pass.{least-low}
+use Rattle.starts.specs.laws.Lending.{side-occurs}
 use Rattle.starts.specs.laws.Cells.{scratched-length, scratched-others, lent-kept}
 use Rattle.filling.specs.declared.price.Stop.{Stop}
 use Rattle.filling.specs.declared.side.Task.{Task}
-use Rattle.filling.specs.Fill.{tall, fillColumn, fillColumns, filled}
+use Rattle.filling.specs.Fill.{tall, fillColumn, filled}
 use Rattle.filling.specs.Stop.{stopAt}
-use Rattle.filling.specs.Next.{Next, plain, PlaceNext, PlaceFilled, ColumnNext, LastNext, TableNext}
-use Rattle.filling.specs.Run.{LastRun, ColumnsRun}
+use Rattle.filling.specs.Next.{Next, plain, PlaceNext, PlaceFilled, ColumnNext, Gathered, LastNext}
+use Rattle.filling.specs.Run.{LastRun}
 use Rattle.filling.specs.laws.Entered.{side-low, sides-count}
 use Rattle.filling.specs.laws.Costs.{lent-filled}
-use Rattle.filling.specs.laws.Fill.{length-place, length-column, room-kept, filled-start, filled-next, filled-place, filled-to}
+use Rattle.filling.specs.laws.Fill.{length-place, room-kept, filled-place}
 use Rattle.filling.specs.laws.Over.{column-over}
 use Rattle.filling.specs.laws.Price.{dearest-light}
+use Rattle.filling.specs.laws.First.{lines-quiet, first-filled, column-from}
 use Rattle.filling.specs.laws.Own.{lines-slide, walking-down}
 use Rattle.filling.specs.laws.Queues.{noEnds, queues-none}
 use Rattle.filling.specs.laws.Sides.{lent-roomy, lent-wide}
@@ -57,7 +59,7 @@ scratched-same {bytes} {task} {w} {j} next v (more x y i c e s l m p) =
 -- So with the starts in earlier columns known the column can be filled.
 pub column-last : {bytes : List ℕ} {task : Task} {w sums words : List ℕ} {j : ℕ} → ColumnNext bytes task w sums words j
     → (v words′ : List ℕ) → length words′ ≡ length words → ColumnSwept bytes (task .galley) w v j
-    → LastNext bytes task v sums words′ j
+    → Gathered bytes task v sums words′ j
 column-last {task = task} {w} {j = j} column v words′ sized done =
     record {
       column =
@@ -66,6 +68,7 @@ column-last {task = task} {w} {j = j} column v words′ sized done =
                 record {
                   lent = lent-kept (done .kept) (column .next .lent);
                   cheap = column .next .cheap;
+                  line = column .next .line;
                   origin = column .next .origin;
                   filled =
                       record {
@@ -81,6 +84,7 @@ column-last {task = task} {w} {j = j} column v words′ sized done =
             scratch = omega (arith, column .scratch);
           };
       known = done .known;
+      clean = done .clean;
     }
   where
     before : (a b : ℕ) → Earlier a b 0 j → b < j
@@ -88,25 +92,49 @@ column-last {task = task} {w} {j = j} column v words′ sized done =
     before a b (inr (e, l)) = absurd (omega arith)
 
 -- One line after another.
-module _ {bytes : List ℕ} {task : Task} {w₀ sums words₀ : List ℕ} {j : ℕ} (last : LastNext bytes task w₀ sums words₀ j) where
-  lent-first : Lent bytes (task .galley) w₀ j
-  lent-first = last .column .next .lent
+module _ {bytes : List ℕ} {task : Task} {w₀ sums words₀ : List ℕ} {j first : ℕ} (last : LastNext bytes task w₀ sums words₀ j first) where
+  column : ColumnNext bytes task w₀ sums words₀ j
+  column = last .gathered .column
 
-  -- Before the first line the queues are empty.
-  pub last-first : LastRun bytes task w₀ w₀ sums words₀ words₀ j (record { figures = 0; tables = 0 }) (record { low = 0; split = 0; high = 0 })
-      noEnds 0
-  last-first =
+  lent-first : Lent bytes (task .galley) w₀ j
+  lent-first = column .next .lent
+
+  begin-low : task .origin .place .line ≤ first
+  begin-low = last .begun .found .since (omega (arith, column .next .line))
+
+  -- The window of the first line that has a start can be found from the origin's line on.
+  pub first-slides : Slidable sums (plain task) (shutAt (plain task)) first
+  first-slides =
+      lines-slide lent-first (column .summed) (floor (modelOf bytes (task .galley)) false) (task .origin .place .line)
+      (least-low bytes (task .galley) (lent-first .sound) false) (shutAt (plain task)) first (last .within) begin-low begin-low begin-low
+
+  -- At that line the queues are empty: no line before it is reached.
+  pub last-first : (new : Window) → Slid sums (plain task) (shutAt (plain task)) first new
+      → LastRun bytes task w₀ w₀ sums words₀ words₀ j (record { figures = 0; tables = 0 }) new noEnds first
+  last-first new slid =
+      let text = textOf bytes (task .galley .text) in
       record {
-        within = omega arith;
+        within = omega (arith, last .within);
         sized = refl;
         wordsSized = refl;
-        walked = walking-none (lent-first .sound) (countsAt (task .galley) 0 j) (within-at (task .galley) 0 j (omega arith) (lent-first .column));
-        entries = last .column .next .filled;
-        run = let e : suc (task .galley .text .count) - 0 ≡ suc (task .galley .text .count) = omega arith in rw e;
-        slid = ends-first (textOf bytes (task .galley .text)) (plain (task .galley)) 0;
-        queued = queues-none (task .galley) w₀ sums words₀ j (lent-first .sound .specRanged .sidesTwo);
-        waits = λ k c l m n. last .known k c l m;
+        walked =
+            walking-none (lent-first .sound) (countsAt (task .galley) first j) (within-at (task .galley) first j (last .within) (lent-first .column));
+        entries = first-filled (last .gathered) (last .begun);
+        run = column-from (last .gathered) (last .begun);
+        slid =
+            slid .opens text (task .galley .text .count) (column .summed .rows) (last .within) (ends-first text (plain task) first begin-low) .ends;
+        queued = queues-none (task .galley) w₀ sums words₀ j new (lent-first .sound .specRanged .sidesTwo) (λ a c occurs l. none a c occurs l);
+        waits = λ k c l m n. last .gathered .known k c l m;
       }
+    where
+      none : (a c : ℕ) → c < task .galley .spec .sides → (a < new .split) ⊎ (a < new .high)
+          → tableIn (task .galley) w₀ a j (sideOf (task .galley) c) ≡ Unreached
+      none a c occurs (inl l) =
+          lines-quiet (last .gathered) (last .begun) .none a (sideOf (task .galley) c) (omega arith) (omega (arith, slid .between))
+          (side-occurs (lent-first .sound) c occurs)
+      none a c occurs (inr l) =
+          lines-quiet (last .gathered) (last .begun) .none a (sideOf (task .galley) c) (omega arith) (omega (arith, slid .inside))
+          (side-occurs (lent-first .sound) c occurs)
 
   -- After the last line the column is filled.
   pub last-done : {w words ends : List ℕ} {waiting : Waiting} {window : Window} {i : ℕ}
@@ -121,31 +149,38 @@ module _ {bytes : List ℕ} {task : Task} {w₀ sums words₀ : List ℕ} {j : �
       (run : LastRun bytes task w₀ w sums words₀ words j waiting window ends i) (at : i ≤ task .galley .text .count) where
     lent : Lent bytes (task .galley) w j
     lent =
-        lent-filled w (lent-first .sound) (last .column .next .cheap) (run .entries) (lent-first .column)
+        lent-filled w (lent-first .sound) (column .next .cheap) (run .entries) (lent-first .column)
         (omega (arith, lent-first .room, run .sized))
 
     -- The window can be moved on to line i,
-    pub last-slides : Slidable sums (plain (task .galley)) window i
+    pub last-slides : Slidable sums (plain task) window i
     last-slides =
-        lines-slide lent (last .column .summed) (floor (modelOf bytes (task .galley)) false)
+        lines-slide lent (column .summed) (floor (modelOf bytes (task .galley)) false) (task .origin .place .line)
         (least-low bytes (task .galley) (lent .sound) false) window i at (run .slid .low) (run .slid .split)
         (run .slid .high)
 
     module _ (waiting′ : Waiting) (found : waiting′ ≡ waitingOf bytes (task .galley) (countsAt (task .galley) i j)) (new : Window)
-        (slid : Slid sums (plain (task .galley)) window i new) (stop : Stop)
+        (slid : Slid sums (plain task) window i new) (stop : Stop)
         (says : stop ≡ stopAt bytes (task .galley) (countsAt (task .galley) i j)) where
-      opened : Open (textOf bytes (task .galley .text)) (plain (task .galley)) new i
-      opened = slid .opens (textOf bytes (task .galley .text)) (task .galley .text .count) (last .column .summed .rows) at (run .slid)
+      opened : Open (textOf bytes (task .galley .text)) (plain task) new i
+      opened = slid .opens (textOf bytes (task .galley .text)) (task .galley .text .count) (column .summed .rows) at (run .slid)
 
       -- the place can be filled,
       pub last-place : PlaceNext bytes task w sums words ends (record { from = window; to = new })
           (record { at = countsAt (task .galley) i j; column = j; side = 0; turns = false; waiting = waiting′ .figures + waiting′ .tables; stop = stop })
       last-place =
           record {
-            next = record { lent = lent; cheap = last .column .next .cheap; origin = last .column .next .origin; filled = run .entries };
+            next =
+                record {
+                  lent = lent;
+                  cheap = column .next .cheap;
+                  line = column .next .line;
+                  origin = column .next .origin;
+                  filled = run .entries;
+                };
             ending = record { line = at; counts = refl; found = ap (λ (k : Waiting). k .figures + k .tables) found; stop = says };
-            summed = last .column .summed;
-            scratch = omega (arith, last .column .scratch, run .wordsSized);
+            summed = column .summed;
+            scratch = omega (arith, column .scratch, run .wordsSized);
             slides = record { rises = record { low = slid .low; split = slid .split; high = slid .high }; opened = opened };
             queued =
                 record { rows = run .queued .rows; moved = λ c l. absurd (omega arith); still = run .queued .still };
@@ -176,71 +211,7 @@ module _ {bytes : List ℕ} {task : Task} {w₀ sums words₀ : List ℕ} {j : �
                 (filled-place m (dearest-light bytes (task .galley) (lent .sound)) (task .origin) i j at (lent-wide lent) w (lent-roomy lent)
                 (run .entries));
             run = rw (s, done .filled) (rw rest at (run .run));
-            slid = rw add-one (ends-next (textOf bytes (task .galley .text)) (plain (task .galley)) new i opened);
+            slid = rw add-one (ends-next (textOf bytes (task .galley .text)) (plain task) new i opened);
             queued = done .queued;
             waits = rw n at (done .waits);
-          }
-
--- One column after another.
-module _ {bytes : List ℕ} {task : Task} {w₀ sums words₀ : List ℕ} (table : TableNext bytes task w₀ sums words₀) where
-  -- At first no column is filled.
-  pub columns-first : ColumnsRun bytes task w₀ w₀ words₀ words₀ 0
-  unfolding filled
-  columns-first =
-      let g = task .galley in
-      let e : columnsIn g - 0 ≡ columns (floatSizes (modelOf bytes g)) = omega (arith, columns-in bytes g) in
-      record {
-        within = omega arith;
-        sized = refl;
-        wordsSized = refl;
-        entries = filled-start (modelOf bytes g) (dearest-light bytes g (table .fillable .sound)) (task .origin) (tableIn g w₀);
-        run = rw e;
-      }
-
-  module _ {w words : List ℕ} {j : ℕ} (run : ColumnsRun bytes task w₀ w words₀ words j) where
-    -- After the last column the table is filled.
-    pub columns-done : columnsIn (task .galley) ≤ j → w ≡ filled (modelOf bytes (task .galley)) (task .origin) w₀
-    unfolding fillColumns
-    columns-done l =
-        let n : columnsIn (task .galley) - j ≡ 0 = omega (arith, run .within) in
-        rw n at (run .run)
-
-    module _ (some : j < columnsIn (task .galley)) where
-      -- The next column can be filled,
-      pub columns-column : ColumnNext bytes task w sums words j
-      columns-column =
-          record {
-            next =
-                record {
-                  lent =
-                      lent-filled w (table .fillable .sound) (table .fillable .cheap) (run .entries) some
-                      (omega (arith, table .fillable .room, run .sized));
-                  cheap = table .fillable .cheap;
-                  origin = table .fillable .origin;
-                  filled = run .entries;
-                };
-            summed = table .summed;
-            scratch = omega (arith, table .scratch, run .wordsSized);
-          }
-
-      -- and is.
-      pub columns-next : (v words′ : List ℕ) → length words′ ≡ length words
-          → v ≡ fillColumn (modelOf bytes (task .galley)) (task .origin) j (suc (task .galley .text .count)) 0 w
-          → ColumnsRun bytes task w₀ v words₀ words′ (j + 1)
-      unfolding fillColumns tall
-      columns-next v words′ sized e =
-          let g = task .galley in
-          let m = modelOf bytes g in
-          let lent = columns-column .next .lent in
-          let light = dearest-light bytes g (lent .sound) in
-          let s : j + 1 ≡ suc j = omega arith in
-          let rest : columnsIn g - j ≡ suc (columnsIn g - suc j) = omega arith in
-          let whole = filled-to m light (task .origin) j (lent-wide lent) (suc (g .text .count)) 0 w (omega arith) (lent-roomy lent) (run .entries) in
-          let next = filled-next m light (task .origin) (tableIn g (fillColumn m (task .origin) j (suc (g .text .count)) 0 w)) j whole in
-          record {
-            within = omega arith;
-            sized = ap length e ∙ length-column m (task .origin) j (suc (g .text .count)) 0 w ∙ run .sized;
-            wordsSized = sized ∙ run .wordsSized;
-            entries = rw (s, e) next;
-            run = rw (s, e) (rw rest at (run .run));
           }

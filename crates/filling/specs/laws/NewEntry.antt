@@ -17,7 +17,6 @@ use Rattle.model.specs.Rules.{floor}
 use Rattle.galley.specs.declared.Galley.{Galley}
 use Rattle.galley.specs.Model.{textOf, modelOf, sidesIn}
 use Rattle.blocks.specs.Counts.{Proper}
-use Rattle.blocks.specs.Heights.{noHeights}
 use Rattle.blocks.specs.laws.Counts.{within-proper}
 use Rattle.places.specs.declared.Place.{Place}
 use Rattle.places.specs.declared.Origin.{Origin}
@@ -26,12 +25,13 @@ use Rattle.places.specs.declared.Entry.the-variants.{Unreached, Least}
 use Rattle.places.specs.Columns.{placeAt}
 use Rattle.places.specs.Best.{Best}
 use Rattle.window.specs.declared.parts.Parts.{Parts}
+use Rattle.window.specs.Slide.{shutAt}
 use Rattle.starts.specs.Better.{chosen}
 use Rattle.starts.specs.Search.{Table, before, bestStart, priced, mayStop, begins, newEntry}
 use Rattle.starts.specs.Choice.{Above}
 use Rattle.starts.specs.Beside.{Sought}
 use Rattle.rules.specs.Parts.{allPlaced}
-use Rattle.starts.specs.Read.{tableIn, sideOf, searchOf, loadOf}
+use Rattle.starts.specs.Read.{tableIn, sideOf, searchOf}
 use Rattle.starts.specs.Sweep.{LinesStand, LastBest}
 use Rattle.starts.specs.laws.Columns.{placed-at, within-at, sought-in}
 use Rattle.starts.specs.laws.White.{white-lines}
@@ -40,7 +40,7 @@ use Rattle.starts.specs.laws.Pass.{least-low}
 use Rattle.starts.specs.laws.Lending.{side-either, lent-placed, can-stand}
 use Rattle.filling.specs.declared.side.Task.{Task}
 use Rattle.filling.specs.declared.side.End.{End}
-use Rattle.filling.specs.Next.{StartsFor, LinesAbove, EntryNext}
+use Rattle.filling.specs.Next.{StartsFor, bare, LinesAbove, EntryNext}
 use Rattle.filling.specs.laws.Entered.{side-before, best-entered}
 use Rattle.filling.specs.laws.Price.{dearest-light}
 use Rattle.filling.specs.laws.Own.{under-own, lines-slide, end-within, end-full, end-bears}
@@ -65,33 +65,40 @@ module _ (g : model.Galley) (from : Origin) (t : Table) (i q c : ℕ) where
     entry-priced m e b = rw (later, m, b)
 
 -- The lines above in the column, for the last page.
-module _ {bytes : List ℕ} {g : Galley} {w sums words : List ℕ} {parts : Parts} {end : End}
-    (above : LinesAbove bytes g w sums words parts end) (full : allPlaced g (end .at) ≡ true) where
-  last : end .at .lines ≡ g .text .count
-  last = eqb-true (end .at .lines) (g .text .count) (and-left (eqb (end .at .lines) (g .text .count)) _ full)
+module _ {bytes : List ℕ} {task : Task} {w sums words : List ℕ} {parts : Parts} {end : End}
+    (above : LinesAbove bytes task w sums words parts end) (full : allPlaced (task .galley) (end .at) ≡ true) where
+  last : end .at .lines ≡ task .galley .text .count
+  last = eqb-true (end .at .lines) (task .galley .text .count) (and-left (eqb (end .at .lines) (task .galley .text .count)) _ full)
 
-  pub above-stand : LinesStand g w sums (loadOf g 0 noHeights (floor (modelOf bytes g) true)) (end .column) (sideOf g (end .side))
+  pub above-stand : LinesStand (task .galley) w sums (bare task (floor (modelOf bytes (task .galley)) true)) (end .column)
+      (sideOf (task .galley) (end .side))
   above-stand =
+      let g = task .galley in
       record {
         stands = λ a l. can-stand (above .lent) a (end .column) (sideOf g (end .side)) l (above .lent .column) (side-either g (end .side));
         costs = λ a l. above .costs a (omega (arith, last));
+        first = above .begin;
         slides =
-            lines-slide (above .lent) (above .summed) (floor (modelOf bytes g) true) (least-low bytes g (above .lent .sound) true)
-            (record { low = 0; split = 0; high = 0 }) (g .text .count) (le-refl _) (omega arith) (omega arith) (omega arith);
+            lines-slide (above .lent) (above .summed) (floor (modelOf bytes g) true) (task .origin .place .line)
+            (least-low bytes g (above .lent .sound) true) (shutAt (bare task (floor (modelOf bytes g) true))) (g .text .count) (le-refl _)
+            (above .begin) (above .begin) (above .begin);
       }
 
   pub above-last : (lines : Entry)
-      → LastBest g w sums (loadOf g 0 noHeights (floor (modelOf bytes g) true)) (end .column) (sideOf g (end .side)) lines
-      → Best (StartsFor bytes g w end (Above (end .column) (end .at .lines))) lines
+      → LastBest (task .galley) w sums (bare task (floor (modelOf bytes (task .galley)) true)) (end .column)
+      (sideOf (task .galley) (end .side)) lines
+      → Best (StartsFor bytes (task .galley) w end (Above (end .column) (end .at .lines))) lines
   above-last lines found =
-      let bears = end-bears bytes g end (above .counts) w (sideOf g (end .side)) true full in
+      let g = task .galley in
+      let load = bare task (floor (modelOf bytes g) true) in
+      let bears = end-bears bytes g end (above .counts) w (sideOf g (end .side)) true (task .origin .place .line) full in
       let proper = within-proper g (end-within bytes g end (above .counts) (above .line) (above .lent .column)) in
       window-best (searchOf bytes g w (end .at .lines) (end .column) (sideOf g (end .side)))
       (sought-in bytes g w (end .at .lines) (end .column) (sideOf g (end .side)) (lent-placed (above .lent) (end .at .lines) (above .line)))
-      (end .column) (le-refl _) (under-own (modelOf bytes g) (end .column)) (loadOf g 0 noHeights (floor (modelOf bytes g) true))
-      bears (found .window) (rw last (found .opens (textOf bytes (g .text)) (above .summed .rows))) (λ a. 0)
+      (end .column) (le-refl _) (under-own (modelOf bytes g) (end .column)) load bears (above .before) (found .window)
+      (rw last (found .opens (textOf bytes (g .text)) (above .summed .rows))) (λ a. 0)
       (white-lines (searchOf bytes g w (end .at .lines) (end .column) (sideOf g (end .side))) (end .column) true
-      (end-full bytes g end (above .counts) true proper full) (loadOf g 0 noHeights (floor (modelOf bytes g) true)) bears)
+      (end-full bytes g end (above .counts) true proper full) load bears)
       lines (found .best)
 
 -- No table is placed where it ends if there are none.

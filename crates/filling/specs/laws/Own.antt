@@ -37,11 +37,11 @@ under-own g q = inside-all (floatsAt (floatSizes g) q)
 
 -- The window of lines alone can be moved on to line i.
 pub lines-slide : {bytes : List ℕ} {g : Galley} {w : List ℕ} {j : ℕ} {sums : List ℕ} → Lent bytes g w j → Summed bytes g sums
-    → (least : ℕ) → least ≤ g .spec .htmax → (window : Window) (i : ℕ) → i ≤ g .text .count → window .low ≤ i → window .split ≤ i
+    → (least first : ℕ) → least ≤ g .spec .htmax → (window : Window) (i : ℕ) → i ≤ g .text .count → window .low ≤ i → window .split ≤ i
     → window .high ≤ i
-    → Slidable sums (loadOf g 0 noHeights least) window i
-lines-slide lent summed least under window i h low split high =
-    can-slide lent summed 0 noHeights (omega arith) (record { tight = omega arith; loose = omega arith }) least under window i h low split high
+    → Slidable sums (loadOf g 0 noHeights least first) window i
+lines-slide lent summed least first under window i h low split high =
+    can-slide lent summed 0 noHeights (omega arith) (record { tight = omega arith; loose = omega arith }) least first under window i h low split high
 
 -- What waits at a line of a column waits one line further down.
 pub walking-down : {bytes : List ℕ} (g : Galley) (i j : ℕ) (known : Waiting) → Within g (countsAt g i j)
@@ -79,8 +79,8 @@ module _ (bytes : List ℕ) (g : Galley) (end : End) (counts : end .at ≡ count
   end-full last proper e = ap (full (modelOf bytes g)) end-place ∙ full-of bytes g (end .at) proper ∙ e
 
   -- Pages within its column have nothing beside their lines, and are no lower than the last page must be where all is placed.
-  pub end-bears : (w : List ℕ) (side : ℕ) (last : Bool) → allPlaced g (end .at) ≡ last
-      → Bears (searchOf bytes g w (end .at .lines) (end .column) side) (end .column) (loadOf g 0 noHeights (floor (modelOf bytes g) last))
-  end-bears w side last e =
-      bears-own bytes g w (end .at .lines) (end .column) side (floor (modelOf bytes g) last)
+  pub end-bears : (w : List ℕ) (side : ℕ) (last : Bool) (first : ℕ) → allPlaced g (end .at) ≡ last
+      → Bears (searchOf bytes g w (end .at .lines) (end .column) side) (end .column) (loadOf g 0 noHeights (floor (modelOf bytes g) last) first)
+  end-bears w side last first e =
+      bears-own bytes g w (end .at .lines) (end .column) side (floor (modelOf bytes g) last) first
       (ap (floor (modelOf bytes g)) (sym e ∙ ap (allPlaced g) counts))

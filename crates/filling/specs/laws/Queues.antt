@@ -7,6 +7,7 @@ use mathlib.Core.Logic.{_⊎_, inl, inr}
 use mathlib.Core.List.{List, [], _∷_}
 use lib.ListN.{length, getD}
 use Rattle.galley.specs.declared.Galley.{Galley}
+use Rattle.places.specs.declared.Entry.the-variants.{Unreached}
 use Rattle.window.specs.declared.slide.Window.{Window}
 use Rattle.window.specs.declared.parts.Parts.{Parts}
 use Rattle.window.specs.Sums.{rowPut}
@@ -17,22 +18,20 @@ use Rattle.window.specs.laws.Parts.{both-none, both-same, both-beside}
 use Rattle.starts.specs.Read.{sideOf}
 use Rattle.filling.specs.Next.{Holds, Queues}
 
-abbrev nothing : Window
-nothing = record { low = 0; split = 0; high = 0 }
-
 -- The ends of empty queues.
 abbrev pub noEnds : List ℕ
 noEnds = 0 ∷ 0 ∷ 4000 ∷ 4000 ∷ 8000 ∷ 8000 ∷ 12000 ∷ 12000 ∷ []
 
--- Before the first line all queues are empty.
-pub queues-none : (g : Galley) (w sums words : List ℕ) (b : ℕ) → g .spec .sides ≤ 2
-    → Queues g w sums words noEnds b nothing nothing 0
-queues-none g w sums words b two =
+-- Before the first line that is reached all queues are empty.
+pub queues-none : (g : Galley) (w sums words : List ℕ) (b : ℕ) (window : Window) → g .spec .sides ≤ 2
+    → ((a c : ℕ) → c < g .spec .sides → (a < window .split) ⊎ (a < window .high) → linesOf w (g .text .count + 1) b (sideOf g c) a ≡ Unreached)
+    → Queues g w sums words noEnds b window window 0
+queues-none g w sums words b window two none =
     record { rows = refl; moved = λ c l m. absurd (omega arith); still = λ c l m. still c m }
   where
-    still : (c : ℕ) → c < g .spec .sides → Holds g w sums words noEnds b nothing c
-    still zero m = both-none (linesOf w (g .text .count + 1) b (sideOf g 0)) sums words 0
-    still (suc zero) m = both-none (linesOf w (g .text .count + 1) b (sideOf g 1)) sums words 8000
+    still : (c : ℕ) → c < g .spec .sides → Holds g w sums words noEnds b window c
+    still zero m = both-none (linesOf w (g .text .count + 1) b (sideOf g 0)) sums words 0 window (λ a l. none a 0 m)
+    still (suc zero) m = both-none (linesOf w (g .text .count + 1) b (sideOf g 1)) sums words 8000 window (λ a l. none a 1 m)
     still (suc (suc c)) m = absurd (omega arith)
 
 -- The rooms of two sides are apart.

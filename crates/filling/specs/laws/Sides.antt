@@ -36,12 +36,13 @@ use Rattle.filling.specs.declared.side.Windows.{Windows}
 use Rattle.filling.specs.Fill.{tall, fillSide, fillSides, sideCount, fillPlace}
 use Rattle.filling.specs.Filled.{Roomy}
 use Rattle.filling.specs.Stop.{turnsOn}
-use Rattle.filling.specs.Next.{plain, ownLines, EntryNext, SideNext, SideFilled, PlaceNext, PlaceFilled}
+use Rattle.filling.specs.Next.{plain, Before, ownLines, EntryNext, SideNext, SideFilled, PlaceNext, PlaceFilled}
 use Rattle.filling.specs.Run.{SidesRun}
 use Rattle.filling.specs.laws.Entered.{below-side, sides-count}
 use Rattle.filling.specs.laws.Costs.{own-costs, lent-filled}
 use Rattle.filling.specs.laws.Fill.{length-side, filled-keeps}
 use Rattle.filling.specs.laws.Price.{dearest-light}
+use Rattle.filling.specs.laws.First.{lines-before}
 use Rattle.filling.specs.laws.Own.{under-own, lines-slide, end-within, end-full, end-bears}
 use Rattle.filling.specs.laws.Queues.{endsPut, queues-round, queues-same, queues-next}
 
@@ -89,6 +90,8 @@ module _ {bytes : List ℕ} {task : Task} {w sums words : List ℕ} {parts : Par
         above =
             record {
               lent = lent;
+              begin = next .next .line;
+              before = before;
               line = next .ending .line;
               counts = next .ending .counts;
               full = ap (λ (stop : Stop). stop .full) (next .ending .stop);
@@ -96,20 +99,20 @@ module _ {bytes : List ℕ} {task : Task} {w sums words : List ℕ} {parts : Par
               summed = next .summed;
               costs = costs;
               front =
-                  can-front lent (next .summed) scratch (plain g) order (end .at .lines) (next .ending .line) (windows .to)
+                  can-front lent (next .summed) scratch (plain task) order (end .at .lines) (next .ending .line) (windows .to)
                   (next .slides .opened) (linesOf w (g .text .count + 1) (end .column) (sideOf g (end .side))) (8000 * end .side) (end .column) moved held (done .fresh) (lent .column)
                   (omega (arith, side-either-here)) costs
-                  (lines-slide lent (next .summed) (g .spec .htmin) order (windows .to) (end .at .lines) (next .ending .line)
+                  (lines-slide lent (next .summed) (g .spec .htmin) (task .origin .place .line) order (windows .to) (end .at .lines) (next .ending .line)
                   (next .slides .opened .ends .low) (next .slides .opened .ends .split) (next .slides .opened .ends .high));
               best = λ inner.
                   window-best (searchOf bytes g w (end .at .lines) (end .column) (sideOf g (end .side)))
                   (sought-in bytes g w (end .at .lines) (end .column) (sideOf g (end .side)) (lent-placed lent (end .at .lines) (next .ending .line)))
-                  (end .column) (le-refl _) (under-own (modelOf bytes g) (end .column)) (plain g) (bears inner) (windows .to)
-                  (next .slides .opened) (whiteOf (textOf bytes (g .text)) (plain g) (end .at .lines))
-                  (white-lines (searchOf bytes g w (end .at .lines) (end .column) (sideOf g (end .side))) (end .column) false (end-full bytes g end (next .ending .counts) false proper inner) (plain g)
+                  (end .column) (le-refl _) (under-own (modelOf bytes g) (end .column)) (plain task) (bears inner) before (windows .to)
+                  (next .slides .opened) (whiteOf (textOf bytes (g .text)) (plain task) (end .at .lines))
+                  (white-lines (searchOf bytes g w (end .at .lines) (end .column) (sideOf g (end .side))) (end .column) false (end-full bytes g end (next .ending .counts) false proper inner) (plain task)
                   (bears inner))
-                  (bestFront sums words′ moved (end .column) (plain g) (end .at .lines))
-                  (fronts-best lent (next .summed) scratch (plain g) order (end .at .lines) (next .ending .line) (windows .to)
+                  (bestFront sums words′ moved (end .column) (plain task) (end .at .lines))
+                  (fronts-best lent (next .summed) scratch (plain task) order (end .at .lines) (next .ending .line) (windows .to)
                   (next .slides .opened) (linesOf w (g .text .count + 1) (end .column) (sideOf g (end .side))) (8000 * end .side) (end .column) moved held (done .fresh));
             };
         known = next .known;
@@ -120,6 +123,9 @@ module _ {bytes : List ℕ} {task : Task} {w sums words : List ℕ} {parts : Par
 
       scratch : Scratch words′
       scratch = omega (arith, next .scratch, sized)
+
+      before : Before task w (end .column) (sideOf g (end .side)) (end .at .lines)
+      before = lines-before (next .next) (next .ending .line) (end .side) (next .occurs)
 
       order : g .spec .htmin ≤ g .spec .htmax
       order = lent .sound .specRanged .htmins
@@ -134,8 +140,8 @@ module _ {bytes : List ℕ} {task : Task} {w sums words : List ℕ} {parts : Par
       proper = within-proper g (end-within bytes g end (next .ending .counts) (next .ending .line) (lent .column))
 
       bears : allPlaced g (end .at) ≡ false
-          → Bears (searchOf bytes g w (end .at .lines) (end .column) (sideOf g (end .side))) (end .column) (plain g)
-      bears inner = end-bears bytes g end (next .ending .counts) w (sideOf g (end .side)) false inner
+          → Bears (searchOf bytes g w (end .at .lines) (end .column) (sideOf g (end .side))) (end .column) (plain task)
+      bears inner = end-bears bytes g end (next .ending .counts) w (sideOf g (end .side)) false (task .origin .place .line) inner
 
       sides : sideCount (sidesIn g) ≡ g .spec .sides
       sides = sides-count (g .spec .sides) (g .folio) (lent .sound .specRanged .sidesSome) (lent .sound .specRanged .sidesTwo)
@@ -192,7 +198,8 @@ module _ {bytes : List ℕ} {task : Task} {w₀ sums words₀ ends₀ : List ℕ
           (record { at = end .at; column = end .column; side = c; turns = turns; waiting = end .waiting; stop = end .stop })
       sides-side =
           record {
-            next = record { lent = lent; cheap = next .next .cheap; origin = next .next .origin; filled = run .entries };
+            next =
+                record { lent = lent; cheap = next .next .cheap; line = next .next .line; origin = next .next .origin; filled = run .entries };
             ending = record { line = next .ending .line; counts = next .ending .counts; found = next .ending .found; stop = next .ending .stop };
             summed = next .summed;
             scratch = omega (arith, next .scratch, run .wordsSized);

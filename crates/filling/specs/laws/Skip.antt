@@ -16,9 +16,7 @@ use Rattle.places.specs.Columns.{columns, floatSizes, placeAt}
 use Rattle.places.specs.laws.Places.{column-at, inside-columns}
 use Rattle.places.specs.laws.Stored.{stored-length}
 use Rattle.starts.specs.Search.{Table, newEntry}
-use Rattle.starts.specs.Sweep.{ColumnRoom}
 use Rattle.starts.specs.laws.Columns.{columns-in}
-use Rattle.starts.specs.laws.Lending.{lent-wide as wide-lent}
 use Rattle.filling.specs.declared.side.Task.{Task}
 use Rattle.filling.specs.Fill.{Words, tall, held, fillSide, fillSides, sideCount, fillPlace, fillColumn}
 use Rattle.filling.specs.Filled.{Roomy, Side, Light, Filled}
@@ -68,9 +66,6 @@ module _ (g : model.Galley) (light : Light g) (from : Origin) (origin : from .pl
 
 -- The column of a galley that was read.
 module _ {bytes : List ℕ} {task : Task} {w : List ℕ} {j : ℕ} (next : Next bytes task w 0 j) where
-  pub skip-room : ColumnRoom (task .galley) w j
-  skip-room = record { wide = wide-lent (next .lent); two = next .lent .sound .specRanged .sidesTwo; room = next .lent .room }
-
   pub skip-filled : j < task .origin .place .column
       → skipColumn (task .galley) j w
       ≡ fillColumn (modelOf bytes (task .galley)) (task .origin) j (suc (task .galley .text .count)) 0 w

@@ -17,11 +17,10 @@ use Rattle.places.specs.laws.Address.{address-in, area-needed}
 use Rattle.places.specs.laws.Stored.{stored-length}
 use Rattle.places.specs.laws.Table.{table-same, table-other}
 use Rattle.places.specs.Best.{Best}
-use Rattle.places.specs.laws.Best.{best-none}
 use Rattle.starts.specs.Better.{wins, chosen, taken}
 use Rattle.starts.specs.Choice.{Starts, Between}
 use Rattle.starts.specs.Read.{tableIn, sideOf, searchOf, columnsIn}
-use Rattle.starts.specs.Sweep.{Lent, Knows, Known, number, Swept, Scratched, fresh, more, Changed, Blank, ColumnRoom, Cleared}
+use Rattle.starts.specs.Sweep.{Lent, Knows, number, Swept, Scratched, fresh, more, Changed}
 use Rattle.starts.specs.laws.Sweep.{best-same}
 use Rattle.starts.specs.laws.Lending.{side-either}
 
@@ -127,18 +126,6 @@ module _ {g : Galley} {w v : List ℕ} {i j c : ℕ} {e : Entry} (changed : Chan
       go k d l m n (no q) =
           knows-other bytes k d b l (omega arith) (λ r. q (omega (arith, r .0, r .1))) (s .done k d l m (omega arith))
 
-  -- One place more is unreached.
-  pub blank-next : e ≡ Unreached → Blank g w j (number c i) → Blank g v j (number c (i + 1))
-  blank-next none s k d l m n = go (ℕ-discrete (number d k) (number c i))
-    where
-      go : Dec (number d k ≡ number c i) → tableIn g v k j d ≡ Unreached
-      go (yes q) =
-          let x : k ≡ i = omega arith in
-          let y : d ≡ c = omega arith in
-          rw (x, y) (changed .own ∙ none)
-      go (no q) =
-          changed .others k j d l (omega arith) (λ r. q (omega (arith, r .0, r .2))) ∙ s k d l m (omega arith)
-
 -- The lines of a side are over: the next side begins.
 pub swept-side : {bytes : List ℕ} {g : Galley} {w : List ℕ} {j b : ℕ} (c i : ℕ) → g .text .count ≤ 4000 → g .text .count < i
     → i ≤ suc (g .text .count) → Swept bytes g w j b (number c i) → Swept bytes g w j b (number (c + 1) 0)
@@ -147,50 +134,3 @@ swept-side c i few l m s =
       done = λ k d h h′ n. s .done k d h h′ (omega arith);
       left = λ k d h h′ n. s .left k d h h′ (omega arith);
     }
-
--- In an unreached column no start is known, and there is none from a column b on and before it that is no earlier.
-pub blank-known : (bytes : List ℕ) (g : Galley) (w : List ℕ) (j b : ℕ) → j ≤ b → g .text .count ≤ 4000 → g .spec .sides ≤ 2
-    → Blank g w j (number 2 0) → Known bytes g w j b
-blank-known bytes g w j b past few two blank k c l m =
-    rw (blank k c l m (omega arith)) (best-none (λ a b x p. omega (arith, p .0 .0, p .0 .1)))
-
--- Nothing is cleared at first,
-pub cleared-none : (g : Galley) (w : List ℕ) (j n : ℕ) → Cleared g w w j n n
-cleared-none g w j n = record { sized = refl; blank = λ b. b; kept = fresh }
-
--- then one part after another,
-pub cleared-then : {g : Galley} {w v u : List ℕ} {j n m o : ℕ} → Cleared g w v j n m → Cleared g v u j m o → Cleared g w u j n o
-cleared-then {g} {w} {v} {u} {j} a b =
-    record {
-      sized = b .sized ∙ a .sized;
-      blank = λ h. b .blank (a .blank h);
-      kept = scratched-then g j w v u (a .kept) (b .kept);
-    }
-
--- each part one place,
-pub clear-next : {g : Galley} {w : List ℕ} {j : ℕ} (i c : ℕ) → ColumnRoom g w j → i ≤ g .text .count → c < g .spec .sides
-    → (v : List ℕ) → v ≡ stored w (address (g .text .count + 1) i j c) Unreached → Cleared g w v j (number c i) (number c (i + 1))
-clear-next {g} {w} {j} i c asked line occurs v e =
-    let changed = stored-changes g w i j c line (asked .wide .within) occurs (asked .two) (asked .room) Unreached v e in
-    record {
-      sized = changed .sized;
-      blank = blank-next changed (asked .wide .few) line (omega (arith, asked .two)) (asked .two) refl;
-      kept = changed .kept;
-    }
-
--- until a side is over.
-pub clear-side : {g : Galley} {w v : List ℕ} {j : ℕ} (n c i : ℕ) → g .text .count ≤ 4000 → g .text .count < i → i ≤ suc (g .text .count)
-    → Cleared g w v j n (number c i) → Cleared g w v j n (number (c + 1) 0)
-clear-side n c i few l m a =
-    record { sized = a .sized; blank = λ b k d h h′ o. a .blank b k d h h′ (omega arith); kept = a .kept }
-
--- After the last side that occurs the column is over.
-pub cleared-all : {g : Galley} {w v : List ℕ} {j n : ℕ} (c : ℕ) → g .text .count ≤ 4000 → g .spec .sides ≤ c
-    → Cleared g w v j n (number c 0) → Cleared g w v j n (number 2 0)
-cleared-all c few l a =
-    record { sized = a .sized; blank = λ b k d h h′ o. a .blank b k d h h′ (omega arith); kept = a .kept }
-
--- The column can be cleared further.
-pub clear-sized : {g : Galley} {w v : List ℕ} {j n m : ℕ} → Cleared g w v j n m → ColumnRoom g w j → ColumnRoom g v j
-clear-sized cleared asked =
-    record { wide = asked .wide; two = asked .two; room = omega (arith, asked .room, cleared .sized) }

@@ -73,11 +73,12 @@ module _ (g : Galley) where
       mul-add-mod-self-right b (g .tables .count + 1) t ∙ mod-eq-of-lt l′
 
   -- A column before a row has fewer figures, and one from it on has as many.
-  pub row-before : (i b c : ℕ) → c < rowOf g (suc b) → countsAt g i c .figures ≤ b
+  pub row-under : (i b c : ℕ) → c < rowOf g b → countsAt g i c .figures < b
   unfolding rowOf
-  row-before i b c l =
-      let low : c / (g .tables .count + 1) < suc b = div-lt-iff-lt-mul wide .1 l in
-      omega arith
+  row-under i b c l = div-lt-iff-lt-mul wide .1 l
+
+  pub row-before : (i b c : ℕ) → c < rowOf g (suc b) → countsAt g i c .figures ≤ b
+  row-before i b c l = omega (arith, row-under i (suc b) c l)
 
   pub row-since : (i b c : ℕ) → rowOf g b ≤ c → b ≤ countsAt g i c .figures
   row-since i b c l = go (decLe b (countsAt g i c .figures))

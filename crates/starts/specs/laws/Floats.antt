@@ -134,9 +134,9 @@ module _ (bytes : List ℕ) (g : Galley) where
       }
 
   -- Pages within a column have nothing beside their lines.
-  pub bears-own : (w : List ℕ) (i q side least : ℕ) → least ≡ floor (modelOf bytes g) (allPlaced g (countsAt g i q))
-      → Bears (searchOf bytes g w i q side) q (loadOf g 0 noHeights least)
-  bears-own w i q side least l =
+  pub bears-own : (w : List ℕ) (i q side least first : ℕ) → least ≡ floor (modelOf bytes g) (allPlaced g (countsAt g i q))
+      → Bears (searchOf bytes g w i q side) q (loadOf g 0 noHeights least first)
+  bears-own w i q side least first l =
       record {
         tight = omega (arith, beside-none (modelOf bytes g) (λ st. st .least) (g .spec .smin) q);
         loose = omega (arith, beside-none (modelOf bytes g) (λ st. st .most) (g .spec .smax) q);

@@ -1,5 +1,5 @@
 -- What is lent for a column is enough for the window, its queues and the best starts.
-use Prim.Native.Nat.{ℕ, _+_, _-_, _≤_, _<_}
+use Prim.Native.Nat.{ℕ, zero, suc, _+_, _-_, _≤_, _<_}
 use native.Mathlib.Nat.{mul-le-mul-right}
 use native.Mathlib.Omega.{arith}
 use mathlib.Core.Path.{sym, subst}
@@ -7,7 +7,9 @@ use mathlib.Core.List.{List}
 use lib.ListN.{length}
 use Rattle.model.specs.Galley.{Sides, single, double}
 use Rattle.galley.specs.declared.Galley.{Galley}
+use Rattle.model.specs.Leaf.{sidesOf}
 use Rattle.galley.specs.Model.{sidesIn}
+use Rattle.galley.specs.Sound.{Sound}
 use Rattle.blocks.specs.declared.heights.Heights.{Heights}
 use Rattle.blocks.specs.Heights.{Separable}
 use Rattle.blocks.specs.laws.Heights.{Low}
@@ -21,7 +23,7 @@ use Rattle.window.specs.Parts.{Both, Rises, Movable}
 use Rattle.window.specs.laws.Sums.{sums-small}
 use Rattle.starts.specs.Search.{before}
 use Rattle.starts.specs.Read.{sideOf, columnsIn, FewFloats, loadOf, Placed}
-use Rattle.starts.specs.Sweep.{Lent, Scratch, Summed, Wide}
+use Rattle.starts.specs.Sweep.{Lent, Scratch, Summed, Wide, ColumnRoom}
 use Rattle.starts.specs.laws.Columns.{few-floats, columns-few}
 
 -- The page before is on side 0 or 1.
@@ -32,6 +34,17 @@ side-either g c = go (sidesIn g)
     go : (sides : Sides) → before sides c ≤ 1
     go single = omega arith
     go (double f) = omega arith
+
+-- It is one that occurs where this one does.
+pub side-occurs : {bytes : List ℕ} {g : Galley} → Sound bytes g → (c : ℕ) → c < g .spec .sides → sideOf g c < g .spec .sides
+unfolding before sidesOf
+side-occurs {bytes} {g} sound c = go (g .spec .sides) (sound .specRanged .sidesSome) (sound .specRanged .sidesTwo)
+  where
+    go : (n : ℕ) → 1 ≤ n → n ≤ 2 → c < n → before (sidesOf n (g .folio)) c < n
+    go zero l m h = absurd (omega arith)
+    go (suc zero) l m h = omega arith
+    go (suc (suc zero)) l m h = omega arith
+    go (suc (suc (suc n))) l m h = absurd (omega arith)
 
 -- A place of a galley within the limits stands in a work area that is long enough.
 pub stands-in : (g : Galley) (w : List ℕ) (i b side : ℕ) → g .text .count ≤ 4000 → FewFloats g → i ≤ g .text .count → b < columnsIn g
@@ -57,7 +70,11 @@ module _ {bytes : List ℕ} {g : Galley} {w : List ℕ} {j : ℕ} (lent : Lent b
   pub lent-wide : Wide g j
   lent-wide = record { few = lent .sound .fewLines; floats = few-floats (lent .sound); within = lent .column }
 
-  -- A place stands in the work area.
+  -- It stands in the work area,
+  pub lent-room : ColumnRoom g w j
+  lent-room = record { wide = lent-wide; two = lent .sound .specRanged .sidesTwo; room = lent .room }
+
+  -- and so does a place.
   pub can-stand : (i b side : ℕ) → i ≤ g .text .count → b < columnsIn g → side ≤ 1
       → Stands w (g .text .count + 1) (record { line = i; column = b }) side
   can-stand i b side h k l = stands-in g w i b side (lent .sound .fewLines) (few-floats (lent .sound)) h k l (lent .room)
@@ -76,11 +93,11 @@ module _ {bytes : List ℕ} {g : Galley} {w : List ℕ} {j : ℕ} (lent : Lent b
 
   -- The ends of a window can be moved on to line i.
   pub can-slide : {sums : List ℕ} → Summed bytes g sums → (n : ℕ) (floats : Heights) → n ≤ 1 → Low 60000000 floats
-      → (least : ℕ) → least ≤ g .spec .htmax → (window : Window) (i : ℕ)
-      → i ≤ g .text .count → window .low ≤ i → window .split ≤ i → window .high ≤ i → Slidable sums (loadOf g n floats least) window i
-  can-slide {sums} summed n floats few beside least under window i h low split high =
+      → (least first : ℕ) → least ≤ g .spec .htmax → (window : Window) (i : ℕ)
+      → i ≤ g .text .count → window .low ≤ i → window .split ≤ i → window .high ≤ i → Slidable sums (loadOf g n floats least first) window i
+  can-slide {sums} summed n floats few beside least first under window i h low split high =
       let spec = lent .sound .specRanged in
-      let load = loadOf g n floats least in
+      let load = loadOf g n floats least first in
       let p = mul-le-mul-right (g .spec .smin) few in
       let q = mul-le-mul-right (g .spec .smax) few in
       record {

@@ -25,17 +25,26 @@ use Rattle.starts.specs.Choice.{Starts, Between}
 use Rattle.starts.specs.Beside.{Bears}
 use Rattle.starts.specs.Read.{tableIn, sideOf, searchOf, lastColumn, lastPlace}
 use Rattle.starts.specs.Sweep.{Lent, passLoad, Passing, aloneOf, weighed, Ended, number, Swept, Changed, sweepEnd}
+use Rattle.starts.specs.Swept.{Early}
 use Rattle.starts.specs.laws.Heights.{kinds-some, beside-alone}
 use Rattle.starts.specs.laws.Columns.{columns-in, full-in, sought-in}
 use Rattle.starts.specs.laws.White.{white-lines, white-alone}
 use Rattle.starts.specs.laws.Sweep.{window-best, alone-best, improved}
-use Rattle.starts.specs.laws.Lending.{side-either, lent-placed, can-stand}
+use Rattle.starts.specs.laws.Lending.{side-either, side-occurs, lent-placed, can-stand}
 use Rattle.starts.specs.laws.Cells.{taken-changes, swept-next}
 
 -- No least height is above the greatest.
 pub least-low : (bytes : List ℕ) (g : Galley) → Sound bytes g → (last : Bool) → floor (modelOf bytes g) last ≤ g .spec .htmax
 least-low bytes g sound true = sound .specRanged .lastmins
 least-low bytes g sound false = sound .specRanged .htmins
+
+-- A sweep ends after any line of the galley or with it.
+pub end-from : (g : Galley) (pass : Pass) (i : ℕ) → i ≤ g .text .count → i ≤ sweepEnd g pass
+end-from g pass i l = go (lastColumn g (pass .to))
+  where
+    go : (t : Bool) → i ≤ pick t (g .text .count) (g .text .count + 1)
+    go true = l
+    go false = omega arith
 
 -- The lines that a sweep takes are the galley's, and none of them ends the last page.
 pub end-inner : (g : Galley) (pass : Pass) (i : ℕ) → i < sweepEnd g pass
@@ -73,7 +82,7 @@ module _ {bytes : List ℕ} {g : Galley} {w : List ℕ} {pass : Pass} (lent : Le
         side = side;
       }
 
-  module _ (last : Bool) (ends : lastPlace g i (pass .to) ≡ last) (least : pass .least ≡ floor (modelOf bytes g) last)
+  module _ (early : Early g w pass) (last : Bool) (ends : lastPlace g i (pass .to) ≡ last) (least : pass .least ≡ floor (modelOf bytes g) last)
       (white : pass .white ≡ whiteAt g last (pass .heights .loose)) (window : Window)
       (opened : Open (textOf bytes (g .text)) (passLoad g pass) window i) (lines : Entry)
       (best : Best (Lines (linesOf w (g .text .count + 1) (pass .from) (sideOf g c)) (passWhite bytes g pass last i) (window .low) (window .high) (pass .from)) lines)
@@ -106,7 +115,8 @@ module _ {bytes : List ℕ} {g : Galley} {w : List ℕ} {pass : Pass} (lent : Le
         let left : pass .from ≤ pass .to = omega (arith, passing .before) in
         improved s (pass .from) (pass .to) (passing .before) held lines (aloneOf g w i (sideOf g c) pass)
         (swept .left i c line occurs (omega arith))
-        (window-best s sought (pass .from) left (passing .under) (passLoad g pass) bears window opened (passWhite bytes g pass last i)
+        (window-best s sought (pass .from) left (passing .under) (passLoad g pass) bears
+        (λ a l m. early .none a (sideOf g c) (omega arith) l (side-occurs (lent .sound) c occurs)) window opened (passWhite bytes g pass last i)
         (white-lines s (pass .from) last full-last (passLoad g pass) bears) lines best)
         (alone-best s sought (pass .from) left (passing .under) (passing .before) (pass .heights .tight) (pass .heights .loose)
         (pass .least) (pass .white) (passing .tight) (passing .loose) (bears .htmin) (passing .short)

@@ -10,21 +10,29 @@ use Rattle.places.specs.laws.Best.{best-as}
 use Rattle.starts.specs.Choice.{Candidate, Starts, Between}
 use Rattle.starts.specs.Beside.{Under, alone}
 use Rattle.starts.specs.Read.{sideOf, searchOf, countsAt}
-use Rattle.starts.specs.Sweep.{Lent, Known}
+use Rattle.starts.specs.Sweep.{Lent, Knows, Known}
 use Rattle.starts.specs.laws.Pages.{candidate-under, column-over}
 use Rattle.starts.specs.laws.Columns.{sought-in, at-under}
 use Rattle.starts.specs.laws.Lending.{lent-placed}
 
--- Where no page starts in the columns between, the starts from an earlier column on are known too.
-pub known-past : (bytes : List ℕ) (g : Galley) (w : List ℕ) (j b b′ : ℕ) → b ≤ b′
-    → ((i a x y side : ℕ) → i ≤ g .text .count → b ≤ x → x < b′ → x < j → Candidate (searchOf bytes g w i j side) a x y → ⊥)
-    → Known bytes g w j b′ → Known bytes g w j b
-known-past bytes g w j b b′ low none known i c h m =
-    best-as (λ a x y p. ((omega (arith, p .0 .0), p .0 .1), p .1)) (λ a x y p. ((later a x y p (decLe b′ x), p .0 .1), p .1)) (known i c h m)
+-- Where no page to a place starts in the columns between, the starts from an earlier column on are known there too,
+pub knows-past : (bytes : List ℕ) (g : Galley) (w : List ℕ) (i j c b b′ : ℕ) → b ≤ b′
+    → ((a x y : ℕ) → b ≤ x → x < b′ → x < j → Candidate (searchOf bytes g w i j (sideOf g c)) a x y → ⊥)
+    → Knows bytes g w i j c (Between b′ j) → Knows bytes g w i j c (Between b j)
+knows-past bytes g w i j c b b′ low none =
+    best-as (λ a x y p. ((omega (arith, p .0 .0), p .0 .1), p .1)) (λ a x y p. ((later a x y p (decLe b′ x), p .0 .1), p .1))
   where
     later : (a x y : ℕ) → Starts (searchOf bytes g w i j (sideOf g c)) (Between b j) a x y → Dec (b′ ≤ x) → b′ ≤ x
     later a x y p (yes l) = l
-    later a x y p (no l) = absurd (none i a x y (sideOf g c) h (p .0 .0) (omega arith) (p .0 .1) (p .1))
+    later a x y p (no l) = absurd (none a x y (p .0 .0) (omega arith) (p .0 .1) (p .1))
+
+-- and so for all places of the column.
+pub known-past : (bytes : List ℕ) (g : Galley) (w : List ℕ) (j b b′ : ℕ) → b ≤ b′
+    → ((i a x y c : ℕ) → i ≤ g .text .count → c < g .spec .sides → b ≤ x → x < b′ → x < j
+    → Candidate (searchOf bytes g w i j (sideOf g c)) a x y → ⊥)
+    → Known bytes g w j b′ → Known bytes g w j b
+known-past bytes g w j b b′ low none known i c h m =
+    knows-past bytes g w i j c b b′ low (λ a x y. none i a x y c h m) (known i c h m)
 
 -- No page starts in a column that is not under the one where it ends, or is under one whose floats alone are too tall.
 module _ {bytes : List ℕ} {g : Galley} {w : List ℕ} {j : ℕ} (lent : Lent bytes g w j) where

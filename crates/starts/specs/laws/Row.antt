@@ -22,13 +22,16 @@ use Rattle.starts.specs.declared.sweep.Pass.{Pass}
 use Rattle.starts.specs.declared.sweep.Row.{Row}
 use Rattle.starts.specs.Choice.{Candidate}
 use Rattle.starts.specs.Beside.{Under, alone}
-use Rattle.starts.specs.Read.{searchOf, countsAt, rowOf}
-use Rattle.starts.specs.Sweep.{fresh, Layable, floatsAlone, rowTop}
+use Rattle.starts.specs.Read.{sideOf, searchOf, countsAt, rowOf}
+use Rattle.starts.specs.Look.{Found, PastOrigin}
+use Rattle.starts.specs.Sweep.{fresh, ColumnRoom, Layable, floatsAlone, rowTop}
 use Rattle.starts.specs.Swept.{RowSweep, RowRun, RowSwept, Sweep, SweepDone}
 use Rattle.starts.specs.laws.Columns.{few-floats, columns-few, row-next, row-grows, row-of, row-figures, row-tables, row-in, within-at, under-at}
 use Rattle.starts.specs.laws.Floats.{alone-at, floats-lay, alone-low}
+use Rattle.starts.specs.laws.Lending.{lent-room}
 use Rattle.starts.specs.laws.Cells.{scratched-then, lent-kept}
 use Rattle.starts.specs.laws.Past.{known-past, start-under, start-short}
+use Rattle.starts.specs.laws.Look.{quiet-then, past-kept, start-past, past-quiet}
 
 -- A row offers columns with no more tables than the end, and the end's own row one less.
 abbrev Offered : Row → ℕ → Type 0
@@ -87,7 +90,7 @@ module _ {bytes : List ℕ} {g : Galley} {w₀ sums words₀ : List ℕ} {row : 
         floats = stacked-nothing (floatsOf bytes (g .tables)) (rowTop row) (row .end .tables) (high (offered row));
         known =
             known-past bytes g w₀ (row .to) (rowOf g (row .figures) + rowTop row) (rowOf g (suc (row .figures)))
-            (omega (arith, row-next g (row .figures), low (offered row))) (λ i a x y side h k l m c. none i a x y side h k l m c (offered row))
+            (omega (arith, row-next g (row .figures), low (offered row))) (λ i a x y c h occurs k l m start. none i a x y (sideOf g c) h k l m start (offered row))
             (asked .known);
         kept = fresh;
       }
@@ -109,11 +112,29 @@ module _ {bytes : List ℕ} {g : Galley} {w₀ sums words₀ : List ℕ} {row : 
           omega (arith, ap (rowOf g) same, end-stands)
 
   module _ {w words : List ℕ} {tables : Heights} {top : ℕ} (run : RowRun bytes g w₀ w words₀ words row tables top) where
-    -- After the last one the row is swept.
-    pub row-last : top ≡ 0 → RowSwept bytes g w₀ w row
+    past-now : PastOrigin g w (row .to) (row .origin)
+    past-now = past-kept (run .kept) (asked .lent .sound .specRanged .sidesTwo) (asked .past)
+
+    top-low : top ≤ g .tables .count + 1
+    top-low = go (offered row)
+      where
+        go : Offered row (rowTop row) → top ≤ g .tables .count + 1
+        go (inl (l, e)) = omega (arith, tables-few, run .within)
+        go (inr (l, e)) = omega (arith, tables-few, run .within)
+
+    -- Back at the tables of the origin the row is swept: columns with fewer are before it.
+    pub row-last : top ≤ row .origin .tables → RowSwept bytes g w₀ w row
     row-last e =
-        let first : rowOf g (row .figures) + top ≡ rowOf g (row .figures) = omega arith in
-        record { known = rw first at (run .known); kept = run .kept }
+        record {
+          known = known-past bytes g w (row .to) (rowOf g (row .figures)) (rowOf g (row .figures) + top) (omega arith) none (run .known);
+          kept = run .kept;
+        }
+      where
+        none : (i a x y c : ℕ) → i ≤ g .text .count → c < g .spec .sides → rowOf g (row .figures) ≤ x → x < rowOf g (row .figures) + top
+            → x < row .to → Candidate (searchOf bytes g w i (row .to) (sideOf g c)) a x y → ⊥
+        none i a x y c h occurs k l m start =
+            let (same, at) = row-in g (row .figures) x k (omega (arith, row-next g (row .figures), top-low)) in
+            omega (arith, at, start-past (run .lent) past-now i a x y c h occurs m start .2)
 
     -- There is room for the table before.
     pub row-room : Room bytes (g .tables) tables (row .end .tables)
@@ -122,21 +143,14 @@ module _ {bytes : List ℕ} {g : Galley} {w₀ sums words₀ : List ℕ} {row : 
         (omega (arith, asked .lent .sound .tables .few)) tables-few (run .floats)
 
     module _ (some : 0 < top) where
-      low : top ≤ g .tables .count + 1
-      low = go (offered row)
-        where
-          go : Offered row (rowTop row) → top ≤ g .tables .count + 1
-          go (inl (l, e)) = omega (arith, tables-few, run .within)
-          go (inr (l, e)) = omega (arith, tables-few, run .within)
-
       abbrev from : ℕ
       from = rowOf g (row .figures) + (top - 1)
 
       from-figures : countsAt g 0 from .figures ≡ row .figures
-      from-figures = row-figures g 0 (row .figures) (top - 1) (omega (arith, low))
+      from-figures = row-figures g 0 (row .figures) (top - 1) (omega (arith, top-low))
 
       from-tables : countsAt g 0 from .tables ≡ top - 1
-      from-tables = row-tables g 0 (row .figures) (top - 1) (omega (arith, low))
+      from-tables = row-tables g 0 (row .figures) (top - 1) (omega (arith, top-low))
 
       -- The column lies before the end, and under it.
       from-before : (from < row .to) × (top - 1 ≤ row .end .tables)
@@ -144,7 +158,7 @@ module _ {bytes : List ℕ} {g : Galley} {w₀ sums words₀ : List ℕ} {row : 
         where
           go : Offered row (rowTop row) → (from < row .to) × (top - 1 ≤ row .end .tables)
           go (inl (l, e)) = (
-            omega (arith, row-grows g (suc (row .figures)) (row .end .figures) l, row-next g (row .figures), end-stands, low),
+            omega (arith, row-grows g (suc (row .figures)) (row .end .figures) l, row-next g (row .figures), end-stands, top-low),
             omega (arith, run .within),
           )
           go (inr (l, e)) =
@@ -153,6 +167,15 @@ module _ {bytes : List ℕ} {g : Galley} {w₀ sums words₀ : List ℕ} {row : 
 
       pub from-small : rowOf g (row .figures) + (top - 1) ≤ 10250
       from-small = omega (arith, from-before .0, asked .lent .column, columns-few g (few-floats (asked .lent .sound)))
+
+      pub row-stands : ColumnRoom g w (rowOf g (row .figures) + (top - 1))
+      row-stands =
+          let room = lent-room (run .lent) in
+          record {
+            wide = record { few = room .wide .few; floats = room .wide .floats; within = omega (arith, from-before .0, room .wide .within) };
+            two = room .two;
+            room = room .room;
+          }
 
       from-under : Under (modelOf bytes g) from (row .to)
       from-under =
@@ -171,8 +194,8 @@ module _ {bytes : List ℕ} {g : Galley} {w₀ sums words₀ : List ℕ} {row : 
 
         module _ (both : Bool) (mixed : both ≡ (ltb (row .figures) (row .end .figures) && ltb (top - 1) (row .end .tables))) (floats : Heights)
             (laid : floats ≡ floatsAlone (g .spec) (row .heights) tables′ both) where
-          abbrev next : ℕ → Pass
-          next white = record { from = from; to = row .to; heights = floats; least = row .least; white = white }
+          abbrev next : ℕ → ℕ → Pass
+          next white first = record { from = from; to = row .to; heights = floats; least = row .least; white = white; first = first }
 
           alone-from : (floats .tight ≡ alone (modelOf bytes g) (λ st. st .least) (g .spec .smin) from (row .to))
               × (floats .loose ≡ alone (modelOf bytes g) (λ st. st .most) (g .spec .smax) from (row .to))
@@ -182,11 +205,13 @@ module _ {bytes : List ℕ} {g : Galley} {w₀ sums words₀ : List ℕ} {row : 
               (rw (from-tables, ← end-tables) floats′) (rw (from-figures, ← end-figures, from-tables, ← end-tables) mixed))
 
           -- the next sweep may start,
-          pub row-sweeps : floats .tight ≤ g .spec .htmax → (white : ℕ) → white ≡ whiteAt g false (floats .loose) → Sweep bytes g w sums words (next white)
-          row-sweeps short white e =
+          pub row-sweeps : floats .tight ≤ g .spec .htmax → (white : ℕ) → white ≡ whiteAt g false (floats .loose) → (first : ℕ)
+              → Found g w (rowOf g (row .figures) + (top - 1)) (row .origin .lines) first → Sweep bytes g w sums words (next white first)
+          row-sweeps short white e first found =
               let after : suc from ≡ rowOf g (row .figures) + top = omega arith in
               record {
                 lent = run .lent;
+                early = quiet-then (past-quiet (run .lent) past-now from (from-before .0)) (found .quiet);
                 summed = asked .summed;
                 scratch = run .scratch;
                 passing =
@@ -204,9 +229,9 @@ module _ {bytes : List ℕ} {g : Galley} {w₀ sums words₀ : List ℕ} {row : 
               }
 
           -- and brings in the starts of its column.
-          pub row-swept : (white : ℕ) (v words′ : List ℕ) → length v ≡ length w → length words′ ≡ length words → SweepDone bytes g w v (next white)
-              → RowRun bytes g w₀ v words₀ words′ row tables′ (top - 1)
-          row-swept white v words′ p q done =
+          pub row-swept : (white first : ℕ) (v words′ : List ℕ) → length v ≡ length w → length words′ ≡ length words
+              → SweepDone bytes g w v (next white first) → RowRun bytes g w₀ v words₀ words′ row tables′ (top - 1)
+          row-swept white first v words′ p q done =
               record {
                 lent = lent-kept (done .kept) (run .lent);
                 scratch = omega (arith, run .scratch);
@@ -227,9 +252,9 @@ module _ {bytes : List ℕ} {g : Galley} {w₀ sums words₀ : List ℕ} {row : 
                 kept = run .kept;
               }
             where
-              none : (i a x y side : ℕ) → i ≤ g .text .count → rowOf g (row .figures) ≤ x → x < rowOf g (row .figures) + top → x < row .to
-                  → Candidate (searchOf bytes g w i (row .to) side) a x y → ⊥
-              none i a x y side h k l m c =
-                  let (e, at) = row-in g (row .figures) x k (omega (arith, row-next g (row .figures), low)) in
-                  start-short (run .lent) from (omega (arith, from-before .0)) from-under (omega (arith, alone-from .0)) i a x y side h
-                  (under-at bytes g x from (omega (arith, from-figures)) (omega (arith, from-tables))) c
+              none : (i a x y c : ℕ) → i ≤ g .text .count → c < g .spec .sides → rowOf g (row .figures) ≤ x
+                  → x < rowOf g (row .figures) + top → x < row .to → Candidate (searchOf bytes g w i (row .to) (sideOf g c)) a x y → ⊥
+              none i a x y c h occurs k l m start =
+                  let (e, at) = row-in g (row .figures) x k (omega (arith, row-next g (row .figures), top-low)) in
+                  start-short (run .lent) from (omega (arith, from-before .0)) from-under (omega (arith, alone-from .0)) i a x y (sideOf g c) h
+                  (under-at bytes g x from (omega (arith, from-figures)) (omega (arith, from-tables))) start

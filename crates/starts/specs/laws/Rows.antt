@@ -1,8 +1,7 @@
 -- The rows one after another: back from that of the column where pages end, until its figures are too tall.
 use Prim.Native.Nat.{ℕ, suc, _+_, _-_, _≤_, _<_}
-use native.Mathlib.Nat.{zero-mul}
 use native.Mathlib.Omega.{arith}
-use mathlib.Core.Path.{_≡_, refl, ap, _∙_}
+use mathlib.Core.Path.{_≡_, refl, _∙_}
 use mathlib.Core.Bool.{false}
 use mathlib.Core.List.{List}
 use lib.ListN.{length}
@@ -15,22 +14,27 @@ use Rattle.blocks.specs.Heights.{noHeights, Room, Stacked, blockBefore}
 use Rattle.blocks.specs.laws.Heights.{stacked-nothing, stacked-room, back-stacked}
 use Rattle.starts.specs.declared.sweep.Row.{Row}
 use Rattle.starts.specs.Choice.{Candidate}
-use Rattle.starts.specs.Read.{searchOf, countsAt, rowOf}
-use Rattle.starts.specs.Sweep.{Summed, number, fresh, Cleared}
+use Rattle.starts.specs.Read.{sideOf, searchOf, countsAt, rowOf}
+use Rattle.starts.specs.Sweep.{Lent, Summed, Known, number, Scratched, fresh, Cleared}
 use Rattle.starts.specs.Swept.{ColumnSweep, ColumnSweepRun, ColumnSwept, RowSweep, RowSwept}
-use Rattle.starts.specs.laws.Columns.{row-next, row-grows, row-of, row-figures, row-tables, row-before, tables-low, within-at, under-at}
+use Rattle.starts.specs.laws.Columns.{row-next, row-grows, row-of, row-figures, row-tables, row-before, row-under, tables-low, within-at, under-at}
 use Rattle.starts.specs.laws.Floats.{figures-alone}
-use Rattle.starts.specs.laws.Cells.{scratched-then, lent-kept, blank-known}
+use Rattle.starts.specs.laws.Lending.{lent-room}
+use Rattle.starts.specs.laws.Cells.{scratched-then, lent-kept}
+use Rattle.starts.specs.laws.Clean.{clean-kept, blank-known, clear-sized}
 use Rattle.starts.specs.laws.Past.{known-past, start-under, start-short}
+use Rattle.starts.specs.laws.Look.{past-kept, start-past}
 
 -- Before the first row no start is known, and every place is unreached. The loop starts with the cleared column.
-pub column-first : {bytes : List ℕ} {g : Galley} {w₀ sums words : List ℕ} {j : ℕ} → ColumnSweep bytes g w₀ sums words j → (w : List ℕ)
-    → Cleared g w₀ w j 0 (number 2 0) → ColumnSweepRun bytes g w w words words j noHeights (countsAt g 0 j .figures + 1)
+pub column-first : {bytes : List ℕ} {g : Galley} {w₀ sums words : List ℕ} {j : ℕ} {origin : Counts}
+    → ColumnSweep bytes g w₀ sums words j origin → (w : List ℕ) → Cleared g w₀ w j 0 (number 2 0)
+    → ColumnSweepRun bytes g w w words words j origin noHeights (countsAt g 0 j .figures + 1)
 column-first {bytes} {g} {j = j} asked w cleared =
     let end = countsAt g 0 j in
     let next : end .figures + 1 ≡ suc (end .figures) = omega arith in
     record {
       lent = lent-kept (cleared .kept) (asked .lent);
+      past = past-kept (cleared .kept) (asked .lent .sound .specRanged .sidesTwo) (asked .past);
       scratch = asked .scratch;
       within = omega arith;
       sized = refl;
@@ -38,32 +42,42 @@ column-first {bytes} {g} {j = j} asked w cleared =
       floats = stacked-nothing (floatsOf bytes (g .figures)) (end .figures + 1) (end .figures) (omega arith);
       known =
           blank-known bytes g w j (rowOf g (end .figures + 1))
-          (rw next (omega (arith, row-next g (end .figures), row-of g 0 j, tables-low g 0 j))) (asked .lent .sound .fewLines)
-          (asked .lent .sound .specRanged .sidesTwo) (cleared .blank (λ k c l m n. absurd (omega arith)));
+          (rw next (omega (arith, row-next g (end .figures), row-of g 0 j, tables-low g 0 j)))
+          (clear-sized cleared (lent-room (asked .lent))) (cleared .blank (λ k c l m n. absurd (omega arith)));
       kept = fresh;
     }
 
--- What is known after the sweeps, from before the column was cleared.
-pub column-since : {bytes : List ℕ} {g : Galley} {w₀ w v : List ℕ} {j : ℕ} → Cleared g w₀ w j 0 (number 2 0)
-    → ColumnSwept bytes g w v j → ColumnSwept bytes g w₀ v j
-column-since {g = g} {w₀} {w} {v} {j} cleared done =
-    record { known = done .known; kept = scratched-then g j w₀ w v (cleared .kept) (done .kept) }
+-- After the sweeps of a cleared column all starts are known.
+pub column-since : {bytes : List ℕ} {g : Galley} {w₀ w v : List ℕ} {j : ℕ} → Lent bytes g w₀ j → Cleared g w₀ w j 0 (number 2 0)
+    → Known bytes g v j 0 → Scratched g j w v → ColumnSwept bytes g w₀ v j
+column-since {g = g} {w₀} {w} {v} {j} lent cleared known kept =
+    let room = clear-sized cleared (lent-room lent) in
+    let blank = cleared .blank (λ k c l m n. absurd (omega arith)) in
+    record {
+      known = known;
+      clean =
+          clean-kept g j (lent .column) (room .two) w v (room .room) kept
+          (λ k c l m e. blank k c l m (omega (arith, room .wide .few, room .two)));
+      kept = scratched-then g j w₀ w v (cleared .kept) kept;
+    }
 
 -- The rows one after another.
-module _ {bytes : List ℕ} {g : Galley} {w₀ w words₀ words : List ℕ} {j : ℕ} {heights : Heights} {top : ℕ}
-    (run : ColumnSweepRun bytes g w₀ w words₀ words j heights top) where
+module _ {bytes : List ℕ} {g : Galley} {w₀ w words₀ words : List ℕ} {j : ℕ} {origin : Counts} {heights : Heights} {top : ℕ}
+    (run : ColumnSweepRun bytes g w₀ w words₀ words j origin heights top) where
   abbrev end : Counts
   end = countsAt g 0 j
 
   figures-few : end .figures ≤ g .figures .count
   figures-few = within-at g 0 j (omega arith) (run .lent .column) .figures
 
-  -- After the last one all starts are known.
-  pub column-last : top ≡ 0 → ColumnSwept bytes g w₀ w j
-  unfolding rowOf
-  column-last e =
-      let first : rowOf g top ≡ 0 = ap (rowOf g) e ∙ zero-mul (g .tables .count + 1) in
-      record { known = rw first at (run .known); kept = run .kept }
+  -- Back at the figures of the origin all starts are known: columns with fewer are before it.
+  pub column-last : top ≤ origin .figures → Known bytes g w j 0
+  column-last e = known-past bytes g w j 0 (rowOf g top) (omega arith) none (run .known)
+    where
+      none : (i a x y c : ℕ) → i ≤ g .text .count → c < g .spec .sides → 0 ≤ x → x < rowOf g top → x < j
+          → Candidate (searchOf bytes g w i j (sideOf g c)) a x y → ⊥
+      none i a x y c h occurs k l m start =
+          omega (arith, row-under g 0 top x l, start-past (run .lent) (run .past) i a x y c h occurs m start .1)
 
   -- There is room for the figure before.
   pub column-room : Room bytes (g .figures) heights (countsAt g 0 j .figures)
@@ -80,7 +94,8 @@ module _ {bytes : List ℕ} {g : Galley} {w₀ w words₀ words : List ℕ} {j :
       floats-back = back-stacked bytes (g .figures) top (end .figures) heights heights′ some put (run .floats)
 
       abbrev next-row : ℕ → Row
-      next-row least = record { figures = top - 1; heights = heights′; end = countsAt g 0 j; to = j; least = least }
+      next-row least =
+          record { origin = origin; figures = top - 1; heights = heights′; end = countsAt g 0 j; to = j; least = least }
 
       -- The next row may be swept,
       pub column-sweeps : {sums : List ℕ} → Summed bytes g sums → (least : ℕ) → least ≡ floor (modelOf bytes g) false
@@ -88,6 +103,7 @@ module _ {bytes : List ℕ} {g : Galley} {w₀ w words₀ words : List ℕ} {j :
       column-sweeps summed least e =
           record {
             lent = run .lent;
+            past = run .past;
             summed = summed;
             scratch = run .scratch;
             end = refl;
@@ -99,10 +115,11 @@ module _ {bytes : List ℕ} {g : Galley} {w₀ w words₀ words : List ℕ} {j :
 
       -- which brings in its starts.
       pub column-next : (least : ℕ) (v words′ : List ℕ) → length v ≡ length w → length words′ ≡ length words
-          → RowSwept bytes g w v (next-row least) → ColumnSweepRun bytes g w₀ v words₀ words′ j heights′ (top - 1)
+          → RowSwept bytes g w v (next-row least) → ColumnSweepRun bytes g w₀ v words₀ words′ j origin heights′ (top - 1)
       column-next least v words′ p q done =
           record {
             lent = lent-kept (done .kept) (run .lent);
+            past = past-kept (done .kept) (run .lent .sound .specRanged .sidesTwo) (run .past);
             scratch = omega (arith, run .scratch);
             within = omega (arith, run .within);
             sized = p ∙ run .sized;
@@ -113,9 +130,8 @@ module _ {bytes : List ℕ} {g : Galley} {w₀ w words₀ words : List ℕ} {j :
           }
 
       -- Where the figures alone are too tall, no page starts in that row or before it.
-      pub column-tall : g .spec .htmax < heights′ .tight → ColumnSwept bytes g w₀ w j
-      column-tall tall =
-          record { known = known-past bytes g w j 0 (rowOf g top) (omega arith) none (run .known); kept = run .kept }
+      pub column-tall : g .spec .htmax < heights′ .tight → Known bytes g w j 0
+      column-tall tall = known-past bytes g w j 0 (rowOf g top) (omega arith) none (run .known)
         where
           from : ℕ
           from = rowOf g (top - 1) + end .tables
@@ -129,11 +145,11 @@ module _ {bytes : List ℕ} {g : Galley} {w₀ w words₀ words : List ℕ} {j :
           from-before : from ≤ j
           from-before = omega (arith, row-grows g (top - 1) (end .figures) (omega (arith, run .within)), row-of g 0 j)
 
-          none : (i a x y side : ℕ) → i ≤ g .text .count → 0 ≤ x → x < rowOf g top → x < j
-              → Candidate (searchOf bytes g w i j side) a x y → ⊥
-          none i a x y side h k l m c =
-              let (figures, tables) = start-under (run .lent) i a x y side h c in
+          none : (i a x y c : ℕ) → i ≤ g .text .count → c < g .spec .sides → 0 ≤ x → x < rowOf g top → x < j
+              → Candidate (searchOf bytes g w i j (sideOf g c)) a x y → ⊥
+          none i a x y c h occurs k l m start =
+              let (figures, tables) = start-under (run .lent) i a x y (sideOf g c) h start in
               let fewer = row-before g 0 (top - 1) x (rw (← step) l) in
               start-short (run .lent) from from-before
-              (under-at bytes g from j (omega (arith, from-figures, run .within)) (omega (arith, from-tables))) (omega (arith, figures-alone bytes g (top - 1) j heights′ floats-back)) i a x y side h
-              (under-at bytes g x from (omega (arith, from-figures)) (omega (arith, from-tables))) c
+              (under-at bytes g from j (omega (arith, from-figures, run .within)) (omega (arith, from-tables))) (omega (arith, figures-alone bytes g (top - 1) j heights′ floats-back)) i a x y (sideOf g c) h
+              (under-at bytes g x from (omega (arith, from-figures)) (omega (arith, from-tables))) start

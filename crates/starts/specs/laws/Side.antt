@@ -16,7 +16,7 @@ use Rattle.places.specs.declared.Entry.{Entry}
 use Rattle.window.specs.declared.slide.Window.{Window}
 use Rattle.window.specs.declared.queue.Source.{Source}
 use Rattle.window.specs.declared.parts.Parts.{Parts}
-use Rattle.window.specs.Slide.{Slidable, Open}
+use Rattle.window.specs.Slide.{shutAt, Slidable, Open}
 use Rattle.window.specs.Queue.{linesOf, Payable}
 use Rattle.window.specs.Parts.{noParts, Both, Movable, Moved}
 use Rattle.window.specs.Windows.{windowAt, Windowable, WindowFound}
@@ -27,11 +27,12 @@ use Rattle.starts.specs.declared.sweep.Pass.{Pass}
 use Rattle.starts.specs.Fronts.{bestFront, Fronted}
 use Rattle.starts.specs.Read.{sideOf, columnsIn}
 use Rattle.starts.specs.Sweep.{Lent, passLoad, weighed, Ended, fresh, sweepEnd}
-use Rattle.starts.specs.Swept.{Windowed, Taken, SideSweep, SideRun, SideDone}
+use Rattle.starts.specs.Swept.{Windowed, Taken, Early, SideSweep, SideRun, SideDone}
 use Rattle.starts.specs.laws.Lending.{side-either, can-slide, can-move}
 use Rattle.starts.specs.laws.Fronts.{fronts-best, can-front}
 use Rattle.starts.specs.laws.Cells.{scratched-then, lent-kept}
-use Rattle.starts.specs.laws.Pass.{least-low, end-inner, pass-ended, pass-changed, pass-swept}
+use Rattle.starts.specs.laws.Pass.{least-low, end-from, end-inner, pass-ended, pass-changed, pass-swept}
+use Rattle.starts.specs.laws.Look.{quiet-kept, swept-skip}
 
 module _ {bytes : List ℕ} {g : Galley} {w₀ sums words₀ : List ℕ} {c : ℕ} {pass : Pass}
     (asked : SideSweep bytes g w₀ sums words₀ c pass) where
@@ -48,34 +49,45 @@ module _ {bytes : List ℕ} {g : Galley} {w₀ sums words₀ : List ℕ} {c : �
   costs-low : {w : List ℕ} → Lent bytes g w (pass .to) → (i : ℕ) → i ≤ g .text .count → Payable (column w) i
   costs-low lent i l a m = lent .costs (pass .from) c (asked .passing .before) (asked .occurs) a (omega arith)
 
-  -- A side starts with nothing in its queues.
-  pub side-first : SideRun bytes g w₀ w₀ sums words₀ words₀ c pass noParts (record { low = 0; split = 0; high = 0 }) 0
+  -- A side starts at the first line that is reached, with nothing in its queues: before it there is no start.
+  pub side-first : SideRun bytes g w₀ w₀ sums words₀ words₀ c pass noParts (shutAt (passLoad g pass)) (pass .first)
   side-first =
       record {
-        within = omega arith;
+        from = le-refl _;
+        within = end-from g pass (pass .first) (asked .first);
         sized = refl;
         wordsSized = refl;
-        ends = ends-first text (passLoad g pass) 0;
+        ends = ends-first text (passLoad g pass) (pass .first) (le-refl _);
         windows = λ k p. kept k (p .0) (p .1);
-        held = both-none (column w₀) sums words₀ 0;
-        swept = asked .swept;
+        held = both-none (column w₀) sums words₀ 0 (shutAt (passLoad g pass)) (λ a l m. absurd (none a l m));
+        swept = swept-skip (asked .lent) c (asked .occurs) (asked .early) (asked .first) (asked .swept);
         kept = fresh;
       }
     where
-      kept : (k : ℕ) → Taken g pass k → (0 < c) ⊎ (k < 0) → Open text (passLoad g pass) (windowAt words₀ k) k
+      none : (a : ℕ) → pass .first ≤ a → (a < pass .first) ⊎ (a < pass .first) → ⊥
+      none a l (inl m) = omega arith
+      none a l (inr m) = omega arith
+
+      kept : (k : ℕ) → Taken g pass k → (0 < c) ⊎ (k < pass .first) → Open text (passLoad g pass) (windowAt words₀ k) k
       kept k l (inl p) = asked .windows p k l
-      kept k l (inr p) = absurd (omega arith)
+      kept k l (inr p) = absurd (omega (arith, l .0))
 
   module _ {w words : List ℕ} {parts : Parts} {window : Window} {i : ℕ}
       (run : SideRun bytes g w₀ w sums words₀ words c pass parts window i) where
     lent-now : Lent bytes g w (pass .to)
     lent-now = lent-kept (run .kept) (asked .lent)
 
+    two : g .spec .sides ≤ 2
+    two = asked .lent .sound .specRanged .sidesTwo
+
+    early-now : Early g w pass
+    early-now = quiet-kept (run .kept) two two (asked .passing .before) (omega (arith, asked .first)) (asked .early)
+
     -- It ends where the sweep does.
     pub side-last : sweepEnd g pass ≤ i → SideDone bytes g w₀ w words c pass
     side-last l =
         let e : i ≡ sweepEnd g pass = omega (arith, run .within) in
-        record { windows = λ k m. run .windows k (m, inr (omega arith)); swept = rw e at (run .swept); kept = run .kept }
+        record { windows = λ k m. run .windows k (m, inr (omega (arith, m .1))); swept = rw e at (run .swept); kept = run .kept }
 
     module _ (next : i < sweepEnd g pass) where
       line : i ≤ g .text .count
@@ -89,7 +101,7 @@ module _ {bytes : List ℕ} {g : Galley} {w₀ sums words₀ : List ℕ} {c : �
 
       slides : (window : Window) → window .low ≤ i → window .split ≤ i → window .high ≤ i → Slidable sums (passLoad g pass) window i
       slides window =
-          can-slide lent-now (asked .summed) 1 (pass .heights) (le-refl 1) (asked .passing .low) (pass .least) order window i line
+          can-slide lent-now (asked .summed) 1 (pass .heights) (le-refl 1) (asked .passing .low) (pass .least) (pass .first) order window i line
 
       pub side-slides : Windowable sums (passLoad g pass) words window i
       side-slides =
@@ -104,7 +116,7 @@ module _ {bytes : List ℕ} {g : Galley} {w₀ sums words₀ : List ℕ} {c : �
           (found : WindowFound sums (passLoad g pass) words window i c new words′) where
         opened : Open text (passLoad g pass) new i
         opened =
-            found .opens text (g .text .count) (asked .summed .rows) line (run .ends) (λ p. run .windows i (next, inl p))
+            found .opens text (g .text .count) (asked .summed .rows) line (run .ends) (λ p. run .windows i ((run .from, next), inl p))
 
         held-found : Both (column w) sums words′ 0 parts window
         held-found =
@@ -161,9 +173,10 @@ module _ {bytes : List ℕ} {g : Galley} {w₀ sums words₀ : List ℕ} {c : �
               fronts-best lent-now (asked .summed) (omega (arith, asked .scratch, run .wordsSized, sized, sized″)) (passLoad g pass) order i
               line new opened (column w) 0 (pass .from) moved held-next (done .fresh) in
               let changed =
-              pass-changed lent-now (asked .passing) i c line (asked .occurs) false inner (asked .least) (asked .white) new opened lines
+              pass-changed lent-now (asked .passing) i c line (asked .occurs) early-now false inner (asked .least) (asked .white) new opened lines
               best (run .swept) v e in
               record {
+                from = omega (arith, run .from);
                 within = omega arith;
                 sized = changed .sized ∙ run .sized;
                 wordsSized = sized″ ∙ sized ∙ run .wordsSized;
@@ -176,7 +189,7 @@ module _ {bytes : List ℕ} {g : Galley} {w₀ sums words₀ : List ℕ} {c : �
                     (λ q. omega (arith, q .1, asked .passing .before)))
                     held-next;
                 swept =
-                    pass-swept lent-now (asked .passing) i c line (asked .occurs) false inner (asked .least) (asked .white) new opened lines
+                    pass-swept lent-now (asked .passing) i c line (asked .occurs) early-now false inner (asked .least) (asked .white) new opened lines
                     best (run .swept) v e;
                 kept = scratched-then g (pass .to) w₀ w v (run .kept) (changed .kept);
               }

@@ -17,7 +17,7 @@ use Rattle.places.specs.declared.Entry.the-variants.{Unreached}
 use Rattle.places.specs.Order.{Earlier}
 use Rattle.places.specs.Columns.{placeAt}
 use Rattle.places.specs.Best.{Paid, Best}
-use Rattle.places.specs.laws.Best.{best-as, best-unique}
+use Rattle.places.specs.laws.Best.{no-reach, best-as, best-unique}
 use Rattle.window.specs.declared.slide.Load.{Load}
 use Rattle.window.specs.declared.slide.Window.{Window}
 use Rattle.window.specs.Slide.{Open}
@@ -31,11 +31,12 @@ use Rattle.starts.specs.laws.Found.{start-best, best-start}
 use Rattle.starts.specs.laws.Pages.{Keeps, goes-lines, goes-alone, candidate-earlier}
 
 module _ (s : Search) (sought : Sought s) (b : ℕ) (left : b ≤ s .column) (under : Under (s .galley) b (s .column)) where
-  -- The best line of the window is the best of the column's lines before this one.
-  pub window-best : (load : Load) → Bears s b load → (window : Window) → Open (s .galley .stream 0) load window (s .line)
+  -- The best line of the window is the best of the column's lines before this one: those before the first are not reached.
+  pub window-best : (load : Load) → Bears s b load → ((a : ℕ) → a < load .first → a < s .line → s .table a b (s .side) ≡ Unreached)
+      → (window : Window) → Open (s .galley .stream 0) load window (s .line)
       → (white : ℕ → ℕ) → ((a : ℕ) → a < s .line → white a ≡ whiteFrom s a b) → (e : Entry)
       → Best (Lines (λ a. s .table a b (s .side)) white (window .low) (window .high) b) e → Best (Starts s (Above b (s .line))) e
-  window-best load bears window opened white whites e best = best-as starts lines best
+  window-best load bears early window opened white whites e best = best-as starts lines best
     where
       page : (a : ℕ) → a < s .line
           → (goes s a b ≡ true)
@@ -54,7 +55,7 @@ module _ (s : Search) (sought : Sought s) (b : ℕ) (left : b ≤ s .column) (un
       starts a b′ x (low, high, e, reached) =
           let l : a < s .line = omega (arith, opened .ends .high) in
           let short = fits a low l (decLe _ _) in
-          let enough = opened .ends .filled a (s .line) high (le-refl (s .line)) in
+          let enough = opened .ends .filled a (s .line) (omega (arith, opened .ends .since .low)) high (le-refl (s .line)) in
           rw e (
             (refl, l),
             record {
@@ -69,7 +70,7 @@ module _ (s : Search) (sought : Sought s) (b : ℕ) (left : b ≤ s .column) (un
       lines a b′ x ((e, l), c) =
           let d : Candidate s a b x = rw e at c in
           let keeps = page a l .0 (d .page) in (
-            low keeps (decLe (window .low) a),
+            low keeps (from (decLe (load .first) a) (d .reached)) (decLe (window .low) a),
             high keeps (decLt a (window .high)),
             e,
             subst (λ p. Paid (s .table a b (s .side)) p x) (sym (whites a l)) (d .reached),
@@ -80,10 +81,14 @@ module _ (s : Search) (sought : Sought s) (b : ℕ) (left : b ≤ s .column) (un
               (stacked (s .galley .stream 0) (s .galley .stream 0 .least) a (s .line) + load .tight)
               (stacked (s .galley .stream 0) (s .galley .stream 0 .most) a (s .line) + load .loose)
 
-          low : K → Dec (window .low ≤ a) → window .low ≤ a
-          low k (yes h) = h
-          low k (no h) =
-              let tall = opened .ends .passed a (s .line) (omega arith) (le-refl (s .line)) in
+          from : {p : ℕ} → Dec (load .first ≤ a) → Paid (s .table a b (s .side)) p x → load .first ≤ a
+          from (yes h) reached = h
+          from (no h) reached = absurd (no-reach (sym (early a (omega arith) l) ∙ reached .entry))
+
+          low : K → load .first ≤ a → Dec (window .low ≤ a) → window .low ≤ a
+          low k f (yes h) = h
+          low k f (no h) =
+              let tall = opened .ends .passed a (s .line) f (omega arith) (le-refl (s .line)) in
               absurd (omega (arith, k .short, bears .htmax))
 
           high : K → Dec (a < window .high) → a < window .high

@@ -12,13 +12,15 @@ use Rattle.rules.specs.Sums.{whiteAt}
 use Rattle.galley.specs.declared.Galley.{Galley}
 use Rattle.galley.specs.Model.{textOf, modelOf}
 use Rattle.places.specs.declared.Entry.{Entry}
+use Rattle.window.specs.Slide.{shutAt}
 use Rattle.starts.specs.declared.sweep.Pass.{Pass}
 use Rattle.starts.specs.Read.{sideOf, columnsIn, lastPlace}
-use Rattle.starts.specs.Sweep.{passLoad, Passing, weighed, Ended, LinesStand, LastBest, number, Swept, fresh}
+use Rattle.starts.specs.Sweep.{passLoad, Passing, weighed, Ended, LinesStand, LastBest, number, Swept, Scratched, fresh}
 use Rattle.starts.specs.Swept.{Sweep, SweepRun, SweepDone, SideSweep, SideDone, LastLine, LineDone}
 use Rattle.starts.specs.laws.Lending.{side-either, can-stand, can-slide}
 use Rattle.starts.specs.laws.Cells.{scratched-then, lent-kept, swept-side}
 use Rattle.starts.specs.laws.Pass.{least-low, pass-ended, pass-changed, pass-swept}
+use Rattle.starts.specs.laws.Look.{quiet-kept, known-quiet}
 
 -- The last line.
 module _ {bytes : List ℕ} {g : Galley} {w sums : List ℕ} {c : ℕ} {pass : Pass} (asked : LastLine bytes g w sums c pass) where
@@ -36,7 +38,15 @@ module _ {bytes : List ℕ} {g : Galley} {w sums : List ℕ} {c : ℕ} {pass : P
   module _ (last : columnsIn g ≤ pass .to + 1) where
     -- The pass to a page that may be short.
     abbrev short : Pass
-    short = record { from = pass .from; to = pass .to; heights = pass .heights; least = floor (modelOf bytes g) true; white = 0 }
+    short =
+        record {
+          from = pass .from;
+          to = pass .to;
+          heights = pass .heights;
+          least = floor (modelOf bytes g) true;
+          white = 0;
+          first = pass .first;
+        }
 
     passing : Passing bytes g short
     passing =
@@ -56,10 +66,11 @@ module _ {bytes : List ℕ} {g : Galley} {w sums : List ℕ} {c : ℕ} {pass : P
               can-stand (asked .lent) a (pass .from) (sideOf g c) l (omega (arith, asked .passing .before, asked .lent .column))
               (side-either g c);
           costs = λ a l. asked .lent .costs (pass .from) c (asked .passing .before) (asked .occurs) a (omega arith);
+          first = asked .first;
           slides =
-              can-slide (asked .lent) (asked .summed) 1 (pass .heights) (le-refl 1) (asked .passing .low) (g .spec .lastmin)
-              (least-low bytes g (asked .lent .sound) true) (record { low = 0; split = 0; high = 0 }) (g .text .count) (le-refl _) (omega arith)
-              (omega arith) (omega arith);
+              can-slide (asked .lent) (asked .summed) 1 (pass .heights) (le-refl 1) (asked .passing .low) (g .spec .lastmin) (pass .first)
+              (least-low bytes g (asked .lent .sound) true) (shutAt (passLoad g short)) (g .text .count) (le-refl _) (asked .first)
+              (asked .first) (asked .first);
         }
 
     pub last-ended : Ended g w (g .text .count) c short
@@ -79,10 +90,10 @@ module _ {bytes : List ℕ} {g : Galley} {w sums : List ℕ} {c : ℕ} {pass : P
         record {
           swept =
               swept-side c (g .text .count + 1) (asked .lent .sound .fewLines) (omega arith) (omega arith)
-              (pass-swept (asked .lent) passing (g .text .count) c (le-refl _) (asked .occurs) true full refl refl (found .window) opened lines
+              (pass-swept (asked .lent) passing (g .text .count) c (le-refl _) (asked .occurs) (asked .early) true full refl refl (found .window) opened lines
               (found .best) swept v e);
           kept =
-              pass-changed (asked .lent) passing (g .text .count) c (le-refl _) (asked .occurs) true full refl refl (found .window) opened lines
+              pass-changed (asked .lent) passing (g .text .count) c (le-refl _) (asked .occurs) (asked .early) true full refl refl (found .window) opened lines
               (found .best) swept v e .kept;
         }
 
@@ -99,7 +110,20 @@ module _ {bytes : List ℕ} {g : Galley} {w₀ sums words₀ : List ℕ} {pass :
         kept = fresh;
       }
 
-  module _ {w words : List ℕ} {c : ℕ} (run : SweepRun bytes g w₀ w words₀ words pass c) where
+  two : g .spec .sides ≤ 2
+  two = asked .lent .sound .specRanged .sidesTwo
+
+  -- Where no line of the column is reached the pass has no start.
+  pub sweep-none : g .text .count < pass .first → SweepDone bytes g w₀ w₀ pass
+  sweep-none l =
+      record {
+        known =
+            known-quiet (asked .lent)
+            (record { none = λ a c h m occurs. asked .early .none a c h (omega arith) occurs }) (asked .known);
+        kept = fresh;
+      }
+
+  module _ (some : pass .first ≤ g .text .count) {w words : List ℕ} {c : ℕ} (run : SweepRun bytes g w₀ w words₀ words pass c) where
     -- After the last side all places know the starts of the pass.
     pub sweep-last : g .spec .sides ≤ c → SweepDone bytes g w₀ w pass
     sweep-last l =
@@ -110,6 +134,8 @@ module _ {bytes : List ℕ} {g : Galley} {w₀ sums words₀ : List ℕ} {pass :
       sweep-side =
           record {
             lent = lent-kept (run .kept) (asked .lent);
+            early = quiet-kept (run .kept) two two (asked .passing .before) (omega arith) (asked .early);
+            first = some;
             summed = asked .summed;
             scratch = omega (arith, asked .scratch, run .wordsSized);
             passing = asked .passing;
@@ -121,10 +147,15 @@ module _ {bytes : List ℕ} {g : Galley} {w₀ sums words₀ : List ℕ} {pass :
           }
 
       module _ (v words′ : List ℕ) (p : length v ≡ length w) (q : length words′ ≡ length words) (side : SideDone bytes g w v words′ c pass) where
+        kept-both : Scratched g (pass .to) w₀ v
+        kept-both = scratched-then g (pass .to) w₀ w v (run .kept) (side .kept)
+
         pub sweep-line : LastLine bytes g v sums c pass
         sweep-line =
             record {
-              lent = lent-kept (scratched-then g (pass .to) w₀ w v (run .kept) (side .kept)) (asked .lent);
+              lent = lent-kept kept-both (asked .lent);
+              early = quiet-kept kept-both two two (asked .passing .before) (omega arith) (asked .early);
+              first = some;
               summed = asked .summed;
               passing = asked .passing;
               occurs = occurs;
@@ -140,6 +171,5 @@ module _ {bytes : List ℕ} {g : Galley} {w₀ sums words₀ : List ℕ} {pass :
               wordsSized = q ∙ run .wordsSized;
               windows = λ _. side .windows;
               swept = line .swept;
-              kept =
-                  scratched-then g (pass .to) w₀ w u (run .kept) (scratched-then g (pass .to) w v u (side .kept) (line .kept));
+              kept = scratched-then g (pass .to) w₀ v u kept-both (line .kept);
             }

@@ -4,27 +4,7 @@ use Rattle.walk.specs.Trace.{cheaper}
 use Rattle.walk.proofs.cheaper.Statement.{statement}
 use Rattle.walk.proofs.cheaper.Tie as tie
 
-returns : tie.Need-returns
-unfolding cheaper
-returns c = cc
-
-returns-2 : tie.Need-returns-2
-unfolding cheaper
-returns-2 c = cc
-
-returns-3 : tie.Need-returns-3
-unfolding cheaper
-returns-3 c = cc
-
 pub cheaper-spec : {M : Type 1} → statement M
+unfolding cheaper
 cheaper-spec =
-    tie.close
-    (tie.spec
-    (λ c. search needs)
-    (λ c. search needs)
-    returns
-    (λ c. search needs)
-    (λ c. search needs)
-    returns-2
-    (λ c κs. search needs)
-    returns-3)
+    tie.close (tie.spec (λ c. search needs) (λ c. search needs) (λ c. cc) (λ c. search needs) (λ c. search needs) (λ c. cc) (λ c κs. search needs) (λ c. cc))

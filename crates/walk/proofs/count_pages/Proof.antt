@@ -38,15 +38,6 @@ pub count-pages-spec : {M : Type 1} → statement M
 count-pages-spec =
     tie.close
     (tie.spec
-    Inv-loop
-    μ-loop
-    (λ c. search needs)
-    (λ c. search needs)
-    loop-holds
-    (λ c κs. search needs)
-    returns
-    page-before-requires
-    (λ c. search needs)
-    (λ c. search needs)
-    loop-again
-    returns-2)
+    Inv-loop μ-loop
+    (λ c. search needs) (λ c. search needs) loop-holds (λ c κs. search needs) returns page-before-requires (λ c. search needs)
+    (λ c. search needs) loop-again returns-2)

@@ -46,14 +46,5 @@ pub last-side-spec : {M : Type 1} → statement M
 last-side-spec =
     tie.close
     (tie.spec
-    (λ c. search needs)
-    (λ c. search needs)
-    (λ c. search needs)
-    (λ c. search needs)
-    entry-of-requires
-    (λ c. search needs)
-    entry-of-requires-2
-    (λ c κs. search needs)
-    returns
-    returns-2
-    returns-3)
+    (λ c. search needs) (λ c. search needs) (λ c. search needs) (λ c. search needs) entry-of-requires (λ c. search needs)
+    entry-of-requires-2 (λ c κs. search needs) returns returns-2 returns-3)

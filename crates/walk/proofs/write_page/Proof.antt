@@ -70,21 +70,6 @@ pub write-page-spec : {M : Type 1} → statement M
 write-page-spec =
     tie.close
     (tie.spec
-    (λ c. search needs)
-    (λ c. search needs)
-    (λ c κs. search needs)
-    cast-pages
-    (λ c. search needs)
-    slice-write-pages
-    cast-pages-2
-    (λ c. search needs)
-    (λ c. search needs)
-    slice-write-pages-2
-    cast-pages-3
-    add-pages-2
-    mul-pages-3
-    slice-write-pages-3
-    (λ c. search needs)
-    returns
-    (λ c. search needs)
-    returns-2)
+    (λ c. search needs) (λ c. search needs) (λ c κs. search needs) cast-pages (λ c. search needs) slice-write-pages cast-pages-2
+    (λ c. search needs) (λ c. search needs) slice-write-pages-2 cast-pages-3 add-pages-2 mul-pages-3 slice-write-pages-3 (λ c. search needs)
+    returns (λ c. search needs) returns-2)

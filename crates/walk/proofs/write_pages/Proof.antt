@@ -44,15 +44,6 @@ pub write-pages-spec : {M : Type 1} → statement M
 write-pages-spec =
     tie.close
     (tie.spec
-    Inv-loop
-    μ-loop
-    (λ c κs. search needs)
-    loop-holds
-    (λ c. search needs)
-    mul-write-page
-    write-page-requires
-    page-before-requires
-    (λ c. search needs)
-    loop-again
-    (λ c. search needs)
-    returns)
+    Inv-loop μ-loop
+    (λ c κs. search needs) loop-holds (λ c. search needs) mul-write-page write-page-requires page-before-requires (λ c. search needs)
+    loop-again (λ c. search needs) returns)

@@ -11,16 +11,18 @@ use Rattle.places.specs.declared.Entry.{Entry}
 use Rattle.places.specs.declared.Entry.the-variants.{Unreached, Least}
 use Rattle.window.specs.declared.queue.Queue.{Queue}
 use Rattle.places.specs.Best.{Paid}
+use Rattle.places.specs.laws.Best.{no-reach}
 use Rattle.window.specs.Queue.{lineAt, costAt, headed, Cover, Held, Passed, Beside}
 
 -- Nothing stored leaves all as it was.
 pub beside-none : (words : List ℕ) (from to : ℕ) → Beside words words from to
 beside-none words from to = record { words = λ n p. refl }
 
--- Of no line an empty queue holds all.
-pub held-none : (col : ℕ → Entry) (add : ℕ → ℕ) (words : List ℕ) (base : ℕ) (lacks : Bool)
-    → Held col add words (record { base = base; head = base; tail = base; lacks = lacks }) 0 0
-held-none col add words base lacks =
+-- Of lines that are not reached an empty queue holds all.
+pub held-none : (col : ℕ → Entry) (add : ℕ → ℕ) (words : List ℕ) (base : ℕ) (lacks : Bool) (low high : ℕ)
+    → ((a : ℕ) → low ≤ a → a < high → col a ≡ Unreached)
+    → Held col add words (record { base = base; head = base; tail = base; lacks = lacks }) low high
+held-none col add words base lacks low high none =
     record {
       based = omega arith;
       order = omega arith;
@@ -29,7 +31,7 @@ held-none col add words base lacks =
       costs = λ k l m. absurd (omega arith);
       before = λ k l m. absurd (omega arith);
       reached = λ k l m. absurd (omega arith);
-      covered = λ a x l m p. absurd (omega arith);
+      covered = λ a x l m p. absurd (no-reach (sym (none a l m) ∙ p .entry));
     }
 
 -- What is paid for a reached entry.

@@ -10,6 +10,7 @@ use lib.Dec.{ltb}
 use borrow.Author.Tests.{ltb-true, ltb-false}
 use Rattle.model.specs.Gather.{pick}
 use Rattle.places.specs.declared.Entry.{Entry}
+use Rattle.places.specs.declared.Entry.the-variants.{Unreached}
 use Rattle.window.specs.declared.slide.Window.{Window}
 use Rattle.window.specs.declared.parts.Parts.{Parts}
 use Rattle.window.specs.declared.queue.Source.{Source}
@@ -96,23 +97,25 @@ module _ (work sums w₀ w₁ w₂ : List ℕ) (source : Source) (parts : Parts)
         beside = beside-both (one .beside) (two .beside) (omega arith, omega arith) (omega arith, omega arith);
       }
 
--- Before the first line queues of no line hold all.
-pub both-none : (col : ℕ → Entry) (sums words : List ℕ) (base : ℕ)
+-- Where no line of the window is reached queues of no line hold all.
+pub both-none : (col : ℕ → Entry) (sums words : List ℕ) (base : ℕ) (window : Window)
+    → ((a : ℕ) → window .low ≤ a → (a < window .split) ⊎ (a < window .high) → col a ≡ Unreached)
     → Both col sums words base
     (record {
       full = record { base = base; head = base; tail = base; lacks = false };
       rest = record { base = base + 4000; head = base + 4000; tail = base + 4000; lacks = true };
     })
-    (record { low = 0; split = 0; high = 0 })
-unfolding later
-both-none col sums words base =
+    window
+both-none col sums words base window none =
     record {
       first = refl;
       second = refl;
       bare = refl;
       keyed = refl;
-      full = held-none col (addedOf sums false) words base false;
-      rest = held-none col (addedOf sums true) words (base + 4000) true;
+      full = held-none col (addedOf sums false) words base false (window .low) (window .split) (λ a l m. none a l (inl m));
+      rest =
+          held-none col (addedOf sums true) words (base + 4000) true (restFrom window) (window .high)
+          (λ a l m. none a (omega (arith, later-left (window .low) (window .split))) (inr m));
     }
 
 -- They hold the same of a column that is the same before the ends of both parts,

@@ -10,19 +10,20 @@ use Rattle.model.specs.laws.Height.{stacked-grows}
 use Rattle.window.specs.declared.slide.Load.{Load}
 use Rattle.window.specs.declared.slide.Window.{Window}
 use Rattle.window.specs.Sums.{Pair, Sums}
-use Rattle.window.specs.Slide.{Readable, Reachable, FirstBelow, Reaches, Ends, Open}
+use Rattle.window.specs.Slide.{shutAt, Readable, Reachable, FirstBelow, Reaches, Ends, Open}
 use Rattle.window.specs.laws.Sums.{reach-stacked, reach-grows}
 
--- Where nothing is passed all ends are at 0, whatever the line.
-pub ends-first : (st : Stream) (load : Load) (i : ℕ) → Ends st load (record { low = 0; split = 0; high = 0 }) i
-ends-first st load i =
+-- Where nothing is passed all ends are at the first line, whatever the line.
+pub ends-first : (st : Stream) (load : Load) (i : ℕ) → load .first ≤ i → Ends st load (shutAt load) i
+ends-first st load i h =
     record {
-      low = omega arith;
-      split = omega arith;
-      high = omega arith;
-      passed = λ a e l m. absurd (omega arith);
-      whole = λ a e l m. absurd (omega arith);
-      filled = λ a e l m. absurd (omega arith);
+      low = h;
+      split = h;
+      high = h;
+      since = record { low = le-refl _; split = le-refl _; high = le-refl _ };
+      passed = λ a e k l m. absurd (omega arith);
+      whole = λ a e k l m. absurd (omega arith);
+      filled = λ a e k l m. absurd (omega arith);
     }
 
 -- The window of a line has the ends that the next line starts from.
@@ -33,9 +34,10 @@ ends-next st load window i o =
       low = omega (arith, ends .low);
       split = omega (arith, ends .split);
       high = omega (arith, ends .high);
-      passed = λ a e l m. ends .passed a e l (omega arith);
-      whole = λ a e l m. ends .whole a e l (omega arith);
-      filled = λ a e l m. ends .filled a e l (omega arith);
+      since = ends .since;
+      passed = λ a e k l m. ends .passed a e k l (omega arith);
+      whole = λ a e k l m. ends .whole a e k l (omega arith);
+      filled = λ a e k l m. ends .filled a e k l (omega arith);
     }
 
 -- How far a page reaches can be read.
@@ -64,10 +66,6 @@ module _ (sums : List ℕ) (st : Stream) (gap : ℕ → ℕ) (space beside limit
           let grows = stacked-grows st gap a i a e (le-refl a) (omega arith) n in
           omega arith
 
-  pub end-passes : ((a e : ℕ) → a < old → i ≤ e → Reaches st gap beside limit a e) → (a e : ℕ) → a < new → i ≤ e
-      → Reaches st gap beside limit a e
-  end-passes before a e = end-passes-from 0 (λ b f from. before b f) a e (omega arith)
-
   -- Whatever starts from there on does not: a page that starts later is lower.
   pub end-opens : (a : ℕ) → new ≤ a → a < i → Reaches st gap beside limit a i → ⊥
   end-opens a l m reaches =
@@ -90,9 +88,18 @@ slide-opens sums st m load old new i low split high rows within ends =
         low = low .to;
         split = split .to;
         high = high .to;
-        passed = end-passes sums st (st .least) 0 (load .tight) (load .htmax + 1) (old .low) i (new .low) tight low (ends .passed);
-        whole = end-passes sums st (st .most) 1 (load .loose) (load .htmax) (old .split) i (new .split) loose split (ends .whole);
-        filled = end-passes sums st (st .most) 1 (load .loose) (load .htmin) (old .high) i (new .high) loose high (ends .filled);
+        since =
+            record {
+              low = omega (arith, low .from, ends .since .low);
+              split = omega (arith, split .from, ends .since .split);
+              high = omega (arith, high .from, ends .since .high);
+            };
+        passed =
+            end-passes-from sums st (st .least) 0 (load .tight) (load .htmax + 1) (old .low) i (new .low) tight low (load .first) (ends .passed);
+        whole =
+            end-passes-from sums st (st .most) 1 (load .loose) (load .htmax) (old .split) i (new .split) loose split (load .first) (ends .whole);
+        filled =
+            end-passes-from sums st (st .most) 1 (load .loose) (load .htmin) (old .high) i (new .high) loose high (load .first) (ends .filled);
       };
       fits = end-opens sums st (st .least) 0 (load .tight) (load .htmax + 1) (old .low) i (new .low) tight low;
       white = end-opens sums st (st .most) 1 (load .loose) (load .htmax) (old .split) i (new .split) loose split;

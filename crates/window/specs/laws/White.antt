@@ -80,13 +80,13 @@ module _ (st : Stream) (load : Load) (window : Window) (i : ℕ) (opened : Open 
       go (yes p) = p
       go (no p) =
           let inside = opened .ends .split in
-          let most = opened .ends .whole (window .high) i (omega arith) (le-refl i) in
+          let most = opened .ends .whole (window .high) i (opened .ends .since .high) (omega arith) (le-refl i) in
           absurd (opened .short (window .high) (le-refl (window .high)) (omega arith) (omega arith))
 
-  full-none : (a : ℕ) → a < window .split → addedOf sums false a + 0 ≡ whiteOf st load i a + 0
+  full-none : (a : ℕ) → window .low ≤ a → a < window .split → addedOf sums false a + 0 ≡ whiteOf st load i a + 0
   unfolding addedOf
-  full-none a l =
-      let most = opened .ends .whole a i l (le-refl i) in
+  full-none a k l =
+      let most = opened .ends .whole a i (omega (arith, opened .ends .since .low)) l (le-refl i) in
       omega arith
 
   -- How far the page reaches, and the height up to its start.
@@ -114,7 +114,7 @@ module _ (st : Stream) (load : Load) (window : Window) (i : ℕ) (opened : Open 
     pub full-best : Best (Lines col (whiteOf st load i) (window .low) (window .split) b) (frontOf words (parts .full) b)
     full-best =
         best-shifted 0 0 (frontOf words (parts .full) b) (frontOf words (parts .full) b) (λ x r e. (x, e, refl)) (λ e. e)
-        (λ a l n. full-none a n)
+        full-none
         (front-best col (addedOf sums false) words (parts .full) (window .low) (window .split) b (held .full) (fresh .full))
 
     rest-front : Best (Lines col (addedOf sums true) (restFrom window) (window .high) b) (frontOf words (parts .rest) b)

@@ -46,20 +46,21 @@ pub kept-beside : {st : Stream} {load : Load} {P : ℕ → Type 0} {old new : Li
 kept-beside {st} {load} beside apart kept i p =
     subst (λ (window : Window). Open st load window i) (sym (window-beside beside i (apart i p))) (kept i p)
 
--- An end before which all reach the limit is not past one from which on none does.
-end-rises : (P : ℕ → ℕ → Type 0) (old new i : ℕ) → old ≤ i → ((a e : ℕ) → a < old → i ≤ e → P a e)
+-- An end before which all from a first line on reach the limit is not past one from which on none does.
+end-rises : (P : ℕ → ℕ → Type 0) (first old new i : ℕ) → old ≤ i → first ≤ new → ((a e : ℕ) → first ≤ a → a < old → i ≤ e → P a e)
     → ((a : ℕ) → new ≤ a → a < i → P a i → ⊥) → old ≤ new
-end-rises P old new i within passed opened = go (decLe old new)
+end-rises P first old new i within since passed opened = go (decLe old new)
   where
     go : Dec (old ≤ new) → old ≤ new
     go (yes l) = l
-    go (no l) = absurd (opened new (le-refl new) (omega arith) (passed new i (omega arith) (le-refl i)))
+    go (no l) = absurd (opened new (le-refl new) (omega arith) (passed new i since (omega arith) (le-refl i)))
 
 -- The ends of a line's window are not before those that the line started from.
 pub ends-rise : (st : Stream) (load : Load) (old new : Window) (i : ℕ) → Ends st load old i → Open st load new i → Rises old new
 ends-rise st load old new i ends opened =
+    let since = opened .ends .since in
     record {
-      low = end-rises (Tall st load) (old .low) (new .low) i (ends .low) (ends .passed) (opened .fits);
-      split = end-rises (Full st load) (old .split) (new .split) i (ends .split) (ends .whole) (opened .white);
-      high = end-rises (Enough st load) (old .high) (new .high) i (ends .high) (ends .filled) (opened .short);
+      low = end-rises (Tall st load) (load .first) (old .low) (new .low) i (ends .low) (since .low) (ends .passed) (opened .fits);
+      split = end-rises (Full st load) (load .first) (old .split) (new .split) i (ends .split) (since .split) (ends .whole) (opened .white);
+      high = end-rises (Enough st load) (load .first) (old .high) (new .high) i (ends .high) (since .high) (ends .filled) (opened .short);
     }

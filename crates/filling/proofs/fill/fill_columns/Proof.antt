@@ -4,7 +4,7 @@ use Prim.Native.Nat.{_-_}
 use native.Mathlib.Omega.{arith}
 use Rattle.starts.specs.laws.Columns.{few-floats}
 use Rattle.filling.specs.Run.{ColumnsRun}
-use Rattle.filling.specs.laws.Column.{columns-first, columns-done, columns-column, columns-next}
+use Rattle.filling.specs.laws.Columns.{columns-first, columns-done, columns-column, columns-next}
 use borrow.Author.Needs.{needs}
 use Rattle.filling.proofs.fill.fill_columns.Statement.{statement}
 use Rattle.filling.proofs.fill.fill_columns.Tie as tie
@@ -41,14 +41,5 @@ pub fill-columns-spec : {M : Type 1} → statement M
 fill-columns-spec =
     tie.close
     (tie.spec
-    Inv-loop
-    μ-loop
-    columns-of-requires
-    loop-holds
-    fill-column-requires
-    (λ c. search needs)
-    (λ c. search needs)
-    loop-again
-    (λ c. search needs)
-    (λ c. search needs)
-    returns)
+    Inv-loop μ-loop columns-of-requires loop-holds fill-column-requires (λ c. search needs) (λ c. search needs) loop-again
+    (λ c. search needs) (λ c. search needs) returns)

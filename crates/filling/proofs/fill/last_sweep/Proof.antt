@@ -1,5 +1,5 @@
 -- `last_sweep` meets its contract. The loop's invariant is `LastRun`: the column is filled above line i, and the queues hold
--- the starts of the window.
+-- the starts of the window. Above the first line nothing is reached, so that the column is as if filled there.
 use Prim.Native.Nat.{_+_, _-_}
 use native.Mathlib.Omega.{arith}
 use mathlib.Core.Path.{_≡_, _∙_}
@@ -12,73 +12,83 @@ use Rattle.starts.specs.laws.Lending.{floats-separable}
 use Rattle.filling.specs.Stop.{stopAt}
 use Rattle.filling.specs.Next.{plain}
 use Rattle.filling.specs.Run.{LastRun}
-use Rattle.filling.specs.laws.Column.{last-first, last-done, last-slides, last-place, last-next}
+use Rattle.filling.specs.laws.Column.{first-slides, last-first, last-done, last-slides, last-place, last-next}
 use borrow.Author.Needs.{needs}
 use Rattle.filling.proofs.fill.last_sweep.Statement.{statement}
 use Rattle.filling.proofs.fill.last_sweep.Tie as tie
 
 abbrev Inv-loop : tie.InvT-loop
-Inv-loop s task work₀ sums words₀ j g least load top floats waiting₀ span₀ ends₀ i₀ work words waiting span ends i =
+Inv-loop s task work₀ sums words₀ j first g least begin load top floats waiting₀ span₀ ends₀ i₀ work words waiting span ends i =
     LastRun s task work₀ work sums words₀ words j waiting span ends i
 
 abbrev μ-loop : tie.MeasureT-loop
-μ-loop s task work₀ sums words₀ j g least load top floats waiting₀ span₀ ends₀ i₀ work words waiting span ends i =
+μ-loop s task work₀ sums words₀ j first g least begin load top floats waiting₀ span₀ ends₀ i₀ work words waiting span ends i =
     task .galley .text .count + 1 - i
 
 load-of-requires : tie.Need-load-of-requires Inv-loop μ-loop
 load-of-requires c κs =
-    floats-separable (c .before .before .before .before .before .before .pre .column .next .lent) 0 noHeights (omega arith) (record { tight = omega arith; loose = omega arith })
+    floats-separable (c .before .before .before .before .before .before .before .pre .gathered .column .next .lent) 0 noHeights (omega arith) (record { tight = omega arith; loose = omega arith })
 
 counts-at-requires : tie.Need-counts-at-requires Inv-loop μ-loop
-counts-at-requires c κs = few-floats (c .before .before .before .before .before .before .before .pre .column .next .lent .sound)
+counts-at-requires c κs = few-floats (c .before .before .before .before .before .before .before .before .pre .gathered .column .next .lent .sound)
 
 floats-of-requires : tie.Need-floats-of-requires Inv-loop μ-loop
 floats-of-requires c κs =
-    let start = c .before .before .before .before .before .before .before .before in
-    let lent = start .pre .column .next .lent in
+    let start = c .before .before .before .before .before .before .before .before .before in
+    let lent = start .pre .gathered .column .next .lent in
     record {
       sound = lent .sound;
       within = rw (c .counts-at .ensures) (within-at (start .args .task .galley) 0 (start .args .j) (omega arith) (lent .column));
     }
 
+slide-requires : tie.Need-slide-requires Inv-loop μ-loop
+slide-requires c κs =
+    let load = c .before .before .before in
+    let start = load .before .before .before .before .before .before .before .before in
+    rw (c .shut .ensures, load .load-of .ensures, load .before .before .floor-of .ensures (start .args .s .now)) (first-slides (start .pre))
+
 loop-holds : tie.Need-loop-holds Inv-loop μ-loop
-loop-holds c = last-first (c .before .before .before .before .before .before .before .before .before .pre)
+loop-holds c =
+    let load = c .before .before .before .before in
+    let start = load .before .before .before .before .before .before .before .before in
+    last-first (start .pre) (c .slide .result)
+    (rw (c .before .shut .ensures, load .load-of .ensures, load .before .before .floor-of .ensures (start .args .s .now)) at (c .slide .ensures))
 
 -- All places of the column have the figures and tables of its top.
 waiting-after-requires : tie.Need-waiting-after-requires Inv-loop μ-loop
-waiting-after-requires c κs = rw (c .before .before .before .before .counts-at .ensures) (c .before .before .loop .inv .walked)
+waiting-after-requires c κs = rw (c .before .before .before .before .before .before .counts-at .ensures) (c .before .before .loop .inv .walked)
 
-slide-requires : tie.Need-slide-requires Inv-loop μ-loop
-slide-requires c κs =
-    let load = c .before .before .before .before .before .before in
-    let start = c .before .before .before .before .before .before .before .before .before .before .before .before .before in
-    rw (load .load-of .ensures, load .before .floor-of .ensures (start .args .s .now))
+slide-requires-2 : tie.Need-slide-requires-2 Inv-loop μ-loop
+slide-requires-2 c κs =
+    let load = c .before .before .before .before .before .before .before .before in
+    let start = load .before .before .before .before .before .before .before .before in
+    rw (load .load-of .ensures, load .before .before .floor-of .ensures (start .args .s .now))
     (last-slides (start .pre) (c .before .before .before .loop .inv) (omega (arith, c .before .if1 .taken)))
 
 -- The window is moved on under the load of pages of lines alone.
-slid : (c : tie.After-slide Inv-loop μ-loop)
-    → Slid (c .before .before .before .before .before .before .before .before .before .before .before .before .before .before .args .sums .now)
-    (plain (c .before .before .before .before .before .before .before .before .before .before .before .before .before .before .args .task .galley))
-    (c .before .before .before .before .loop .span) (c .before .before .before .before .loop .i) (c .slide .result)
+slid : (c : tie.After-slide2 Inv-loop μ-loop)
+    → Slid (c .before .before .before .before .before .before .before .before .before .before .before .before .before .before .before .before .before .args .sums .now)
+    (plain (c .before .before .before .before .before .before .before .before .before .before .before .before .before .before .before .before .before .args .task))
+    (c .before .before .before .before .loop .span) (c .before .before .before .before .loop .i) (c .slide2 .result)
 slid c =
-    let load = c .before .before .before .before .before .before .before in
-    rw (load .load-of .ensures, load .before .floor-of .ensures (c .before .before .before .before .before .before .before .before .before .before .before .before .before .before .args .s .now)) at (c .slide .ensures)
+    let load = c .before .before .before .before .before .before .before .before .before in
+    rw (load .load-of .ensures, load .before .before .floor-of .ensures (c .before .before .before .before .before .before .before .before .before .before .before .before .before .before .before .before .before .args .s .now)) at (c .slide2 .ensures)
 
 stop-at-requires : tie.Need-stop-at-requires Inv-loop μ-loop
-stop-at-requires c κs = c .before .before .before .before .before .before .before .before .before .before .before .before .before .before .pre .column .next .lent .sound .text
+stop-at-requires c κs = c .before .before .before .before .before .before .before .before .before .before .before .before .before .before .before .before .before .pre .gathered .column .next .lent .sound .text
 
 -- What the place says of a page that ends there: it has the floats of the column's top.
 says : (c : tie.After-stop-at Inv-loop μ-loop)
     → c .stop-at .result
-    ≡ stopAt (c .before .before .before .before .before .before .before .before .before .before .before .before .before .before .before .args .s .now) (c .before .before .before .before .before .before .before .before .before .before .before .before .before .before .before .args .task .galley)
-    (countsAt (c .before .before .before .before .before .before .before .before .before .before .before .before .before .before .before .args .task .galley) (c .before .before .before .before .before .loop .i) (c .before .before .before .before .before .before .before .before .before .before .before .before .before .before .before .args .j))
-says c = c .stop-at .ensures ∙ rw (c .before .before .before .before .before .before .floats-of .ensures, c .before .before .before .before .before .before .before .counts-at .ensures)
+    ≡ stopAt (c .before .before .before .before .before .before .before .before .before .before .before .before .before .before .before .before .before .before .args .s .now) (c .before .before .before .before .before .before .before .before .before .before .before .before .before .before .before .before .before .before .args .task .galley)
+    (countsAt (c .before .before .before .before .before .before .before .before .before .before .before .before .before .before .before .before .before .before .args .task .galley) (c .before .before .before .before .before .loop .i) (c .before .before .before .before .before .before .before .before .before .before .before .before .before .before .before .before .before .before .args .j))
+says c = c .stop-at .ensures ∙ rw (c .before .before .before .before .before .before .before .before .floats-of .ensures, c .before .before .before .before .before .before .before .before .before .counts-at .ensures)
 
-add-t23 : tie.Need-add-t23 Inv-loop μ-loop
-add-t23 c =
-    let top = c .before .before .before .before .before .before .before .before .counts-at .result in
+add-t26 : tie.Need-add-t26 Inv-loop μ-loop
+add-t26 c =
+    let top = c .before .before .before .before .before .before .before .before .before .before .counts-at .result in
     let few =
-    waiting-few (c .before .before .before .before .before .before .before .before .before .before .before .before .before .before .before .before .pre .column .next .lent .sound)
+    waiting-few (c .before .before .before .before .before .before .before .before .before .before .before .before .before .before .before .before .before .before .before .pre .gathered .column .next .lent .sound)
     (record { lines = c .before .before .before .before .before .before .loop .i; figures = top .figures; tables = top .tables }) in
     rw (c .before .before .before .waiting-after .ensures) (omega (arith, few))
 
@@ -87,47 +97,31 @@ fill-place-requires c κs =
     let stop = c .before .before .before .before in
     let moved = stop .before in
     let found = moved .before in
-    let top = found .before .before .before .before .before .counts-at .ensures in
+    let top = found .before .before .before .before .before .before .before .counts-at .ensures in
     rw top
-    (last-place (stop .before .before .before .before .before .before .before .before .before .before .before .before .before .before .before .pre) (found .before .before .before .loop .inv) (omega (arith, found .before .if1 .taken))
-    (found .waiting-after .result) (rw top at (found .waiting-after .ensures)) (moved .slide .result) (slid moved) (stop .stop-at .result) (says stop))
+    (last-place (stop .before .before .before .before .before .before .before .before .before .before .before .before .before .before .before .before .before .before .pre) (found .before .before .before .loop .inv) (omega (arith, found .before .if1 .taken))
+    (found .waiting-after .result) (rw top at (found .waiting-after .ensures)) (moved .slide2 .result) (slid moved) (stop .stop-at .result) (says stop))
 
 add-i : tie.Need-add-i Inv-loop μ-loop
-add-i c = omega (arith, c .before .before .before .before .before .before .before .before .before .before .before .before .before .if1 .taken, c .before .before .before .before .before .before .before .before .before .before .before .before .before .before .before .before .before .before .before .before .before .before .before .before .before .pre .column .next .lent .sound .fewLines)
+add-i c = omega (arith, c .before .before .before .before .before .before .before .before .before .before .before .before .before .if1 .taken, c .before .before .before .before .before .before .before .before .before .before .before .before .before .before .before .before .before .before .before .before .before .before .before .before .before .before .before .before .pre .gathered .column .next .lent .sound .fewLines)
 
 loop-again : tie.Need-loop-again Inv-loop μ-loop
 loop-again c =
     let stop = c .before .before .before .before .before .before .before .before .before .before in
     let moved = stop .before in
     let found = moved .before in
-    let top = found .before .before .before .before .before .counts-at .ensures in
-    last-next (stop .before .before .before .before .before .before .before .before .before .before .before .before .before .before .before .pre) (found .before .before .before .loop .inv) (omega (arith, found .before .if1 .taken))
-    (found .waiting-after .result) (rw top at (found .waiting-after .ensures)) (moved .slide .result) (slid moved) (stop .stop-at .result) (says stop) _ _
+    let top = found .before .before .before .before .before .before .before .counts-at .ensures in
+    last-next (stop .before .before .before .before .before .before .before .before .before .before .before .before .before .before .before .before .before .before .pre) (found .before .before .before .loop .inv) (omega (arith, found .before .if1 .taken))
+    (found .waiting-after .result) (rw top at (found .waiting-after .ensures)) (moved .slide2 .result) (slid moved) (stop .stop-at .result) (says stop) _ _
     (search (needs, c .before .slice-known4 .given, c .before .before .words .given)) _ (rw top at (c .before .before .before .before .before .fill-place .ensures))
 
 returns : tie.Need-returns Inv-loop μ-loop
-returns c = last-done (c .before .before .before .before .before .before .before .before .before .before .before .before .pre) (c .before .before .loop .inv) (omega (arith, c .if1 .left))
+returns c = last-done (c .before .before .before .before .before .before .before .before .before .before .before .before .before .before .before .pre) (c .before .before .loop .inv) (omega (arith, c .if1 .left))
 
 pub last-sweep-spec : {M : Type 1} → statement M
 last-sweep-spec =
     tie.close
     (tie.spec
-    Inv-loop
-    μ-loop
-    (λ c κs. search needs)
-    load-of-requires
-    counts-at-requires
-    floats-of-requires
-    loop-holds
-    waiting-after-requires
-    slide-requires
-    stop-at-requires
-    add-t23
-    (λ c. search needs)
-    fill-place-requires
-    add-i
-    (λ c. search needs)
-    loop-again
-    (λ c. search needs)
-    (λ c. search needs)
-    returns)
+    Inv-loop μ-loop (λ c κs. search needs) (λ c. search needs) load-of-requires counts-at-requires floats-of-requires (λ c κs. search needs)
+    slide-requires loop-holds waiting-after-requires slide-requires-2 stop-at-requires add-t26 (λ c. search needs) fill-place-requires add-i
+    (λ c. search needs) loop-again (λ c. search needs) (λ c. search needs) returns)

@@ -32,12 +32,8 @@ pub skip-column-spec : {M : Type 1} → statement M
 skip-column-spec =
     tie.close
     (tie.spec
-    Inv-loop
-    μ-loop
+    Inv-loop μ-loop
     (λ c. let a = c .before .args in skip-start (a .g) (a .work .now) (a .j))
     skip-place-requires
     (λ c. search (needs, c .before .before .before .before .before .before .before .before .pre .wide .few))
-    (λ c. search needs)
-    loop-again
-    (λ c. search needs)
-    returns)
+    (λ c. search needs) loop-again (λ c. search needs) returns)

@@ -43,15 +43,7 @@ pub skip-place-spec : {M : Type 1} → statement M
 skip-place-spec =
     tie.close
     (tie.spec
-    Inv-loop
-    μ-loop
+    Inv-loop μ-loop
     (λ c. let a = c .before .args in skip-first (a .g) (a .work .now) (a .i) (a .j))
-    (λ c. search needs)
-    place-of-requires
-    (λ c. search needs)
-    store-requires
-    (λ c. search needs)
-    (λ c. search needs)
-    loop-again
-    (λ c. search needs)
-    returns)
+    (λ c. search needs) place-of-requires (λ c. search needs) store-requires (λ c. search needs) (λ c. search needs) loop-again
+    (λ c. search needs) returns)

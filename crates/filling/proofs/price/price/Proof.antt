@@ -45,9 +45,4 @@ pub price-spec : {M : Type 1} → statement M
 price-spec =
     tie.close
     (tie.spec
-    returns
-    returns-2
-    (λ c. search needs)
-    mul-result
-    add-result
-    returns-3)
+    returns returns-2 (λ c. search needs) mul-result add-result returns-3)

@@ -100,22 +100,6 @@ pub fill-place-spec : {M : Type 1} → statement M
 fill-place-spec =
     tie.close
     (tie.spec
-    Inv-loop
-    μ-loop
-    (λ c κs. search needs)
-    loop-holds
-    (λ c. search needs)
-    parts-of-requires
-    fill-side-requires
-    cast-put-row
-    cast-put-row-2
-    cast-put-row-3
-    cast-put-row-4
-    put-row-requires
-    add-c
-    loop-less
-    loop-again
-    (λ c. search needs)
-    (λ c. search needs)
-    (λ c. search needs)
+    Inv-loop μ-loop (λ c κs. search needs) loop-holds (λ c. search needs) parts-of-requires fill-side-requires cast-put-row cast-put-row-2
+    cast-put-row-3 cast-put-row-4 put-row-requires add-c loop-less loop-again (λ c. search needs) (λ c. search needs) (λ c. search needs)
     returns)

@@ -53,12 +53,5 @@ pub fill-side-spec : {M : Type 1} → statement M
 fill-side-spec =
     tie.close
     (tie.spec
-    (λ c. search needs)
-    (λ c κs. search needs)
-    move-on-requires
-    new-entry-requires
-    place-of-requires
-    store-requires
-    (λ c. search needs)
-    (λ c. search needs)
-    returns)
+    (λ c. search needs) (λ c κs. search needs) move-on-requires new-entry-requires place-of-requires store-requires (λ c. search needs)
+    (λ c. search needs) returns)

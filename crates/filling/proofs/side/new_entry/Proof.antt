@@ -126,19 +126,6 @@ pub new-entry-spec : {M : Type 1} → statement M
 new-entry-spec =
     tie.close
     (tie.spec
-    (λ c κs. search needs)
-    returns
-    (λ c κs. search needs)
-    returns-2
-    (λ c κs. search needs)
-    add-entry-of
-    entry-of-requires
-    (λ c κs. search needs)
-    (λ c κs. search needs)
-    (λ c. search needs)
-    (λ c. search needs)
-    returns-3
-    price-requires
-    (λ c κs. search needs)
-    add-t23
-    returns-4)
+    (λ c κs. search needs) returns (λ c κs. search needs) returns-2 (λ c κs. search needs) add-entry-of entry-of-requires
+    (λ c κs. search needs) (λ c κs. search needs) (λ c. search needs) (λ c. search needs) returns-3 price-requires (λ c κs. search needs)
+    add-t23 returns-4)

@@ -20,8 +20,4 @@ pub start-at-spec : {M : Type 1} → statement M
 start-at-spec =
     tie.close
     (tie.spec
-    (λ c. search needs)
-    (λ c. search needs)
-    returns
-    add-t7
-    returns-2)
+    (λ c. search needs) (λ c. search needs) returns add-t7 returns-2)

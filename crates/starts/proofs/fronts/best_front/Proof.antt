@@ -18,9 +18,4 @@ pub best-front-spec : {M : Type 1} → statement M
 best-front-spec =
     tie.close
     (tie.spec
-    (λ c κs. search needs)
-    (λ c κs. search needs)
-    (λ c κs. search needs)
-    whitened-requires
-    (λ c κs. search needs)
-    returns)
+    (λ c κs. search needs) (λ c κs. search needs) (λ c κs. search needs) whitened-requires (λ c κs. search needs) returns)

@@ -61,14 +61,5 @@ pub best-line-spec : {M : Type 1} → statement M
 best-line-spec =
     tie.close
     (tie.spec
-    Inv-loop
-    μ-loop
-    loop-holds
-    place-of-requires
-    entry-of-requires
-    start-at-requires
-    (λ c κs. search needs)
-    (λ c. search needs)
-    (λ c. search needs)
-    loop-again
-    returns)
+    Inv-loop μ-loop loop-holds place-of-requires entry-of-requires start-at-requires (λ c κs. search needs) (λ c. search needs)
+    (λ c. search needs) loop-again returns)

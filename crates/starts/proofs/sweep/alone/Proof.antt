@@ -28,9 +28,4 @@ pub alone-spec : {M : Type 1} → statement M
 alone-spec =
     tie.close
     (tie.spec
-    returns
-    (λ c κs. search needs)
-    (λ c. search needs)
-    entry-of-requires
-    start-at-requires
-    returns-2)
+    returns (λ c κs. search needs) (λ c. search needs) entry-of-requires start-at-requires returns-2)

@@ -23,11 +23,5 @@ pub improve-spec : {M : Type 1} → statement M
 improve-spec =
     tie.close
     (tie.spec
-    (λ c κs. search needs)
-    alone-requires
-    (λ c κs. search needs)
-    (λ c κs. search needs)
-    (λ c. search needs)
-    offer-requires
-    (λ c. search needs)
-    returns)
+    (λ c κs. search needs) alone-requires (λ c κs. search needs) (λ c κs. search needs) (λ c. search needs) offer-requires
+    (λ c. search needs) returns)

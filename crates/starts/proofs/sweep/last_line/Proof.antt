@@ -54,13 +54,5 @@ pub last-line-spec : {M : Type 1} → statement M
 last-line-spec =
     tie.close
     (tie.spec
-    add-if1
-    columns-of-requires
-    returns
-    (λ c κs. search needs)
-    load-of-requires
-    (λ c κs. search needs)
-    last-lines-requires
-    improve-requires
-    (λ c. search needs)
-    returns-2)
+    add-if1 columns-of-requires returns (λ c κs. search needs) load-of-requires (λ c κs. search needs) last-lines-requires improve-requires
+    (λ c. search needs) returns-2)

@@ -1,9 +1,9 @@
 -- `sweep_column` meets its contract. The loop's invariant is `ColumnSweepRun`: the starts in rows from b figures on are known. Where
--- the figures alone are too tall, no earlier row has a start.
+-- the figures alone are too tall, no earlier row has a start, and none before the origin's figures is reached.
 use native.Mathlib.Omega.{arith}
 use Rattle.starts.specs.Swept.{ColumnSweepRun}
 use Rattle.starts.specs.laws.Columns.{few-floats, within-at}
-use Rattle.starts.specs.laws.Lending.{lent-wide}
+use Rattle.starts.specs.laws.Lending.{lent-room}
 use Rattle.starts.specs.laws.Rows.{column-first, column-since, column-last, column-room, column-sweeps, column-next, column-tall}
 use denote.Ref.{now}
 use borrow.Author.Needs.{needs}
@@ -11,15 +11,15 @@ use Rattle.starts.proofs.sweep.sweep_column.Statement.{statement}
 use Rattle.starts.proofs.sweep.sweep_column.Tie as tie
 
 abbrev Inv-loop : tie.InvT-loop
-Inv-loop s g work₀ sums words₀ j end least heights₀ b₀ work words heights b = ColumnSweepRun s g work₀ work words₀ words j heights b
+Inv-loop s g work₀ sums words₀ j origin end least heights₀ b₀ work words heights b =
+    ColumnSweepRun s g work₀ work words₀ words j origin heights b
 
 abbrev μ-loop : tie.MeasureT-loop
-μ-loop s g work₀ sums words₀ j end least heights₀ b₀ work words heights b = b
+μ-loop s g work₀ sums words₀ j origin end least heights₀ b₀ work words heights b = b
 
 clear-column-requires : tie.Need-clear-column-requires Inv-loop μ-loop
 clear-column-requires c κs =
-    let pre = c .before .before .before .before .before .pre in
-    record { wide = lent-wide (pre .lent); two = pre .lent .sound .specRanged .sidesTwo; room = pre .lent .room }
+    lent-room (c .before .before .before .before .before .pre .lent)
 
 add-b : tie.Need-add-b Inv-loop μ-loop
 add-b c =
@@ -35,26 +35,27 @@ loop-holds c =
     (column-first (cleared .before .before .before .before .before .before .pre) _ (cleared .clear-column .ensures))
 
 block-before-requires : tie.Need-block-before-requires Inv-loop μ-loop
-block-before-requires c κs = rw (c .before .before .before .before .counts-at .ensures) (column-room (c .before .loop .inv))
+block-before-requires c κs = rw (c .before .before .before .before .before .counts-at .ensures) (column-room (c .before .before .loop .inv))
 
 returns : tie.Need-returns Inv-loop μ-loop
 returns c =
     let put = c .before .before .before in
-    let st = put .before .before in
+    let st = put .before .before .before in
     let counted = st .before .before .before in
-    column-since (counted .before .before .before .clear-column .ensures)
-    (column-tall (st .loop .inv) (put .before .loop-test .taken) (put .block-before .result)
-    (rw (counted .counts-at .ensures) at (put .block-before .ensures)) (c .if1 .taken))
+    let cleared = counted .before .before .before in
+    column-since (cleared .before .before .before .before .before .before .pre .lent) (cleared .clear-column .ensures)
+    (column-tall (st .loop .inv) (omega (arith, put .before .if1 .taken)) (put .block-before .result)
+    (rw (counted .counts-at .ensures) at (put .block-before .ensures)) (c .if2 .taken)) (st .loop .inv .kept)
 
 sweep-row-requires : tie.Need-sweep-row-requires Inv-loop μ-loop
 sweep-row-requires c κs =
     let put = c .before .before .before .before .before in
-    let st = put .before .before in
+    let st = put .before .before .before in
     let least = st .before .before in
     let counted = least .before in
     let start = counted .before .before .before .before .before .before .before .before .before in
     rw (counted .counts-at .ensures)
-    (column-sweeps (st .loop .inv) (put .before .loop-test .taken) (put .block-before .result)
+    (column-sweeps (st .loop .inv) (omega (arith, put .before .if1 .taken)) (put .block-before .result)
     (rw (counted .counts-at .ensures) at (put .block-before .ensures)) (start .pre .summed) (least .floor-of .result)
     (least .floor-of .ensures (now (start .args .s))))
 
@@ -62,38 +63,26 @@ loop-again : tie.Need-loop-again Inv-loop μ-loop
 loop-again c =
     let swept = c .before .before .before .before in
     let put = swept .before .before .before .before .before .before in
-    let st = put .before .before in
+    let st = put .before .before .before in
     let least = st .before .before in
     let counted = least .before in
-    column-next (st .loop .inv) (put .before .loop-test .taken) (put .block-before .result)
+    column-next (st .loop .inv) (omega (arith, put .before .if1 .taken)) (put .block-before .result)
     (rw (counted .counts-at .ensures) at (put .block-before .ensures)) (least .floor-of .result) _ _
     (search (needs, c .before .before .slice-known4 .given, c .before .before .before .work2 .given))
     (search (needs, c .slice-known5 .given, c .before .words .given)) (rw (counted .counts-at .ensures) at (swept .sweep-row .ensures))
 
 returns-2 : tie.Need-returns-2 Inv-loop μ-loop
 returns-2 c =
-    column-since (c .before .before .before .before .before .before .before .clear-column .ensures)
-    (column-last (c .before .loop .inv) (omega (arith, c .loop-test .left)))
+    let st = c .before .before .loop in
+    let cleared = c .before .before .before .before .before .before .before .before in
+    column-since (cleared .before .before .before .before .before .before .pre .lent) (cleared .clear-column .ensures)
+    (column-last (st .inv) (omega (arith, c .if1 .left))) (st .inv .kept)
 
 pub sweep-column-spec : {M : Type 1} → statement M
 sweep-column-spec =
     tie.close
     (tie.spec
-    Inv-loop
-    μ-loop
-    clear-column-requires
+    Inv-loop μ-loop clear-column-requires
     (λ c κs. few-floats (c .before .before .before .before .before .before .before .before .pre .lent .sound))
-    (λ c κs. search needs)
-    add-b
-    loop-holds
-    (λ c. search needs)
-    block-before-requires
-    (λ c. search needs)
-    (λ c. search needs)
-    returns
-    sweep-row-requires
-    (λ c. search needs)
-    loop-again
-    (λ c. search needs)
-    (λ c. search needs)
-    returns-2)
+    (λ c κs. search needs) add-b loop-holds (λ c. search needs) block-before-requires (λ c. search needs) (λ c. search needs) returns
+    sweep-row-requires (λ c. search needs) loop-again (λ c. search needs) (λ c. search needs) returns-2)

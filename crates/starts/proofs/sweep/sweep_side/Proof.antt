@@ -30,11 +30,12 @@ add-t17 c = omega (arith, c .before .before .before .before .before .before .bef
 
 loop-holds : tie.Need-loop-holds Inv-loop μ-loop
 loop-holds c =
-    rw (c .no-parts .ensures) (side-first (c .before .before .before .before .before .before .before .before .before .pre))
+    let loaded = c .before .before .before .before .before in
+    rw (c .shut .ensures, c .before .no-parts .ensures, loaded .load-of .ensures) (side-first (loaded .before .before .before .before .before .pre))
 
 window-of-requires : tie.Need-window-of-requires Inv-loop μ-loop
 window-of-requires c κs =
-    let ended = c .before .before .before .before .before in
+    let ended = c .before .before .before .before .before .before in
     rw (ended .before .before .load-of .ensures)
     (side-slides (ended .before .before .before .before .before .before .before .pre) (c .before .before .loop .inv)
     (rw (← ended .sweep-end .ensures) (c .before .loop-test .taken)))
@@ -43,7 +44,7 @@ move-on-requires : tie.Need-move-on-requires Inv-loop μ-loop
 move-on-requires c κs =
     let found = c .before .before .before .before in
     let st = found .before .before .before in
-    let ended = st .before .before .before in
+    let ended = st .before .before .before .before in
     rw (ended .before .side-before .ensures)
     (side-moves (ended .before .before .before .before .before .before .before .pre) (st .loop .inv)
     (rw (← ended .sweep-end .ensures) (found .before .before .loop-test .taken)) _
@@ -55,7 +56,7 @@ best-front-requires c κs =
     let moved = c .before .before .before in
     let found = moved .before .before .before .before .before in
     let st = found .before .before .before in
-    let ended = st .before .before .before in
+    let ended = st .before .before .before .before in
     rw (ended .before .before .load-of .ensures)
     (side-fronted (ended .before .before .before .before .before .before .before .pre) (st .loop .inv)
     (rw (← ended .sweep-end .ensures) (found .before .before .loop-test .taken)) _
@@ -69,7 +70,7 @@ improve-requires c κs =
     let moved = c .before .before .before .before .before in
     let found = moved .before .before .before .before .before in
     let st = found .before .before .before in
-    let ended = st .before .before .before in
+    let ended = st .before .before .before .before in
     side-ended (ended .before .before .before .before .before .before .before .pre) (st .loop .inv)
     (rw (← ended .sweep-end .ensures) (found .before .before .loop-test .taken))
 
@@ -77,7 +78,7 @@ add-i : tie.Need-add-i Inv-loop μ-loop
 add-i c =
     let found = c .before .before .before .before .before .before .before .before .before .before .before .before .before in
     let st = found .before .before .before in
-    let ended = st .before .before .before in
+    let ended = st .before .before .before .before in
     let start = ended .before .before .before .before .before .before .before in
     omega (
       arith,
@@ -91,7 +92,7 @@ loop-again c =
     let moved = fronted .before .before .before .before in
     let found = moved .before .before .before .before .before in
     let st = found .before .before .before in
-    let ended = st .before .before .before in
+    let ended = st .before .before .before .before in
     side-next (ended .before .before .before .before .before .before .before .pre) (st .loop .inv)
     (rw (← ended .sweep-end .ensures) (found .before .before .loop-test .taken)) _
     (search (needs, moved .before .before .before .slice-known3 .given, moved .before .before .before .before .words .given))
@@ -102,7 +103,7 @@ loop-again c =
 
 returns : tie.Need-returns Inv-loop μ-loop
 returns c =
-    let ended = c .before .before .before .before in
+    let ended = c .before .before .before .before .before in
     side-last (ended .before .before .before .before .before .before .before .pre) (c .before .loop .inv)
     (rw (← ended .sweep-end .ensures) (c .loop-test .left))
 
@@ -110,21 +111,6 @@ pub sweep-side-spec : {M : Type 1} → statement M
 sweep-side-spec =
     tie.close
     (tie.spec
-    Inv-loop
-    μ-loop
-    load-of-requires
-    (λ c κs. search needs)
-    sweep-end-requires
-    add-t17
-    (λ c κs. search needs)
-    loop-holds
-    window-of-requires
-    move-on-requires
-    best-front-requires
-    improve-requires
-    add-i
-    (λ c. search needs)
-    loop-again
-    (λ c. search needs)
-    (λ c. search needs)
-    returns)
+    Inv-loop μ-loop load-of-requires (λ c κs. search needs) sweep-end-requires add-t17 (λ c κs. search needs) (λ c κs. search needs)
+    loop-holds window-of-requires move-on-requires best-front-requires improve-requires add-i (λ c. search needs) loop-again
+    (λ c. search needs) (λ c. search needs) returns)

@@ -43,13 +43,6 @@ pub all-pairs-spec : {M : Type 1} → statement M
 all-pairs-spec =
     tie.close
     (tie.spec
-    Inv-loop
-    μ-loop
+    Inv-loop μ-loop
     (λ c κs. few-floats (c .before .before .pre .sound))
-    loop-holds
-    pairs-into-requires
-    add-pairs
-    (λ c. search needs)
-    (λ c. search needs)
-    loop-again
-    returns)
+    loop-holds pairs-into-requires add-pairs (λ c. search needs) (λ c. search needs) loop-again returns)

@@ -39,6 +39,4 @@ pairs-between-spec =
     (λ c. omega (arith, c .before .before .before .pre .pairable 0 (omega arith) .few))
     line-pairs-requires
     (λ c. omega (arith, few c, c .line-pairs .ensures .0))
-    returns
-    line-pairs-requires-2
-    returns-2)
+    returns line-pairs-requires-2 returns-2)

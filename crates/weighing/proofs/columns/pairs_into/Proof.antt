@@ -56,16 +56,8 @@ pub pairs-into-spec : {M : Type 1} → statement M
 pairs-into-spec =
     tie.close
     (tie.spec
-    Inv-loop
-    μ-loop
+    Inv-loop μ-loop
     (λ c κs. few-floats (c .before .before .pre .ready .sound))
-    add-b
-    loop-holds
-    (λ c. search needs)
-    block-before-requires
-    returns
-    pairs-of-row-requires
+    add-b loop-holds (λ c. search needs) block-before-requires returns pairs-of-row-requires
     (λ c. omega (arith, c .before .before .before .before .before .before .before .loop .inv .few, c .pairs-of-row .ensures .few))
-    (λ c. search needs)
-    loop-again
-    returns-2)
+    (λ c. search needs) loop-again returns-2)

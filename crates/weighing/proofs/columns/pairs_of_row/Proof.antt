@@ -74,17 +74,8 @@ pub pairs-of-row-spec : {M : Type 1} → statement M
 pairs-of-row-spec =
     tie.close
     (tie.spec
-    Inv-loop
-    μ-loop
+    Inv-loop μ-loop
     (λ c κs. few-floats (c .before .before .pre .ready .sound))
-    add-t
-    loop-holds
-    (λ c. search needs)
-    block-before-requires
-    floats-alone-requires
-    returns
-    pairs-between-requires
+    add-t loop-holds (λ c. search needs) block-before-requires floats-alone-requires returns pairs-between-requires
     (λ c. omega (arith, c .before .before .before .before .before .before .before .before .before .before .before .before .loop .inv .few, c .pairs-between .ensures .0))
-    (λ c. search needs)
-    loop-again
-    returns-2)
+    (λ c. search needs) loop-again returns-2)

@@ -43,8 +43,7 @@ pub line-pairs-spec : {M : Type 1} → statement M
 line-pairs-spec =
     tie.close
     (tie.spec
-    Inv-loop
-    μ-loop
+    Inv-loop μ-loop
     (λ c. counting-start _ _ _ _ _ (c .before .pre .from))
     (λ c. omega (arith, c .before .before .before .pre .limited))
     first-below-requires
@@ -52,5 +51,4 @@ line-pairs-spec =
     (λ c. omega (arith, c .before .before .loop .inv .few, c .before .before .loop .inv .within, wide c, c .before .before .before .before .pre .few))
     (λ c. omega (arith, c .before .loop-test .taken, c .before .before .before .before .pre .few))
     (λ c. omega (arith, c .before .loop-test .taken))
-    loop-again
-    returns)
+    loop-again returns)

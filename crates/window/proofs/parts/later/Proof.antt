@@ -16,5 +16,4 @@ pub later-spec : {M : Type 1} → statement M
 later-spec =
     tie.close
     (tie.spec
-    returns
-    returns-2)
+    returns returns-2)

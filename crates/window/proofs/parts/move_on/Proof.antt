@@ -47,8 +47,4 @@ pub move-on-spec : {M : Type 1} → statement M
 move-on-spec =
     tie.close
     (tie.spec
-    (λ c κs. search needs)
-    advance-requires
-    advance-requires-2
-    (λ c. search needs)
-    returns)
+    (λ c κs. search needs) advance-requires advance-requires-2 (λ c. search needs) returns)

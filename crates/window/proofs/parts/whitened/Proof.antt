@@ -23,9 +23,4 @@ pub whitened-spec : {M : Type 1} → statement M
 whitened-spec =
     tie.close
     (tie.spec
-    (λ c. search needs)
-    (λ c. search needs)
-    returns
-    add-t7
-    sub-t9
-    returns-2)
+    (λ c. search needs) (λ c. search needs) returns add-t7 sub-t9 returns-2)

@@ -49,18 +49,5 @@ pub first-below-spec : {M : Type 1} → statement M
 first-below-spec =
     tie.close
     (tie.spec
-    Inv-loop
-    μ-loop
-    reached-requires
-    loop-holds
-    (λ c. search needs)
-    (λ c. search needs)
-    (λ c. search needs)
-    (λ c. search needs)
-    (λ c. search needs)
-    add-if1-2
-    returns
-    (λ c. search needs)
-    (λ c. search needs)
-    loop-again
-    returns-2)
+    Inv-loop μ-loop reached-requires loop-holds (λ c. search needs) (λ c. search needs) (λ c. search needs) (λ c. search needs)
+    (λ c. search needs) add-if1-2 returns (λ c. search needs) (λ c. search needs) loop-again returns-2)

@@ -30,17 +30,6 @@ pub put-row-spec : {M : Type 1} → statement M
 put-row-spec =
     tie.close
     (tie.spec
-    (λ c. search needs)
-    (λ c. search needs)
-    (λ c. search needs)
-    (λ c. search needs)
-    (λ c. search needs)
-    slice-write-rows-2
-    (λ c. search needs)
-    (λ c. search needs)
-    slice-write-rows-3
-    (λ c. search needs)
-    (λ c. search needs)
-    slice-write-rows-4
-    (λ c. search needs)
-    returns)
+    (λ c. search needs) (λ c. search needs) (λ c. search needs) (λ c. search needs) (λ c. search needs) slice-write-rows-2
+    (λ c. search needs) (λ c. search needs) slice-write-rows-3 (λ c. search needs) (λ c. search needs) slice-write-rows-4
+    (λ c. search needs) returns)

@@ -4,10 +4,10 @@ use native.Mathlib.Omega.{arith}
 use Rattle.starts.specs.Sweep.{number, Cleared}
 use Rattle.starts.specs.laws.Columns.{columns-few}
 use Rattle.starts.specs.laws.Lending.{stands-in}
-use Rattle.starts.specs.laws.Cells.{cleared-none, cleared-then, clear-next, clear-side, clear-sized}
+use Rattle.starts.specs.laws.Clean.{cleared-none, cleared-then, clear-next, clear-side, clear-sized}
 use borrow.Author.Needs.{needs}
-use Rattle.starts.proofs.sweep.clear_side.Statement.{statement}
-use Rattle.starts.proofs.sweep.clear_side.Tie as tie
+use Rattle.starts.proofs.clear.clear_side.Statement.{statement}
+use Rattle.starts.proofs.clear.clear_side.Tie as tie
 
 abbrev Inv-loop : tie.InvT-loop
 Inv-loop g work₀ j c i₀ work i = (i ≤ suc (g .text .count)) × Cleared g work₀ work j (number c 0) (number c i)
@@ -57,14 +57,5 @@ pub clear-side-spec : {M : Type 1} → statement M
 clear-side-spec =
     tie.close
     (tie.spec
-    Inv-loop
-    μ-loop
-    loop-holds
-    place-of-requires
-    (λ c. search needs)
-    store-requires
-    (λ c. search needs)
-    (λ c. search needs)
-    loop-again
-    (λ c. search needs)
-    returns)
+    Inv-loop μ-loop loop-holds place-of-requires (λ c. search needs) store-requires (λ c. search needs) (λ c. search needs) loop-again
+    (λ c. search needs) returns)

@@ -2,10 +2,10 @@
 use Prim.Native.Nat.{_-_, _≤_}
 use native.Mathlib.Omega.{arith}
 use Rattle.starts.specs.Sweep.{number, Cleared}
-use Rattle.starts.specs.laws.Cells.{cleared-none, cleared-then, cleared-all, clear-sized}
+use Rattle.starts.specs.laws.Clean.{cleared-none, cleared-then, cleared-all, clear-sized}
 use borrow.Author.Needs.{needs}
-use Rattle.starts.proofs.sweep.clear_column.Statement.{statement}
-use Rattle.starts.proofs.sweep.clear_column.Tie as tie
+use Rattle.starts.proofs.clear.clear_column.Statement.{statement}
+use Rattle.starts.proofs.clear.clear_column.Tie as tie
 
 abbrev Inv-loop : tie.InvT-loop
 Inv-loop g work₀ j c₀ work c = (c ≤ g .spec .sides) × Cleared g work₀ work j 0 (number c 0)
@@ -45,13 +45,4 @@ pub clear-column-spec : {M : Type 1} → statement M
 clear-column-spec =
     tie.close
     (tie.spec
-    Inv-loop
-    μ-loop
-    loop-holds
-    cast-if1
-    clear-side-requires
-    add-c
-    loop-less
-    loop-again
-    same-length
-    returns)
+    Inv-loop μ-loop loop-holds cast-if1 clear-side-requires add-c loop-less loop-again same-length returns)

@@ -1,0 +1,174 @@
+-- The lines of a column before its first start: nothing in them is past the origin, or nothing was found to start there, so that they are
+-- left as they are.
+use Prim.Native.Nat.{ℕ, zero, suc, _+_, _-_, _≤_, _<_}
+use native.Mathlib.Omega.{arith}
+use mathlib.Core.Path.{_≡_, refl, sym, _∙_, ap}
+use mathlib.Core.Logic.{inl, inr}
+use mathlib.Core.Bool.{Bool, true, false}
+use mathlib.Core.List.{List}
+use borrow.Author.Tests.{eqb-true}
+use lib.Dec.{eqb}
+use Rattle.model.specs.laws.Gather.{and-left, and-right}
+use Rattle.galley.specs.declared.Galley.{Galley}
+use Rattle.galley.specs.Model.{modelOf, sidesIn}
+use Rattle.places.specs.declared.Place.{Place}
+use Rattle.places.specs.declared.Entry.{Entry}
+use Rattle.places.specs.declared.Entry.the-variants.{Unreached, Least}
+use Rattle.places.specs.Address.{address}
+use Rattle.places.specs.Entry.{stored}
+use Rattle.places.specs.Order.{Earlier}
+use Rattle.places.specs.Columns.{placeAt}
+use Rattle.places.specs.Best.{Leads}
+use Rattle.places.specs.laws.Best.{no-reach, best-none, best-unique}
+use Rattle.places.specs.laws.Columns.{inside-head, inside-tail}
+use Rattle.starts.specs.Search.{bestStart, priced, mayStop, begins, newEntry}
+use Rattle.starts.specs.Choice.{Starts, Any}
+use Rattle.starts.specs.Read.{tableIn, sideOf, searchOf, countsAt}
+use Rattle.starts.specs.Look.{Quiet, PastOrigin}
+use Rattle.starts.specs.laws.Columns.{at-under, sought-in}
+use Rattle.starts.specs.laws.Found.{best-start}
+use Rattle.starts.specs.laws.Lending.{side-occurs, lent-placed}
+use Rattle.starts.specs.laws.Look.{quiet-then, known-before}
+use Rattle.starts.specs.laws.Pages.{candidate-earlier}
+use Rattle.filling.specs.declared.side.Task.{Task}
+use Rattle.filling.specs.Fill.{tall, fillSide, fillSides, sideCount, fillPlace, fillColumn}
+use Rattle.filling.specs.Filled.{Side, Filled}
+use Rattle.filling.specs.Next.{Next, Before, Begun, Gathered}
+use Rattle.filling.specs.laws.Entered.{below-side, side-below, sides-count}
+use Rattle.filling.specs.laws.NewEntry.{entry-forbidden, entry-priced}
+
+-- What is filled before line i of column j is past the origin.
+module _ {bytes : List ℕ} {task : Task} {w : List ℕ} {i j : ℕ} (next : Next bytes task w i j) where
+  abbrev g : Galley
+  g = task .galley
+
+  sides : sideCount (sidesIn g) ≡ g .spec .sides
+  sides = sides-count (g .spec .sides) (g .folio) (next .lent .sound .specRanged .sidesSome) (next .lent .sound .specRanged .sidesTwo)
+
+  filled-past : (a b c x : ℕ) (s : Place) → Earlier a b i j → a ≤ g .text .count → c < g .spec .sides → tableIn g w a b c ≡ Least x s
+      → (task .origin .place .line ≤ a)
+      × (countsAt g 0 (task .origin .place .column) .figures ≤ countsAt g 0 b .figures)
+      × (countsAt g 0 (task .origin .place .column) .tables ≤ countsAt g 0 b .tables)
+  unfolding placeAt
+  filled-past a b c x s l h occurs e =
+      let past = next .filled .entered a b c x s l h (below-side (sidesIn g) c (rw sides occurs)) e .past in
+      let under = at-under bytes g (task .origin .place .column) b (inside-tail a (task .origin .place .line) _ _ past) in
+      (inside-head a (task .origin .place .line) _ _ past, under .0, under .1)
+
+  -- So are the starts in the columns before,
+  pub columns-past : PastOrigin (task .galley) w j (countsAt (task .galley) (task .origin .place .line) (task .origin .place .column))
+  columns-past =
+      record { line = next .line; past = λ a b c x s h l occurs e. filled-past a b c x s (inl l) h occurs e }
+
+  -- and the lines above in the column.
+  pub lines-before : i ≤ task .galley .text .count → (c : ℕ) → c < task .galley .spec .sides → Before task w j (sideOf (task .galley) c) i
+  lines-before high c occurs a early l = go (tableIn g w a j (sideOf g c)) refl
+    where
+      go : (e : Entry) → tableIn g w a j (sideOf g c) ≡ e → tableIn g w a j (sideOf g c) ≡ Unreached
+      go Unreached e = e
+      go (Least x s) e =
+          absurd (omega (arith, filled-past a j (sideOf g c) x s (inr (refl, l)) (omega arith) (side-occurs (next .lent .sound) c occurs) e .0))
+
+-- The lines before the first start.
+module _ {bytes : List ℕ} {task : Task} {w sums words : List ℕ} {j first : ℕ} (last : Gathered bytes task w sums words j)
+    (begun : Begun task w j first) where
+  abbrev next : Next bytes task w 0 j
+  next = last .column .next
+
+  within : first ≤ suc (task .galley .text .count)
+  within = omega (arith, begun .found .within)
+
+  -- None is reached,
+  pub lines-quiet : Quiet (task .galley) w j (task .galley .spec .sides) 0 first
+  lines-quiet = quiet-then (known-before (next .lent) (columns-past next) (last .known)) (begun .found .quiet)
+
+  -- so that the entries above the first start are all that is filled;
+  pub first-filled : Filled (modelOf bytes (task .galley)) (task .origin) (tableIn (task .galley) w) first j
+  first-filled = record { entered = λ a b c x s l h k e. next .filled .entered a b c x s (before a b c x s k e l) h k e }
+    where
+      before : (a b c x : ℕ) (s : Place) → Side (sidesIn (task .galley)) c → tableIn (task .galley) w a b c ≡ Least x s → Earlier a b first j → Earlier a b 0 j
+      before a b c x s k e (inl l) = inl l
+      before a b c x s k e (inr (p, l)) =
+          absurd
+          (no-reach (sym (lines-quiet .none a c (omega arith) l (rw (← sides next) (side-below (sidesIn (task .galley)) c k))) ∙ (rw p at e)))
+
+  -- none has a start,
+  start-none : (i c : ℕ) → i < first → c < task .galley .spec .sides
+      → bestStart (searchOf bytes (task .galley) w i j (sideOf (task .galley) c)) ≡ Unreached
+  unfolding Leads
+  start-none i c l occurs =
+      let s = searchOf bytes (task .galley) w i j (sideOf (task .galley) c) in
+      best-unique (bestStart s) Unreached (best-start s) (best-none none)
+    where
+      line : i ≤ task .galley .text .count
+      line = omega (arith, within)
+
+      none : (a b x : ℕ) → Starts (searchOf bytes (task .galley) w i j (sideOf (task .galley) c)) Any a b x → ⊥
+      none a b x (p, start) =
+          go (candidate-earlier (searchOf bytes (task .galley) w i j (sideOf (task .galley) c)) (sought-in bytes (task .galley) w i j (sideOf (task .galley) c) (lent-placed (next .lent) i line)) a b x start)
+        where
+          go : Earlier a b i j → ⊥
+          go (inl m) =
+              let known = rw (lines-quiet .none i c (omega arith) l occurs) at (last .known i c line occurs) in
+              known .leads a b x ((omega arith, m), start)
+          go (inr (e, m)) =
+              no-reach (sym (lines-quiet .none a (sideOf (task .galley) c) (omega arith) (omega arith) (side-occurs (next .lent .sound) c occurs))
+              ∙ (rw e at (start .reached .entry)))
+
+  -- and each is filled as unreached,
+  entry-none : (i c : ℕ) → i < first → c < task .galley .spec .sides
+      → newEntry (modelOf bytes (task .galley)) (task .origin) (tableIn (task .galley) w) i j c ≡ Unreached
+  unfolding begins priced
+  entry-none i c l occurs = go (begins (sidesIn (task .galley)) (task .origin) i j c) refl
+    where
+      go : (b : Bool) → begins (sidesIn (task .galley)) (task .origin) i j c ≡ b
+          → newEntry (modelOf bytes (task .galley)) (task .origin) (tableIn (task .galley) w) i j c ≡ Unreached
+      go true e =
+          absurd
+          (begun .later i l (
+            eqb-true i _ (and-left (eqb i (task .origin .place .line)) _ e),
+            eqb-true j _ (and-left (eqb j (task .origin .place .column)) _ (and-right (eqb i (task .origin .place .line)) _ e)),
+          ))
+      go false e = stop (mayStop (modelOf bytes (task .galley)) i j c) refl
+        where
+          stop : (b : Bool) → mayStop (modelOf bytes (task .galley)) i j c ≡ b
+              → newEntry (modelOf bytes (task .galley)) (task .origin) (tableIn (task .galley) w) i j c ≡ Unreached
+          stop true s =
+              entry-priced (modelOf bytes (task .galley)) (task .origin) (tableIn (task .galley) w) i j c e s Unreached (start-none i c l occurs)
+          stop false s = entry-forbidden (modelOf bytes (task .galley)) (task .origin) (tableIn (task .galley) w) i j c e s
+
+  -- which it is.
+  sides-same : (i n : ℕ) → i < first → n ≤ task .galley .spec .sides → fillSides (modelOf bytes (task .galley)) (task .origin) i j n w ≡ w
+  unfolding fillSides fillSide tall
+  sides-same i zero l m = refl
+  sides-same i (suc n) l m =
+      ap (fillSide (modelOf bytes (task .galley)) (task .origin) i j n) (sides-same i n l (omega arith))
+      ∙ ap (stored w (address (task .galley .text .count + 1) i j n)) (entry-none i n l m)
+      ∙ last .clean i n (omega (arith, within)) m (lines-quiet .none i n (omega arith) l m)
+
+  lines-same : (k i : ℕ) → k + i ≡ first
+      → fillColumn (modelOf bytes (task .galley)) (task .origin) j (suc (task .galley .text .count) - i) i w
+      ≡ fillColumn (modelOf bytes (task .galley)) (task .origin) j (suc (task .galley .text .count) - first) first w
+  unfolding fillColumn fillPlace
+  lines-same zero i e = let same : i ≡ first = omega arith in rw same
+  lines-same (suc k) i e =
+      let rest : suc (task .galley .text .count) - i ≡ suc (suc (task .galley .text .count) - suc i) = omega (arith, within) in
+      rw rest
+      (ap (fillColumn (modelOf bytes (task .galley)) (task .origin) j (suc (task .galley .text .count) - suc i) (suc i))
+      (sides-same i (sideCount (sidesIn (task .galley))) (omega arith) (omega (arith, sides next)))
+      ∙ lines-same k (suc i) (omega arith))
+
+  -- The column is filled from its first start on.
+  pub column-from : fillColumn (modelOf bytes (task .galley)) (task .origin) j (suc (task .galley .text .count) - first) first w
+      ≡ fillColumn (modelOf bytes (task .galley)) (task .origin) j (suc (task .galley .text .count)) 0 w
+  column-from =
+      let all : suc (task .galley .text .count) - 0 ≡ suc (task .galley .text .count) = omega arith in
+      sym (rw all at (lines-same first 0 (omega arith)))
+
+  -- Where there is none it is filled.
+  pub column-none : task .galley .text .count < first
+      → w ≡ fillColumn (modelOf bytes (task .galley)) (task .origin) j (suc (task .galley .text .count)) 0 w
+  unfolding fillColumn
+  column-none l =
+      let none : suc (task .galley .text .count) - first ≡ 0 = omega arith in
+      rw none at column-from

@@ -1,0 +1,147 @@
+-- What is not reached is no start: lines that were looked at, and all that stands before the origin.
+use Prim.Native.Nat.{ℕ, suc, _+_, _≤_, _<_}
+use native.Mathlib.Decide.{decLt}
+use native.Mathlib.Omega.{arith}
+use mathlib.Core.Path.{_≡_, refl, sym, _∙_}
+use mathlib.Core.List.{List}
+use Rattle.galley.specs.declared.Galley.{Galley}
+use Rattle.blocks.specs.declared.Counts.{Counts}
+use Rattle.places.specs.declared.Entry.{Entry}
+use Rattle.places.specs.declared.Entry.the-variants.{Unreached, Least}
+use Rattle.places.specs.laws.Best.{no-reach}
+use Rattle.starts.specs.Choice.{Candidate, Between}
+use Rattle.starts.specs.Read.{tableIn, sideOf, searchOf, countsAt}
+use Rattle.starts.specs.Look.{Quiet, FoundOn, Found, LookRun, PastOrigin}
+use Rattle.starts.specs.Sweep.{Lent, Knows, Known, number, Swept, Scratched}
+use Rattle.starts.specs.laws.Lending.{side-occurs}
+use Rattle.starts.specs.laws.Cells.{scratched-others}
+use Rattle.starts.specs.laws.Past.{knows-past}
+
+-- One line more is not reached.
+pub quiet-next : (col : ℕ → Entry) (from a : ℕ) → ((b : ℕ) → from ≤ b → b < a → col b ≡ Unreached) → col a ≡ Unreached
+    → (b : ℕ) → from ≤ b → b < a + 1 → col b ≡ Unreached
+quiet-next col from a none here b l m = go (decLt b a)
+  where
+    go : Dec (b < a) → col b ≡ Unreached
+    go (yes h) = none b l h
+    go (no h) = let e : b ≡ a = omega arith in rw e here
+
+-- The looks at one side after another: before the first nothing is known,
+pub look-none : (g : Galley) (w : List ℕ) (j from : ℕ) → LookRun g w j from (g .text .count + 1) 0
+look-none g w j from =
+    record { order = omega arith; since = λ l. l; within = omega arith; quiet = record { none = λ a c l m n. absurd (omega arith) } }
+
+-- each goes no further than the line found,
+pub look-next : {g : Galley} {w : List ℕ} {j from first c : ℕ} → LookRun g w j from first c → c < g .spec .sides → (found : ℕ)
+    → FoundOn w (g .text .count + 1) j c from first found → LookRun g w j from found (c + 1)
+look-next {g} {w} {j} {from} {first} {c} run occurs found seen =
+    record {
+      order = omega arith;
+      since = λ l. seen .since (run .since l);
+      within = omega (arith, seen .within, run .within);
+      quiet = record { none = λ a d l m n. go a d l m n (decLt d c) };
+    }
+  where
+    go : (a d : ℕ) → from ≤ a → a < found → d < c + 1 → Dec (d < c) → tableIn g w a j d ≡ Unreached
+    go a d l m n (yes h) = run .quiet .none a d l (omega (arith, seen .within)) h
+    go a d l m n (no h) = let e : d ≡ c = omega arith in rw e (seen .quiet a l m)
+
+-- and after the last all sides that occur are.
+pub look-all : {g : Galley} {w : List ℕ} {j from first c : ℕ} → LookRun g w j from first c → g .spec .sides ≤ c → Found g w j from first
+look-all run all =
+    record {
+      since = run .since;
+      within = run .within;
+      quiet = record { none = λ a d l m n. run .quiet .none a d l m (omega arith) };
+    }
+
+-- Lines that are not reached, and those after them.
+pub quiet-then : {g : Galley} {w : List ℕ} {j n from mid to : ℕ} → Quiet g w j n from mid → Quiet g w j n mid to → Quiet g w j n from to
+quiet-then {g} {w} {j} {n} {from} {mid} {to} first second =
+    record { none = λ a c l m occurs. go a c l m occurs (decLt a mid) }
+  where
+    go : (a c : ℕ) → from ≤ a → a < to → c < n → Dec (a < mid) → tableIn g w a j c ≡ Unreached
+    go a c l m occurs (yes h) = first .none a c l h occurs
+    go a c l m occurs (no h) = second .none a c (omega arith) m occurs
+
+-- Stores in another column leave them so,
+pub quiet-kept : {g : Galley} {w v : List ℕ} {j b n from to : ℕ} → Scratched g j w v → g .spec .sides ≤ 2 → n ≤ 2 → b < j → to ≤ g .text .count + 1
+    → Quiet g w b n from to → Quiet g v b n from to
+quiet-kept {g} {w} {v} {j} {b} kept two few before within quiet =
+    record {
+      none = λ a c l m occurs.
+          scratched-others g j w v two kept a b c (omega arith) (omega arith) (λ e. omega arith) ∙ quiet .none a c l m occurs;
+    }
+
+-- and leave what stands past the origin.
+pub past-kept : {g : Galley} {w v : List ℕ} {j : ℕ} {origin : Counts} → Scratched g j w v → g .spec .sides ≤ 2 → PastOrigin g w j origin
+    → PastOrigin g v j origin
+past-kept {g} {w} {v} {j} kept two past =
+    record {
+      line = past .line;
+      past = λ a b c x s l m occurs e.
+          past .past a b c x s l m occurs (sym (scratched-others g j w v two kept a b c l (omega arith) (λ q. omega arith)) ∙ e);
+    }
+
+module _ {bytes : List ℕ} {g : Galley} {w : List ℕ} {j : ℕ} (lent : Lent bytes g w j) where
+  -- A line that is not reached is no start.
+  pub start-quiet : {b to : ℕ} → Quiet g w b (g .spec .sides) 0 to → (i a y c : ℕ) → c < g .spec .sides
+      → Candidate (searchOf bytes g w i j (sideOf g c)) a b y → a < to → ⊥
+  start-quiet quiet i a y c occurs start l =
+      no-reach (sym (quiet .none a (sideOf g c) (omega arith) l (side-occurs (lent .sound) c occurs)) ∙ start .reached .entry)
+
+  module _ {origin : Counts} (past : PastOrigin g w j origin) where
+    -- A start has the origin's counts or more.
+    pub start-past : (i a x y c : ℕ) → i ≤ g .text .count → c < g .spec .sides → x < j
+        → Candidate (searchOf bytes g w i j (sideOf g c)) a x y
+        → (origin .lines ≤ a) × (origin .figures ≤ countsAt g 0 x .figures) × (origin .tables ≤ countsAt g 0 x .tables)
+    start-past i a x y c h occurs m start =
+        past .past a x (sideOf g c) _ _ (omega (arith, start .line)) m (side-occurs (lent .sound) c occurs) (start .reached .entry)
+
+    -- No line before the origin's is reached.
+    pub past-quiet : (b : ℕ) → b < j → Quiet g w b (g .spec .sides) 0 (origin .lines)
+    past-quiet b m = record { none = λ a c l before occurs. go a c before occurs (tableIn g w a b c) refl }
+      where
+        go : (a c : ℕ) → a < origin .lines → c < g .spec .sides → (e : Entry) → tableIn g w a b c ≡ e → tableIn g w a b c ≡ Unreached
+        go a c before occurs Unreached e = e
+        go a c before occurs (Least x s) e =
+            absurd (omega (arith, past .past a b c x s (omega (arith, past .line)) m occurs e .0))
+
+    -- So no page ends before it that starts in an earlier column.
+    pub known-before : Known bytes g w j 0 → Quiet g w j (g .spec .sides) 0 (origin .lines)
+    known-before known = record { none = λ a c l before occurs. go a c before occurs (tableIn g w a j c) refl }
+      where
+        go : (a c : ℕ) → a < origin .lines → c < g .spec .sides → (e : Entry) → tableIn g w a j c ≡ e → tableIn g w a j c ≡ Unreached
+        go a c before occurs Unreached e = e
+        go a c before occurs (Least x s) e =
+            let line : a ≤ g .text .count = omega (arith, past .line) in
+            let start = known a c line occurs .may x s e in
+            absurd (omega (arith, start .1 .line, start-past a (s .line) (s .column) x c line occurs (start .0 .1) (start .1) .0))
+
+  -- Where no line is reached, the starts of the column are known with those of later ones,
+  pub known-quiet : {b : ℕ} → Quiet g w b (g .spec .sides) 0 (g .text .count + 1) → Known bytes g w j (suc b) → Known bytes g w j b
+  known-quiet {b} quiet known k c l m =
+      knows-past bytes g w k j c b (suc b) (omega arith)
+      (λ a x y p q r start.
+      let e : x ≡ b = omega arith in
+      start-quiet quiet k a y c m (rw e at start) (omega (arith, start .line))) (known k c l m)
+
+  -- and so on the lines before the first one that is.
+  pub swept-skip : {b to : ℕ} (c : ℕ) → c < g .spec .sides → Quiet g w b (g .spec .sides) 0 to → to ≤ g .text .count
+      → Swept bytes g w j b (number c 0) → Swept bytes g w j b (number c to)
+  swept-skip {b} {to} c occurs quiet within swept =
+      record {
+        done = λ k d l m n. go k d l m n (decLt (number d k) (number c 0));
+        left = λ k d l m n. swept .left k d l m (omega arith);
+      }
+    where
+      go : (k d : ℕ) → k ≤ g .text .count → d < g .spec .sides → number d k < number c to → Dec (number d k < number c 0)
+          → Knows bytes g w k j d (Between b j)
+      go k d l m n (yes h) = swept .done k d l m h
+      go k d l m n (no h) =
+          let few = lent .sound .fewLines in
+          let before : k < to = omega arith in
+          knows-past bytes g w k j d b (suc b) (omega arith)
+          (λ a x y p q r start.
+          let e : x ≡ b = omega arith in
+          start-quiet quiet k a y d m (rw e at start) (omega (arith, start .line))) (swept .left k d l m (omega arith))
