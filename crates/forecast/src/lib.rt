@@ -23,8 +23,8 @@ fn forecast_read(s: &[u8], g: Galley) -> Forecast
     requires { ⌜ galleyOf (now s) ≡ reads.Galley g ⌝ }
     ensures { λ r. ⌜ r ≡ forecastOf (now (s .entry)) ⌝ }
 {
-    let work = places::words_needed(g.text.count, starts::read::columns_of(g));
-    let list = blocks::page_words(g) * (g.text.count + g.figures.count + g.tables.count);
+    let work = needs::work_needed(g);
+    let list = needs::list_needed(g);
     let ceiling = crate::ceiling::ceiling_of(s, g);
     Forecast {
         number: 0,
@@ -39,7 +39,7 @@ fn forecast_read(s: &[u8], g: Galley) -> Forecast
 pub fn forecast_of(galley: &[u8]) -> Forecast
     ensures { λ r. ⌜ r ≡ forecastOf (now (galley .entry)) ⌝ }
 {
-    let reading = galley::whole::read_galley(galley);
+    let reading = reading::read_galley(galley);
     match reading {
         Reading::Galley(g) => forecast_read(galley, g),
         Reading::Refused { number, place } => Forecast {

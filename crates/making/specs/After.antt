@@ -20,7 +20,8 @@ use Rattle.galley.specs.declared.Reading.the-variants as reads
 use Rattle.galley.specs.Whole.{galleyOf}
 use Rattle.galley.specs.Model.{modelOf}
 use Rattle.places.specs.Entry.{cleared}
-use Rattle.making.specs.Make.{workNeeded, listNeeded, tooShort}
+use Rattle.needs.specs.Needs.{workNeeded, listNeeded}
+use Rattle.making.specs.Make.{tooShort}
 
 -- The opening's words name pages that nothing turns away.
 unfoldable pub stands : List ℕ → Galley → List ℕ → Bool

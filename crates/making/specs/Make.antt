@@ -1,6 +1,6 @@
 -- The meaning of making: its answer, and what the lent memory holds afterwards (document 01, "Making" and "Numbers that turn
 -- work away").
-use Prim.Native.Nat.{ℕ, _+_, _*_}
+use Prim.Native.Nat.{ℕ}
 use mathlib.Core.Path.{_≡_}
 use mathlib.Core.Bool.{Bool, _||_}
 use mathlib.Core.List.{List, _++_}
@@ -16,17 +16,8 @@ use Rattle.galley.specs.declared.Reading.{Reading}
 use Rattle.galley.specs.declared.Reading.the-variants as reads
 use Rattle.galley.specs.Whole.{galleyOf}
 use Rattle.galley.specs.Model.{modelOf}
-use Rattle.blocks.specs.Counts.{pageWords}
-use Rattle.places.specs.Address.{wordsNeeded}
 use Rattle.places.specs.Entry.{cleared}
-
--- The words that a galley needs of the work area: a column for each number of figures and of tables placed (document 02, S-4).
-abbrev pub workNeeded : Galley → ℕ
-workNeeded g = wordsNeeded (g .text .count) ((g .figures .count + 1) * (g .tables .count + 1))
-
--- The words that it needs of the page list: no more pages than blocks, of two words each, or three where there are tables.
-abbrev pub listNeeded : Galley → ℕ
-listNeeded g = pageWords g * (g .text .count + g .figures .count + g .tables .count)
+use Rattle.needs.specs.Needs.{workNeeded, listNeeded}
 
 -- A work area or a page list of the given lengths is too short.
 abbrev pub tooShort : Galley → ℕ → ℕ → Bool

@@ -3,14 +3,12 @@ ghost use mathlib.Core.Path.{_≡_};
 ghost use Rattle.model.specs.declared.answer.Answer.the-variants.{Refused};
 ghost use Rattle.making.specs.Make.{Made};
 ghost use Rattle.making.specs.After.{MadeAfter};
-ghost use Rattle.making.specs.Solved.{Readable, Soluble, Solved, Written};
-use crate::opening::Begun;
+ghost use Rattle.solving.specs.Solved.{Readable, Soluble};
 use galley::Galley;
 use galley::Reading;
 use model::answer::Answer;
 use places::Origin;
-
-mod opening; // opening.rt: where making begins after an opening
+use solving::opening::Begun;
 
 // What making returns: its answer, and how many pages are weighed, in the plain sense (document 02, S-5).
 pub struct Making {
@@ -28,33 +26,6 @@ fn turned_away(number: u32, place: u32) -> Making
     }
 }
 
-// The best list out of a filled work area: the opening and what follows it, written to the page list, and counted by marking it.
-fn best_pages(
-    s: &[u8],
-    g: Galley,
-    opening: &[u32],
-    origin: Origin,
-    work: &[u32],
-    pages: &mut [u32],
-) -> Answer
-    requires { ⌜ Solved (now s) g (now opening) origin (now work) (now pages) ⌝ }
-    ensures { λ r. ⌜ Written (now (s .entry)) g (now (opening .entry)) (now (pages .entry)) r (now (pages .exit)) ⌝ }
-{
-    let last = walk::last_stop(g, work);
-    if !walk::reached(g, work, last) {
-        return Answer::Refused {
-            number: 11,
-            place: 0,
-        };
-    }
-    let p = walk::count_pages(g, work, origin, last);
-    let begun = opening.len();
-    crate::opening::copy_words(opening, pages);
-    walk::write_pages(g, work, last, p, &mut pages[begun..]);
-    let words = begun + blocks::page_words(g) * p;
-    marking::mark(s, &pages[..words])
-}
-
 // The best list from where an opening ends, in so many words of the work area, which are cleared afterwards.
 fn make_from(
     s: &[u8],
@@ -69,7 +40,7 @@ fn make_from(
     ensures { λ r. ⌜ MadeAfter (now (s .entry)) (now (opening .entry)) (now (work .entry)) (now (pages .entry)) (r .answer) (r .weighed) (now (work .exit)) (now (pages .exit)) ⌝ }
 {
     filling::fill::fill(s, g, origin, work);
-    let answer = best_pages(s, g, opening, origin, work, pages);
+    let answer = solving::best_pages(s, g, opening, origin, work, pages);
     places::clear(work, needed);
     let line = origin.place.line as usize;
     let first = starts::read::counts_at(g, line, origin.place.column as usize);
@@ -82,15 +53,15 @@ fn make_read(s: &[u8], g: Galley, opening: &[u32], work: &mut [u32], pages: &mut
     requires { ⌜ Readable (now s) g ⌝ }
     ensures { λ r. ⌜ MadeAfter (now (s .entry)) (now (opening .entry)) (now (work .entry)) (now (pages .entry)) (r .answer) (r .weighed) (now (work .exit)) (now (pages .exit)) ⌝ }
 {
-    let needed = places::words_needed(g.text.count, starts::read::columns_of(g));
-    let room = blocks::page_words(g) * (g.text.count + g.figures.count + g.tables.count);
+    let needed = needs::work_needed(g);
+    let room = needs::list_needed(g);
     if work.len() < needed {
         return turned_away(9, needed as u32);
     }
     if pages.len() < room {
         return turned_away(10, room as u32);
     }
-    let begun = crate::opening::begin_after(s, g, opening);
+    let begun = solving::opening::begin_after(s, g, opening);
     match begun {
         Begun::Refused { number, place } => turned_away(number, place),
         Begun::From(origin) => make_from(s, g, opening, origin, needed, work, pages),
@@ -102,7 +73,7 @@ fn make_read(s: &[u8], g: Galley, opening: &[u32], work: &mut [u32], pages: &mut
 pub fn make_after(galley: &[u8], opening: &[u32], work: &mut [u32], pages: &mut [u32]) -> Making
     ensures { λ r. ⌜ MadeAfter (now (galley .entry)) (now (opening .entry)) (now (work .entry)) (now (pages .entry)) (r .answer) (r .weighed) (now (work .exit)) (now (pages .exit)) ⌝ }
 {
-    let reading = galley::whole::read_galley(galley);
+    let reading = reading::read_galley(galley);
     match reading {
         Reading::Galley(g) => make_read(galley, g, opening, work, pages),
         Reading::Refused { number, place } => turned_away(number, place),

@@ -28,12 +28,5 @@ make-from-spec =
     tie.close
     (tie.spec
     (λ c κs. soluble-fillable (c .before .before .before .before .before .pre))
-    best-pages-requires
-    (λ c κs. search needs)
-    (λ c. search needs)
-    (λ c. search needs)
-    counts-at-requires
-    weighed-requires
-    (λ c. search needs)
-    (λ c. search needs)
-    returns)
+    best-pages-requires (λ c κs. search needs) (λ c. search needs) (λ c. search needs) counts-at-requires weighed-requires
+    (λ c. search needs) (λ c. search needs) returns)

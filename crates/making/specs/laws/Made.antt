@@ -1,6 +1,5 @@
 -- What each way out of making leaves: its answer and every word of the lent memory.
 use Prim.Native.Nat.{ℕ, _+_, _≤_, _<_}
-use native.Mathlib.Nat.{mul-le-mul}
 use native.Mathlib.Omega.{arith}
 use mathlib.Core.Path.{_≡_, refl, sym, _∙_, ap}
 use mathlib.Core.Bool.{Bool, true, false}
@@ -23,20 +22,19 @@ use Rattle.galley.specs.Model.{modelOf}
 use Rattle.galley.specs.laws.Sound.{sound}
 use Rattle.blocks.specs.Counts.{placeOf, Within}
 use Rattle.places.specs.declared.Origin.{Origin}
-use Rattle.places.specs.Address.{area, wordsNeeded, Limited}
+use Rattle.places.specs.Address.{area}
 use Rattle.places.specs.Entry.{cleared}
-use Rattle.places.specs.laws.Address.{area-needed, words-small}
-use Rattle.starts.specs.Read.{columnsIn, countsAt, FewFloats}
-use Rattle.starts.specs.laws.Columns.{few-floats, columns-few, columns-in, within-at, place-at}
+use Rattle.places.specs.laws.Address.{area-needed}
+use Rattle.starts.specs.Read.{columnsIn, countsAt}
+use Rattle.starts.specs.laws.Columns.{columns-in, within-at, place-at}
 use Rattle.filling.specs.Fill.{tall, filled}
 use Rattle.filling.specs.Next.{Fillable}
-use Rattle.making.specs.Make.{workNeeded, listNeeded}
+use Rattle.needs.specs.Needs.{workNeeded, listNeeded}
 use Rattle.making.specs.After.{stands, makeAfterRead, makeAfterOf, workMadeRead, workMadeAfter, listMadeRead, listMadeAfter, weighedAfterRead, weighedAfterOf, MadeAfter}
-use Rattle.making.specs.Begun.{Opened}
-use Rattle.making.specs.Solved.{Readable, Soluble, Solved, Written}
+use Rattle.solving.specs.Begun.{Opened}
+use Rattle.solving.specs.Solved.{Readable, Soluble, Solved, Written}
 use Rattle.making.specs.laws.Beyond.{cleared-filled}
-use Rattle.making.specs.laws.Written.{made-turned}
-use Rattle.making.specs.laws.Solved.{words-few}
+use Rattle.solving.specs.laws.Written.{made-turned}
 
 -- Nothing turns an opening away, or something does.
 abbrev standing : Option Answer → Bool
@@ -49,28 +47,6 @@ unfolding makeAfterOf makeAfterRead weighedAfterOf weighedAfterRead workMadeAfte
 made-refused bytes opening work list n at e = record { answers = rw e refl; counts = rw e refl; clean = rw e refl; listed = rw e refl }
 
 module _ {bytes : List ℕ} {g : Galley} (asked : Readable bytes g) where
-  pub read-few : FewFloats g
-  read-few = few-floats (sound bytes g (asked .reads))
-
-  pub read-small : Limited (g .text .count) (columnsIn g)
-  read-small = record { lines = sound bytes g (asked .reads) .fewLines; columns = columns-few g read-few }
-
-  -- The words needed are those of all columns,
-  pub needed-is : (wide n : ℕ) → wide ≡ columnsIn g → n ≡ wordsNeeded (g .text .count) wide → n ≡ workNeeded g
-  unfolding columnsIn
-  needed-is wide n e is = is ∙ ap (wordsNeeded (g .text .count)) e
-
-  -- and fit 32 bits.
-  pub needed-small : workNeeded g ≤ 410142510
-  unfolding wordsNeeded columnsIn
-  needed-small = let h = words-small (g .text .count) (columnsIn g) read-small in omega arith
-
-  pub list-small : g .text .count + g .figures .count + g .tables .count ≤ 4250
-  list-small = let so = sound bytes g (asked .reads) in omega (arith, so .fewLines, so .figures .few, so .tables .few)
-
-  pub room-small : listNeeded g ≤ 12750
-  room-small = mul-le-mul (words-few g) list-small
-
   forgets : (from : Origin) (w : List ℕ) → cleared (workNeeded g) (filled (modelOf bytes g) from w) ≡ cleared (workNeeded g) w
   unfolding tall columnsIn
   forgets from w =
@@ -132,6 +108,7 @@ module _ {bytes : List ℕ} {g : Galley} {opening : List ℕ} {from : Origin} {n
       record {
         sound = sound bytes g (asked .reads);
         cheap = asked .opened .cheap;
+        line = asked .opened .proper .line;
         origin = omega (arith, asked .opened .proper .column, columns-in bytes g);
         room = omega (arith, asked .enough);
       }

@@ -21,7 +21,8 @@ use Rattle.galley.specs.Whole.{galleyOf}
 use Rattle.galley.specs.Model.{modelOf}
 use Rattle.rules.specs.laws.Sane.{reads-sane}
 use Rattle.places.specs.Entry.{cleared}
-use Rattle.making.specs.Make.{workNeeded, tooShort, makeRead, makeOf, workRead, workAfter, listRead, listAfter, weighedRead, weighedOf, Made}
+use Rattle.needs.specs.Needs.{workNeeded}
+use Rattle.making.specs.Make.{tooShort, makeRead, makeOf, workRead, workAfter, listRead, listAfter, weighedRead, weighedOf, Made}
 use Rattle.making.specs.After.{stands, sought, makeAfterRead, makeAfterOf, workMadeRead, workMadeAfter, listMadeRead, listMadeAfter, weighedAfterRead, weighedAfterOf, MadeAfter}
 
 module _ (bytes : List ℕ) (g : Galley) (read : galleyOf bytes ≡ reads.Galley g) where

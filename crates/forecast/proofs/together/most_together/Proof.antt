@@ -93,12 +93,10 @@ pub most-together-spec : {M : Type 1} → statement M
 most-together-spec =
     tie.close
     (tie.spec
-    Inv-loop
-    μ-loop
+    Inv-loop μ-loop
     (λ c. longest-start _ _)
     (λ c. omega (arith, c .if1 .taken, c .before .before .before .before .pre .1))
-    tight-of-requires
-    add-height
+    tight-of-requires add-height
     (λ c. omega (arith, c .before .if1 .taken, c .before .before .before .before .before .pre .1))
     (λ c. let st = c .before .before .before .before .loop in omega (arith, st .inv .start, st .inv .within, c .before .before .before .before .before .before .pre .1))
     tight-of-requires-2

@@ -4,10 +4,10 @@ ghost use mathlib.Core.List.{_++_};
 ghost use Prim.Native.Nat.{_≤_};
 ghost use lib.ListN.{length, drop};
 ghost use Rattle.galley.specs.Sound.{Sound};
-ghost use Rattle.making.specs.Begun.{Ending, originAfter, BegunAfter};
+ghost use Rattle.solving.specs.Begun.{Ending, originAfter, BegunAfter};
 use blocks::Counts;
 use galley::Galley;
-use marking::opening::Opening;
+use openings::Opening;
 use places::Origin;
 use rules::counts::Sums;
 
@@ -27,7 +27,7 @@ fn origin_after(g: Galley, pages: u32, at: Counts, sums: Sums) -> Origin
     Origin {
         place: places::place_of(at.lines, column),
         pages,
-        cost: rules::counts::printed_cost(g, pages, sums),
+        cost: counting::printed_cost(g, pages, sums),
     }
 }
 
@@ -36,7 +36,7 @@ pub fn begin_after(s: &[u8], g: Galley, opening: &[u32]) -> Begun
     requires { ⌜ Sound (now s) g ⌝ }
     ensures { λ r. ⌜ BegunAfter (now (s .entry)) g (now (opening .entry)) r ⌝ }
 {
-    let judged = marking::opening::judge_opening(s, g, opening);
+    let judged = openings::judge_opening(s, g, opening);
     match judged {
         Opening::Refused { number, place } => Begun::Refused { number, place },
         Opening::Ends { pages, at, sums } => Begun::From(origin_after(g, pages, at, sums)),

@@ -32,16 +32,17 @@ use Rattle.blocks.specs.Counts.{placeOf, Within}
 use Rattle.blocks.specs.laws.Counts.{streams-of, same-of, within-proper}
 use Rattle.rules.specs.declared.counts.Sums.{Sums}
 use Rattle.rules.specs.Parts.{leavesTurned, allPlaced, printedCost}
-use Rattle.marking.specs.declared.opening.Opening.the-variants as opening
 use Rattle.marking.specs.Parts.{pagesIn}
-use Rattle.marking.specs.Judged.{waited, KeptPages, OpeningJudged}
+use Rattle.marking.specs.Judged.{waited, KeptPages}
 use Rattle.marking.specs.laws.Judged.{lacked-open}
+use Rattle.openings.specs.declared.Opening.the-variants as opening
+use Rattle.openings.specs.Opening.{OpeningJudged}
 use Rattle.places.specs.declared.Origin.{Origin}
 use Rattle.places.specs.Columns.{placeAt}
 use Rattle.starts.specs.Read.{columnsIn, countsAt, rowOf}
 use Rattle.starts.specs.laws.Columns.{few-floats, columns-in, row-figures, row-tables, place-at, placed-at}
 use Rattle.filling.specs.laws.Price.{sound-limits}
-use Rattle.making.specs.Begun.{originAfter, Ending, Opened}
+use Rattle.solving.specs.Begun.{originAfter, Ending, Opened}
 
 -- Counts are found again at their column.
 module _ (g : Galley) (at : Counts) (inside : Within g at) where

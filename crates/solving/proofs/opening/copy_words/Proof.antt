@@ -3,10 +3,10 @@ use Prim.Native.Nat.{_-_}
 use native.Mathlib.Omega.{arith}
 use lib.ListN.{length}
 use borrow.Author.Needs.{needs}
-use Rattle.making.specs.Copied.{Copied}
-use Rattle.making.specs.laws.Copied.{copy-starts, copy-goes-on, copy-ends}
-use Rattle.making.proofs.opening.copy_words.Statement.{statement}
-use Rattle.making.proofs.opening.copy_words.Tie as tie
+use Rattle.solving.specs.Copied.{Copied}
+use Rattle.solving.specs.laws.Copied.{copy-starts, copy-goes-on, copy-ends}
+use Rattle.solving.proofs.opening.copy_words.Statement.{statement}
+use Rattle.solving.proofs.opening.copy_words.Tie as tie
 
 abbrev Inv-loop : tie.InvT-loop
 Inv-loop opening pages₀ i₀ pages i = Copied opening pages₀ pages i
@@ -24,15 +24,10 @@ pub copy-words-spec : {M : Type 1} → statement M
 copy-words-spec =
     tie.close
     (tie.spec
-    Inv-loop
-    μ-loop
+    Inv-loop μ-loop
     (λ c. copy-starts _ _ (c .pre))
-    (λ c. search needs)
-    (λ c. search needs)
-    (λ c. search needs)
+    (λ c. search needs) (λ c. search needs) (λ c. search needs)
     (λ c. omega (arith, c .before .loop-test .taken, c .before .before .loop .inv .room, c .before .before .loop .inv .long))
-    (λ c. search needs)
-    (λ c. search needs)
-    loop-again
+    (λ c. search needs) (λ c. search needs) loop-again
     (λ c. c .before .loop .inv .long)
     returns)

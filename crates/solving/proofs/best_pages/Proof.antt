@@ -5,12 +5,11 @@ use borrow.Author.Needs.{needs}
 use borrow.Author.Tests.{not-true, not-false}
 use native.Mathlib.Omega.{arith}
 use lib.ListN.{length}
-use lib.Seq.{length-take-le}
-use mathlib.Core.Path.{refl, sym}
+use mathlib.Core.Path.{refl}
 use Rattle.galley.specs.laws.Sound.{sound}
-use Rattle.making.specs.laws.Solved.{solved-lent, walk-visits, walk-able, walk-none, walk-room, walk-small, walk-writable, walk-written}
-use Rattle.making.proofs.best_pages.Statement.{statement}
-use Rattle.making.proofs.best_pages.Tie as tie
+use Rattle.solving.specs.laws.Solved.{solved-lent, walk-visits, walk-able, walk-none, walk-room, walk-small, walk-writable, walk-written}
+use Rattle.solving.proofs.best_pages.Statement.{statement}
+use Rattle.solving.proofs.best_pages.Tie as tie
 
 last-stop-requires : tie.Need-last-stop-requires
 last-stop-requires c κs =
@@ -59,29 +58,23 @@ fits c =
 
 returns-2 : tie.Need-returns-2
 returns-2 c =
-    walk-written (c .before .before .before .before .before .before .before .before .before .before .before .before .before .before .before .before .before .before .before .pre) _ (c .before .before .before .before .before .before .before .before .before .before .before .before .before .before .last-stop .ensures) _ (c .before .before .before .before .before .before .before .before .before .before .before .before .before .reached .ensures) _ (c .before .before .before .before .before .before .before .before .before .before .before .count-pages .ensures) (not-false _ (c .before .before .before .before .before .before .before .before .before .before .before .before .if1 .left)) _ _ _ _
-    (c .before .before .before .before .before .before .before .before .before .copy-words .ensures) refl
-    (c .before .before .before .before .before .write-pages .ensures (c .before .before .before .before .before .before .before .before .before .before .before .before .before .before .before .before .before .before .before .args .s .now)) refl _ (rw (c .before .before .page-words .ensures .1) at (c .mark .ensures))
+    walk-written (c .before .before .before .before .before .before .before .before .before .before .before .before .before .before .before .before .before .before .before .before .pre) _ (c .before .before .before .before .before .before .before .before .before .before .before .before .before .before .before .last-stop .ensures) _ (c .before .before .before .before .before .before .before .before .before .before .before .before .before .before .reached .ensures) _ (c .before .before .before .before .before .before .before .before .before .before .before .before .count-pages .ensures) (not-false _ (c .before .before .before .before .before .before .before .before .before .before .before .before .before .if1 .left)) _ _ _ _
+    (c .before .before .before .before .before .before .before .before .before .before .copy-words .ensures) refl
+    (c .before .before .before .before .before .before .write-pages .ensures (c .before .before .before .before .before .before .before .before .before .before .before .before .before .before .before .before .before .before .before .before .args .s .now)) refl _ (rw (c .before .before .before .page-words .ensures .1) at (c .mark .ensures))
 
 pub best-pages-spec : {M : Type 1} → statement M
 best-pages-spec =
     tie.close
     (tie.spec
-    last-stop-requires
-    reached-requires
-    returns
-    count-pages-requires
+    last-stop-requires reached-requires returns count-pages-requires
     (λ c κs. room (c .before))
     (λ c. search (needs, room (c .before .before .before .before)))
     (λ c. search (needs, room (c .before .before .before .before)))
     (λ c. search (needs, room (c .before .before .before .before)))
     (λ c. search (needs, room (c .before .before .before .before)))
-    write-pages-requires
-    (λ c κs. search needs)
+    write-pages-requires (λ c κs. search needs)
     (λ c. omega (arith, small c))
     (λ c. omega (arith, small c))
-    (λ c. search (needs, fits c))
-    (λ c. sym (length-take-le _ _ (search (needs, fits (c .before)))))
-    (λ c κs. search needs)
-    (λ c. search needs)
-    returns-2)
+    (λ c. search needs) (λ c. search needs) (λ c. search needs)
+    (λ c. search (needs, fits (c .before)))
+    (λ c κs. search needs) (λ c. search needs) returns-2)

@@ -7,7 +7,7 @@ use mathlib.Core.Path.{_≡_, refl, _∙_, ap}
 use mathlib.Core.List.{List, _++_}
 use lib.ListN.{length, getD, set, take, drop, length-set}
 use lib.Seq.{paste-suc, take-length}
-use Rattle.making.specs.Copied.{Copied}
+use Rattle.solving.specs.Copied.{Copied}
 
 module _ (opening list : List ℕ) where
   pub copy-starts : length opening ≤ length list → Copied opening list list 0

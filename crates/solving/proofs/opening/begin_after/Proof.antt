@@ -3,9 +3,9 @@ use Prim.Native.Nat.{ℕ}
 use native.Mathlib.Omega.{arith}
 use mathlib.Core.Path.{_≡_, _∙_, sym}
 use borrow.Author.Needs.{needs}
-use Rattle.making.specs.laws.Begun.{ends-limits, ends-opened}
-use Rattle.making.proofs.opening.begin_after.Statement.{statement}
-use Rattle.making.proofs.opening.begin_after.Tie as tie
+use Rattle.solving.specs.laws.Begun.{ends-limits, ends-opened}
+use Rattle.solving.proofs.opening.begin_after.Statement.{statement}
+use Rattle.solving.proofs.opening.begin_after.Tie as tie
 
 origin-after-requires : tie.Need-origin-after-requires
 origin-after-requires c κs =
@@ -32,9 +32,4 @@ pub begin-after-spec : {M : Type 1} → statement M
 begin-after-spec =
     tie.close
     (tie.spec
-    (λ c κs. search needs)
-    (λ c. search needs)
-    (λ c. search needs)
-    origin-after-requires
-    returns
-    returns-2)
+    (λ c κs. search needs) (λ c. search needs) (λ c. search needs) origin-after-requires returns returns-2)

@@ -17,9 +17,9 @@ use Rattle.rules.specs.declared.counts.Sums.{Sums}
 use Rattle.rules.specs.Parts.{CountLimits, printedCost}
 use Rattle.places.specs.declared.Origin.{Origin}
 use Rattle.starts.specs.Read.{FewFloats}
-use Rattle.making.specs.declared.opening.Begun.{Begun}
-use Rattle.making.specs.declared.opening.Begun.the-variants as begun
-use Rattle.making.specs.Shown.{originOf, Proper}
+use Rattle.solving.specs.declared.opening.Begun.{Begun}
+use Rattle.solving.specs.declared.opening.Begun.the-variants as begun
+use Rattle.solving.specs.Shown.{originOf, Proper}
 
 -- The origin after so many pages, which end with these counts, where so many floats waited at the ends of leaves and so much white was
 -- left.

@@ -11,8 +11,8 @@ use Rattle.galley.specs.Whole.{galleyOf}
 use Rattle.galley.specs.Model.{modelOf}
 use Rattle.places.specs.declared.Origin.{Origin}
 use Rattle.filling.specs.Fill.{filled}
-use Rattle.making.specs.Make.{workNeeded, listNeeded}
-use Rattle.making.specs.Begun.{Opened}
+use Rattle.needs.specs.Needs.{workNeeded, listNeeded}
+use Rattle.solving.specs.Begun.{Opened}
 
 -- The bytes hold the galley.
 pub record Readable (bytes : List ℕ) (g : Galley) : Type 0 where

@@ -23,8 +23,8 @@ use Rattle.places.specs.laws.Places.{place-all, place-inside, line-at, column-a
 use Rattle.starts.specs.Search.{Table, before, begins}
 use Rattle.filling.specs.Filled.{Side}
 use Rattle.walk.specs.Trace.{lastSide}
-use Rattle.making.specs.Shown.{at, originOf, graphOf, shown, finished, lastPlace, tableAt, Proper}
-use Rattle.making.specs.laws.Last.{last-side, Leads, last-leads}
+use Rattle.solving.specs.Shown.{at, originOf, graphOf, shown, finished, lastPlace, tableAt, Proper}
+use Rattle.solving.specs.laws.Last.{last-side, Leads, last-leads}
 
 -- An entry that shows a least cost holds it, with the start that is shown.
 pub record Holds (g : Galley) (c : ℕ) (e : Entry) (x : ℕ) (u : State) : Type 0 where

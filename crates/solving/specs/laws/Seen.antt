@@ -30,8 +30,8 @@ use Rattle.starts.specs.laws.Found.{best-start}
 use Rattle.starts.specs.laws.Pages.{candidate-earlier}
 use Rattle.filling.specs.Filled.{Side, Filled}
 use Rattle.filling.specs.laws.Entered.{side-before}
-use Rattle.making.specs.Shown.{at, originOf, graphOf, shown, tableAt, Proper}
-use Rattle.making.specs.laws.Shown.{shown-at, origin-here, not-origin}
+use Rattle.solving.specs.Shown.{at, originOf, graphOf, shown, tableAt, Proper}
+use Rattle.solving.specs.laws.Shown.{shown-at, origin-here, not-origin}
 
 -- A page on side c follows one on the side before it, and no other.
 side-after : (sides : Sides) (c : ℕ) → Side sides c → c ≡ side sides (suc (before sides c))

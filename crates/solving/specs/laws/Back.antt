@@ -31,10 +31,10 @@ use Rattle.starts.specs.Search.{Table, before}
 use Rattle.filling.specs.Filled.{Side, Filled}
 use Rattle.walk.specs.declared.Stop.{Stop}
 use Rattle.walk.specs.Trace.{startOf, entryOf, back, atOrigin, countBack, writeBack}
-use Rattle.making.specs.Shown.{at, originOf, graphOf, finished, lastPlace, tableAt, AllRight, Proper}
-use Rattle.making.specs.Back.{stateOf, lastOf, counted, Found}
-use Rattle.making.specs.laws.Last.{last-side}
-use Rattle.making.specs.laws.Shown.{shown-at, shown-least, finished-least, last-wide, full-place, full-within, origin-here, not-origin}
+use Rattle.solving.specs.Shown.{at, originOf, graphOf, finished, lastPlace, tableAt, AllRight, Proper}
+use Rattle.solving.specs.Back.{stateOf, lastOf, counted, Found}
+use Rattle.solving.specs.laws.Last.{last-side}
+use Rattle.solving.specs.laws.Shown.{shown-at, shown-least, finished-least, last-wide, full-place, full-within, origin-here, not-origin}
 
 -- Words stored from offset k on stand before the rest.
 drop-sets : (k : ℕ) (vs ws : List ℕ) → k + length vs ≤ length ws → drop k (sets ws k vs) ≡ vs ++ drop (k + length vs) ws
@@ -45,7 +45,7 @@ drop-sets k vs ws h =
 -- The walk through a right table, from an origin of the galley on.
 module _ (g : Galley) (from : Origin) (origin : Proper g (from .place)) (t : Table) (right : AllRight g from t)
     (fill : Filled g from t 0 (columns (floatSizes g))) where
-  abbrev one : Stop → Stop
+  abbrev pub one : Stop → Stop
   one s = back (g .spec .sides) t s
 
   -- The walk is at a place of the table, and meets these starts on the way back.
@@ -55,12 +55,12 @@ module _ (g : Galley) (from : Origin) (origin : Proper g (from .place)) (t : Tab
     pub trace : Trace (graphOf g from) (tableAt g t) us (stateOf g s)
 
   -- One page back: the walk is not at the origin, and goes on from the start that the entry holds.
-  record Back (u : State) (us : List State) (s : Stop) : Type 0 where
-    away : atOrigin (g .spec .sides) from s ≡ false
-    begun : u ≡ stateOf g (one s)
-    walks : Walks us (one s)
+  pub record Back (u : State) (us : List State) (s : Stop) : Type 0 where
+    pub away : atOrigin (g .spec .sides) from s ≡ false
+    pub begun : u ≡ stateOf g (one s)
+    pub walks : Walks us (one s)
 
-  back-one : (u : State) (us : List State) (s : Stop) → Walks (u ∷ us) s → Back u us s
+  pub back-one : (u : State) (us : List State) (s : Stop) → Walks (u ∷ us) s → Back u us s
   unfolding Trace startOf Within
   back-one u us s walks = go (walks .trace)
     where
@@ -110,7 +110,7 @@ module _ (g : Galley) (from : Origin) (origin : Proper g (from .place)) (t : Tab
       place-inside g (p .line) (p .column) (h .line) (h .column) .long ∙ length-row 0 (streams g) (λ s. g .stream s .size)
 
   -- It counts the pages that it meets.
-  trace-count : (us : List State) (s : Stop) (most p : ℕ) → Walks us s → length us ≤ most
+  pub trace-count : (us : List State) (s : Stop) (most p : ℕ) → Walks us s → length us ≤ most
       → countBack (g .spec .sides) t from most s p ≡ p + length us
   unfolding countBack
   trace-count [] s zero p walks h = omega arith
@@ -121,7 +121,7 @@ module _ (g : Galley) (from : Origin) (origin : Proper g (from .place)) (t : Tab
       rw (b .away) (trace-count us (one s) most (p + 1) (b .walks) (omega arith) ∙ omega arith)
 
   -- It meets a start for each page,
-  trace-pages : (us : List State) (s : Stop) (after : List Place) → Walks us s
+  pub trace-pages : (us : List State) (s : Stop) (after : List Place) → Walks us s
       → length (pagesTo us (stateOf g s) after) ≡ length us + length after
   unfolding pagesTo
   trace-pages [] s after walks = omega arith
@@ -131,7 +131,7 @@ module _ (g : Galley) (from : Origin) (origin : Proper g (from .place)) (t : Tab
       rw (b .begun) (omega arith)
 
   -- and writes each page where its number says, before the pages that are there.
-  trace-words : (us : List State) (s : Stop) (after : List Place) (ws rest : List ℕ) → Walks us s → streams g * length us ≤ length ws
+  pub trace-words : (us : List State) (s : Stop) (after : List Place) (ws rest : List ℕ) → Walks us s → streams g * length us ≤ length ws
       → drop (streams g * length us) ws ≡ wordsOf after ++ rest
       → writeBack g t (length us) s ws ≡ wordsOf (pagesTo us (stateOf g s) after) ++ rest
   unfolding pagesTo writeBack wordsOf

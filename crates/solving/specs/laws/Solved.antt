@@ -1,6 +1,6 @@
 -- A filled work area holds the best list: what each step of making may rest on.
 use Prim.Native.Nat.{ℕ, _+_, _-_, _*_, _≤_}
-use native.Mathlib.Nat.{le-refl, mul-comm, mul-le-mul, mul-le-mul-right}
+use native.Mathlib.Nat.{le-refl, sub-zero, mul-comm, mul-le-mul, mul-le-mul-right}
 use native.Mathlib.Omega.{arith}
 use mathlib.Core.Path.{_≡_, refl, sym, _∙_, ap, subst}
 use mathlib.Core.Logic.{inl}
@@ -27,7 +27,7 @@ use Rattle.galley.specs.Whole.{galleyOf}
 use Rattle.galley.specs.Model.{modelOf, sidesIn}
 use Rattle.galley.specs.laws.Sound.{sound}
 use Rattle.blocks.specs.Counts.{pageWords}
-use Rattle.blocks.specs.laws.Counts.{floats-few, streams-of, blocks-of}
+use Rattle.blocks.specs.laws.Counts.{streams-of, blocks-of}
 use Rattle.rules.specs.laws.Sane.{reads-sane}
 use Rattle.marking.specs.Mark.{markRead, markOf}
 use Rattle.places.specs.declared.Place.{Place as Start}
@@ -46,13 +46,14 @@ use Rattle.walk.specs.laws.Walk.{columns-in-some}
 use Rattle.walk.specs.declared.Stop.{Stop}
 use Rattle.walk.specs.Trace.{lastSide, entryOf, writeBack}
 use Rattle.walk.specs.Traceable.{isReached, blocksIn, WorkArea, fullPlace, lastStop, Visits, Traceable, Walkable, Writable, pagesBack}
-use Rattle.making.specs.Shown.{lastPlace, AllRight, Proper}
-use Rattle.making.specs.Back.{lastOf, Found}
-use Rattle.making.specs.Solved.{Solved, Written}
-use Rattle.making.specs.laws.Last.{last-side}
-use Rattle.making.specs.laws.Right.{table-right}
-use Rattle.making.specs.laws.Back.{back-none, back-best}
-use Rattle.making.specs.laws.Written.{best-valid, made-none, made-some}
+use Rattle.needs.specs.laws.Needs.{page-few}
+use Rattle.solving.specs.Shown.{lastPlace, AllRight, Proper}
+use Rattle.solving.specs.Back.{lastOf, Found}
+use Rattle.solving.specs.Solved.{Solved, Written}
+use Rattle.solving.specs.laws.Last.{last-side}
+use Rattle.solving.specs.laws.Right.{table-right}
+use Rattle.solving.specs.laws.Back.{back-none, back-best}
+use Rattle.solving.specs.laws.Written.{best-valid, made-none, made-some}
 
 -- A galley that was read keeps the ranges of documents 01 and 02.
 pub reads-limits : (bytes : List ℕ) (g : Galley) → galleyOf bytes ≡ reads.Galley g → Limits (modelOf bytes g)
@@ -61,11 +62,6 @@ reads-limits bytes g e = sound-limits bytes g (sound bytes g e)
 -- The last line and the last column are the full place.
 last-place : (bytes : List ℕ) (g : Galley) → lastPlace (modelOf bytes g) ≡ fullPlace g
 last-place bytes g = ap (λ (k : ℕ). record { line = g .text .count; column = k - 1 }) (columns-in bytes g)
-
--- A page has at most three words.
-pub words-few : (g : Galley) → pageWords g ≤ 3
-unfolding streams
-words-few g = omega (arith, streams-of g [], floats-few g)
 
 module _ {bytes : List ℕ} {g : Galley} {opening : List ℕ} {from : Origin} {work list : List ℕ}
     (solved : Solved bytes g opening from work list) where
@@ -212,7 +208,7 @@ module _ {bytes : List ℕ} {g : Galley} {opening : List ℕ} {from : Origin} {w
             let parts = ap length list-words ∙ length-append opening (wordsOf (found e .0)) in
             let all : length (printed ++ found e .0) ≤ 4250 =
             omega (arith, few, blocks-of g bytes, so .fewLines, so .figures .few, so .tables .few) in
-            let most = mul-le-mul {n₁ = length (printed ++ found e .0)} {m₁ = pageWords g} {n₂ = 4250} {m₂ = 3} all (words-few g) in
+            let most = mul-le-mul {n₁ = length (printed ++ found e .0)} {m₁ = pageWords g} {n₂ = 4250} {m₂ = 3} all (page-few g) in
             omega (arith, rest-long)
 
         pub walk-writable : (rest : List ℕ) → length rest + length opening ≡ length list → Writable g work last p rest
@@ -257,12 +253,13 @@ module _ {bytes : List ℕ} {g : Galley} {opening : List ℕ} {from : Origin} {w
           all-long : length (opening ++ wordsOf (found e .0)) ≡ length opening + pageWords g * p
           all-long = length-append opening (wordsOf (found e .0)) ∙ omega (arith, rest-long)
 
-          -- Marking what is written answers as making does.
-          pub walk-written : (answer : Answer) → answer ≡ markOf bytes (take (length opening + pageWords g * p) list′)
+          -- Marking what is written, from its first word on, answers as making does.
+          pub walk-written : (answer : Answer) → answer ≡ markOf bytes (take (length opening + pageWords g * p - 0) list′)
               → Written bytes g opening list answer list′
           unfolding markOf markRead
-          walk-written answer told-answer =
+          walk-written answer told =
               let n = length opening + pageWords g * p in
+              let told-answer = told ∙ ap (λ k. markOf bytes (take k list′)) (sub-zero n) in
               let qs = printed ++ found e .0 in
               let made = made-some (modelOf bytes g) opening (solved .opened .stands) qs (found e .1 .best) in
               let is : madeWordsAfter (modelOf bytes g) opening ≡ opening ++ wordsOf (found e .0) = made .1 ∙ list-words in

@@ -2,8 +2,8 @@
 use Prim.Native.Nat.{_*_, _+_, _≤_}
 use native.Mathlib.Nat.{mul-le-mul}
 use native.Mathlib.Omega.{arith}
-use Rattle.making.proofs.opening.origin_after.Statement.{statement}
-use Rattle.making.proofs.opening.origin_after.Tie as tie
+use Rattle.solving.proofs.opening.origin_after.Statement.{statement}
+use Rattle.solving.proofs.opening.origin_after.Tie as tie
 
 -- A column is a small number.
 low : (c : tie.Start) → c .args .at .figures * (c .args .g .tables .count + 1) ≤ 10200

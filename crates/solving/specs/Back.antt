@@ -12,7 +12,7 @@ use Rattle.places.specs.declared.Origin.{Origin}
 use Rattle.starts.specs.Search.{Table}
 use Rattle.walk.specs.declared.Stop.{Stop}
 use Rattle.walk.specs.Trace.{lastSide, countBack, writeBack}
-use Rattle.making.specs.Shown.{at, lastPlace}
+use Rattle.solving.specs.Shown.{at, lastPlace}
 
 -- A stop as the graph of pages has it.
 abbrev pub stateOf : Galley → Stop → State

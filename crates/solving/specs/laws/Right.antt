@@ -19,9 +19,9 @@ use Rattle.filling.specs.Fill.{Words, held, fillSide, fillSides, sideCount, fil
 use Rattle.filling.specs.Filled.{Roomy, Side, Light, Filled}
 use Rattle.filling.specs.laws.Entered.{side-low, side-below, below-side}
 use Rattle.filling.specs.laws.Fill.{length-sides, length-place, length-column, room-kept, side-same, side-other, earlier-next, earlier-column, filled-start, filled-next, filled-keeps, filled-place}
-use Rattle.making.specs.Shown.{originOf, graphOf, shown, tableAt, AllRight, Proper}
-use Rattle.making.specs.laws.Shown.{shown-at, end-right}
-use Rattle.making.specs.laws.Seen.{entry-cell}
+use Rattle.solving.specs.Shown.{originOf, graphOf, shown, tableAt, AllRight, Proper}
+use Rattle.solving.specs.laws.Shown.{shown-at, end-right}
+use Rattle.solving.specs.laws.Seen.{entry-cell}
 
 -- A place of the table is one of the galley, and its side occurs.
 inside-of : (g : Galley) (from : Origin) (v : Place) (c : ℕ) → Within g (originOf g from) (stop v c) → Inside (sizes g) v
