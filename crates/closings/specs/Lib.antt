@@ -1,0 +1,3 @@
+-- One chapter of a book, and the laws of its table.
+pub mod Chapter
+pub mod laws

@@ -1,0 +1,4 @@
+-- The laws of a chapter's table.
+pub mod Chapter
+pub mod Later
+pub mod Parting
