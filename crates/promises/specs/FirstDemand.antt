@@ -25,7 +25,8 @@ use Rattle.galley.specs.Whole.{galleyOf}
 use Rattle.galley.specs.Model.{modelOf}
 use Rattle.places.specs.Entry.{cleared}
 use Rattle.marking.specs.Mark.{markOf}
-use Rattle.making.specs.Make.{workNeeded, listNeeded, makeRead, makeOf, workRead, workAfter, listRead, listAfter, Made}
+use Rattle.needs.specs.Needs.{workNeeded, listNeeded}
+use Rattle.making.specs.Make.{makeRead, makeOf, workRead, workAfter, listRead, listAfter, Made}
 use Rattle.promises.specs.Answers.{ByMarking, ByMaking, picked, of-marking, of-making}
 
 -- The numbers of an answer are those of a finished call, with number and place 0, or of a refusal with one of the numbers that may be,

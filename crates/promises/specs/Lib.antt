@@ -10,3 +10,7 @@ pub mod Waiting
 pub mod Forecast
 pub mod Opening
 pub mod Loosening
+pub mod Marks
+pub mod Books
+pub mod BookAnswers
+pub mod OneChapter

@@ -18,7 +18,7 @@ use Rattle.galley.specs.Model.{modelOf}
 use Rattle.rules.specs.laws.Sane.{reads-sane}
 use Rattle.marking.specs.Mark.{markOf}
 use Rattle.making.specs.Make.{Made}
-use Rattle.making.specs.laws.Solved.{reads-limits}
+use Rattle.solving.specs.laws.Solved.{reads-limits}
 use Rattle.promises.specs.Answers.{of-marking, of-making}
 
 -- The turns of an answer are at most those of document 02, S-4, and its white is at most 100,000 for each of 4,249 pages.

@@ -27,7 +27,8 @@ use Rattle.galley.specs.Alike.{Alike}
 use Rattle.galley.specs.laws.Alike.{galleys-alike, models-alike}
 use Rattle.rules.specs.laws.Sane.{reads-sane}
 use Rattle.marking.specs.Mark.{markRead, markOf}
-use Rattle.making.specs.Make.{workNeeded, listNeeded, makeRead, makeOf}
+use Rattle.needs.specs.Needs.{workNeeded, listNeeded}
+use Rattle.making.specs.Make.{makeRead, makeOf}
 use Rattle.making.specs.After.{stands, makeAfterRead, makeAfterOf}
 
 -- What is promised of the answers of making with the higher htMin and with the lower.

@@ -27,9 +27,9 @@ use Rattle.galley.specs.Model.{modelOf}
 use Rattle.galley.specs.laws.Sound.{refusal-number}
 use Rattle.places.specs.Entry.{cleared}
 use Rattle.rules.specs.laws.Sane.{reads-sane}
-use Rattle.making.specs.Make.{workNeeded, listNeeded}
+use Rattle.needs.specs.Needs.{workNeeded, listNeeded}
 use Rattle.making.specs.After.{stands, sought, makeAfterRead, makeAfterOf, workMadeRead, workMadeAfter, listMadeRead, listMadeAfter, weighedAfterRead, weighedAfterOf, MadeAfter}
-use Rattle.making.specs.laws.Solved.{reads-limits}
+use Rattle.solving.specs.laws.Solved.{reads-limits}
 use Rattle.forecast.specs.Forecast.{forecastRead, forecastOf}
 use Rattle.promises.specs.Answers.{ByMaking, picked}
 use Rattle.promises.specs.FirstDemand.{Answered, finished, refused}

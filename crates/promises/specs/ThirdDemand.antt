@@ -20,7 +20,8 @@ use Rattle.galley.specs.Whole.{galleyOf}
 use Rattle.galley.specs.Model.{modelOf}
 use Rattle.rules.specs.laws.Sane.{reads-sane}
 use Rattle.marking.specs.Mark.{markOf}
-use Rattle.making.specs.Make.{workNeeded, listNeeded, makeRead, makeOf, listRead, listAfter, Made}
+use Rattle.needs.specs.Needs.{workNeeded, listNeeded}
+use Rattle.making.specs.Make.{makeRead, makeOf, listRead, listAfter, Made}
 use Rattle.promises.specs.ThirdDemandAfter.{made-demand}
 
 -- What is promised of the answer of making the bytes of the galley g and of the page list afterwards.
