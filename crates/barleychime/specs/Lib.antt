@@ -1,4 +1,5 @@
 pub mod Words
 pub mod Section
 pub mod Forecast
+pub mod Book
 pub mod Desk

@@ -2,34 +2,12 @@
 ghost use mathlib.Core.Path.{_≡_};
 ghost use Rattle.marking.specs.Mark.{markOf};
 ghost use Rattle.barleychime.specs.Words.{numberOf, answerWords, Exported, ExportedAfter};
-use model::answer::Answer;
 
 pub mod beforehand; // beforehand.rt: what a galley asks for, told beforehand
 pub mod section; // section.rt: the folding order of a section
 pub mod term; // term.rt: the report on marks
 pub mod trying; // trying.rt: the desk
-
-// An answer told to the caller: its numbers and the count of what is weighed in nine words, W the last, and its number, which is 0 for a
-// success.
-fn tell(answer: Answer, weighed: u64, words: &mut [u32; 9]) -> u32
-    ensures { λ r. ⌜ (r ≡ numberOf answer) × (now (words .exit) ≡ answerWords answer weighed) ⌝ }
-{
-    let n = model::answer::numbers_of(answer);
-    let low = (weighed % 4294967296) as u32;
-    let high = (weighed / 4294967296) as u32;
-    *words = [
-        n.number,
-        n.place,
-        n.pages,
-        n.x,
-        n.y,
-        n.turns,
-        low,
-        high,
-        n.white,
-    ];
-    n.number
-}
+pub mod whole; // whole.rt: a whole book from its chapters
 
 // The best pages of a galley: making's answer with the count of what is weighed, and what making leaves in the lent memory.
 #[no_mangle]
@@ -52,7 +30,7 @@ pub extern "C" fn barleychime_make(
 {
     let made = making::make(galley, work, pages);
     let found = made.answer;
-    tell(found, made.weighed, answer)
+    telling::tell(found, made.weighed, answer)
 }
 
 // The best pages of a galley that begin with an opening already printed: the answer of making after it with the count of what is weighed,
@@ -79,7 +57,7 @@ pub extern "C" fn barleychime_make_after(
 {
     let made = making::make_after(galley, opening, work, pages);
     let found = made.answer;
-    tell(found, made.weighed, answer)
+    telling::tell(found, made.weighed, answer)
 }
 
 // The marking of a page list: marking's answer; it weighs nothing. No lent memory but `answer` is written.
@@ -91,5 +69,5 @@ pub extern "C" fn barleychime_mark(galley: &[u8], pages: &[u32], answer: &mut [u
         ⌝ }
 {
     let mark = marking::mark(galley, pages);
-    tell(mark, 0, answer)
+    telling::tell(mark, 0, answer)
 }

@@ -23,7 +23,7 @@ fn print_refusal(number: u32, place: u32) {
 fn words_of(galley: &[u8]) -> usize
     ensures { λ r. ⌜ (2 ≤ r) × (r ≤ 3) ⌝ }
 {
-    let reading = galley::whole::read_galley(galley);
+    let reading = reading::read_galley(galley);
     match reading {
         Reading::Galley(g) => blocks::page_words(g),
         Reading::Refused {

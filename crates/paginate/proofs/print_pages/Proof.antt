@@ -23,8 +23,7 @@ pub print-pages-spec : {M : Type 1} → statement M
 print-pages-spec =
     tie.close
     (tie.spec
-    Inv-loop
-    μ-loop
+    Inv-loop μ-loop
     (λ c. omega arith)
     (λ c. omega (arith, c .loop .inv .1, c .before .pre .1))
     (λ c. omega (arith, room c, c .before .loop .inv .0))
