@@ -1,17 +1,18 @@
 /* Barleychime: page make-up and marking for galleys with figures and tables.
  *
  * Making gives the pagination with the fewest page turns that a galley's page specification allows, and of those the one with the
- * least white space, of all paginations or of those that begin with an opening that is already printed; marking judges a
- * pagination that is handed in. Both work on lent memory alone: they allocate nothing, keep nothing between calls, print
- * nothing, and call nothing but memcpy and memset of the C library. Calls on memory that is not shared may run at the same time.
+ * least white space, of all paginations or of those that begin with an opening that is already printed, of one galley or of the
+ * chapters of a book; marking judges a pagination that is handed in. Both work on lent memory alone: they allocate nothing, keep
+ * nothing between calls, print nothing, and call nothing but memcpy and memset of the C library. Calls on memory that is not
+ * shared may run at the same time.
  *
  * What the caller owes, because no call can see it:
  *   - A pointer leads to as many bytes or words as its length says, or to as many as an array parameter has: the 9 words of an
- *     answer, the 6 of a forecast, the words of a desk. It is aligned as its type is, and it is not null, not even where the
- *     length is 0 and nothing is read.
+ *     answer, the 8 of that for a book, the 6 of a forecast, the words of a desk. It is aligned as its type is, and it is not
+ *     null, not even where the length is 0 and nothing is read.
  *   - An area that is written overlaps no other area of the call, and nobody else reads or writes it during the call. Nobody
  *     writes an area that is only read.
- *   - The thread has BARLEYCHIME_STACK_BYTES of stack left.
+ *   - The thread has BARLEYCHIME_STACK_BYTES of stack left, and for a book BARLEYCHIME_BOOK_STACK_BYTES.
  *
  * A galley has m lines (1 to 4,000), n figures (0 to 200) and k tables (0 to 50). A page list has two words a page: the lines
  * placed so far and the figures placed so far. For a galley that has tables it has three: the tables placed so far too. A word
@@ -49,7 +50,8 @@
  * The host program can mend these, which only making answers. Place: words needed.
  *    9  the work area that is lent is not long enough
  *   10  the page list that is lent is not long enough
- * The designer can mend this, which only making answers. Place: 0. With an opening it means that none begins so.
+ * The designer can mend this, which only making answers. Place: 0. With an opening it means that none begins so, and
+ * of a book that no choice of a list for each chapter exists.
  *   11  no pagination of this galley meets its page specification
  * Whoever handed in the list can mend these, which only marking answers. Place: page, counted from 1; for 12, 0; for 18, the
  * number of pages.
@@ -71,6 +73,11 @@
  *   25  the name of a layout has no bytes, or more than 16
  *   26  no layout is held under this name
  *   27  eight layouts are held under other names, and a desk has no room for a ninth
+ * Whoever bound the book can mend these, which only making a book answers. Place: for 28, 0; for the others the chapter, counted
+ * from 1, and so it is of a chapter that 1 to 8 refuses.
+ *   28  there is no chapter, there are more than 200, or their lengths do not add up to the bytes
+ *   29  the page specification of the chapter is unlike that of the first
+ *   30  the chapter states a first folio (FO), which only the first one may
  * Whoever handed in the marks can mend these, which only the report answers. Place: for 31, 0; for 32, the paper, counted
  * from 1.
  *   31  there are more marks than a report takes (10,000 is the most)
@@ -80,7 +87,8 @@
  *
  * Making, marking, the forecast and the opening of a desk read the galley first and answer 1 to 8 alike. Making then looks at the
  * lengths, 9 before 10, then at an opening, 20 before 21, and searches only where none of these is due. Of several broken rules
- * marking answers the one on the earliest page, and there the lowest number.
+ * marking answers the one on the earliest page, and there the lowest number. Making a book answers 28 first, then goes chapter by
+ * chapter, its own refusal before 29 and that before 30, and then looks at the lengths, 9 before 10.
  */
 #ifndef BARLEYCHIME_H
 #define BARLEYCHIME_H
@@ -101,11 +109,12 @@
 /* Bytes of the longest galley. Whatever is longer is refused, and its first bytes, one more than these, decide how. */
 #define BARLEYCHIME_LONGEST_GALLEY ((size_t)34 + 6 + 4250 * 18 + 2)
 
-/* Bytes of stack that a call takes below the frame of its caller, at most: any call, and marking alone. They are what the
- * archive's machine code takes, rounded up; the tests compare them. Making and the calls of a desk need 4,096 bytes more
- * where the dynamic linker binds memcpy or memset at its first call, as in a program that is linked without -z now. Signal
- * handlers are not counted.
+/* Bytes of stack that a call takes below the frame of its caller, at most: making a book, any other call, and marking alone.
+ * They are what the archive's machine code takes, rounded up; the tests compare them. Making and the calls of a desk need 4,096
+ * bytes more where the dynamic linker binds memcpy or memset at its first call, as in a program that is linked without -z now.
+ * Signal handlers are not counted.
  */
+#define BARLEYCHIME_BOOK_STACK_BYTES ((size_t)260096)
 #define BARLEYCHIME_STACK_BYTES ((size_t)258048)
 #define BARLEYCHIME_MARK_STACK_BYTES ((size_t)1024)
 
@@ -123,6 +132,22 @@ enum {
     BARLEYCHIME_WEIGHED_LOW = 6, /* the count of pages weighed, of 64 bits: its low word and its high word; 0 of marking */
     BARLEYCHIME_WEIGHED_HIGH = 7,
     BARLEYCHIME_WHITE = 8 /* W: what all pages but the last lack of htMax at their loosest, summed over them */
+};
+
+/* Chapters of the longest book, and the words of the answer for a book, of 64 bits. */
+#define BARLEYCHIME_MOST_CHAPTERS 200
+#define BARLEYCHIME_BOOK_WORDS 8
+
+/* What the eight words of the answer for a book are: sums over its chapters, but for Y and T. */
+enum {
+    BARLEYCHIME_BOOK_NUMBER = 0, /* 0, or the number of the refusal */
+    BARLEYCHIME_BOOK_PLACE = 1,  /* 0, or the refusal's place */
+    BARLEYCHIME_BOOK_PAGES = 2,  /* p */
+    BARLEYCHIME_BOOK_X = 3,
+    BARLEYCHIME_BOOK_Y = 4,      /* turns from the book's first page to its last */
+    BARLEYCHIME_BOOK_TURNS = 5,  /* T = alpha * X + beta * Y */
+    BARLEYCHIME_BOOK_WHITE = 6,  /* W */
+    BARLEYCHIME_BOOK_WEIGHED = 7 /* the count of pages weighed */
 };
 
 /* Words of a forecast. */
@@ -227,6 +252,33 @@ uint32_t barleychime_make(const uint8_t *galley, size_t galley_len, uint32_t *wo
 uint32_t barleychime_make_after(const uint8_t *galley, size_t galley_len, const uint32_t *opening, size_t opening_len,
                                 uint32_t *work, size_t work_len, uint32_t *pages, size_t pages_len,
                                 uint32_t answer[BARLEYCHIME_ANSWER_WORDS]);
+
+/* Makes the pages of a book: 1 to 200 galleys, its chapters, lent end to end. The first chapter opens on its own folio, stated by FO
+ * or 1, each later one on the folio after the last of the one before. Of all choices of a page list for each chapter, each valid at
+ * the folio on which its chapter opens, it is the one with the fewest turns, and of these with the least white space; where both are
+ * equal, the last chapter's list decides as for a galley alone, then that of the chapter before it, and so on. A chapter may be
+ * worse than it could be by itself. A book of one chapter is barleychime_make.
+ *   galleys     galleys_len bytes, only read: the chapters, one after another
+ *   lengths     lengths_len words, only read: the bytes of each chapter; they add up to galleys_len (28). Not null even where there
+ *               are none
+ *   work        at least twice the words that barleychime_make needs for the chapter that needs most, of any contents
+ *   pages       at least the sum of the words that barleychime_make needs for each chapter, of any contents
+ *   answer      8 words of 64 bits, always written: number, place, p, X, Y, T, W and the count of pages weighed
+ * Longer areas are fine; barleychime_forecast tells the words of each chapter. All chapters have the first one's specification, mark
+ * and fields alike, so that G2 and GS are unlike (29); FO stands in the first alone (30).
+ *
+ * p, X, W and the count are the sums of the chapters'; Y is from the first page of the book to the last. 11 means that there is no
+ * choice. The count is there on success and on 11; other refusals have zeros after the place.
+ *
+ * Returns 0 for success. Afterwards:
+ *   success         pages holds the chapters' lists, one after another, each in its own 2 or 3 words a page: a chapter's ends with
+ *                   the page that places everything. The rest of pages is as before; the words of the work area that are needed are
+ *                   0, the rest is as before
+ *   11              pages is as before; the work area is as after success
+ *   other refusals  pages and work area are as before
+ */
+uint32_t barleychime_book(const uint8_t *galleys, size_t galleys_len, const uint32_t *lengths, size_t lengths_len, uint32_t *work,
+                          size_t work_len, uint32_t *pages, size_t pages_len, uint64_t answer[BARLEYCHIME_BOOK_WORDS]);
 
 /* Marks a page list of pages_len words for a galley. Reads both, writes the answer and nothing else.
  * Returns 0 if the list is a valid pagination, with p, X, Y, T, W in the answer.

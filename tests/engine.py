@@ -4,32 +4,38 @@ import os
 import pathlib
 import struct
 import subprocess
+import tempfile
 
+from reference import book
 from reference.beforehand import lengths
 
 ROOT = pathlib.Path(__file__).resolve().parents[1]
 WORD, LENGTH = ctypes.c_uint32, ctypes.c_size_t
 HIGHEST = 2**32 - 1
-ANSWER, FORECAST = 9, 6  # words of an answer and of a forecast
+ANSWER, FORECAST, BOOK = 9, 6, 8  # words of an answer, of a forecast and of the answer for a book
 
 
-def proved(crate):
-    """The archive of a crate, proved and compiled."""
+def archive(crate='barleychime', variable='BARLEYCHIME_LIB'):
+    """The archive of a crate that is tested: the one that the variable names, else it is proved and compiled here."""
+    named = os.environ.get(variable)
+    if named:
+        return pathlib.Path(named).resolve()
     subprocess.run(['rt', 'staticlib', crate], cwd=ROOT, check=True, stdout=subprocess.DEVNULL, stderr=subprocess.DEVNULL)
     return ROOT / 'target' / 'staticlib' / f'lib{crate}.a'
 
 
-def archive():
-    """The archive that is tested: the one that BARLEYCHIME_LIB names, else the proved one."""
-    named = os.environ.get('BARLEYCHIME_LIB')
-    return pathlib.Path(named).resolve() if named else proved('barleychime')
+def probe():
+    """The archive of galley_probe."""
+    return archive('galley_probe', 'BARLEYCHIME_PROBE')
 
 
-def load(archive, folder=None):
-    """An archive as a shared object, which it can be made since it is position independent."""
-    shared = (folder or archive.parent) / f'{archive.stem}.so'
-    subprocess.run(['gcc', '-shared', '-Wl,--whole-archive', archive, '-Wl,--no-whole-archive', '-o', shared], check=True)
-    return ctypes.CDLL(str(shared))
+def load(archive):
+    """An archive as a shared object, which it can be made since it is position independent. Tests run beside each other, so each has
+    its own, which it keeps when the file is gone."""
+    with tempfile.TemporaryDirectory() as folder:
+        shared = pathlib.Path(folder) / f'{archive.stem}.so'
+        subprocess.run(['gcc', '-shared', '-Wl,--whole-archive', archive, '-Wl,--no-whole-archive', '-o', shared], check=True)
+        return ctypes.CDLL(str(shared))
 
 
 def lent(words):
@@ -64,6 +70,14 @@ def answered(returned, lent_answer):
     return ('refused', number, place) if not any(counts) else ('refused with counts', *nine), weighed
 
 
+def bound(returned, number, place, *counts):
+    """The answer for a book as the reference gives it, and the count of pages weighed."""
+    *counts, weighed, beyond = counts
+    if returned != number or beyond != HIGHEST or (place if number == 0 else any(counts)):
+        return ('amiss', returned, number, place, *counts, beyond), weighed
+    return ('refused', number, place) if number else ('accepted', *counts), weighed
+
+
 def nine(answer, weighed=0):
     """The nine words of an answer that the reference gives, with this count of pages weighed."""
     number, place, *turns, white = (0, 0, *answer[1:]) if answer[0] == 'accepted' else (*answer[1:], 0, 0, 0, 0, 0)
@@ -85,6 +99,7 @@ class Engine:
         self.c_make = self.declared(library, making, *bytes_lent, *words_lent, *words_lent, ctypes.c_void_p)
         self.c_make_after = self.declared(library, f'{making}_after', *bytes_lent, *words_lent, *words_lent, *words_lent,
                                           ctypes.c_void_p)
+        self.c_book = self.declared(library, 'barleychime_book', *bytes_lent, *words_lent, *words_lent, *words_lent, ctypes.c_void_p)
         self.c_mark = self.declared(library, 'barleychime_mark', *bytes_lent, *words_lent, ctypes.c_void_p)
         self.c_forecast = self.declared(library, 'barleychime_forecast', *bytes_lent, ctypes.c_void_p)
         self.c_section = self.declared(library, 'barleychime_section', WORD, ctypes.c_void_p, ctypes.c_void_p)
@@ -116,6 +131,15 @@ class Engine:
         if held(lent_opening, opening) != tuple(opening):
             return ('wrote to the opening',)
         return *answered(returned, answer), held(lent_work, work), held(lent_pages, pages)
+
+    def book(self, data, lengths, work, pages):
+        """The same of chapters lent end to end; their lengths are only read, and the words of the answer are of 64 bits."""
+        lent_lengths, lent_work, lent_pages = lent(lengths), lent(work), lent(pages)
+        answer = (ctypes.c_uint64 * (BOOK + 1))(*[HIGHEST] * (BOOK + 1))
+        returned = self.c_book(data, len(data), lent_lengths, len(lengths), lent_work, len(work), lent_pages, len(pages), answer)
+        if held(lent_lengths, lengths) != tuple(lengths):
+            return ('wrote to the lengths',)
+        return *bound(returned, *answer), held(lent_work, work), held(lent_pages, pages)
 
     def mark(self, data, words):
         """The answer; the list is only read."""
@@ -199,3 +223,18 @@ def made(galley, best, answer, weighed, work, pages, fault=None):
     if best is None:
         return ('refused', 11, 0), weighed, cleared, pages
     return answer, weighed, cleared, tuple(best) + pages[len(best):]
+
+
+def made_book(galleys, choice, weighed, work, pages):
+    """What making a book owes for chapters that are let through, with this best choice and so many pages weighed: the answer, the
+    count, the work area and the page list."""
+    work_words, list_words = book.lengths(galleys)
+    if len(work) < work_words:
+        return ('refused', 9, work_words), 0, work, pages
+    if len(pages) < list_words:
+        return ('refused', 10, list_words), 0, work, pages
+    cleared = (0,) * work_words + work[work_words:]
+    if choice is None:
+        return ('refused', 11, 0), weighed, cleared, pages
+    listed = tuple(word for words in choice for word in words)
+    return ('accepted', *book.measure(galleys, choice)), weighed, cleared, listed + pages[len(listed):]

@@ -2,7 +2,7 @@
 
 from dataclasses import replace
 
-from reference import beforehand, marking, search
+from reference import beforehand, book, marking, search
 from reference.galley import HIGHEST_FOLIO
 
 # Which page a spread begins with hangs on the first folio: every parity, with and without the record, in single-sided work too.
@@ -27,6 +27,12 @@ OF_OPENINGS = ['no opening', 'an opening that leaves none', 'an opening that cos
                'an opening that ends on a left-hand page', 'an opening that ends on a right-hand page',
                'an opening with all lines', 'an opening with all floats', 'an opening without a line',
                'an opening whose last page waits for its citation', 'an opening whose last page is below lastMin']
+OF_BOOKS = ['a book of one chapter', 'a book of several chapters', 'a single-sided book', 'a double-sided book', 'a book from folio 1, not stated',
+            'a book from an even folio', 'a book from an odd folio', 'two and three words a page', 'a book of the second edition']
+OF_BINDING = ['11 by parity alone', '11 by a chapter that has no list', 'a worse first chapter', 'a worse chapter between', 'a first chapter with more turns',
+              'a turn between two chapters', 'chapters that face each other', 'equal turns, and white space decides', 'a tie decided by the last folio',
+              'a tie decided in the last chapter', 'a tie decided in an earlier chapter', 'a tie decided in the first of three chapters',
+              'a tie between numbers of pages in an earlier chapter']
 # At a desk: each call with its answers, and what the call meets there or comes after.
 AT_DESKS = ['open 0', 'open 1 to 8', 'open 22', 'ask 0', 'ask 1 to 8', *(f'ask {number}' for number in (*range(12, 19), 23)), 'commit 0',
             'commit 24', 'opened with 64 pages', '22 by the number of pages', '22 by the marking', 'opened over what was pending',
@@ -216,6 +222,62 @@ def of_ties(ranks, best):
             stream = next(s for s, counts in enumerate(zip(one, two)) if len(set(counts)) == 2)
             if stream:
                 yield f'the later {("figure", "table")[stream - 1]} decides'
+
+
+def of_book(chapters):
+    """Of a book by its chapters alone."""
+    first = chapters[0]
+    yield f'a book of {"one chapter" if len(chapters) == 1 else "several chapters"}'
+    yield f'a {("single", "double")[first.spec.sides - 1]}-sided book'
+    yield 'a book from folio 1, not stated' if first.stated is None else f'a book from {("an even", "an odd")[first.stated % 2]} folio'
+    if len({len(chapter.streams) for chapter in chapters}) == 2:
+        yield 'two and three words a page'
+    if first.spec.edition == 2:
+        yield 'a book of the second edition'
+
+
+def of_binding(chapters, choices, best):
+    """Of all choices of a book and the best of them: why there is none, which chapters are worse than need be, what decides."""
+    if best is None:
+        open_on = [(chapters[0].folio,), *((1, 2) for _ in chapters[1:])]
+        listed = all(any(book.lists(book.opened(chapter, folio)) for folio in folios) for chapter, folios in zip(chapters, open_on))
+        yield '11 by parity alone' if listed else '11 by a chapter that has no list'
+        return
+    yield from of_chapters(list(book.opened_chapters(chapters, best)))
+    ranks = {choice: book.rank(chapters, choice) for choice in choices}
+    rank = ranks[best]
+    if any(other[0] == rank[0] and other[1] > rank[1] for other in ranks.values()):
+        yield 'equal turns, and white space decides'
+    for choice, other in ranks.items():
+        if choice != best and other[:2] == rank[:2]:
+            yield from of_tied_books(chapters, (best, rank[2]), (choice, other[2]))
+
+
+def of_chapters(opened):
+    """Of the chapters as they open, with their lists: those that would be better by themselves, and what is between them."""
+    for number, (chapter, words) in enumerate(opened):
+        by_itself, here = (search.rank(chapter, listed) for listed in (search.first(chapter, book.lists(chapter)), words))
+        if by_itself < here and number in (0, len(opened) - 2):
+            yield 'a worse first chapter' if number == 0 else 'a worse chapter between'
+        if by_itself[0] < here[0] and number == 0:
+            yield 'a first chapter with more turns'
+    for chapter, _ in opened[1:]:
+        facing = chapter.spec.sides == 2 and chapter.folio % 2 == 1
+        yield 'chapters that face each other' if facing else 'a turn between two chapters'
+
+
+def of_tied_books(chapters, one, two):
+    """Of two choices of equal turns and white space: the chapter that decides, the last one first."""
+    (best, ranks), (other, others) = one, two
+    at = next(at for at, (tie, against) in enumerate(zip(ranks, others)) if tie != against)
+    if at == 0:
+        yield 'a tie decided by the last folio' if ranks[0][0] != others[0][0] else 'a tie decided in the last chapter'
+        return
+    yield 'a tie decided in an earlier chapter'
+    if at == 2 == len(chapters) - 1:
+        yield 'a tie decided in the first of three chapters'
+    if len({len(choice[len(chapters) - 1 - at]) for choice in (best, other)}) == 2:
+        yield 'a tie between numbers of pages in an earlier chapter'
 
 
 def at_desk(call, before, answer, read=None, last=''):

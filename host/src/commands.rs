@@ -87,7 +87,7 @@ pub fn forecast(names: &[&str], lines: bool, output: &mut Output) -> Result<Outc
             (Ok(told), _) if lines => output.print(format!("{}{label}\n", forecast::line(&told)))?,
             (Ok(told), Some(galley)) => {
                 let heading = if names.len() > 1 { format!("{name}:\n") } else { String::new() };
-                output.print(heading + &forecast::in_words(&told, &galley))?;
+                output.print(heading + &forecast::in_words(&told, forecast::steps(&told, &galley)))?;
             }
             (Ok(_), None) => return Err(unreadable(name)),
             (Err(refusal), _) => {

@@ -1,11 +1,14 @@
-//! The engine: the functions of `include/barleychime.h`, safe to call. All unsafe code is here and in `desk`.
+//! The engine: the functions of `include/barleychime.h`, safe to call. All unsafe code is here, in `book` and in `desk`.
 
+mod book;
 mod desk;
 
+pub use book::{forecast_book, make_book, make_book_in, Book, BookMaking, BookMeasure, Chapter};
 pub use desk::Desk;
 
 #[allow(unsafe_code)]
 mod c {
+    use super::book::BOOK_WORDS;
     use super::desk::{DESK_LIST_WORDS, DESK_WORDS};
     use super::{ANSWER_WORDS, FORECAST_WORDS};
 
@@ -32,6 +35,17 @@ mod c {
             pages: *mut u32,
             pages_len: usize,
             answer: *mut [u32; ANSWER_WORDS],
+        ) -> u32;
+        pub fn barleychime_book(
+            galleys: *const u8,
+            galleys_len: usize,
+            lengths: *const u32,
+            lengths_len: usize,
+            work: *mut u32,
+            work_len: usize,
+            pages: *mut u32,
+            pages_len: usize,
+            answer: *mut [u64; BOOK_WORDS],
         ) -> u32;
         pub fn barleychime_mark(
             galley: *const u8,

@@ -1,4 +1,4 @@
-//! What is told of a galley beforehand, in words and as a line.
+//! What is told of a galley or of a book beforehand, in words and as a line.
 
 use crate::engine::Forecast;
 use crate::galley::{Galley, Line};
@@ -9,8 +9,8 @@ use crate::list::spaced;
 const STEPS_A_SECOND: u64 = 30_000_000;
 const BYTES_A_WORD: f64 = 4.0;
 
-/// Memory, pages weighed and time, a line each.
-pub fn in_words(told: &Forecast, galley: &Galley) -> String {
+/// Memory, pages weighed and the time of so many steps, a line each.
+pub fn in_words(told: &Forecast, steps: u64) -> String {
     let megabytes = |words: u32| f64::from(words) * BYTES_A_WORD / 1e6;
     format!(
         "work area: {} words, {:.3} MB\npage list: {} words, {:.3} MB\npages weighed: at most {}\n\
@@ -20,16 +20,18 @@ pub fn in_words(told: &Forecast, galley: &Galley) -> String {
         told.list,
         megabytes(told.list),
         told.ceiling,
-        seconds(steps(told, galley) as f64 / STEPS_A_SECOND as f64),
+        time(steps),
         STEPS_A_SECOND / 1_000_000
     )
 }
 
-fn seconds(time: f64) -> String {
-    if time < 0.01 {
+/// The time of so many steps.
+pub fn time(steps: u64) -> String {
+    let seconds = steps as f64 / STEPS_A_SECOND as f64;
+    if seconds < 0.01 {
         "under 0.01 s".into()
     } else {
-        format!("about {time:.2} s")
+        format!("about {seconds:.2} s")
     }
 }
 
@@ -38,8 +40,9 @@ pub fn line(told: &Forecast) -> String {
     spaced(&[u64::from(told.work), u64::from(told.list), told.ceiling])
 }
 
-/// The ceiling without its factor for the lines on a page: the search's time does not depend on how many these are.
-fn steps(told: &Forecast, galley: &Galley) -> u64 {
+/// Steps of one search: the ceiling without its factor for the lines on a page, since the time does not depend on how many these
+/// are.
+pub fn steps(told: &Forecast, galley: &Galley) -> u64 {
     told.ceiling / (most_lines(galley) + 1)
 }
 

@@ -10,6 +10,7 @@ const WHOLE: &str = "\
 Makes the pages of a galley with the fewest page turns, and marks page lists.
 
   barleychime make GALLEY            the best page list, or with --after LIST the best that begins with a list
+  barleychime book CHAPTER...        the best page lists of chapters that follow one another, as one book
   barleychime forecast GALLEY...     memory, pages weighed and time, told before a galley is made
   barleychime mark GALLEY LIST...    pages and turns of page lists, or what they break
   barleychime explain GALLEY LIST    a page list in words, page by page
@@ -48,8 +49,25 @@ then named, 21 one that leaves nothing to make, and 11 means that no pagination 
 its pages could stay. Without a page in LIST it is an ordinary making.
 ";
 
+pub const BOOK: &str = "\
+barleychime book CHAPTER...
+
+Makes up to 200 galleys as the chapters of a book, each opening on the folio after the one before; the first has its own folio,
+`FO` or 1. Prints `p X Y T W` of the book, then for each chapter a line with its first folio, its number of pages and its name,
+and its pages, `q i j` or `q i j d`, as `barleychime make` prints them. p, X and W are the chapters' sums, Y is from the book's
+first page to its last.
+
+Of all choices of page lists, each valid at the folio on which its chapter opens, it is the one with the fewest turns, and of
+these with the least white space. A chapter may be worse than by itself, if it closes on the side on which the next is better.
+No choice has fewer turns, and 11 means that there is none: then it is said which chapters have no pagination, if it is not the
+sides that do not fit. All chapters have the page specification of the first, mark and fields (29), and no later one has a
+folio (30). A refusal has the chapter's number as its place; the place in a chapter that is refused by itself is told on
+standard error. Making a book is one call, which takes twice the memory of its largest chapter; a terminal is told, chapter by
+chapter, how long it will take.
+";
+
 pub const FORECAST: &str = "\
-barleychime forecast [--lines] GALLEY...
+barleychime forecast [--lines] GALLEY..., or barleychime forecast --book CHAPTER...
 
 Prints what a galley asks for without making it: the words of work area and of page list, and in megabytes; a ceiling on the
 pages weighed, which is (m + 1)(n + 1)(k + 1)(L + 1)(G + 1)(K + 1) for m lines, n figures and k tables, of which L, G and K in a
@@ -58,6 +76,10 @@ run of figures and of tables. Of several galleys each follows its name.
 
 With --lines each galley is a line `work list ceiling GALLEY`, so that a series can be sorted. A galley that is refused is
 `R number place`, as `barleychime make` has it, with the reason in words on standard error.
+
+With --book the galleys are the chapters of one book, as `barleychime book` takes them: its work area is twice that of the largest
+chapter, its page list and the ceiling are the sums, and its time is that of two searches of the first chapter and three of each
+later one, or of two of each in single-sided work. A book is refused as `barleychime book` refuses it.
 ";
 
 pub const MARK: &str = "\

@@ -4,11 +4,13 @@ use crate::engine::Measure;
 
 /// What `make` prints for a list: `p X Y T W`, then `q i j` for each page, or `q i j d` with three words a page.
 pub fn print(measure: Measure, list: &[u32], words: usize) -> String {
-    let mut text = measure_line(measure) + "\n";
-    for (page, counts) in list.chunks_exact(words).enumerate() {
-        text += &format!("{} {}\n", page + 1, spaced(counts));
-    }
-    text
+    measure_line(measure) + "\n" + &pages(list, words)
+}
+
+/// A line `q i j` for each page, or `q i j d`.
+pub fn pages(list: &[u32], words: usize) -> String {
+    let line = |(page, counts): (usize, &[u32])| format!("{} {}\n", page + 1, spaced(counts));
+    list.chunks_exact(words).enumerate().map(line).collect()
 }
 
 /// Numbers with a space between them.

@@ -1,6 +1,7 @@
 //! The command `barleychime`.
 #![forbid(unsafe_code)]
 
+mod book;
 mod commands;
 mod desk;
 mod fold;
@@ -45,6 +46,7 @@ fn run(arguments: &[String], output: &mut Output) -> Result<Outcome, String> {
         "--help" | "-h" => return told(output, &help::whole()),
         "--version" | "-V" => return told(output, concat!("barleychime ", env!("CARGO_PKG_VERSION"), "\n")),
         "make" => help::MAKE,
+        "book" => help::BOOK,
         "forecast" => help::FORECAST,
         "mark" => help::MARK,
         "explain" => help::EXPLAIN,
@@ -62,7 +64,9 @@ fn run(arguments: &[String], output: &mut Output) -> Result<Outcome, String> {
     }
     match (command.as_str(), names.as_slice()) {
         ("make", [galley]) => commands::make(galley, &options.ways, output),
-        ("forecast", galleys @ [_, ..]) => commands::forecast(galleys, options.lines, output),
+        ("book", chapters @ [_, ..]) => book::book(chapters, output),
+        ("forecast", chapters @ [_, ..]) if options.book && !options.lines => book::foretell(chapters, output),
+        ("forecast", galleys @ [_, ..]) if !options.book => commands::forecast(galleys, options.lines, output),
         ("mark", [galley, lists @ ..]) if !lists.is_empty() => commands::mark(galley, lists, output),
         ("explain", [galley, list]) => commands::explain(galley, list, output),
         ("desk", [_, ..]) if names.contains(&"-") => {
@@ -81,12 +85,13 @@ fn run(arguments: &[String], output: &mut Output) -> Result<Outcome, String> {
     }
 }
 
-/// What commands have besides help: ways of making; a line for each galley; what is handed in is marks, and no galley with
-/// lists.
+/// What commands have besides help: ways of making; a line for each galley; what is handed in is the chapters of a book, or marks
+/// and no galley with lists.
 #[derive(Default)]
 struct Options<'a> {
     ways: Ways<'a>,
     lines: bool,
+    book: bool,
     marks: bool,
 }
 
@@ -110,6 +115,10 @@ fn options<'a>(command: &str, arguments: &'a [String]) -> (Options<'a>, &'a [Str
             }
             ("forecast", "--lines", _) => {
                 options.lines = true;
+                others
+            }
+            ("forecast", "--book", _) => {
+                options.book = true;
                 others
             }
             ("report", "--marks", _) => {

@@ -12,6 +12,7 @@ enum Place {
     PageIfAny,
     Pages,
     Bytes,
+    Chapter,
     Paper,
     Size,
 }
@@ -70,6 +71,13 @@ const MEANINGS: &[Meaning] = &[
     meaning(25, Place::Nothing, "the name of a layout has no bytes, or more than 16"),
     meaning(26, Place::Nothing, "no layout is held under this name"),
     meaning(27, Place::Nothing, "eight layouts are held under other names, and a desk has no room for a ninth"),
+    meaning(
+        28,
+        Place::Nothing,
+        "there is no chapter, there are more than 200, or their lengths do not add up to the bytes",
+    ),
+    meaning(29, Place::Chapter, "the page specification of the chapter is unlike that of the first"),
+    meaning(30, Place::Chapter, "the chapter states a first folio (`FO`), which only the first one may"),
     meaning(31, Place::Nothing, "there are more marks than a report takes (10,000 is the most)"),
     meaning(32, Place::Paper, "the paper has fewer turns than the engine"),
     meaning(33, Place::Size, "no section has so many pages: their number is a multiple of 4 from 4 to 64"),
@@ -84,6 +92,7 @@ pub fn mender(number: u32) -> &'static str {
         12..=18 | 22 => "whoever handed in the list",
         20 | 21 => "whoever handed in the opening",
         23..=27 => "the make-up hand",
+        28..=30 => "whoever bound the book",
         31 | 32 => "whoever handed in the marks",
         33 => "whoever asked for the section",
         _ => "the person at the program",
@@ -122,6 +131,7 @@ pub fn sentence(refusal: Refusal) -> String {
         Place::Page | Place::PageIfAny => format!("page {count}: "),
         Place::Pages => format!("page {count}, the last: "),
         Place::Bytes => format!("more than {count} bytes: "),
+        Place::Chapter => format!("chapter {count}: "),
         Place::Paper => format!("paper {count}: "),
         Place::Size => format!("{count} pages: "),
     };

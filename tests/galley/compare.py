@@ -21,7 +21,7 @@ WORDS = (0, 1, 2, 3, 999, 1_000, 1_001, 9_999, 10_000, 99_999, 100_000, 100_001,
 MARKS = (b'GS', b'TL', b'FG', b'ED', b'SG', b'LT', b'GF', b'DE', b'gs', b'FO', b'G2', b'FK', b'TB', b'\0\0', b'\xff\xff')
 
 
-READER = engine.load(engine.proved('galley_probe'))
+READER = engine.load(engine.probe())
 
 
 def words(function, data, count, *number):

@@ -15,7 +15,7 @@ from reference import galley as reference  # noqa: E402
 from reference import marking  # noqa: E402
 
 SEED, RANDOM_GALLEYS = 20261115, 300
-PROBE = engine.load(engine.proved('galley_probe')).galley_probe_waiting
+PROBE = engine.load(engine.probe()).galley_probe_waiting
 PROBE.argtypes, PROBE.restype = (ctypes.c_char_p, *(engine.LENGTH,) * 5), engine.WORD
 FIGURES, TABLES = 1, 2  # the streams by their numbers
 

@@ -1,4 +1,4 @@
-"""The plain Rust of bench/native, which the engine is measured against: both of its searches against the reference, and
+"""The plain Rust of bench/native, which the engine is measured against: its searches against the reference, and
 against each other on galleys that the reference takes too long for, and after openings. The last line is 'N passed, M failed'."""
 import pathlib
 import random
@@ -16,11 +16,11 @@ SEED = 20261118
 
 
 def build():
-    """The stand-in for the engine's archive, and its two makings: by queues and by the plain search."""
+    """The stand-in for the engine's archive, and its makings: by queues, by what can be reached, and by the plain search."""
     command = ['cargo', 'build', '--release', '--offline', '--quiet', '--manifest-path', STANDIN / 'Cargo.toml']
     subprocess.run(command, check=True)
     library = engine.load(STANDIN / 'target' / 'release' / 'libbarleychime.a')
-    return engine.Engine(library), engine.Engine(library, 'plain_make')
+    return [engine.Engine(library, name) for name in ('barleychime_make', 'reached_make', 'plain_make')]
 
 
 def known():
@@ -44,19 +44,19 @@ def unknown():
 
 
 def main():
-    by_queues, plain = build()
+    makings = by_queues, reached, plain = build()
     rng = random.Random(SEED)
     tally = Tally()
 
     def compare(name, g, *expected):
         data = galley.write(g)
         work, pages = (tuple(rng.choices((0, 1, 2, engine.HIGHEST), k=length + 3)) for length in engine.lengths(g))
-        first, *others = [native.make(data, work, pages) for native in (by_queues, plain)]
+        first, *others = [native.make(data, work, pages) for native in makings]
         others += [check.due(g, best, work, pages) for best in expected]
         tally.same(name, [first] * len(others), others)
         opening = begun(g, first)
-        tally.same(f'{name} after {opening}', by_queues.make_after(data, opening, work, pages),
-                   plain.make_after(data, opening, work, pages))
+        first, *others = [native.make_after(data, opening, work, pages) for native in makings]
+        tally.same(f'{name} after {opening}', [first] * len(others), others)
 
     def begun(g, made):
         """Some first pages of a list that was made, the last of them now and then with a line more or less."""
@@ -72,8 +72,9 @@ def main():
     for number, g in enumerate(unknown()):
         compare(f'galley {number} of unknown best list', g)
     # The plain search would take minutes.
-    tally.same('the largest galley of height 0', check.largest(by_queues.make, cases.LONGEST), True)
-    tally.same('a large galley of height 0 with tables', check.largest(by_queues.make, cases.LARGE_TABLES), True)
+    for native in (by_queues, reached):
+        tally.same('the largest galley of height 0', check.largest(native.make, cases.LONGEST), True)
+        tally.same('a large galley of height 0 with tables', check.largest(native.make, cases.LARGE_TABLES), True)
     return tally.end()
 
 

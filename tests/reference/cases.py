@@ -4,8 +4,8 @@ owe."""
 from .galley import Spec
 from .galleys import (
     A, A_TALL, B, C, CHAIN, C_BOTH, C_TABLE, EVEN, F, FIGURE_FIRST, FILLED, FLAT_FIGURE, G, H, K, L, LARGE_TABLES, LEGEND,
-    LONGEST, LONGEST_TABLES, M, N, ONE_A_PAGE, PAIR, PASSED, SPACED, TABLES_ONE_A_PAGE, TABLE_PAIR, TIED, TWO_PAGES, forbid,
-    high, keep, opening, plain, respec)  # noqa: F401
+    LONGEST, LONGEST_TABLES, M, N, ONE_A_PAGE, P, PAIR, PASSED, S, SPACED, TABLES_ONE_A_PAGE, TABLE_PAIR, TIED, TWO_PAGES, T_HIGH,
+    T_LATE, T_ONE, T_TWO, U, V, forbid, high, keep, opening, plain, respec)  # noqa: F401
 
 # Name, galley, and the list with its p, X, Y, T, W; None stands for 11.
 MADE = [
@@ -123,6 +123,26 @@ AFTER = [
     ('21 for a galley without a list', respec(A, htmin=0, htmax=40, lastmin=40), (1, 1, 3, 1), None, (21, 2)),
     ('20 for a galley without a list', A_TALL, (1, 0), None, (20, 1)),
     ('11 for a galley without a list', A_TALL, (3, 0), None, (11, 0)),
+]
+
+# Name, chapters, and the choice with its p, X, Y, T, W; None stands for 11.
+BOUND = [
+    ('the worse first chapter', (EVEN, S), ((1, 0, 2, 0, 3, 0), (1, 0, 1, 1)), (5, 0, 2, 2, 20)),
+    ('the same from folio 2', (opening(EVEN, 2), S), ((2, 0, 3, 0), (1, 0, 1, 1)), (4, 0, 1, 1, 0)),
+    ('the side that the second chapter must open on', (T_ONE, T_LATE), ((1, 0), (0, 1, 1, 1)), (3, 0, 1, 1, 0)),
+    ('11 by parity alone', (T_TWO, T_LATE), None, None),
+    ('the same from folio 2', (opening(T_TWO, 2), T_LATE), ((1, 0, 2, 0), (0, 1, 1, 1)), (4, 0, 1, 1, 0)),
+    ('a tie decided in the first chapter', (P, U), ((4, 0, 5, 0), (1, 0)), (3, 0, 1, 1, 0)),
+    ("the last chapter's even last folio before the first chapter's", (respec(P, beta=0), respec(U, beta=0)),
+     ((2, 0, 4, 0, 5, 0), (1, 0)), (4, 0, 2, 0, 0)),
+    ('white space before both', (respec(EVEN, beta=0), respec(U, beta=0)), ((2, 0, 3, 0), (1, 0)), (3, 0, 1, 0, 0)),
+    ('three chapters single-sided', (respec(S, sides=1), respec(EVEN, sides=1), respec(U, sides=1)),
+     ((1, 0, 1, 1), (2, 0, 3, 0), (1, 0)), (5, 1, 4, 5, 0)),
+    ('two words a page and then three', (V, K), ((2, 1, 3, 1), (2, 1, 0, 3, 1, 1)), (4, 1, 3, 4, 0)),
+    ('three words a page and then two', (K, V), ((2, 1, 0, 3, 1, 1), (2, 1, 3, 1)), (4, 1, 3, 4, 0)),
+    ('a chapter that has no list', (T_HIGH, T_ONE), None, None),
+    ('a book of one chapter', (C,), ((1, 0, 2, 0, 3, 0, 4, 0, 4, 1),), (5, 0, 2, 2, 20)),
+    ('a book of one chapter from folio 2', (opening(C, 2),), ((2, 0, 3, 0, 4, 0, 4, 1),), (4, 0, 1, 1, 0)),
 ]
 
 # Name, galley, list, and what the marking says of it.

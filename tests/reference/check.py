@@ -9,7 +9,7 @@ from pathlib import Path
 sys.path.insert(0, str(Path(__file__).resolve().parents[1]))
 
 import kinds  # noqa: E402
-from reference import beforehand, cases, marking, openings, refusals, sample, search  # noqa: E402
+from reference import beforehand, book, cases, marking, openings, refusals, sample, search  # noqa: E402
 from reference.galley import Figure, Galley, Line, Spec, Table, read, write  # noqa: E402
 from tally import Tally  # noqa: E402
 
@@ -250,6 +250,27 @@ def loosened(tally):
     tally.group('a lower htMin', f' ({fewer} times fewer turns)')
 
 
+def bound(tally):
+    """Books: the cases; those of small chapters by every choice and by sides; and one chapter, which is made as by itself."""
+    for name, chapters, choice, measure in cases.BOUND:
+        for search_of in (book.best, book.best_by_sides):
+            tally.same(f'{name} {search_of.__name__}', search_of(chapters), choice)
+        if choice:
+            tally.same(f'{name} measured', book.measure(chapters, choice), measure)
+    made = 0
+    for chapters in sample.books(39, 250):
+        choice = book.best(chapters)
+        made += choice is not None
+        tally.same(f'best of {chapters}', book.best_by_sides(chapters), choice)
+    tally.group('books', f' ({made} of the small ones have a choice)')
+    for galley in [*sample.galleys(40, 80, 5, 2), *sample.galleys(41, 40, 3, 2, 1)]:
+        best = search.best(galley)
+        tally.same(f'a book of {galley}', book.best((galley,)), None if best is None else (best,))
+        if best:
+            tally.same('measured', book.measure((galley,), (best,)), marking.mark(galley, best)[1:])
+    tally.group('books of one chapter')
+
+
 def larger(tally):
     """Larger galleys: what the table returns is valid, and no valid list one slip away from it ranks before it."""
     rng = random.Random(10)
@@ -267,7 +288,7 @@ def larger(tally):
 def main():
     tally = Tally()
     for group in (made, marked, turned_away, round_trips, all_lists, random_lists, searches, editions, swapped, weighings, begun,
-                  loosened, larger):
+                  loosened, bound, larger):
         group(tally)
     for number in [*range(1, 9), *range(12, 19)]:
         tally.same(f'refusal {number} is reached', number in tally.refusals, True)

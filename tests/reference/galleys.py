@@ -72,6 +72,16 @@ K = plain(A.spec._replace(htmin=0, htmax=40), (10, 10, 10), [(20, 1)], [(20, 1)]
 L = plain(Spec(0, 40, 4, 5, 1, 1, 1), (10, 10), [(10, 1)], [(10, 1)])
 M = plain(Spec(0, 40, 0, 0, 1, 1, 1), (10, 10), [(10, 1)], [(10, 2)])
 N = plain(Spec(0, 30, 0, 0, 2, 1, 1), (20,), [(10, 1)], [(25, 1)])
+# Chapters of books, galleys P, S, T, U and V of the table that is proved: lines that stretch to a page; a line that cites a figure, each
+# a page; pages of 20, no less, of which T_LATE must open on a left-hand one; a low line; K without its table.
+P = Galley(Spec(0, 20, 0, 0, 2, 1, 1), (5 * (Line(5, 0, 20, 1),), ()))
+S = plain(P.spec, (20,), [(20, 1)])
+T_ONE = plain(P.spec._replace(htmin=20), (20,), [])
+T_TWO = plain(T_ONE.spec, (20, 20), [])
+T_HIGH = plain(T_ONE.spec, (21,), [])
+T_LATE = plain(T_ONE.spec, (10,), [(20, 1)])
+U = plain(P.spec, (5,), [])
+V = plain(K.spec, (10, 10, 10), [(20, 1)])
 # C with a table in place of its figure, and with one beside it; two tables that one line cites; figures that a table goes past.
 C_TABLE = plain(C.spec, (10, 10, 20, 20), [], [(20, 4)])
 C_BOTH = plain(C.spec, (10, 10, 20, 20), [(20, 4)], [(20, 4)])

@@ -1,6 +1,7 @@
 """Random galleys and page lists from a seeded generator, small enough in height that many lists are valid."""
 
 import random
+from dataclasses import replace
 
 from .galley import Figure, Galley, Line, Spec, Table, streams_of
 
@@ -23,6 +24,56 @@ def one_galley(rng, max_lines, max_figures, max_tables, sides):
     figures = tuple(Figure(*sized(rng, htmax), cite, kept(rng)) for cite in cites)
     others = tables(rng, len(lines), max_tables, lambda: sized(rng, htmax))
     return Galley(spec, streams_of(lines, figures, others), folio(rng))
+
+
+def books(seed, count, most_chapters=3, max_lines=4, max_figures=2, max_tables=1):
+    """Chapters of one specification, the first of them with a folio of its own now and then; some with tables and some without."""
+    rng = random.Random(seed)
+    for number in range(count):
+        yield one_book(rng, rng.randint(1, most_chapters), (max_lines, max_figures, max_tables), 1 + (number % 3 > 0))
+
+
+def one_book(rng, chapters, most, sides):
+    """A chapter of every other book may have to open on the left, or may end on either side."""
+    first = rng.choice((one_galley(rng, *most, sides), one_galley(rng, *most[:2], 0, sides), low_spec(rng, sides)))
+    drawn = [first] + [one_chapter(rng, most, first.spec) for _ in range(chapters - 1)]
+    return tuple(replace(galley, stated=None if number else galley.stated) for number, galley in enumerate(drawn))
+
+
+def facing_books(seed, count, most_chapters=3):
+    """Double-sided books of blocks that fill a page or half of one: it hangs on the side that a chapter opens on what it costs, or
+    whether it has a list at all."""
+    rng = random.Random(seed)
+    for _ in range(count):
+        spec = Spec(rng.choice((0, 0, 10, 20)), 20, 0, 0, 2, rng.choice((0, 1, 3)), rng.choice((0, 1)), rng.choice((None, 0, 10)))
+        chapters = [facing_chapter(rng, spec) for _ in range(rng.randint(2, most_chapters))]
+        yield (replace(chapters[0], stated=folio(rng)), *chapters[1:])
+
+
+def facing_chapter(rng, spec):
+    lines = tuple(Line(rng.choice((10, 10, 20)), 0, rng.choice((0, 20)), 1) for _ in range(rng.randint(1, 4)))
+    figures = tuple(Figure(20, 0, 0, cite) for cite in citations(rng, len(lines), rng.choice((0, 1, 1, 2))))
+    return Galley(spec, streams_of(lines, figures, tables(rng, len(lines), int(rng.random() < 0.1), lambda: (20, 0, 0))))
+
+
+def low_spec(rng, sides):
+    """One line, and a specification that leaves many lists: weights of 0 and 1, low pages, equal heights."""
+    htmax = rng.choice((10, 20))
+    spec = Spec(rng.choice((0, 0, 10)), htmax, 0, 0, sides, rng.choice((0, 1)), rng.choice((0, 1)), rng.choice((None, 0)))
+    return Galley(spec, streams_of((Line(rng.choice((5, 10)), 0, rng.choice((0, 20)), 1),), ()), folio(rng))
+
+
+def one_chapter(rng, most, spec):
+    """A chapter under a specification: lines and figures that fill a page or half of one, or any."""
+    lines, figures, others = most
+    if rng.random() < 0.5:
+        sizes = lambda: (rng.choice((spec.htmax, spec.htmax // 2, spec.htmin)), 0, rng.choice((0, 0, spec.htmax)))  # noqa: E731
+    else:
+        sizes = lambda: sized(rng, spec.htmax)  # noqa: E731
+    text = tuple(Line(*sizes(), int(rng.random() < 0.9)) for _ in range(rng.randint(1, lines)))
+    cites = citations(rng, len(text), rng.randint(0, figures))
+    tabled = tables(rng, len(text), others if rng.random() < 0.4 else 0, sizes)
+    return Galley(spec, streams_of(text, tuple(Figure(*sizes(), cite, kept(rng)) for cite in cites), tabled))
 
 
 def tables(rng, lines, most, size):

@@ -50,7 +50,22 @@ ENDS, OPENS = 1, 0  # a page's side: whether its leaf ends with it (single-sided
 
 
 def best_by_table(galley, opening=()):
-    """As best, from a table with one entry for each place and side of the page that ends there.
+    """As best, from a table with one entry for each place and side of the page that ends there."""
+    table, origin = filled(galley, opening)
+    # Double-sided, even folios open a spread, so OPENS is the even last folio and goes first.
+    ends = [(table[galley.sizes, side][0], side) for side in (OPENS, ENDS) if (galley.sizes, side) in table]
+    return tuple(opening) + traced(table, galley, origin, min(ends)[1]) if ends else None
+
+
+def closings(galley):
+    """For each side on which a list can close, the first of those lists by rank."""
+    table, origin = filled(galley)
+    return [traced(table, galley, origin, side) for side in (OPENS, ENDS) if (galley.sizes, side) in table]
+
+
+def filled(galley, opening=()):
+    """The table: for each place and side of the page that ends there the least cost and where that page starts; and the place
+    where it begins.
 
     Turning a leaf costs beta and, for each float that is cited but still waiting, alpha; over all turns that makes T. Nothing
     is turned before page 1. Every page but the last adds its white space to W, which is compared where turns are equal. A page's
@@ -75,14 +90,12 @@ def best_by_table(galley, opening=()):
                     lacking = 0 if end == galley.sizes else max(0, galley.spec.htmax - loose)
                     entry = ((turns, white + lacking), later_first(start))
                     table[end, next_side] = min(entry, table.get((end, next_side), entry))
-    # Double-sided, even folios open a spread, so OPENS is the even last folio and goes first.
-    ends = [(table[galley.sizes, side][0], side) for side in (OPENS, ENDS) if (galley.sizes, side) in table]
-    return tuple(opening) + traced(table, galley, origin, min(ends)[1], double) if ends else None
+    return table, origin
 
 
-def traced(table, galley, origin, side, double):
+def traced(table, galley, origin, side):
     """The pages that the table's starts spell, from the last one back to the first after the origin."""
-    words, end = (), galley.sizes
+    words, end, double = (), galley.sizes, galley.spec.sides == 2
     while end != origin:
         words = end + words
         end, side = later_first(table[end, side][1]), (ENDS - side if double else ENDS)
