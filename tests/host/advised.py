@@ -53,19 +53,19 @@ def unasked(path):
 
 
 def on_terminal(command, *arguments):
-    """Exit status, output, and the remarks as lines, where these go to a terminal."""
+    """Exit status, output, and the remarks as lines, where these go to a terminal. A shell writes the end after the
+    command, and the terminal is held open until the end is read: what one closes too early may be lost."""
     ours, theirs = pty.openpty()
-    with subprocess.Popen([command.program, *arguments], stdin=subprocess.DEVNULL, stdout=subprocess.PIPE, stderr=theirs) as running:
-        os.close(theirs)
-        said = b''
-        try:
-            while part := os.read(ours, 4_096):
-                said += part
-        except OSError:  # nobody writes to the terminal any more
-            pass
-        os.close(ours)
+    said, end = b'', b'that is all'
+    script = f'"$@"; status=$?; printf "{end.decode()}" >&2; exit $status'
+    with subprocess.Popen(['sh', '-c', script, 'sh', command.program, *arguments], stdin=subprocess.DEVNULL,
+                          stdout=subprocess.PIPE, stderr=theirs) as running:
+        while not said.endswith(end):
+            said += os.read(ours, 4_096)
         output, _ = running.communicate()
-    return running.returncode, output.decode(), said.decode().splitlines()
+    os.close(theirs)
+    os.close(ours)
+    return running.returncode, output.decode(), said.removesuffix(end).decode().splitlines()
 
 
 def tried(lines):

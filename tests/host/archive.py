@@ -3,7 +3,7 @@
 import random
 
 import engine
-from reference import beforehand, cases, marking, refusals, sample, search
+from reference import beforehand, book, cases, marking, refusals, sample, search
 from reference.galley import write
 
 BEYOND = 5  # words lent past what is needed, to see that they stay
@@ -34,8 +34,8 @@ def made_after(tally, make_after, rng, what, galley, opening, best, told):
     tally.same(f'making {what}', make_after(write(galley), opening, work, pages), due)
 
 
-def run(tally, archive, folder):
-    called = engine.Engine(engine.load(archive, folder))
+def run(tally, archive):
+    called = engine.Engine(engine.load(archive))
     rng = random.Random(1)
     for name, galley, best, _ in cases.MADE:
         made_right(tally, called.make, rng, name, galley, best)
@@ -44,6 +44,11 @@ def run(tally, archive, folder):
         tally.same(f'marking {name}', called.mark(write(galley), words), due)
     for name, galley, opening, best, told in cases.AFTER:
         made_after(tally, called.make_after, rng, name, galley, opening, best, told)
+    for name, chapters, choice, _ in cases.BOUND:
+        data = [write(chapter) for chapter in chapters]
+        work, pages = (litter(rng, words + BEYOND) for words in book.lengths(chapters))
+        due = engine.made_book(chapters, choice, sum(map(beforehand.weighed, chapters)), work, pages)
+        tally.same(f'making {name}', called.book(b''.join(data), [len(chapter) for chapter in data], work, pages), due)
     tally.group('archive: cases')
     for name, data, number, place in refusals.files():
         due = ('refused', number, place)

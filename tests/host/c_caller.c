@@ -3,7 +3,7 @@
  * every record that it can have: double-sided from folio 38, the last page held to lastMin, the figure kept; and a galley with
  * a table, whose lists have three words a page; what each of the two is told to need beforehand, and what making weighed. Case A
  * after openings: one that costs a turn, one of no words, half a page, a page that breaks a rule, one that places everything; and
- * a list of it that leaves white space. Last a desk on case A, and one on the galley with a table. */
+ * a list of it that leaves white space. Then a desk on case A, and one on the galley with a table; and both galleys as a book. */
 #include <barleychime.h>
 #include <stdio.h>
 #include <string.h>
@@ -226,6 +226,51 @@ static void print_desk(const uint32_t *list, size_t list_len, const uint32_t end
     }
 }
 
+/* Two chapters as a book, of so many bytes each. */
+static void print_book(const uint8_t *galleys, const uint32_t lengths[2], size_t work_len)
+{
+    static uint32_t work[2 * TABLES_WORK + 1], pages[LIST + TABLES_LIST];
+    uint64_t made[BARLEYCHIME_BOOK_WORDS + 1];
+
+    made[BARLEYCHIME_BOOK_WORDS] = 7;
+    if (barleychime_book(galleys, (size_t)lengths[0] + lengths[1], lengths, 2, work, work_len, pages, LIST + TABLES_LIST, made) !=
+            made[BARLEYCHIME_BOOK_NUMBER] ||
+        made[BARLEYCHIME_BOOK_WORDS] != 7) {
+        printf("a wrong number, or a word too many\n");
+        return;
+    }
+    for (int k = BARLEYCHIME_BOOK_NUMBER; k <= BARLEYCHIME_BOOK_WEIGHED; k++) {
+        printf("%lu%c", (unsigned long)made[k], k < BARLEYCHIME_BOOK_WEIGHED ? ' ' : '\n');
+    }
+    for (size_t k = 0; k < (made[BARLEYCHIME_BOOK_NUMBER] == 0 ? 10 : 0); k++) {
+        printf("%u%c", (unsigned)pages[k], k < 9 ? ' ' : '\n');
+    }
+}
+
+/* Case A, and the galley with a table, under one specification: in enough memory and in too little, with the second chapter cut
+ * short, and with another htMax in the first. */
+static void print_books(void)
+{
+    static uint8_t galleys[2 * sizeof galley];
+    uint32_t lengths[2];
+
+    write_case_a();
+    galley[9] = 40; /* htMax */
+    galley[5] = 0;  /* htMin */
+    memcpy(galleys, galley, galley_len);
+    lengths[0] = (uint32_t)galley_len;
+    write_table();
+    memcpy(galleys + lengths[0], galley, galley_len);
+    lengths[1] = (uint32_t)galley_len;
+    print_book(galleys, lengths, 2 * TABLES_WORK);
+    print_book(galleys, lengths, 2 * TABLES_WORK - 1);
+    lengths[1]--;
+    print_book(galleys, lengths, 2 * TABLES_WORK);
+    lengths[1]++;
+    galleys[9] = 41;
+    print_book(galleys, lengths, 2 * TABLES_WORK);
+}
+
 int main(void)
 {
     static uint32_t work[WORK + 1], pages[LIST + 1];
@@ -286,5 +331,6 @@ int main(void)
     print_desk(tabled, 6, later);
     write_case_a();
     print_desk(too_long, 4, earlier);
+    print_books();
     return 0;
 }

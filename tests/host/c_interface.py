@@ -20,7 +20,9 @@ DUE = ('2 0 1 1 0\n1 1 1\n2 3 1\n'  # made
        # desks, with the table and on case A: refused, opened and asked, saved, committed; too long a name, one that is not held, back,
        # dropped and dropped again; nothing pending, the last page
        'R 22 0\n0:\n2 1 1 2 0\n2 1 1 2 0\n2: 2 1 0 3 1 1\n0 0\n2: 2 0 1 3 1 1\n25 0\n26 0\n2: 2 1 0 3 1 1\n0 0\n26 0\nR 24 0\nR 23 2\n'
-       'R 22 0\n0:\n2 1 1 2 0\n2 0 1 1 0\n2: 3 0 3 1\n0 0\n2: 1 1 3 1\n25 0\n26 0\n2: 3 0 3 1\n0 0\n26 0\nR 24 0\nR 23 2\n')
+       'R 22 0\n0:\n2 1 1 2 0\n2 0 1 1 0\n2: 3 0 3 1\n0 0\n2: 1 1 3 1\n25 0\n26 0\n2: 3 0 3 1\n0 0\n26 0\nR 24 0\nR 23 2\n'
+       # a book: made, in too little memory, with a chapter cut short, with one of another specification
+       '0 0 4 1 3 4 0 85\n2 1 3 1 2 1 0 3 1 1\n9 320 0 0 0 0 0 0\n1 2 0 0 0 0 0 0\n29 2 0 0 0 0 0 0\n')
 STRICT = ['-Wall', '-Wextra', '-Werror', '-pedantic']
 
 

@@ -143,7 +143,7 @@ static int read_list(const char *name)
 int main(int count, char **words)
 {
     if (count == 1) {
-        printf("%zu %zu\n", BARLEYCHIME_STACK_BYTES, BARLEYCHIME_MARK_STACK_BYTES);
+        printf("%zu %zu %zu\n", BARLEYCHIME_STACK_BYTES, BARLEYCHIME_MARK_STACK_BYTES, BARLEYCHIME_BOOK_STACK_BYTES);
         return 0;
     }
     if (count < 3 || !read_galley(words[2]) || !take_work() || (count > 3 && !read_list(words[3]))) {

@@ -7,11 +7,11 @@ from junk import JUNK, JUNK_TABLED
 from reference import cases, marking, refusals
 from reference.galley import Figure, Galley, Line, Spec, Table, write
 
-COMMANDS = {'make': 1, 'forecast': 1, 'mark': 2, 'explain': 2, 'desk': 2, 'pack': 1, 'unpack': 1, 'report': 2}
+COMMANDS = {'make': 1, 'book': 1, 'forecast': 1, 'mark': 2, 'explain': 2, 'desk': 2, 'pack': 1, 'unpack': 1, 'report': 2}
 MENDERS = [(range(1, 9), "the galley's writer"), (range(9, 11), 'the host program'), (range(11, 12), 'the designer'),
            (range(12, 19), 'whoever handed in the list'), (range(19, 20), 'the person at the program'),
            (range(20, 22), 'whoever handed in the opening'),
-           (range(22, 23), 'whoever handed in the list'), (range(23, 28), 'the make-up hand'),
+           (range(22, 23), 'whoever handed in the list'), (range(23, 28), 'the make-up hand'), (range(28, 31), 'whoever bound the book'),
            (range(31, 33), 'whoever handed in the marks'), (range(33, 34), 'whoever asked for the section')]
 
 
@@ -37,7 +37,8 @@ def usage(tally, command, root):
     for arguments in [(), ('mend',), ('--mend',), ('make', '--mend'), ('make',), ('make', 'a', 'b'), ('make', 'a', '--verbose'),
                       ('make', '--after'), ('make', '--after', 'a'), ('make', '--after', '-', '-'), ('make', '--after', 'a', '--after', 'b', 'c'),
                       ('make', 'a', '--after', 'b'), ('mark', '--after', 'a', 'b', 'c'), ('forecast',), ('forecast', '--lines'),
-                      ('forecast', '--verbose', 'a'), ('forecast', '-', '-'), ('mark', '--verbose', 'a', 'b'), ('mark', 'a'),
+                      ('forecast', '--verbose', 'a'), ('forecast', '--book'), ('forecast', '--book', '--lines', 'a'), ('forecast', '--lines', '--book', 'a'),
+                      ('book',), ('book', '--lines', 'a'), ('book', '-', '-'), ('forecast', '-', '-'), ('mark', '--verbose', 'a', 'b'), ('mark', 'a'),
                       ('explain', 'a'), ('explain', 'a', 'b', 'c'), ('desk', 'a'), ('desk', 'a', 'b', 'c'), ('desk', '-', 'b'),
                       ('desk', 'a', '-'), ('pack',), ('unpack', 'a', 'b'), ('mark', '-', '-'), ('explain', '-', '-'), ('make', '')]:
         status, output, remarks = command.text(*arguments)

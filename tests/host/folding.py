@@ -10,9 +10,9 @@ TRIED = (*range(71), 2**31, 2**32 - 4, 2**32 - 1)
 NO_NUMBERS = ('abc', '', '-', '4.0', '+4', '4 8', '٤', '0x8', '4294967296', '9' * 5_000)
 
 
-def c_call(tally, archive, folder):
+def c_call(tally, archive):
     """Every answer, and every word of the lent memory and after it, whatever it held."""
-    called = engine.Engine(engine.load(archive, folder))
+    called = engine.Engine(engine.load(archive))
     rng = random.Random(13)
     for size in TRIED:
         words = [rng.randrange(2**32) for _ in range(folding.WORDS + BEYOND)]
@@ -54,6 +54,6 @@ def command_fold(tally, command):
     tally.group('command: sections')
 
 
-def run(tally, command, archive, folder):
-    c_call(tally, archive, folder)
+def run(tally, command, archive):
+    c_call(tally, archive)
     command_fold(tally, command)

@@ -14,7 +14,11 @@ RATE = 30  # million steps a second, as the command states it
 def in_words(galley):
     """The lines due for a galley."""
     _, _, work, listed, ceiling = beforehand.forecast(('galley', galley))
-    seconds = ceiling // (beforehand.most_together(galley, galley.lines) + 1) / (RATE * 1_000_000)
+    return told_in_words(work, listed, ceiling, ceiling // (beforehand.most_together(galley, galley.lines) + 1))
+
+
+def told_in_words(work, listed, ceiling, steps):
+    seconds = steps / (RATE * 1_000_000)
     time = 'under 0.01 s' if seconds < 0.01 else f'about {seconds:.2f} s'
     return (f'work area: {work} words, {work * 4 / 1e6:.3f} MB\npage list: {listed} words, {listed * 4 / 1e6:.3f} MB\n'
             f'pages weighed: at most {ceiling}\ntime: {time} at {RATE} million steps a second\n')

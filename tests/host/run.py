@@ -24,6 +24,7 @@ sys.path.insert(0, str(ROOT / 'tests' / 'host'))
 
 import advised  # noqa: E402
 import archive  # noqa: E402
+import bound  # noqa: E402
 import c_interface  # noqa: E402
 import command_line  # noqa: E402
 import examples  # noqa: E402
@@ -52,13 +53,14 @@ def main():
     with tempfile.TemporaryDirectory() as name:
         folder = Path(name)
         c_interface.run(tally, ROOT, library, folder)
-        archive.run(tally, library, folder)
+        archive.run(tally, library)
         command_line.run(tally, command, ROOT, folder)
         advised.run(tally, command, folder)
         round_trips.run(tally, command, ROOT, folder)
         explained.run(tally, command, folder)
         foretold.run(tally, command, ROOT, folder)
         printed.run(tally, command, folder)
+        bound.run(tally, command, ROOT, folder)
         reported.run(tally, command, ROOT, folder)
         tried.run(tally, command, ROOT, folder)
         examples.run(tally, command, ROOT, library, folder)
@@ -66,7 +68,7 @@ def main():
         table.run(tally, command, ROOT)
         if library == PROVED.resolve():  # the header's figures are the proved archive's
             stack.run(tally, command, ROOT, library, folder)
-        folding.run(tally, command, library, folder)
+        folding.run(tally, command, library)
     return tally.end()
 
 

@@ -113,7 +113,7 @@ def run(tally, command, root, library, folder):
         tally.same('the machine code can be followed', str(error), '')
         return
     lazy, now = (built(root, library, folder, binding) for binding in ('lazy', 'now'))
-    stated = tuple(map(int, subprocess.run([now], check=True, capture_output=True, text=True).stdout.split()))
+    *stated, of_book = map(int, subprocess.run([now], check=True, capture_output=True, text=True).stdout.split())
     seen = [0, 0]
     for what in calls(command, root, folder):
         marks = what[0]
@@ -121,6 +121,9 @@ def run(tally, command, root, library, folder):
     figures(tally, stated, takes, seen)
     for name in ('report', 'forecast'):
         tally.same(f'stack of a {name}, under 1,000 bytes', needed(library, f'barleychime_{name}') < 1_000, True)
+    takes_there = needed(library, 'barleychime_book')
+    tally.same(f'stack of a book: the header has {of_book} bytes, the archive takes {takes_there}',
+               takes_there <= of_book <= takes_there + SPARE, True)
     for name in ('open', 'ask', 'commit', 'save', 'back', 'drop', 'list'):
         takes_there = needed(library, f'barleychime_desk_{name}')
         tally.same(f'stack of a desk, {name}: {takes_there} bytes', takes_there < 24_576, True)

@@ -1,5 +1,5 @@
-//! The functions of `include/barleychime.h` over the plain Rust implementation, and making by its plain search. Never
-//! shipped: it lets the command, the tests and the benchmark be tried without the proved archive.
+//! The functions of `include/barleychime.h` over the plain Rust implementation, and making by its other searches.
+//! Never shipped: it lets the command, the tests and the benchmark be tried without the proved archive.
 
 mod desk;
 mod section;
@@ -35,6 +35,7 @@ macro_rules! making {
 
 making!(barleychime_make, native::make);
 making!(plain_make, native::make_plain);
+making!(reached_make, native::make_reached);
 
 /// The same after an opening, under the signature of `barleychime_make_after`.
 macro_rules! making_after {
@@ -63,6 +64,7 @@ macro_rules! making_after {
 
 making_after!(barleychime_make_after, native::make_after);
 making_after!(plain_make_after, native::make_plain_after);
+making_after!(reached_make_after, native::make_reached_after);
 
 /// # Safety
 /// As `include/barleychime.h` says.
@@ -76,6 +78,28 @@ pub unsafe extern "C" fn barleychime_mark(
 ) -> u32 {
     let (galley, pages) = unsafe { (from_raw_parts(galley, galley_len), from_raw_parts(pages, pages_len)) };
     unsafe { put(answer, native::mark(galley, pages)) }
+}
+
+/// # Safety
+/// As `include/barleychime.h` says.
+#[no_mangle]
+pub unsafe extern "C" fn barleychime_book(
+    galleys: *const u8,
+    galleys_len: usize,
+    lengths: *const u32,
+    lengths_len: usize,
+    work: *mut u32,
+    work_len: usize,
+    pages: *mut u32,
+    pages_len: usize,
+    answer: *mut u64,
+) -> u32 {
+    let (galleys, lengths) = unsafe { (from_raw_parts(galleys, galleys_len), from_raw_parts(lengths, lengths_len)) };
+    let (work, pages) = unsafe { (from_raw_parts_mut(work, work_len), from_raw_parts_mut(pages, pages_len)) };
+    let made = native::book(galleys, lengths, work, pages);
+    let words = [made.number, made.place, made.p, made.x, made.y, made.t, made.w, made.weighed];
+    unsafe { from_raw_parts_mut(answer, words.len()) }.copy_from_slice(&words);
+    made.number as u32
 }
 
 unsafe fn put(answer: *mut u32, made: native::Answer) -> u32 {
