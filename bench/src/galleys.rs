@@ -69,6 +69,13 @@ pub const TABLED: [Shape; 2] = [
     Shape { name: "handbook with tables", tables: 50, plain: false, ..HANDBOOK },
 ];
 
+/// The chapters of a book, and how many there are.
+pub const CHAPTERS: u64 = 200;
+pub const BOOKS: [Shape; 2] = [
+    Shape { name: "200 chapters, single-sided", lines: 200, figures: 10, sides: 1, ..HANDBOOK },
+    Shape { name: "200 chapters, double-sided", lines: 200, figures: 10, ..HANDBOOK },
+];
+
 /// Windows of starting lines as wide as they get with heights that are not 0, and no figure that has to wait to be cited.
 const WORST: [Shape; 3] = [
     Shape { name: "lines of a hundredth of a page", line_height: PAGE / 100, ..HANDBOOK },
@@ -114,9 +121,14 @@ pub struct Galley {
     pub most_figures: u32,
 }
 
-/// Paragraphs have 2 to 9 lines whose first and last line stay with their neighbours, and more space after the last.
 pub fn galley(shape: Shape) -> Galley {
-    let mut numbers = Numbers(20_261_115);
+    chapter(shape, 0)
+}
+
+/// One of several galleys of a shape. Paragraphs have 2 to 9 lines whose first and last line stay with their neighbours, and more
+/// space after the last.
+pub fn chapter(shape: Shape, number: u64) -> Galley {
+    let mut numbers = Numbers(20_261_115 + number);
     let mut bytes = Vec::new();
     let spec = if shape.typeset { [PAGE / 10 * 9, PAGE, 1_600, 2_200] } else { [0, PAGE, 0, 0] };
     record(&mut bytes, b"GS", &[&spec[..], &[shape.sides, 1, 1]].concat());

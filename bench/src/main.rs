@@ -8,11 +8,11 @@ mod clock;
 mod galleys;
 mod measure;
 
-use galleys::{chains, Shape, HANDBOOKS, TABLED};
-use measure::{after_opening, making, marking, After, Making, Marking};
+use galleys::{chains, Shape, BOOKS, CHAPTERS, HANDBOOKS, TABLED};
+use measure::{after_opening, book, making, marking, After, Bound, Making, Marking};
 use std::time::Duration;
 
-const MAKING: [&str; 15] = [
+const MAKING: [&str; 17] = [
     "making",
     "lines",
     "figures",
@@ -24,14 +24,27 @@ const MAKING: [&str; 15] = [
     "engine / before",
     "native queue",
     "engine / queue",
+    "native reached",
+    "engine / reached",
     "native plain",
     "plain / engine",
     "growth of engine",
     "growth of m · n · G",
 ];
 const WEIGHING: [&str; 8] = ["weighing", "lines", "figures", "tables", "weighed", "ceiling", "count", "count / making"];
-const AFTER: [&str; 7] =
-    ["making after an opening", "pages printed", "pages", "engine", "native queue", "engine / queue", "engine / whole"];
+const AFTER: [&str; 9] = [
+    "making after an opening",
+    "pages printed",
+    "pages",
+    "engine",
+    "native queue",
+    "engine / queue",
+    "native reached",
+    "engine / reached",
+    "engine / whole",
+];
+const BOOK: [&str; 9] =
+    ["a book", "chapters", "lines", "figures", "T", "engine", "native", "engine / native", "engine / chapters alone"];
 const MARKING: [&str; 4] = ["marking", "engine", "native", "engine / native"];
 
 fn main() {
@@ -66,6 +79,11 @@ fn main() {
     head(&AFTER);
     measured().for_each(|shape| row(&after(shape, &after_opening(shape, runs))));
     println!();
+    head(&BOOK);
+    for shape in BOOKS.into_iter().filter(|shape| shape.name.contains(wanted)) {
+        row(&bound(shape, &book(shape, runs)));
+    }
+    println!();
     head(&MARKING);
     for shape in measured() {
         let Marking { engine, native } = marking(shape, runs);
@@ -90,7 +108,24 @@ fn after(shape: Shape, made: &After) -> [String; AFTER.len()] {
         shown(made.engine),
         shown(made.queue),
         format!("{:.2}", ratio(made.engine, made.queue)),
+        shown(made.reached),
+        format!("{:.2}", ratio(made.engine, made.reached)),
         format!("{:.2}", ratio(made.engine, made.whole)),
+    ]
+}
+
+/// A book against plain Rust and against its chapters, each made alone.
+fn bound(shape: Shape, made: &Bound) -> [String; BOOK.len()] {
+    [
+        shape.name.into(),
+        CHAPTERS.to_string(),
+        shape.lines.to_string(),
+        shape.figures.to_string(),
+        made.turns.clone(),
+        shown(made.engine),
+        shown(made.native),
+        format!("{:.2}", ratio(made.engine, made.native)),
+        format!("{:.2}", ratio(made.engine, made.alone)),
     ]
 }
 
@@ -112,6 +147,8 @@ fn cells(shape: Shape, made: &Making, half: Option<&(Shape, Making)>) -> [String
         made.before.map_or_else(none, |before| format!("{:.2}", ratio(made.engine, before))),
         shown(made.queue),
         format!("{:.2}", ratio(made.engine, made.queue)),
+        shown(made.reached),
+        format!("{:.2}", ratio(made.engine, made.reached)),
         made.plain.map_or_else(none, shown),
         made.plain.map_or_else(none, |plain| format!("{:.1}", ratio(plain, made.engine))),
         growth(|_, made| made.engine.as_secs_f64()),

@@ -2,8 +2,8 @@
 
 use crate::before::Before;
 use crate::clock;
-use crate::galleys::{galley, Shape};
-use barleychime::engine::{self, Making as Made, Measure, Refusal};
+use crate::galleys::{chapter, galley, Shape, CHAPTERS};
+use barleychime::engine::{self, BookMaking, BookMeasure, Making as Made, Measure, Refusal};
 use std::hint::black_box;
 use std::time::Duration;
 
@@ -20,7 +20,9 @@ pub struct Making {
     pub engine: Duration,
     /// The engine before a change, if one is named.
     pub before: Option<Duration>,
+    /// The queues of plain Rust, and its search of what can be reached.
     pub queue: Duration,
+    pub reached: Duration,
     pub plain: Option<Duration>,
     /// The pages weighed, their ceiling, and the pass of plain Rust that counts them, which is part of its makings.
     pub weighed: u64,
@@ -34,8 +36,19 @@ pub struct After {
     pub pages: usize,
     pub engine: Duration,
     pub queue: Duration,
+    pub reached: Duration,
     /// The engine's making without an opening.
     pub whole: Duration,
+}
+
+/// A book of chapters of one shape.
+pub struct Bound {
+    /// T, or the refusal.
+    pub turns: String,
+    pub engine: Duration,
+    pub native: Duration,
+    /// The engine's makings of its chapters, each alone.
+    pub alone: Duration,
 }
 
 pub struct Marking {
@@ -45,18 +58,20 @@ pub struct Marking {
 
 type Make<'a> = &'a dyn Fn(&[u8], &mut [u32], &mut [u32]) -> Made;
 
-/// Making by the engine, by the one before a change, by the queues of plain Rust, and by its plain search where that ends in
-/// time.
+/// Making by the engine, by the one before a change, by the queues of plain Rust, by its search of what can be reached, and by
+/// its plain search where that ends in time.
 pub fn making(shape: Shape, runs: u32) -> Making {
-    let makes: [Make; 3] =
-        [&engine::make_in, &|bytes, work, list| made_of(native::make(bytes, work, list)), &|bytes, work, list| {
-            made_of(native::make_plain(bytes, work, list))
-        }];
-    let makes = &makes[..if shape.plain { 3 } else { 2 }];
+    let makes: [Make; 4] = [
+        &engine::make_in,
+        &|bytes, work, list| made_of(native::make(bytes, work, list)),
+        &|bytes, work, list| made_of(native::make_reached(bytes, work, list)),
+        &|bytes, work, list| made_of(native::make_plain(bytes, work, list)),
+    ];
+    let makes = &makes[..if shape.plain { 4 } else { 3 }];
     let galley = galley(shape);
     let (work_words, list_words) = shape.words();
     let (mut work, list) = (vec![0; work_words], vec![0; list_words]);
-    let (mut times, mut count) = ([Duration::MAX; 3], Duration::MAX);
+    let (mut times, mut count) = ([Duration::MAX; 4], Duration::MAX);
     let (earlier, mut before) = (Before::named(), Duration::MAX);
     let mut answers = vec![];
     for run in 0..runs {
@@ -85,9 +100,9 @@ pub fn making(shape: Shape, runs: u32) -> Making {
     let turns = answer.map_or_else(|refusal| refusal.to_string(), |measure| measure.turns.to_string());
     let ceiling = engine::forecast(&galley.bytes).map_or(0, |told| told.ceiling);
     assert!(weighed <= ceiling, "{}: more is weighed than was told", shape.name);
-    let ([engine, queue, plain], most_figures) = (times, galley.most_figures);
+    let ([engine, queue, reached, plain], most_figures) = (times, galley.most_figures);
     let (before, plain) = (earlier.map(|_| before), shape.plain.then_some(plain));
-    Making { turns, most_figures, engine, before, queue, plain, weighed, ceiling, count }
+    Making { turns, most_figures, engine, before, queue, reached, plain, weighed, ceiling, count }
 }
 
 /// Making after the first half of the pages, and of the whole, which is the same list.
@@ -98,7 +113,7 @@ pub fn after_opening(shape: Shape, runs: u32) -> After {
     let pages = native::make(&bytes, &mut work, &mut list).p as usize;
     let (printed, whole_list) = (pages / 2, list.clone());
     let opening = &whole_list[..shape.page_words() * printed];
-    let [mut engine, mut queue, mut whole] = [Duration::MAX; 3];
+    let [mut engine, mut queue, mut reached, mut whole] = [Duration::MAX; 4];
     for run in 0..runs {
         if run > 0 && whole > LONG {
             break;
@@ -107,9 +122,38 @@ pub fn after_opening(shape: Shape, runs: u32) -> After {
         assert!(list == whole_list, "{}: the engine's list after an opening is another", shape.name);
         let due = timed(&mut queue, || native::make_after(black_box(&bytes), opening, &mut work, &mut list));
         assert!(list == whole_list && made == made_of(due), "{}: not one answer after an opening", shape.name);
+        let due = timed(&mut reached, || native::make_reached_after(black_box(&bytes), opening, &mut work, &mut list));
+        assert!(list == whole_list && made == made_of(due), "{}: not one answer after an opening", shape.name);
         timed(&mut whole, || engine::make_in(black_box(&bytes), &mut work, &mut list));
     }
-    After { printed, pages, engine, queue, whole }
+    After { printed, pages, engine, queue, reached, whole }
+}
+
+/// A book, and each of its chapters alone.
+pub fn book(shape: Shape, runs: u32) -> Bound {
+    let chapters: Vec<Vec<u8>> = (0..CHAPTERS).map(|number| chapter(shape, number).bytes).collect();
+    let lengths: Vec<u32> = chapters.iter().map(|bytes| bytes.len() as u32).collect();
+    let (galleys, (work_words, list_words)) = (chapters.concat(), shape.words());
+    let (mut work, list) = (vec![0; 2 * work_words], vec![0; list_words * chapters.len()]);
+    let [mut engine, mut native, mut alone] = [Duration::MAX; 3];
+    let mut turns = String::new();
+    for _ in 0..runs {
+        let (mut pages, mut due_pages) = (list.clone(), list.clone());
+        let made = timed(&mut engine, || engine::make_book_in(black_box(&galleys), &lengths, &mut work, &mut pages));
+        let due = timed(&mut native, || native::book(black_box(&galleys), &lengths, &mut work, &mut due_pages));
+        assert!(made == bound_of(due) && pages == due_pages, "{}: not one answer and one list", shape.name);
+        timed(&mut alone, || chapters.iter().all(|bytes| engine::make_in(bytes, &mut work, &mut pages).answer.is_ok()));
+        turns = made.answer.map_or_else(|refusal| refusal.to_string(), |measure| measure.turns.to_string());
+    }
+    Bound { turns, engine, native, alone }
+}
+
+fn bound_of(native: native::Book) -> BookMaking {
+    let answer = match native.number {
+        0 => Ok(BookMeasure { pages: native.p, x: native.x, y: native.y, turns: native.t, white: native.w }),
+        number => Err(Refusal { number: number as u32, place: native.place as u32 }),
+    };
+    BookMaking { answer, weighed: native.weighed }
 }
 
 /// Marking of the list that making gives.

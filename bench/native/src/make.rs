@@ -6,7 +6,7 @@ use crate::opening::{origin_of, Origin};
 use crate::places::{floats_at, least, side_before, whole, Least, ENDS, OPENS};
 use crate::read::{read, Galley};
 use crate::weighed::weighed_of;
-use crate::{plain, sweep, Answer};
+use crate::{plain, reached, sweep, Answer};
 
 /// Making with the search by queues, as the engine does it.
 pub fn make(bytes: &[u8], work: &mut [u32], list: &mut [u32]) -> Answer {
@@ -26,6 +26,16 @@ pub fn make_plain(bytes: &[u8], work: &mut [u32], list: &mut [u32]) -> Answer {
 /// The same of lists that begin with an opening.
 pub fn make_plain_after(bytes: &[u8], opening: &[u32], work: &mut [u32], list: &mut [u32]) -> Answer {
     make_by(plain::fill, bytes, opening, work, list)
+}
+
+/// Making with the search of what can be reached.
+pub fn make_reached(bytes: &[u8], work: &mut [u32], list: &mut [u32]) -> Answer {
+    make_reached_after(bytes, &[], work, list)
+}
+
+/// The same of lists that begin with an opening.
+pub fn make_reached_after(bytes: &[u8], opening: &[u32], work: &mut [u32], list: &mut [u32]) -> Answer {
+    make_by(reached::fill, bytes, opening, work, list)
 }
 
 type Fill = fn(&Galley, &Origin, &mut [u32]);
@@ -75,7 +85,7 @@ fn best_end(galley: &Galley, work: &[u32]) -> Option<usize> {
 
 /// Follows the starts from the last page to the first after the origin and counts them; a list of that many pages gets
 /// their ends.
-fn trace(galley: &Galley, origin: &Origin, work: &[u32], side: usize, list: &mut [u32]) -> usize {
+pub fn trace(galley: &Galley, origin: &Origin, work: &[u32], side: usize, list: &mut [u32]) -> usize {
     let (words, origin) = (galley.page_words(), origin.place(galley));
     let mut end = whole(galley);
     let mut side = side;

@@ -4,8 +4,8 @@ use crate::read::Galley;
 
 /// Words of a place: two sides of a tag, the cost in two words, the starting line and the starting column.
 pub const PLACE: usize = 10;
-const SIDE: usize = 5;
-const REACHED: u32 = 1;
+pub const SIDE: usize = 5;
+pub const REACHED: u32 = 1;
 
 /// Turns and white space as one number, which compares turns first: no list has so much white space that it would count as a
 /// turn.
@@ -49,7 +49,8 @@ pub struct Least {
     pub start: Place,
 }
 
-fn entry(galley: &Galley, (i, column): Place, side: usize) -> usize {
+/// Where the words of a side of a place begin.
+pub fn entry(galley: &Galley, (i, column): Place, side: usize) -> usize {
     (column * (galley.m + 1) + i) * PLACE + side * SIDE
 }
 

@@ -21,6 +21,7 @@ pub struct Block {
 }
 
 /// A galley that reads without refusal; its lines, figures and tables stay where they are in the lent bytes.
+#[derive(Clone, Copy)]
 pub struct Galley<'a> {
     pub spec: Spec,
     /// The folio of page 1.

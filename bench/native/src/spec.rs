@@ -11,6 +11,7 @@ const SPEC_BYTES: usize = 30;
 const SECOND_BYTES: usize = 34;
 const FOLIO_BYTES: usize = 6;
 
+#[derive(Clone, Copy)]
 pub struct Spec {
     pub ht_min: u32,
     pub ht_max: u32,

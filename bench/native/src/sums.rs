@@ -37,10 +37,10 @@ impl<const COUNTS: usize> Sums<COUNTS> {
     }
 }
 
-pub fn sums_of(galley: &Galley) -> (LineSums, FigureSums, TableSums) {
-    (
-        Sums::of(galley.m, |k| galley.line(k)),
-        Sums::of(galley.n, |k| galley.figure(k)),
-        Sums::of(galley.k, |k| galley.table(k)),
-    )
+pub fn line_sums(galley: &Galley) -> LineSums {
+    Sums::of(galley.m, |k| galley.line(k))
+}
+
+pub fn float_sums(galley: &Galley) -> (FigureSums, TableSums) {
+    (Sums::of(galley.n, |k| galley.figure(k)), Sums::of(galley.k, |k| galley.table(k)))
 }

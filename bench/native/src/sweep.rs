@@ -18,7 +18,7 @@ use crate::plain::best_starts;
 use crate::queue::Queue;
 use crate::read::Galley;
 use crate::spec::Spec;
-use crate::sums::{sums_of, LineSums, TableSums};
+use crate::sums::{float_sums, line_sums, LineSums, TableSums};
 
 /// The starts in a window whose pages reach htMax, by their cost, and those whose pages leave white space, by their cost and
 /// what the lines up to them take.
@@ -31,8 +31,14 @@ struct Parts {
 type Queues = [Parts; 2];
 
 pub fn fill(galley: &Galley, origin: &Origin, work: &mut [u32]) {
-    let (lines, figures, tables) = sums_of(galley);
+    let lines = line_sums(galley);
     let mut queues = [0; 2].map(|_| Parts { full: Queue::new(), white: Queue::new() });
+    fill_by(galley, origin, work, |work, pages| sweep(galley, origin, work, &lines, &mut queues, pages));
+}
+
+/// Every place from the origin on, by a sweep for each pair of columns that pages start and end in, and the last page.
+pub fn fill_by(galley: &Galley, origin: &Origin, work: &mut [u32], mut sweep: impl FnMut(&mut [u32], &Pages)) {
+    let (figures, tables) = float_sums(galley);
     // The figure moves on to the earliest after which the others up to figure j fit a page.
     let [line, mut earliest, table] = origin.placed;
     for to in origin.column(galley)..columns(galley) {
@@ -55,8 +61,7 @@ pub fn fill(galley: &Galley, origin: &Origin, work: &mut [u32]) {
             let some = Floats { height: figures.between(b, j), kinds: u32::from(b < j) };
             for c in earliest_table(&galley.spec, some, &tables, table, d)..=d {
                 let floats = some.with_tables(&galley.spec, tables.between(c, d), c < d);
-                let pages = Pages { from: column_of(galley, (b, c)), to, floats };
-                sweep(galley, origin, work, &lines, &mut queues, &pages);
+                sweep(work, &Pages { from: column_of(galley, (b, c)), to, floats });
             }
         }
     }
@@ -92,10 +97,10 @@ pub fn earliest_table(spec: &Spec, figures: Floats, tables: &TableSums, first: u
 }
 
 /// The pages of the floats between two columns and any lines.
-struct Pages {
-    from: usize,
-    to: usize,
-    floats: Floats,
+pub struct Pages {
+    pub from: usize,
+    pub to: usize,
+    pub floats: Floats,
 }
 
 /// The pages weighed for every place of the column that they end in from the origin's line on, but the full one.

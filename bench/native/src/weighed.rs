@@ -3,7 +3,7 @@
 use crate::page::Placed;
 use crate::places::{columns, floats_at};
 use crate::read::{read, Galley};
-use crate::sums::{sums_of, LineSums};
+use crate::sums::{float_sums, line_sums, LineSums};
 use crate::sweep::{earliest_table, Floats};
 
 /// The count by itself, to be timed; 0 for a galley that is refused.
@@ -14,7 +14,7 @@ pub fn weighed(bytes: &[u8]) -> u64 {
 /// The pairs of start and end with something between them that is low enough, each once; no start has less placed, of any
 /// kind, than is placed beforehand.
 pub fn weighed_of(galley: &Galley, [line, figure, table]: Placed) -> u64 {
-    let (spec, (lines, figures, tables)) = (&galley.spec, sums_of(galley));
+    let (spec, lines, (figures, tables)) = (&galley.spec, line_sums(galley), float_sums(galley));
     let mut pairs = 0;
     let mut earliest = figure;
     for to in 0..columns(galley) {
