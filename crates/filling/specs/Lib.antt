@@ -5,7 +5,6 @@ pub mod Fill
 pub mod Skip
 -- What is known of the work area on the way, and what the functions ask for.
 pub mod Filled
-pub mod Stop
 pub mod Next
 pub mod Run
 pub mod laws

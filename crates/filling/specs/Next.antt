@@ -1,16 +1,13 @@
 -- What the functions of the filling ask for: what is filled, and what comes next; and what they leave.
 use Prim.Native.Nat.{ℕ, _+_, _*_, _≤_, _<_}
 use mathlib.Core.Path.{_≡_}
-use mathlib.Core.Bool.{Bool, false}
+use mathlib.Core.Bool.{false}
 use mathlib.Core.List.{List}
 use lib.ListN.{length}
-use Rattle.model.specs.Gather.{pick}
 use Rattle.galley.specs.declared.Galley.{Galley}
 use Rattle.galley.specs.Model.{textOf, modelOf}
 use Rattle.galley.specs.Sound.{Sound}
-use Rattle.blocks.specs.declared.Counts.{Counts}
 use Rattle.blocks.specs.Heights.{noHeights}
-use Rattle.rules.specs.Waiting.{waitingOf}
 use Rattle.places.specs.declared.Origin.{Origin}
 use Rattle.places.specs.declared.Entry.the-variants.{Unreached}
 use Rattle.places.specs.Address.{wordsNeeded}
@@ -33,21 +30,8 @@ use Rattle.filling.specs.declared.side.End.{End}
 use Rattle.filling.specs.declared.side.Windows.{Windows}
 use Rattle.filling.specs.Fill.{fillSide, fillPlace}
 use Rattle.filling.specs.Filled.{Side, Filled}
-use Rattle.filling.specs.Stop.{stopAt, turnsOn}
-
--- How many floats wait at a place, of all streams together.
-abbrev pub waitsAt : List ℕ → Galley → Counts → ℕ
-waitsAt bytes g at = waitingOf bytes g at .figures + waitingOf bytes g at .tables
-
--- Weights and floats that keep a price within a word.
-pub record Priceable (g : Galley) (waiting : ℕ) : Type 0 where
-  pub alphas : g .spec .alpha ≤ 1000
-  pub betas : g .spec .beta ≤ 1000
-  pub few : waiting ≤ 250
-
--- What a page costs that ends where `last` and `ends` say, with so many floats waiting.
-abbrev pub priceOf : Galley → Bool → Bool → ℕ → ℕ
-priceOf g last ends waiting = pick last 0 (pick ends (g .spec .alpha * waiting + g .spec .beta) 0)
+use Rattle.pricing.specs.Stop.{stopAt, turnsOn}
+use Rattle.pricing.specs.Price.{waitsAt}
 
 -- The entries before (i, j) are filled, from an origin of the galley at which little was paid.
 pub record Next (bytes : List ℕ) (task : Task) (w : List ℕ) (i j : ℕ) : Type 0 where

@@ -36,7 +36,7 @@ fn last_sweep(
     let begin = task.origin.place.line as usize;
     let load = starts::read::load_of(g, 0, Heights { tight: 0, loose: 0 }, least, begin);
     let top = starts::read::counts_at(g, 0, j);
-    let floats = crate::price::floats_of(s, g, top);
+    let floats = pricing::floats_of(s, g, top);
     let mut waiting = Waiting {
         figures: 0,
         tables: 0,
@@ -55,7 +55,7 @@ fn last_sweep(
         let from = span;
         span = window::slide::slide(sums, load, from, i);
         let windows = Windows { from, to: span };
-        let stop = crate::price::stop_at(s, g, i, floats);
+        let stop = pricing::stop_at(s, g, i, floats);
         let end = End {
             at,
             column: j,

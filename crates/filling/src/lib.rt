@@ -1,4 +1,3 @@
 // The work area filled with the least cost of every place, and the start of the page that ends there. Document 01, "Making".
 pub mod fill; // fill.rt: all columns, each with its queues
-pub mod price; // price.rt: whether a page may end at a place, and what it costs
 pub mod side; // side.rt: one side of a place filled

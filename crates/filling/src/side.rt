@@ -6,12 +6,12 @@ ghost use Rattle.starts.specs.Search.{newEntry};
 ghost use Rattle.starts.specs.Choice.{Starts, Above};
 ghost use Rattle.starts.specs.Read.{tableIn, sideOf, searchOf};
 ghost use Rattle.filling.specs.Next.{LinesAbove, EntryNext, SideNext, SideFilled, PlaceNext, PlaceFilled};
-use crate::price::Stop;
 use blocks::Counts;
 use blocks::heights::Heights;
 use galley::Galley;
 use places::Entry;
 use places::Origin;
+use pricing::Stop;
 use window::parts::Parts;
 use window::queue::Source;
 use window::slide::Window;
@@ -83,7 +83,7 @@ fn new_entry(
         let place = origin.place;
         return Entry::Least(origin.cost, place);
     }
-    if !crate::price::may_stop(end.stop, end.turns) {
+    if !pricing::may_stop(end.stop, end.turns) {
         return Entry::Unreached;
     }
     let place = places::place_of(end.at.lines, end.column);
@@ -93,7 +93,7 @@ fn new_entry(
     let Entry::Least(x, from) = start else {
         return Entry::Unreached;
     };
-    let price = crate::price::price(g, end.stop.full, end.turns, end.waiting);
+    let price = pricing::price(g, end.stop.full, end.turns, end.waiting);
     Entry::Least(x + places::joined(0, price), from)
 }
 
@@ -140,7 +140,7 @@ pub fn fill_place(
     requires { ⌜ PlaceNext (now s) task (now work) (now sums) (now words) (now ends) windows end ⌝ }
     ensures { λ _. ⌜ PlaceFilled (now (s .entry)) task (now (work .entry)) (now (work .exit)) (now (sums .entry)) (now (words .exit)) (now (ends .exit)) windows end ⌝ }
 {
-    let ending = crate::price::ending_side(task.galley);
+    let ending = pricing::ending_side(task.galley);
     let mut c = 0;
     while c < task.galley.spec.sides as usize {
         let at = end.at;

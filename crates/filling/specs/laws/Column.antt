@@ -24,10 +24,10 @@ use Rattle.starts.specs.laws.Columns.{within-at}
 use Rattle.starts.specs.laws.Pass.{least-low}
 use Rattle.starts.specs.laws.Lending.{side-occurs}
 use Rattle.starts.specs.laws.Cells.{scratched-length, scratched-others, lent-kept}
-use Rattle.filling.specs.declared.price.Stop.{Stop}
+use Rattle.pricing.specs.declared.Stop.{Stop}
 use Rattle.filling.specs.declared.side.Task.{Task}
 use Rattle.filling.specs.Fill.{tall, fillColumn, filled}
-use Rattle.filling.specs.Stop.{stopAt}
+use Rattle.pricing.specs.Stop.{stopAt}
 use Rattle.filling.specs.Next.{Next, plain, PlaceNext, PlaceFilled, ColumnNext, Gathered, LastNext}
 use Rattle.filling.specs.Run.{LastRun}
 use Rattle.filling.specs.laws.Entered.{side-low, sides-count}

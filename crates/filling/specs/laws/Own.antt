@@ -25,11 +25,12 @@ use Rattle.starts.specs.Beside.{Under, Bears}
 use Rattle.rules.specs.Parts.{allPlaced}
 use Rattle.starts.specs.Read.{searchOf, columnsIn, countsAt, loadOf}
 use Rattle.starts.specs.Sweep.{Lent, Summed}
-use Rattle.starts.specs.laws.Columns.{place-at, within-at, full-of}
+use Rattle.starts.specs.laws.Columns.{place-at, within-at}
+use Rattle.rules.specs.laws.Page.{full-of}
 use Rattle.starts.specs.laws.Floats.{bears-own}
 use Rattle.starts.specs.laws.Lending.{can-slide}
 use Rattle.filling.specs.declared.side.End.{End}
-use Rattle.filling.specs.Stop.{stopsAt}
+use Rattle.pricing.specs.Stop.{stopsAt}
 
 -- No column is later than itself.
 pub under-own : (g : model.Galley) (q : ℕ) → Under g q q

@@ -29,13 +29,13 @@ use Rattle.starts.specs.laws.Sweep.{window-best}
 use Rattle.starts.specs.laws.Cells.{stored-changes, knows-other}
 use Rattle.starts.specs.laws.Lending.{side-either, lent-placed, can-move}
 use Rattle.starts.specs.laws.Fronts.{fronts-best, can-front}
-use Rattle.filling.specs.declared.price.Stop.{Stop}
+use Rattle.pricing.specs.declared.Stop.{Stop}
 use Rattle.filling.specs.declared.side.Task.{Task}
 use Rattle.filling.specs.declared.side.End.{End}
 use Rattle.filling.specs.declared.side.Windows.{Windows}
 use Rattle.filling.specs.Fill.{tall, fillSide, fillSides, sideCount, fillPlace}
 use Rattle.filling.specs.Filled.{Roomy}
-use Rattle.filling.specs.Stop.{turnsOn}
+use Rattle.pricing.specs.Stop.{turnsOn}
 use Rattle.filling.specs.Next.{plain, Before, ownLines, EntryNext, SideNext, SideFilled, PlaceNext, PlaceFilled}
 use Rattle.filling.specs.Run.{SidesRun}
 use Rattle.filling.specs.laws.Entered.{below-side, sides-count}

@@ -12,12 +12,13 @@ use Rattle.model.specs.Height.{has, kinds}
 use Rattle.model.specs.Leaf.{ends}
 use Rattle.model.specs.Rules.{forward, mayEnd, closes, cited}
 use Rattle.model.specs.laws.Gather.{and-left, and-right}
+use Rattle.theorems.specs.pages.Graph.{full}
 use Rattle.galley.specs.declared.Galley.{Galley}
 use Rattle.galley.specs.Model.{textOf, floatsOf, sidesIn, modelOf}
 use Rattle.blocks.specs.declared.Counts.{Counts}
 use Rattle.blocks.specs.Counts.{placeOf, Proper}
-use Rattle.rules.specs.Parts.{kindsOn, Ahead, citeOf, later, citedFrom}
-use Rattle.blocks.specs.laws.Counts.{each-floats, sum-floats, count-lines, count-figures, count-tables}
+use Rattle.rules.specs.Parts.{kindsOn, Ahead, citeOf, later, citedFrom, allPlaced}
+use Rattle.blocks.specs.laws.Counts.{each-floats, sum-floats, same-of, count-lines, count-figures, count-tables}
 
 some-kind : (a b c : Bool) → ltb 0 (one a + (one b + one c)) ≡ (a || (b || c))
 some-kind true b c = lt-ltb 0 (1 + (one b + one c)) (omega arith)
@@ -168,3 +169,8 @@ module _ (bytes : List ℕ) (g : Galley) where
         ← later-both (citeOf figures (v .figures)) (citeOf tables (v .tables)) (v .lines),
       )
       (implies-and asked (leb (citeOf figures (v .figures)) (v .lines)) (leb (citeOf tables (v .tables)) (v .lines)))
+
+-- The full place, by what is placed.
+pub full-of : (bytes : List ℕ) (g : Galley) (at : Counts) → Proper g at → full (modelOf bytes g) (placeOf g at) ≡ allPlaced g at
+unfolding full
+full-of bytes g at proper = same-of g bytes at proper

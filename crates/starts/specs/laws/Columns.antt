@@ -18,14 +18,12 @@ use Rattle.theorems.specs.pages.Graph.{full}
 use Rattle.galley.specs.declared.Galley.{Galley}
 use Rattle.galley.specs.Model.{modelOf}
 use Rattle.galley.specs.Sound.{Sound}
-use Rattle.blocks.specs.declared.Counts.{Counts}
 use Rattle.blocks.specs.Counts.{placeOf, Proper, Within}
-use Rattle.blocks.specs.laws.Counts.{sum-floats, sizes-of, same-of, count-lines, count-figures, count-tables, length-of, under-of}
+use Rattle.blocks.specs.laws.Counts.{sum-floats, sizes-of, count-lines, count-figures, count-tables, length-of, under-of}
 use Rattle.places.specs.Columns.{columns, floatsAt, floatSizes, floatPlace, placeAt}
 use Rattle.places.specs.laws.Columns.{inside-cons, inside-tail}
 use Rattle.places.specs.laws.Places.{sizes-cons, full-at}
 use Rattle.starts.specs.Beside.{Under, Sought}
-use Rattle.rules.specs.Parts.{allPlaced}
 use Rattle.starts.specs.Read.{searchOf, columnsIn, countsAt, rowOf, FewFloats, lastPlace, Placed}
 
 -- A galley that was read keeps to the limits,
@@ -155,11 +153,7 @@ module _ (bytes : List ℕ) (g : Galley) where
       let floats = sum-floats g (count (placeOf g at)) (λ none. count-tables g at proper ∙ proper none) in
       rw (place-at i c) (omega (arith, floats, count-lines g at, count-figures g at, count-tables g at proper))
 
-  -- The full place, by what is placed, and by line and column.
-  pub full-of : (at : Counts) → Proper g at → full (modelOf bytes g) (placeOf g at) ≡ allPlaced g at
-  unfolding full
-  full-of at proper = same-of g bytes at proper
-
+  -- The full place, by line and column.
   pub full-in : (i c : ℕ) → c < columnsIn g → full (modelOf bytes g) (placeAt (modelOf bytes g) i c) ≡ lastPlace g i c
   unfolding full
   full-in i c k = full-at (modelOf bytes g) i c (omega (arith, columns-in)) ∙ rw columns-in

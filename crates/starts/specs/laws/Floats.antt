@@ -27,7 +27,8 @@ use Rattle.rules.specs.Parts.{allPlaced}
 use Rattle.starts.specs.Read.{searchOf, columnsIn, countsAt, rowOf, loadOf}
 use Rattle.starts.specs.Sweep.{Layable, floatsAlone}
 use Rattle.starts.specs.laws.Heights.{beside-none}
-use Rattle.starts.specs.laws.Columns.{row-figures, row-tables, tables-low, within-at, place-at, proper-at, full-of}
+use Rattle.starts.specs.laws.Columns.{row-figures, row-tables, tables-low, within-at, place-at, proper-at}
+use Rattle.rules.specs.laws.Page.{full-of}
 
 -- Of two kinds both are apart by one separation.
 kinds-apart : (x y : Bool) (separation : ℕ) → pred (one x + one y) * separation ≡ one (x && y) * separation

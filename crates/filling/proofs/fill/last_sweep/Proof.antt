@@ -9,7 +9,7 @@ use Rattle.window.specs.Slide.{Slid}
 use Rattle.starts.specs.Read.{countsAt}
 use Rattle.starts.specs.laws.Columns.{few-floats, within-at}
 use Rattle.starts.specs.laws.Lending.{floats-separable}
-use Rattle.filling.specs.Stop.{stopAt}
+use Rattle.pricing.specs.Stop.{stopAt}
 use Rattle.filling.specs.Next.{plain}
 use Rattle.filling.specs.Run.{LastRun}
 use Rattle.filling.specs.laws.Column.{first-slides, last-first, last-done, last-slides, last-place, last-next}

@@ -3,9 +3,9 @@ use Prim.Native.Nat.{_-_, _≤_}
 use native.Mathlib.Omega.{arith}
 use mathlib.Core.Path.{_≡_}
 use lib.Dec.{eqb}
-use Rattle.filling.specs.Stop.{turnsOn}
+use Rattle.pricing.specs.Stop.{turnsOn}
 use Rattle.filling.specs.Run.{SidesRun}
-use Rattle.filling.specs.laws.Price.{turns-on}
+use Rattle.pricing.specs.laws.Price.{turns-on}
 use Rattle.filling.specs.laws.Sides.{sides-first, sides-last, sides-side, sides-small, sides-next}
 use borrow.Author.Needs.{needs}
 use Rattle.filling.proofs.side.fill_place.Statement.{statement}

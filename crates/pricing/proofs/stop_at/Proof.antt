@@ -2,8 +2,8 @@
 use borrow.Author.Needs.{needs}
 use denote.Ref.{now}
 use Rattle.galley.specs.Model.{textOf}
-use Rattle.filling.proofs.price.stop_at.Statement.{statement}
-use Rattle.filling.proofs.price.stop_at.Tie as tie
+use Rattle.pricing.proofs.stop_at.Statement.{statement}
+use Rattle.pricing.proofs.stop_at.Tie as tie
 
 returns : tie.Need-returns
 returns c =

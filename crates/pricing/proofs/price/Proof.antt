@@ -2,10 +2,10 @@
 -- weights keep it within a word.
 use borrow.Author.Tests.{not-true, not-false}
 use native.Mathlib.Omega.{arith}
-use Rattle.filling.specs.laws.Price.{price-of, price-small}
+use Rattle.pricing.specs.laws.Price.{price-of, price-small}
 use borrow.Author.Needs.{needs}
-use Rattle.filling.proofs.price.price.Statement.{statement}
-use Rattle.filling.proofs.price.price.Tie as tie
+use Rattle.pricing.proofs.price.Statement.{statement}
+use Rattle.pricing.proofs.price.Tie as tie
 
 returns : tie.Need-returns
 returns c =

@@ -1,9 +1,9 @@
 -- `ending_side` meets its contract: by the test on `sides`.
 use borrow.Author.Needs.{needs}
 use borrow.Author.Tests.{eq-eqb, ne-eqb}
-use Rattle.filling.specs.Stop.{endingSide}
-use Rattle.filling.proofs.price.ending_side.Statement.{statement}
-use Rattle.filling.proofs.price.ending_side.Tie as tie
+use Rattle.pricing.specs.Stop.{endingSide}
+use Rattle.pricing.proofs.ending_side.Statement.{statement}
+use Rattle.pricing.proofs.ending_side.Tie as tie
 
 returns : tie.Need-returns
 unfolding endingSide

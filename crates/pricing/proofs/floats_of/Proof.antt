@@ -2,8 +2,8 @@
 use borrow.Author.Needs.{needs}
 use denote.Ref.{now}
 use Rattle.galley.specs.Model.{floatsOf}
-use Rattle.filling.proofs.price.floats_of.Statement.{statement}
-use Rattle.filling.proofs.price.floats_of.Tie as tie
+use Rattle.pricing.proofs.floats_of.Statement.{statement}
+use Rattle.pricing.proofs.floats_of.Tie as tie
 
 returns : tie.Need-returns
 returns c =

@@ -14,8 +14,8 @@ use Rattle.galley.specs.Sound.{Sound}
 use Rattle.blocks.specs.declared.Counts.{Counts}
 use Rattle.blocks.specs.Counts.{Within}
 use Rattle.rules.specs.Parts.{citedFrom}
-use Rattle.filling.specs.declared.price.Floats.{Floats}
-use Rattle.filling.specs.declared.price.Stop.{Stop}
+use Rattle.pricing.specs.declared.Floats.{Floats}
+use Rattle.pricing.specs.declared.Stop.{Stop}
 
 -- A page may end at a place on side c: rules 14 and 17.
 abbrev pub stopsAt : model.Galley → model.Place → ℕ → Bool

@@ -13,8 +13,8 @@ ghost use Rattle.galley.specs.Sound.{SoundStream};
 ghost use Rattle.blocks.specs.declared.Counts.{Counts};
 ghost use Rattle.blocks.specs.Counts.{placeOf, Proper};
 ghost use Rattle.rules.specs.Parts.{allPlaced};
-ghost use Rattle.filling.specs.Stop.{floatsSay, stopFrom, stopAt, stopsAt, endingSide, Stopping};
-ghost use Rattle.filling.specs.Next.{waitsAt, Priceable};
+ghost use Rattle.pricing.specs.Stop.{floatsSay, stopFrom, stopAt, stopsAt, endingSide, Stopping};
+ghost use Rattle.pricing.specs.Price.{waitsAt, Priceable};
 use blocks::Counts;
 use galley::Galley;
 
