@@ -12,8 +12,8 @@ use Rattle.galley.specs.Model.{sidesIn, modelOf}
 use Rattle.galley.specs.Sound.{Sound}
 use Rattle.places.specs.declared.Origin.{Origin}
 use Rattle.places.specs.Address.{wordsNeeded}
-use Rattle.starts.specs.Search.{Table}
-use Rattle.starts.specs.Read.{tableIn, columnsIn, FewFloats}
+use Rattle.candidates.specs.Search.{Table}
+use Rattle.candidates.specs.Read.{tableIn, columnsIn, FewFloats}
 use Rattle.filling.specs.Fill.{filled}
 use Rattle.walk.specs.declared.Stop.{Stop}
 use Rattle.walk.specs.Trace.{back}

@@ -4,7 +4,7 @@ ghost use mathlib.Core.Path.{_≡_};
 ghost use Prim.Native.Nat.{_+_, _≤_};
 ghost use Rattle.theorems.specs.pages.Graph.{side};
 ghost use Rattle.galley.specs.Model.{sidesIn, modelOf};
-ghost use Rattle.starts.specs.Read.{tableIn};
+ghost use Rattle.candidates.specs.Read.{tableIn};
 ghost use Rattle.filling.specs.Fill.{filled};
 ghost use Rattle.walk.specs.Trace.{entryOf};
 ghost use Rattle.walk.specs.Traceable.{WorkArea, Visits};
@@ -50,7 +50,7 @@ pub fn closing_side(g: Galley, folio: u32, next: u32) -> usize
     requires { ⌜ (folio ≤ 2) × (next ≤ 2) ⌝ }
     ensures { λ r. ⌜ r ≡ side (sidesIn g) (folio + next) ⌝ }
 {
-    starts::read::side_of(g, folio + next)
+    candidates::read::side_of(g, folio + next)
 }
 
 // Where a list that closes on a side stops: at the full place.
@@ -58,7 +58,7 @@ pub fn closing_stop(g: Galley, side: usize) -> Stop
     requires { ⌜ Counted g ⌝ }
     ensures { λ r. ⌜ r ≡ closingStop g side ⌝ }
 {
-    let full = places::place_of(g.text.count, starts::read::columns_of(g) - 1);
+    let full = places::place_of(g.text.count, candidates::read::columns_of(g) - 1);
     Stop { place: full, side }
 }
 

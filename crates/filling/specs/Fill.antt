@@ -7,7 +7,7 @@ use Rattle.places.specs.Entry.{stored}
 use Rattle.places.specs.Address.{address}
 use Rattle.places.specs.Table.{tableOf}
 use Rattle.places.specs.Columns.{columns, floatSizes}
-use Rattle.starts.specs.Search.{Table, newEntry}
+use Rattle.candidates.specs.Search.{Table, newEntry}
 
 -- The words of the work area.
 abbrev pub Words : Type 0

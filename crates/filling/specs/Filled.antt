@@ -13,7 +13,7 @@ use Rattle.places.specs.declared.Entry.the-variants.{Least}
 use Rattle.places.specs.Address.{area}
 use Rattle.places.specs.Order.{Earlier}
 use Rattle.places.specs.Columns.{columns, floatSizes, placeAt}
-use Rattle.starts.specs.Search.{Table}
+use Rattle.candidates.specs.Search.{Table}
 use Rattle.filling.specs.Fill.{Words, tall}
 
 -- The work area has the words of every place.

@@ -19,12 +19,13 @@ use Rattle.window.specs.declared.parts.Parts.{Parts}
 use Rattle.window.specs.Slide.{Open}
 use Rattle.window.specs.Queue.{linesOf, Payable}
 use Rattle.window.specs.Parts.{partsOf, Both, Rises, Moved}
-use Rattle.starts.specs.Fronts.{bestFront, Fronted}
-use Rattle.starts.specs.Choice.{Starts, Above, Between}
+use Rattle.candidates.specs.Fronts.{bestFront, Fronted}
+use Rattle.candidates.specs.Choice.{Starts, Above, Between}
 use Rattle.rules.specs.Parts.{allPlaced}
-use Rattle.starts.specs.Read.{tableIn, sideOf, searchOf, columnsIn, countsAt, loadOf}
-use Rattle.starts.specs.Look.{Found}
-use Rattle.starts.specs.Sweep.{Lent, Scratch, Summed, Knows, Known, Clean}
+use Rattle.candidates.specs.Read.{tableIn, sideOf, searchOf, columnsIn, countsAt, loadOf}
+use Rattle.candidates.specs.Look.{Found}
+use Rattle.starts.specs.Sweep.{Lent, Scratch, Summed, Knows, Known}
+use Rattle.candidates.specs.Cells.{Clean}
 use Rattle.filling.specs.declared.side.Task.{Task}
 use Rattle.filling.specs.declared.side.End.{End}
 use Rattle.filling.specs.declared.side.Windows.{Windows}

@@ -8,7 +8,7 @@ use Rattle.rules.specs.declared.waiting.Waiting.{Waiting}
 use Rattle.rules.specs.Waiting.{Walking}
 use Rattle.window.specs.declared.slide.Window.{Window}
 use Rattle.window.specs.Slide.{Ends}
-use Rattle.starts.specs.Read.{tableIn, columnsIn, countsAt}
+use Rattle.candidates.specs.Read.{tableIn, columnsIn, countsAt}
 use Rattle.filling.specs.declared.side.Task.{Task}
 use Rattle.filling.specs.declared.side.End.{End}
 use Rattle.filling.specs.declared.side.Windows.{Windows}

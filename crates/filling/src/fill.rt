@@ -2,7 +2,7 @@
 ghost use mathlib.Core.Path.{_≡_};
 ghost use Prim.Native.Nat.{suc, _+_, _≤_};
 ghost use Rattle.galley.specs.Model.{modelOf};
-ghost use Rattle.starts.specs.Sweep.{ColumnRoom};
+ghost use Rattle.candidates.specs.Cells.{ColumnRoom};
 ghost use Rattle.filling.specs.Fill.{fillColumn, filled};
 ghost use Rattle.filling.specs.Skip.{skipSides, skipColumn};
 ghost use Rattle.filling.specs.Next.{Begun, LastNext, ColumnNext, TableNext, Fillable};
@@ -34,8 +34,8 @@ fn last_sweep(
     let g = task.galley;
     let least = rules::rules::floor_of(g, false);
     let begin = task.origin.place.line as usize;
-    let load = starts::read::load_of(g, 0, Heights { tight: 0, loose: 0 }, least, begin);
-    let top = starts::read::counts_at(g, 0, j);
+    let load = candidates::read::load_of(g, 0, Heights { tight: 0, loose: 0 }, least, begin);
+    let top = candidates::read::counts_at(g, 0, j);
     let floats = pricing::floats_of(s, g, top);
     let mut waiting = Waiting {
         figures: 0,
@@ -104,7 +104,7 @@ fn first_start(task: Task, work: &[u32], j: usize) -> usize
     if j == task.origin.place.column as usize {
         return line;
     }
-    starts::look::first_line(task.galley, work, j, line)
+    candidates::look::first_line(task.galley, work, j, line)
 }
 
 // Column j: first the starts in the columns before it, then those in the column itself. Where there is neither it is left unreached.
@@ -117,7 +117,7 @@ fn fill_column(s: &[u8], task: Task, work: &mut [u32], sums: &[u32], words: &mut
         return;
     }
     let line = task.origin.place.line as usize;
-    let origin = starts::read::counts_at(task.galley, line, task.origin.place.column as usize);
+    let origin = candidates::read::counts_at(task.galley, line, task.origin.place.column as usize);
     starts::sweep::sweep_column(s, task.galley, work, sums, words, j, origin);
     let first = first_start(task, work, j);
     if task.galley.text.count < first {
@@ -131,7 +131,7 @@ fn fill_columns(s: &[u8], task: Task, work: &mut [u32], sums: &[u32], words: &mu
     requires { ⌜ TableNext (now s) task (now work) (now sums) (now words) ⌝ }
     ensures { λ _. ⌜ now (work .exit) ≡ filled (modelOf (now (s .entry)) (task .galley)) (task .origin) (now (work .entry)) ⌝ }
 {
-    let columns = starts::read::columns_of(task.galley);
+    let columns = candidates::read::columns_of(task.galley);
     let mut j = 0;
     while j < columns {
         fill_column(s, task, work, sums, words, j);

@@ -2,9 +2,9 @@
 ghost use mathlib.Core.Path.{_≡_};
 ghost use Rattle.galley.specs.Model.{modelOf};
 ghost use Rattle.places.specs.Best.{Best};
-ghost use Rattle.starts.specs.Search.{newEntry};
-ghost use Rattle.starts.specs.Choice.{Starts, Above};
-ghost use Rattle.starts.specs.Read.{tableIn, sideOf, searchOf};
+ghost use Rattle.candidates.specs.Search.{newEntry};
+ghost use Rattle.candidates.specs.Choice.{Starts, Above};
+ghost use Rattle.candidates.specs.Read.{tableIn, sideOf, searchOf};
 ghost use Rattle.filling.specs.Next.{LinesAbove, EntryNext, SideNext, SideFilled, PlaceNext, PlaceFilled};
 use blocks::Counts;
 use blocks::heights::Heights;
@@ -56,12 +56,12 @@ fn lines_above(
     let g = task.galley;
     let least = rules::rules::floor_of(g, end.stop.full);
     let begin = task.origin.place.line as usize;
-    let load = starts::read::load_of(g, 0, Heights { tight: 0, loose: 0 }, least, begin);
+    let load = candidates::read::load_of(g, 0, Heights { tight: 0, loose: 0 }, least, begin);
     if !end.stop.full {
-        return starts::fronts::best_front(sums, words, parts, end.column, load, end.at.lines);
+        return candidates::fronts::best_front(sums, words, parts, end.column, load, end.at.lines);
     }
-    let side = starts::read::side_before(g, end.side);
-    starts::last::last_lines(g, work, sums, load, end.column, side)
+    let side = candidates::read::side_before(g, end.side);
+    candidates::last::last_lines(g, work, sums, load, end.column, side)
 }
 
 // The entry that a place gets on a side, whose words hold the best start in an earlier column.
@@ -78,7 +78,7 @@ fn new_entry(
     ensures { λ r. ⌜ r ≡ newEntry (modelOf (now (s .entry)) (task .galley)) (task .origin) (tableIn (task .galley) (now (work .entry))) (end .at .lines) (end .column) (end .side) ⌝ }
 {
     let g = task.galley;
-    if starts::read::is_origin(g, task.origin, end.at.lines, end.column, end.side) {
+    if candidates::read::is_origin(g, task.origin, end.at.lines, end.column, end.side) {
         let origin = task.origin;
         let place = origin.place;
         return Entry::Least(origin.cost, place);
@@ -89,7 +89,7 @@ fn new_entry(
     let place = places::place_of(end.at.lines, end.column);
     let held = places::entry_of(work, g.text.count + 1, place, end.side);
     let lines = lines_above(s, task, work, sums, words, parts, end);
-    let start = starts::choice::choose(held, lines);
+    let start = candidates::choice::choose(held, lines);
     let Entry::Least(x, from) = start else {
         return Entry::Unreached;
     };
@@ -115,7 +115,7 @@ fn fill_side(
     let source = Source {
         tall,
         column: end.column,
-        side: starts::read::side_before(task.galley, end.side),
+        side: candidates::read::side_before(task.galley, end.side),
     };
     let from = windows.from;
     let to = windows.to;

@@ -43,7 +43,7 @@ fn make_from(
     let answer = solving::best_pages(s, g, opening, origin, work, pages);
     places::clear(work, needed);
     let line = origin.place.line as usize;
-    let first = starts::read::counts_at(g, line, origin.place.column as usize);
+    let first = candidates::read::counts_at(g, line, origin.place.column as usize);
     let weighed = weighing::weighed(s, g, first);
     Making { answer, weighed }
 }

@@ -12,7 +12,7 @@ use Rattle.galley.specs.Model.{sidesIn}
 use Rattle.places.specs.declared.Entry as places
 use Rattle.places.specs.declared.Entry.the-variants as entry
 use Rattle.places.specs.Entry.{lowOf, highOf}
-use Rattle.starts.specs.Read.{tableIn}
+use Rattle.candidates.specs.Read.{tableIn}
 use Rattle.walk.specs.declared.Stop.{Stop}
 use Rattle.walk.specs.Trace.{entryOf}
 use Rattle.walk.specs.Traceable.{WorkArea, Traceable}

@@ -1,7 +1,7 @@
 // What each folio offers the next: its route through the chapter, by the best list that closes so; and which of two offers is taken.
 ghost use mathlib.Core.Path.{_≡_};
 ghost use Prim.Native.Nat.{_≤_, _<_};
-ghost use Rattle.starts.specs.Read.{tableIn};
+ghost use Rattle.candidates.specs.Read.{tableIn};
 ghost use Rattle.walk.specs.Trace.{entryOf};
 ghost use Rattle.routes.specs.Offer.{turnTo, Payable, Passed, Offering, closingFrom, Comparing, decided, laterFrom, Arriving, Arrived};
 use crate::Cost;

@@ -9,7 +9,7 @@ use Rattle.model.specs.Answers.{wordsOf}
 use Rattle.model.specs.Opening.{bestAfter}
 use Rattle.theorems.specs.pages.Graph.{State, stop}
 use Rattle.places.specs.declared.Origin.{Origin}
-use Rattle.starts.specs.Search.{Table}
+use Rattle.candidates.specs.Search.{Table}
 use Rattle.walk.specs.declared.Stop.{Stop}
 use Rattle.walk.specs.Trace.{lastSide, countBack, writeBack}
 use Rattle.solving.specs.Shown.{at, lastPlace}

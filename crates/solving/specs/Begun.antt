@@ -16,7 +16,7 @@ use Rattle.blocks.specs.Counts.{Within}
 use Rattle.rules.specs.declared.counts.Sums.{Sums}
 use Rattle.rules.specs.Parts.{CountLimits, printedCost}
 use Rattle.places.specs.declared.Origin.{Origin}
-use Rattle.starts.specs.Read.{FewFloats}
+use Rattle.candidates.specs.Read.{FewFloats}
 use Rattle.solving.specs.declared.opening.Begun.{Begun}
 use Rattle.solving.specs.declared.opening.Begun.the-variants as begun
 use Rattle.solving.specs.Shown.{originOf, Proper}

@@ -11,7 +11,7 @@ use Rattle.places.specs.declared.Origin.{Origin}
 use Rattle.places.specs.declared.Entry.{Entry}
 use Rattle.places.specs.declared.Entry.the-variants.{Unreached, Least}
 use Rattle.places.specs.Columns.{columns, floatSizes, placeAt, columnIn}
-use Rattle.starts.specs.Search.{Table, before}
+use Rattle.candidates.specs.Search.{Table, before}
 use Rattle.walk.specs.Trace.{lastSide}
 
 -- The place that a line and a column are.

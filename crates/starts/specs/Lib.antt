@@ -1,15 +1,4 @@
--- The best start of a page: its definitions first, then the laws about them.
-
--- What is computed, for any number of float streams.
-pub mod Better
-pub mod Search
-pub mod Fronts
--- What the best of several starts is, and what a page has beside its lines.
-pub mod Choice
-pub mod Beside
--- A galley that was read: what the functions ask for, and what holds on the way.
-pub mod Read
-pub mod Look
+-- The best start of a page by sweeps: what the functions ask for and what holds on the way first, then the laws about it.
 pub mod Sweep
 pub mod Swept
 pub mod laws

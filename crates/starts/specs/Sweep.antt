@@ -6,7 +6,6 @@ use mathlib.Core.List.{List}
 use lib.ListN.{length}
 use lib.Dec.{ltb}
 use Rattle.model.specs.Gather.{pick}
-use Rattle.model.specs.Galley.{Stream}
 use Rattle.galley.specs.declared.Spec.{Spec}
 use Rattle.galley.specs.declared.Galley.{Galley}
 use Rattle.galley.specs.Model.{textOf, modelOf}
@@ -17,19 +16,17 @@ use Rattle.blocks.specs.laws.Heights.{Low}
 use Rattle.places.specs.declared.Entry.{Entry}
 use Rattle.places.specs.declared.Entry.the-variants.{Unreached}
 use Rattle.places.specs.Address.{wordsNeeded, address, Stands}
-use Rattle.places.specs.Entry.{stored}
 use Rattle.places.specs.Best.{Affordable, Best}
 use Rattle.window.specs.declared.slide.Load.{Load}
-use Rattle.window.specs.declared.slide.Window.{Window}
 use Rattle.window.specs.Sums.{Sums}
-use Rattle.window.specs.Slide.{shutAt, Slidable, Open}
-use Rattle.window.specs.Queue.{linesOf, Lines, Payable}
+use Rattle.window.specs.Queue.{linesOf, Payable}
 use Rattle.starts.specs.declared.sweep.Pass.{Pass}
 use Rattle.starts.specs.declared.sweep.Row.{Row}
-use Rattle.starts.specs.Better.{chosen, startAt, taken}
-use Rattle.starts.specs.Choice.{Starts, Between}
-use Rattle.starts.specs.Beside.{Under, alone}
-use Rattle.starts.specs.Read.{tableIn, sideOf, searchOf, columnsIn, FewFloats, lastColumn, loadOf}
+use Rattle.candidates.specs.Better.{chosen, startAt, taken}
+use Rattle.candidates.specs.Choice.{Starts, Between}
+use Rattle.candidates.specs.Beside.{Under, alone}
+use Rattle.candidates.specs.Read.{tableIn, sideOf, searchOf, columnsIn, lastColumn, loadOf}
+use Rattle.candidates.specs.Cells.{number}
 
 -- What the lines of column b cost, on the side before side c, is small.
 abbrev pub Costs : Galley → List ℕ → ℕ → ℕ → Type 0
@@ -82,19 +79,6 @@ pub record Ended (g : Galley) (w : List ℕ) (i c : ℕ) (pass : Pass) : Type 0 
   pub end : Stands w (g .text .count + 1) (record { line = i; column = pass .to }) c
   pub side : c ≤ 1
 
--- The lines of a column stand in the work area with small costs, and their window can be found from the first one that is reached on.
-pub record LinesStand (g : Galley) (w sums : List ℕ) (load : Load) (column side : ℕ) : Type 0 where
-  pub stands : (a : ℕ) → a ≤ g .text .count → Stands w (g .text .count + 1) (record { line = a; column = column }) side
-  pub costs : Payable (linesOf w (g .text .count + 1) column side) (g .text .count)
-  pub first : load .first ≤ g .text .count
-  pub slides : Slidable sums load (shutAt load) (g .text .count)
-
--- The entry is the best of the lines of a column in the window of the last line.
-pub record LastBest (g : Galley) (w sums : List ℕ) (load : Load) (column side : ℕ) (e : Entry) : Type 0 where
-  pub window : Window
-  pub opens : (st : Stream) → Sums st (g .text .count) sums → Open st load window (g .text .count)
-  pub best : Best (Lines (linesOf w (g .text .count + 1) column side) (λ a. 0) (window .low) (window .high) column) e
-
 -- The words of place (k, j) on side c hold the best of the starts of P for a page that ends there.
 abbrev pub Knows : List ℕ → Galley → List ℕ → ℕ → ℕ → ℕ → (ℕ → ℕ → Type 0) → Type 0
 Knows bytes g w k j c P = Best (Starts (searchOf bytes g w k j (sideOf g c)) P) (tableIn g w k j c)
@@ -103,62 +87,14 @@ Knows bytes g w k j c P = Best (Starts (searchOf bytes g w k j (sideOf g c)) P) 
 abbrev pub Known : List ℕ → Galley → List ℕ → ℕ → ℕ → Type 0
 Known bytes g w j b = (k c : ℕ) → k ≤ g .text .count → c < g .spec .sides → Knows bytes g w k j c (Between b j)
 
--- The places of a column come side by side and line by line: the number of line k on side c.
-abbrev pub number : ℕ → ℕ → ℕ
-number c k = 4001 * c + k
-
 -- The places before number n know the starts in columns from b on, the others those in later columns.
 pub record Swept (bytes : List ℕ) (g : Galley) (w : List ℕ) (j b n : ℕ) : Type 0 where
   pub done : (k c : ℕ) → k ≤ g .text .count → c < g .spec .sides → number c k < n → Knows bytes g w k j c (Between b j)
   pub left : (k c : ℕ) → k ≤ g .text .count → c < g .spec .sides → n ≤ number c k → Knows bytes g w k j c (Between (suc b) j)
 
--- v is w after stores in column j, on sides that occur.
-pub data Scratched (g : Galley) (j : ℕ) (w : List ℕ) : List ℕ → Type 0 where
-  fresh : Scratched g j w w
-  more : (v u : List ℕ) (i c : ℕ) (e : Entry) → Scratched g j w v → i ≤ g .text .count → c < g .spec .sides
-      → u ≡ stored v (address (g .text .count + 1) i j c) e → Scratched g j w u
-
--- At most place (i, j) on side c has changed, and it holds e.
-pub record Changed (g : Galley) (w v : List ℕ) (i j c : ℕ) (e : Entry) : Type 0 where
-  pub sized : length v ≡ length w
-  pub own : tableIn g v i j c ≡ e
-  pub others : (a b d : ℕ) → a ≤ g .text .count → d ≤ 1 → ((i ≡ a) × (j ≡ b) × (c ≡ d) → ⊥)
-      → tableIn g v a b d ≡ tableIn g w a b d
-  pub kept : Scratched g j w v
-
 -- The lines that a sweep takes: all, but for the last line of the last column, where a page may be short.
 abbrev pub sweepEnd : Galley → Pass → ℕ
 sweepEnd g pass = pick (lastColumn g (pass .to)) (g .text .count) (g .text .count + 1)
-
--- A column of a galley within the limits.
-pub record Wide (g : Galley) (j : ℕ) : Type 0 where
-  pub few : g .text .count ≤ 4000
-  pub floats : FewFloats g
-  pub within : j < columnsIn g
-
--- Column j stands in the work area.
-pub record ColumnRoom (g : Galley) (w : List ℕ) (j : ℕ) : Type 0 where
-  pub wide : Wide g j
-  pub two : g .spec .sides ≤ 2
-  pub room : wordsNeeded (g .text .count) (columnsIn g) ≤ length w
-
--- Place (k, j) has the words of an unreached place on side c: to store that once more changes nothing.
-abbrev pub Empty : Galley → List ℕ → ℕ → ℕ → ℕ → Type 0
-Empty g w k j c = stored w (address (g .text .count + 1) k j c) Unreached ≡ w
-
--- The places of column j before number n are empty.
-abbrev pub Blank : Galley → List ℕ → ℕ → ℕ → Type 0
-Blank g w j n = (k c : ℕ) → k ≤ g .text .count → c < g .spec .sides → number c k < n → Empty g w k j c
-
--- Every unreached place of column j is empty.
-abbrev pub Clean : Galley → List ℕ → ℕ → Type 0
-Clean g w j = (k c : ℕ) → k ≤ g .text .count → c < g .spec .sides → tableIn g w k j c ≡ Unreached → Empty g w k j c
-
--- The places of column j from number n on and before m are empty too, and nothing else has changed.
-pub record Cleared (g : Galley) (w v : List ℕ) (j n m : ℕ) : Type 0 where
-  pub sized : length v ≡ length w
-  pub blank : Blank g w j n → Blank g v j m
-  pub kept : Scratched g j w v
 
 -- Heights of figures and of tables whose sum, with a separation, is a word.
 pub record Layable (spec : Spec) (figures tables : Heights) : Type 0 where

@@ -20,9 +20,10 @@ use Rattle.window.specs.Parts.{Both}
 use Rattle.window.specs.Windows.{Kept}
 use Rattle.starts.specs.declared.sweep.Pass.{Pass}
 use Rattle.starts.specs.declared.sweep.Row.{Row}
-use Rattle.starts.specs.Read.{sideOf, countsAt, rowOf}
-use Rattle.starts.specs.Look.{Quiet, PastOrigin}
-use Rattle.starts.specs.Sweep.{Lent, Scratch, Summed, passLoad, Passing, Known, number, Swept, Scratched, sweepEnd, Clean, rowTop}
+use Rattle.candidates.specs.Read.{sideOf, countsAt, rowOf}
+use Rattle.candidates.specs.Look.{Quiet, PastOrigin}
+use Rattle.starts.specs.Sweep.{Lent, Scratch, Summed, passLoad, Passing, Known, Swept, sweepEnd, rowTop}
+use Rattle.candidates.specs.Cells.{number, Scratched, Clean}
 
 -- A column that no start is known of: the starts in the columns before it are to be known.
 pub record ColumnSweep (bytes : List ℕ) (g : Galley) (w sums words : List ℕ) (j : ℕ) (origin : Counts) : Type 0 where

@@ -1,17 +1,9 @@
 -- The laws of starts.
-pub mod Choice
-pub mod Found
-pub mod Heights
-pub mod Pages
-pub mod White
 pub mod Sweep
-pub mod Columns
 pub mod Floats
-pub mod Lines
 pub mod Lending
 pub mod Fronts
 pub mod Cells
-pub mod Clean
 pub mod Pass
 pub mod Past
 pub mod Look

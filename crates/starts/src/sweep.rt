@@ -6,8 +6,9 @@ ghost use mathlib.Core.Path.{_≡_};
 ghost use Prim.Native.Nat.{_+_, _≤_};
 ghost use Rattle.places.specs.Address.{Stands};
 ghost use Rattle.places.specs.Best.{Affordable};
-ghost use Rattle.starts.specs.Read.{tableIn};
-ghost use Rattle.starts.specs.Sweep.{aloneOf, weighed, Ended, Wide, sweepEnd, Layable, floatsAlone, rowTop};
+ghost use Rattle.candidates.specs.Read.{tableIn};
+ghost use Rattle.starts.specs.Sweep.{aloneOf, weighed, Ended, sweepEnd, Layable, floatsAlone, rowTop};
+ghost use Rattle.candidates.specs.Cells.{Wide};
 ghost use Rattle.starts.specs.Swept.{ColumnSweep, ColumnSwept, RowSweep, RowSwept, Sweep, SweepDone, SideSweep, SideDone, LastLine, LineDone};
 use blocks::Counts;
 use blocks::heights::Heights;
@@ -48,7 +49,7 @@ fn alone(g: Galley, work: &[u32], i: usize, side: usize, pass: Pass) -> Entry
     }
     let place = places::place_of(i, pass.from);
     let entry = places::entry_of(work, g.text.count + 1, place, side);
-    crate::choice::start_at(entry, place, pass.white)
+    candidates::choice::start_at(entry, place, pass.white)
 }
 
 // The best start known for line i of the column on side c, with the starts of the pass weighed too: the best of the lines before it,
@@ -57,10 +58,10 @@ fn improve(g: Galley, work: &mut [u32], lines: Entry, i: usize, c: usize, pass: 
     requires { ⌜ Ended g (now work) i c pass ⌝ }
     ensures { λ _. ⌜ now (work .exit) ≡ weighed g (now (work .entry)) lines i c pass ⌝ }
 {
-    let side = crate::read::side_before(g, c);
-    let found = crate::choice::choose(lines, alone(g, work, i, side, pass));
+    let side = candidates::read::side_before(g, c);
+    let found = candidates::choice::choose(lines, alone(g, work, i, side, pass));
     let end = places::place_of(i, pass.to);
-    crate::choice::offer(work, g.text.count + 1, end, c, found);
+    candidates::choice::offer(work, g.text.count + 1, end, c, found);
 }
 
 // The lines that a sweep takes: all, but for the last line of the last column, where a page may be short.
@@ -68,7 +69,7 @@ fn sweep_end(g: Galley, pass: Pass) -> usize
     requires { ⌜ Wide g (pass .to) ⌝ }
     ensures { λ r. ⌜ r ≡ sweepEnd g pass ⌝ }
 {
-    if pass.to + 1 == crate::read::columns_of(g) {
+    if pass.to + 1 == candidates::read::columns_of(g) {
         return g.text.count;
     }
     g.text.count + 1
@@ -88,8 +89,8 @@ fn sweep_side(
     requires { ⌜ SideSweep (now s) g (now work) (now sums) (now words) c pass ⌝ }
     ensures { λ _. ⌜ SideDone (now (s .entry)) g (now (work .entry)) (now (work .exit)) (now (words .exit)) c pass ⌝ }
 {
-    let load = crate::read::load_of(g, 1, pass.heights, pass.least, pass.first);
-    let side = crate::read::side_before(g, c);
+    let load = candidates::read::load_of(g, 1, pass.heights, pass.least, pass.first);
+    let side = candidates::read::side_before(g, c);
     let end = sweep_end(g, pass);
     let source = Source {
         tall: g.text.count + 1,
@@ -103,7 +104,7 @@ fn sweep_side(
         let before = starts;
         starts = window::windows::window_of(sums, load, words, before, i, c);
         parts = window::parts::move_on(work, sums, words, source, parts, before, starts);
-        let lines = crate::fronts::best_front(sums, words, parts, pass.from, load, i);
+        let lines = candidates::fronts::best_front(sums, words, parts, pass.from, load, i);
         improve(g, work, lines, i, c, pass);
         i += 1;
     }
@@ -114,7 +115,7 @@ fn last_line(s: &[u8], g: Galley, work: &mut [u32], sums: &[u32], c: usize, pass
     requires { ⌜ LastLine (now s) g (now work) (now sums) c pass ⌝ }
     ensures { λ _. ⌜ LineDone (now (s .entry)) g (now (work .entry)) (now (work .exit)) c pass ⌝ }
 {
-    if pass.to + 1 < crate::read::columns_of(g) {
+    if pass.to + 1 < candidates::read::columns_of(g) {
         return;
     }
     let heights = pass.heights;
@@ -126,9 +127,9 @@ fn last_line(s: &[u8], g: Galley, work: &mut [u32], sums: &[u32], c: usize, pass
         white: 0,
         first: pass.first,
     };
-    let load = crate::read::load_of(g, 1, heights, last.least, pass.first);
-    let side = crate::read::side_before(g, c);
-    let lines = crate::last::last_lines(g, work, sums, load, pass.from, side);
+    let load = candidates::read::load_of(g, 1, heights, last.least, pass.first);
+    let side = candidates::read::side_before(g, c);
+    let lines = candidates::last::last_lines(g, work, sums, load, pass.from, side);
     improve(g, work, lines, g.text.count, c, last);
 }
 
@@ -199,7 +200,7 @@ fn sweep_row(s: &[u8], g: Galley, work: &mut [u32], sums: &[u32], words: &mut [u
             heights: floats,
             least: row.least,
             white: rules::counts::white_at(g, false, floats.loose),
-            first: crate::look::first_line(g, work, from, row.origin.lines),
+            first: candidates::look::first_line(g, work, from, row.origin.lines),
         };
         sweep(s, g, work, sums, words, pass);
     }
@@ -219,8 +220,8 @@ pub fn sweep_column(
     requires { ⌜ ColumnSweep (now s) g (now work) (now sums) (now words) j origin ⌝ }
     ensures { λ _. ⌜ ColumnSwept (now (s .entry)) g (now (work .entry)) (now (work .exit)) j ⌝ }
 {
-    crate::clear::clear_column(g, work, j);
-    let end = crate::read::counts_at(g, 0, j);
+    candidates::clear::clear_column(g, work, j);
+    let end = candidates::read::counts_at(g, 0, j);
     let least = rules::rules::floor_of(g, false);
     let mut heights = Heights { tight: 0, loose: 0 };
     let mut b = end.figures + 1;

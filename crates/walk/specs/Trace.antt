@@ -11,7 +11,7 @@ use Rattle.places.specs.declared.Entry.{Entry}
 use Rattle.places.specs.declared.Entry.the-variants.{Unreached, Least}
 use Rattle.places.specs.Entry.{less}
 use Rattle.places.specs.Columns.{placeAt}
-use Rattle.starts.specs.Search.{Table, before, begins}
+use Rattle.candidates.specs.Search.{Table, before, begins}
 use Rattle.walk.specs.declared.Stop.{Stop}
 
 -- The start that the entry of a place holds; from a place that was never reached the walk goes nowhere.

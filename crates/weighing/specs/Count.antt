@@ -13,7 +13,7 @@ use Rattle.blocks.specs.declared.Counts.{Counts}
 use Rattle.blocks.specs.declared.heights.Heights.{Heights}
 use Rattle.blocks.specs.Counts.{placeOf, Within}
 use Rattle.blocks.specs.Heights.{Stacked}
-use Rattle.starts.specs.Read.{columnsIn, countsAt, rowOf}
+use Rattle.candidates.specs.Read.{columnsIn, countsAt, rowOf}
 use Rattle.starts.specs.Sweep.{Summed}
 use Rattle.weighing.specs.Columns.{pairsFrom}
 use Rattle.weighing.specs.Lines.{linePairs, Pairable}

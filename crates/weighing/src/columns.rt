@@ -42,7 +42,7 @@ fn pairs_of_row(
     requires { ⌜ CountableRow (now s) g (now sums) first q figures heights ⌝ }
     ensures { λ r. ⌜ RowCounted (now (s .entry)) g first q figures r ⌝ }
 {
-    let end = starts::read::counts_at(g, 0, q);
+    let end = candidates::read::counts_at(g, 0, q);
     let mut pairs: u64 = 0;
     let mut tables = Heights { tight: 0, loose: 0 };
     let mut t = end.tables + 1;
@@ -66,7 +66,7 @@ fn pairs_into(s: &[u8], g: Galley, sums: &[u32], first: Counts, q: usize) -> u64
     requires { ⌜ CountableColumn (now s) g (now sums) first q ⌝ }
     ensures { λ r. ⌜ ColumnCounted (now (s .entry)) g first q r ⌝ }
 {
-    let end = starts::read::counts_at(g, 0, q);
+    let end = candidates::read::counts_at(g, 0, q);
     let mut pairs: u64 = 0;
     let mut heights = Heights { tight: 0, loose: 0 };
     let mut b = end.figures + 1;
@@ -86,7 +86,7 @@ pub fn all_pairs(s: &[u8], g: Galley, sums: &[u32], first: Counts) -> u64
     requires { ⌜ Weighable (now s) g (now sums) first ⌝ }
     ensures { λ r. ⌜ r ≡ weighedFrom (modelOf (now (s .entry)) g) (placeOf g first) ⌝ }
 {
-    let columns = starts::read::columns_of(g);
+    let columns = candidates::read::columns_of(g);
     let mut pairs: u64 = 0;
     let mut q = 0;
     while q < columns {

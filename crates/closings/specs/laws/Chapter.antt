@@ -40,8 +40,8 @@ use Rattle.places.specs.Entry.{lowOf, highOf}
 use Rattle.places.specs.Columns.{columns, floatSizes, floatsAt, placeAt}
 use Rattle.places.specs.laws.Columns.{columns-some}
 use Rattle.places.specs.laws.Address.{area-needed}
-use Rattle.starts.specs.Read.{tableIn, columnsIn}
-use Rattle.starts.specs.laws.Columns.{few-floats, columns-in}
+use Rattle.candidates.specs.Read.{tableIn, columnsIn}
+use Rattle.candidates.specs.laws.Columns.{few-floats, columns-in}
 use Rattle.filling.specs.Fill.{tall}
 use Rattle.filling.specs.Filled.{Roomy, Side, Light, Filled}
 use Rattle.filling.specs.laws.Fill.{length-filled, filled-all}

@@ -21,7 +21,7 @@ use Rattle.theorems.specs.pages.Laws.{page-laws, page-domain}
 use Rattle.places.specs.declared.Place.{Place as Start}
 use Rattle.places.specs.Columns.{columns, floatSizes}
 use Rattle.places.specs.laws.Places.{place-tie}
-use Rattle.starts.specs.Search.{Table}
+use Rattle.candidates.specs.Search.{Table}
 use Rattle.filling.specs.Filled.{Filled}
 use Rattle.walk.specs.declared.Stop.{Stop}
 use Rattle.walk.specs.Trace.{back}

@@ -9,7 +9,7 @@ use borrow.Author.Tests.{eq-eqb, ne-eqb}
 use Rattle.model.specs.Gather.{pick}
 use Rattle.galley.specs.declared.Galley.{Galley}
 use Rattle.galley.specs.Model.{sidesIn}
-use Rattle.starts.specs.Read.{tableIn}
+use Rattle.candidates.specs.Read.{tableIn}
 use Rattle.walk.specs.declared.Stop.{Stop}
 use Rattle.walk.specs.Trace.{back}
 use Rattle.walk.specs.Traceable.{blocksIn, Traceable}

@@ -26,7 +26,7 @@ use Rattle.blocks.specs.laws.Counts.{streams-of, blocks-of}
 use Rattle.needs.specs.Needs.{listNeeded}
 use Rattle.places.specs.declared.Entry.{Entry}
 use Rattle.places.specs.declared.Entry.the-variants.{Unreached, Least}
-use Rattle.starts.specs.Read.{tableIn, columnsIn}
+use Rattle.candidates.specs.Read.{tableIn, columnsIn}
 use Rattle.filling.specs.Fill.{filled}
 use Rattle.filling.specs.laws.Fill.{length-filled}
 use Rattle.walk.specs.Trace.{entryOf, writeBack}

@@ -20,8 +20,8 @@ use Rattle.galley.specs.laws.Sound.{sound}
 use Rattle.blocks.specs.Counts.{noCounts, placeOf, Within}
 use Rattle.blocks.specs.laws.Counts.{zeros-of}
 use Rattle.places.specs.Columns.{placeAt}
-use Rattle.starts.specs.Read.{columnsIn}
-use Rattle.starts.specs.laws.Columns.{few-floats, columns-few, columns-in}
+use Rattle.candidates.specs.Read.{columnsIn}
+use Rattle.candidates.specs.laws.Columns.{few-floats, columns-few, columns-in}
 use Rattle.weighing.specs.Columns.{pairsFrom}
 use Rattle.weighing.specs.laws.Columns.{weighed-columns}
 use Rattle.chapters.specs.declared.Book.{Book}

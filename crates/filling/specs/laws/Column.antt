@@ -17,13 +17,15 @@ use Rattle.places.specs.Order.{Earlier}
 use Rattle.window.specs.declared.slide.Window.{Window}
 use Rattle.window.specs.Slide.{shutAt, Slidable, Open, Slid}
 use Rattle.window.specs.laws.Slide.{ends-first, ends-next}
-use Rattle.starts.specs.Read.{tableIn, sideOf, countsAt}
-use Rattle.starts.specs.Sweep.{Lent, Scratched, fresh, more}
+use Rattle.candidates.specs.Read.{tableIn, sideOf, countsAt}
+use Rattle.starts.specs.Sweep.{Lent}
+use Rattle.candidates.specs.Cells.{Scratched, fresh, more}
 use Rattle.starts.specs.Swept.{ColumnSwept}
-use Rattle.starts.specs.laws.Columns.{within-at}
+use Rattle.candidates.specs.laws.Columns.{within-at}
 use Rattle.starts.specs.laws.Pass.{least-low}
-use Rattle.starts.specs.laws.Lending.{side-occurs}
-use Rattle.starts.specs.laws.Cells.{scratched-length, scratched-others, lent-kept}
+use Rattle.candidates.specs.laws.Read.{side-occurs}
+use Rattle.candidates.specs.laws.Cells.{scratched-length, scratched-others}
+use Rattle.starts.specs.laws.Cells.{lent-kept}
 use Rattle.pricing.specs.declared.Stop.{Stop}
 use Rattle.filling.specs.declared.side.Task.{Task}
 use Rattle.filling.specs.Fill.{tall, fillColumn, filled}

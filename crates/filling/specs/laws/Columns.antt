@@ -6,8 +6,8 @@ use mathlib.Core.List.{List}
 use lib.ListN.{length}
 use Rattle.galley.specs.Model.{modelOf}
 use Rattle.places.specs.Columns.{columns, floatSizes}
-use Rattle.starts.specs.Read.{tableIn, columnsIn}
-use Rattle.starts.specs.laws.Columns.{columns-in}
+use Rattle.candidates.specs.Read.{tableIn, columnsIn}
+use Rattle.candidates.specs.laws.Columns.{columns-in}
 use Rattle.filling.specs.declared.side.Task.{Task}
 use Rattle.filling.specs.Fill.{tall, fillColumn, fillColumns, filled}
 use Rattle.filling.specs.Next.{ColumnNext, TableNext}

@@ -13,9 +13,9 @@ use Rattle.places.specs.Address.{wordsNeeded}
 use Rattle.places.specs.Best.{Affordable}
 use Rattle.places.specs.Order.{Earlier}
 use Rattle.window.specs.Queue.{linesOf, Payable}
-use Rattle.starts.specs.Read.{tableIn, sideOf, columnsIn}
+use Rattle.candidates.specs.Read.{tableIn, sideOf, columnsIn}
 use Rattle.starts.specs.Sweep.{Lent}
-use Rattle.starts.specs.laws.Columns.{placed-at, within-at}
+use Rattle.candidates.specs.laws.Columns.{placed-at, within-at}
 use Rattle.filling.specs.Filled.{Filled}
 use Rattle.filling.specs.laws.Entered.{below-side, side-before, sides-count}
 

@@ -25,10 +25,10 @@ use Rattle.places.specs.declared.Entry.the-variants.{Unreached, Least}
 use Rattle.places.specs.Columns.{columns, floatSizes, placeAt}
 use Rattle.places.specs.laws.Best.{no-reach}
 use Rattle.places.specs.laws.Places.{place-inside, forward-inside}
-use Rattle.starts.specs.Search.{Table, before, Search, whiteFrom, bestStart, priced, mayStop, begins, newEntry}
-use Rattle.starts.specs.Beside.{Sought}
-use Rattle.starts.specs.laws.Found.{best-start}
-use Rattle.starts.specs.laws.Pages.{candidate-forward, candidate-earlier}
+use Rattle.candidates.specs.Search.{Table, before, Search, whiteFrom, bestStart, priced, mayStop, begins, newEntry}
+use Rattle.candidates.specs.Beside.{Sought}
+use Rattle.candidates.specs.laws.Found.{best-start}
+use Rattle.candidates.specs.laws.Pages.{candidate-forward, candidate-earlier}
 use Rattle.filling.specs.Fill.{sideCount}
 use Rattle.filling.specs.Filled.{Side, placedAt, Light, Entered, Filled}
 

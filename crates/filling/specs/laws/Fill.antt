@@ -15,7 +15,7 @@ use Rattle.places.specs.Columns.{columns, floatSizes}
 use Rattle.places.specs.laws.Address.{address-in}
 use Rattle.places.specs.laws.Stored.{stored-length}
 use Rattle.places.specs.laws.Table.{table-same, table-other}
-use Rattle.starts.specs.Search.{Table, newEntry}
+use Rattle.candidates.specs.Search.{Table, newEntry}
 use Rattle.filling.specs.Fill.{Words, tall, held, fillSide, fillSides, sideCount, fillPlace, fillColumn, fillColumns, filled}
 use Rattle.filling.specs.Filled.{Light, Roomy, Side, Entered, Filled}
 use Rattle.filling.specs.laws.Entered.{side-low, side-below, below-side, count-low, entry-entered}

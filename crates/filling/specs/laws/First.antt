@@ -21,15 +21,16 @@ use Rattle.places.specs.Columns.{placeAt}
 use Rattle.places.specs.Best.{Leads}
 use Rattle.places.specs.laws.Best.{no-reach, best-none, best-unique}
 use Rattle.places.specs.laws.Columns.{inside-head, inside-tail}
-use Rattle.starts.specs.Search.{bestStart, priced, mayStop, begins, newEntry}
-use Rattle.starts.specs.Choice.{Starts, Any}
-use Rattle.starts.specs.Read.{tableIn, sideOf, searchOf, countsAt}
-use Rattle.starts.specs.Look.{Quiet, PastOrigin}
-use Rattle.starts.specs.laws.Columns.{at-under, sought-in}
-use Rattle.starts.specs.laws.Found.{best-start}
-use Rattle.starts.specs.laws.Lending.{side-occurs, lent-placed}
+use Rattle.candidates.specs.Search.{bestStart, priced, mayStop, begins, newEntry}
+use Rattle.candidates.specs.Choice.{Starts, Any}
+use Rattle.candidates.specs.Read.{tableIn, sideOf, searchOf, countsAt}
+use Rattle.candidates.specs.Look.{Quiet, PastOrigin}
+use Rattle.candidates.specs.laws.Columns.{at-under, sought-in}
+use Rattle.candidates.specs.laws.Found.{best-start}
+use Rattle.candidates.specs.laws.Read.{side-occurs}
+use Rattle.starts.specs.laws.Lending.{lent-placed}
 use Rattle.starts.specs.laws.Look.{quiet-then, known-before}
-use Rattle.starts.specs.laws.Pages.{candidate-earlier}
+use Rattle.candidates.specs.laws.Pages.{candidate-earlier}
 use Rattle.filling.specs.declared.side.Task.{Task}
 use Rattle.filling.specs.Fill.{tall, fillSide, fillSides, sideCount, fillPlace, fillColumn}
 use Rattle.filling.specs.Filled.{Side, Filled}

@@ -26,18 +26,19 @@ use Rattle.places.specs.Columns.{placeAt}
 use Rattle.places.specs.Best.{Best}
 use Rattle.window.specs.declared.parts.Parts.{Parts}
 use Rattle.window.specs.Slide.{shutAt}
-use Rattle.starts.specs.Better.{chosen}
-use Rattle.starts.specs.Search.{Table, before, bestStart, priced, mayStop, begins, newEntry}
-use Rattle.starts.specs.Choice.{Above}
-use Rattle.starts.specs.Beside.{Sought}
+use Rattle.candidates.specs.Better.{chosen}
+use Rattle.candidates.specs.Search.{Table, before, bestStart, priced, mayStop, begins, newEntry}
+use Rattle.candidates.specs.Choice.{Above}
+use Rattle.candidates.specs.Beside.{Sought}
 use Rattle.rules.specs.Parts.{allPlaced}
-use Rattle.starts.specs.Read.{tableIn, sideOf, searchOf}
-use Rattle.starts.specs.Sweep.{LinesStand, LastBest}
-use Rattle.starts.specs.laws.Columns.{placed-at, within-at, sought-in}
-use Rattle.starts.specs.laws.White.{white-lines}
+use Rattle.candidates.specs.Read.{tableIn, sideOf, searchOf}
+use Rattle.candidates.specs.Last.{LinesStand, LastBest}
+use Rattle.candidates.specs.laws.Columns.{placed-at, within-at, sought-in}
+use Rattle.candidates.specs.laws.White.{white-lines}
 use Rattle.starts.specs.laws.Sweep.{window-best, start-chosen}
 use Rattle.starts.specs.laws.Pass.{least-low}
-use Rattle.starts.specs.laws.Lending.{side-either, lent-placed, can-stand}
+use Rattle.candidates.specs.laws.Read.{side-either}
+use Rattle.starts.specs.laws.Lending.{lent-placed, can-stand}
 use Rattle.filling.specs.declared.side.Task.{Task}
 use Rattle.filling.specs.declared.side.End.{End}
 use Rattle.filling.specs.Next.{StartsFor, bare, LinesAbove, EntryNext}

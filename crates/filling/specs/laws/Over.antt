@@ -16,10 +16,10 @@ use Rattle.places.specs.laws.Address.{address-apart}
 use Rattle.places.specs.laws.Best.{best-as, best-unique}
 use Rattle.places.specs.laws.Stored.{stored-twice, stored-swap}
 use Rattle.places.specs.laws.Table.{table-other}
-use Rattle.starts.specs.Search.{Table, before, Search, bestStart, newEntry}
-use Rattle.starts.specs.Beside.{Sought}
-use Rattle.starts.specs.laws.Found.{best-start}
-use Rattle.starts.specs.laws.Pages.{candidate-earlier}
+use Rattle.candidates.specs.Search.{Table, before, Search, bestStart, newEntry}
+use Rattle.candidates.specs.Beside.{Sought}
+use Rattle.candidates.specs.laws.Found.{best-start}
+use Rattle.candidates.specs.laws.Pages.{candidate-earlier}
 use Rattle.starts.specs.laws.Sweep.{searchIn, best-same}
 use Rattle.filling.specs.Fill.{Words, tall, held, fillSide, fillSides, sideCount, fillPlace, fillColumn}
 use Rattle.filling.specs.Filled.{Roomy}

@@ -20,12 +20,12 @@ use Rattle.places.specs.Columns.{floatsAt, floatSizes, placeAt}
 use Rattle.places.specs.laws.Columns.{inside-all}
 use Rattle.window.specs.declared.slide.Window.{Window}
 use Rattle.window.specs.Slide.{Slidable}
-use Rattle.starts.specs.Search.{mayStop}
-use Rattle.starts.specs.Beside.{Under, Bears}
+use Rattle.candidates.specs.Search.{mayStop}
+use Rattle.candidates.specs.Beside.{Under, Bears}
 use Rattle.rules.specs.Parts.{allPlaced}
-use Rattle.starts.specs.Read.{searchOf, columnsIn, countsAt, loadOf}
+use Rattle.candidates.specs.Read.{searchOf, columnsIn, countsAt, loadOf}
 use Rattle.starts.specs.Sweep.{Lent, Summed}
-use Rattle.starts.specs.laws.Columns.{place-at, within-at}
+use Rattle.candidates.specs.laws.Columns.{place-at, within-at}
 use Rattle.rules.specs.laws.Page.{full-of}
 use Rattle.starts.specs.laws.Floats.{bears-own}
 use Rattle.starts.specs.laws.Lending.{can-slide}

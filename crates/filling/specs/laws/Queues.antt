@@ -15,7 +15,7 @@ use Rattle.window.specs.Queue.{linesOf}
 use Rattle.window.specs.Parts.{partsOf, Moved}
 use Rattle.window.specs.laws.Sums.{row-length, row-other, row-word}
 use Rattle.window.specs.laws.Parts.{both-none, both-same, both-beside}
-use Rattle.starts.specs.Read.{sideOf}
+use Rattle.candidates.specs.Read.{sideOf}
 use Rattle.filling.specs.Next.{Holds, Queues}
 
 -- The ends of empty queues.

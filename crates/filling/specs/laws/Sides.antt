@@ -18,16 +18,19 @@ use Rattle.window.specs.Slide.{whiteOf}
 use Rattle.window.specs.Queue.{linesOf, Payable}
 use Rattle.window.specs.Parts.{partsOf, Both, Movable, Moved}
 use Rattle.window.specs.laws.Sums.{row-length}
-use Rattle.starts.specs.Search.{newEntry}
-use Rattle.starts.specs.Beside.{Bears}
-use Rattle.starts.specs.Fronts.{bestFront}
-use Rattle.starts.specs.Read.{tableIn, sideOf, searchOf, columnsIn}
-use Rattle.starts.specs.Sweep.{Lent, Scratch, Changed}
-use Rattle.starts.specs.laws.Columns.{columns-in, sought-in}
-use Rattle.starts.specs.laws.White.{white-lines}
+use Rattle.candidates.specs.Search.{newEntry}
+use Rattle.candidates.specs.Beside.{Bears}
+use Rattle.candidates.specs.Fronts.{bestFront}
+use Rattle.candidates.specs.Read.{tableIn, sideOf, searchOf, columnsIn}
+use Rattle.starts.specs.Sweep.{Lent, Scratch}
+use Rattle.candidates.specs.Cells.{Changed}
+use Rattle.candidates.specs.laws.Columns.{columns-in, sought-in}
+use Rattle.candidates.specs.laws.White.{white-lines}
 use Rattle.starts.specs.laws.Sweep.{window-best}
-use Rattle.starts.specs.laws.Cells.{stored-changes, knows-other}
-use Rattle.starts.specs.laws.Lending.{side-either, lent-placed, can-move}
+use Rattle.candidates.specs.laws.Cells.{stored-changes}
+use Rattle.starts.specs.laws.Cells.{knows-other}
+use Rattle.candidates.specs.laws.Read.{side-either}
+use Rattle.starts.specs.laws.Lending.{lent-placed, can-move}
 use Rattle.starts.specs.laws.Fronts.{fronts-best, can-front}
 use Rattle.pricing.specs.declared.Stop.{Stop}
 use Rattle.filling.specs.declared.side.Task.{Task}

@@ -15,8 +15,8 @@ use Rattle.places.specs.Entry.{stored}
 use Rattle.places.specs.Columns.{columns, floatSizes, placeAt}
 use Rattle.places.specs.laws.Places.{column-at, inside-columns}
 use Rattle.places.specs.laws.Stored.{stored-length}
-use Rattle.starts.specs.Search.{Table, newEntry}
-use Rattle.starts.specs.laws.Columns.{columns-in}
+use Rattle.candidates.specs.Search.{Table, newEntry}
+use Rattle.candidates.specs.laws.Columns.{columns-in}
 use Rattle.filling.specs.declared.side.Task.{Task}
 use Rattle.filling.specs.Fill.{Words, tall, held, fillSide, fillSides, sideCount, fillPlace, fillColumn}
 use Rattle.filling.specs.Filled.{Roomy, Side, Light, Filled}

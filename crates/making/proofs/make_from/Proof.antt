@@ -2,7 +2,7 @@
 -- from the opening's end on.
 use borrow.Author.Needs.{needs}
 use Rattle.galley.specs.laws.Sound.{sound}
-use Rattle.starts.specs.laws.Columns.{few-floats}
+use Rattle.candidates.specs.laws.Columns.{few-floats}
 use Rattle.making.specs.laws.Made.{soluble-fillable, soluble-solved, soluble-first, made-best}
 use Rattle.making.proofs.make_from.Statement.{statement}
 use Rattle.making.proofs.make_from.Tie as tie

@@ -11,7 +11,7 @@ use Rattle.places.specs.Columns.{columns, floatSizes}
 use Rattle.places.specs.laws.Address.{address-in}
 use Rattle.places.specs.laws.Stored.{stored-beyond}
 use Rattle.places.specs.laws.Cleared.{cleared-forgets}
-use Rattle.starts.specs.Search.{newEntry}
+use Rattle.candidates.specs.Search.{newEntry}
 use Rattle.filling.specs.Fill.{Words, tall, held, fillSide, fillSides, sideCount, fillPlace, fillColumn, fillColumns, filled}
 use Rattle.filling.specs.laws.Entered.{count-low}
 

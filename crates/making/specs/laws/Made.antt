@@ -25,8 +25,8 @@ use Rattle.places.specs.declared.Origin.{Origin}
 use Rattle.places.specs.Address.{area}
 use Rattle.places.specs.Entry.{cleared}
 use Rattle.places.specs.laws.Address.{area-needed}
-use Rattle.starts.specs.Read.{columnsIn, countsAt}
-use Rattle.starts.specs.laws.Columns.{columns-in, within-at, place-at}
+use Rattle.candidates.specs.Read.{columnsIn, countsAt}
+use Rattle.candidates.specs.laws.Columns.{columns-in, within-at, place-at}
 use Rattle.filling.specs.Fill.{tall, filled}
 use Rattle.filling.specs.Next.{Fillable}
 use Rattle.needs.specs.Needs.{workNeeded, listNeeded}

@@ -21,7 +21,7 @@ use Rattle.theorems.specs.books.Engine.{taken, comesFrom}
 use Rattle.galley.specs.declared.Galley.{Galley}
 use Rattle.galley.specs.Model.{modelOf}
 use Rattle.galley.specs.Sound.{Sound}
-use Rattle.starts.specs.Read.{tableIn}
+use Rattle.candidates.specs.Read.{tableIn}
 use Rattle.walk.specs.Trace.{entryOf}
 use Rattle.closings.specs.Chapter.{onFolio, Tabled}
 use Rattle.routes.specs.declared.Route.{Route}

@@ -16,7 +16,7 @@ use Rattle.chapters.specs.declared.Book.{Book}
 use Rattle.chapters.specs.Book.{Chapter, read, bookOf, modelsOf, chapterBytes, largest}
 use Rattle.chapters.specs.laws.Chapters.{chapter-at, chapters-many}
 use Rattle.chapters.specs.laws.Alike.{spec-alike, models-drop, models-many}
-use Rattle.starts.specs.Read.{columnsIn}
+use Rattle.candidates.specs.Read.{columnsIn}
 use Rattle.routes.specs.declared.Route.the-variants.{Unreached, Least}
 use Rattle.routes.specs.declared.Routes.{Routes}
 use Rattle.routes.specs.Room.{BookRoom}

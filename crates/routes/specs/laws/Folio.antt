@@ -16,8 +16,8 @@ use Rattle.theorems.specs.books.Through.{side-alike}
 use Rattle.galley.specs.declared.Galley.{Galley}
 use Rattle.galley.specs.Model.{modelOf}
 use Rattle.places.specs.Columns.{floatSizes, placeAt}
-use Rattle.starts.specs.Search.{before}
-use Rattle.starts.specs.Read.{columnsIn}
+use Rattle.candidates.specs.Search.{before}
+use Rattle.candidates.specs.Read.{columnsIn}
 use Rattle.chapters.specs.laws.Alike.{sides-on}
 use Rattle.walk.specs.Traceable.{Traceable}
 use Rattle.closings.specs.Chapter.{onFolio, Tabled}

@@ -16,7 +16,7 @@ use Rattle.places.specs.declared.Place.{Place as Start}
 use Rattle.places.specs.declared.Entry as places
 use Rattle.places.specs.declared.Entry.the-variants as entry
 use Rattle.places.specs.Entry.{lowOf, highOf}
-use Rattle.starts.specs.Read.{tableIn}
+use Rattle.candidates.specs.Read.{tableIn}
 use Rattle.walk.specs.declared.Stop.{Stop}
 use Rattle.walk.specs.Trace.{entryOf}
 use Rattle.walk.specs.Traceable.{WorkArea, Visits}

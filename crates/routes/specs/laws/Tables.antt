@@ -9,8 +9,8 @@ use lib.Seq.{length-take-le, take-at, drop-at, take-all, drop-length}
 use Rattle.galley.specs.declared.Galley.{Galley}
 use Rattle.galley.specs.Model.{modelOf}
 use Rattle.galley.specs.Sound.{Sound}
-use Rattle.starts.specs.Read.{columnsIn}
-use Rattle.starts.specs.laws.Columns.{few-floats}
+use Rattle.candidates.specs.Read.{columnsIn}
+use Rattle.candidates.specs.laws.Columns.{few-floats}
 use Rattle.filling.specs.Fill.{filled}
 use Rattle.filling.specs.laws.Fill.{length-filled}
 use Rattle.closings.specs.Chapter.{onFolio, nothingYet, ChapterRoom, Tabled}

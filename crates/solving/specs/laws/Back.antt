@@ -27,7 +27,7 @@ use Rattle.places.specs.declared.Origin.{Origin}
 use Rattle.places.specs.declared.Entry.the-variants.{Unreached, Least}
 use Rattle.places.specs.Columns.{columns, floatSizes}
 use Rattle.places.specs.laws.Places.{place-inside}
-use Rattle.starts.specs.Search.{Table, before}
+use Rattle.candidates.specs.Search.{Table, before}
 use Rattle.filling.specs.Filled.{Side, Filled}
 use Rattle.walk.specs.declared.Stop.{Stop}
 use Rattle.walk.specs.Trace.{startOf, entryOf, back, atOrigin, countBack, writeBack}

@@ -39,8 +39,8 @@ use Rattle.openings.specs.declared.Opening.the-variants as opening
 use Rattle.openings.specs.Opening.{OpeningJudged}
 use Rattle.places.specs.declared.Origin.{Origin}
 use Rattle.places.specs.Columns.{placeAt}
-use Rattle.starts.specs.Read.{columnsIn, countsAt, rowOf}
-use Rattle.starts.specs.laws.Columns.{few-floats, columns-in, row-figures, row-tables, place-at, placed-at}
+use Rattle.candidates.specs.Read.{columnsIn, countsAt, rowOf}
+use Rattle.candidates.specs.laws.Columns.{few-floats, columns-in, row-figures, row-tables, place-at, placed-at}
 use Rattle.filling.specs.laws.Price.{sound-limits}
 use Rattle.solving.specs.Begun.{originAfter, Ending, Opened}
 

@@ -12,7 +12,7 @@ use Rattle.theorems.specs.pages.Graph.{side}
 use Rattle.places.specs.declared.Place.{Place as Start}
 use Rattle.places.specs.declared.Entry.{Entry}
 use Rattle.places.specs.declared.Entry.the-variants.{Unreached, Least}
-use Rattle.starts.specs.Search.{Table}
+use Rattle.candidates.specs.Search.{Table}
 use Rattle.filling.specs.Filled.{Side}
 use Rattle.walk.specs.Trace.{cheaper, evenSide, lastSide}
 

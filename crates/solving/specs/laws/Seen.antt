@@ -24,10 +24,10 @@ use Rattle.places.specs.declared.Entry.the-variants.{Unreached, Least}
 use Rattle.places.specs.Best.{Leads, Best}
 use Rattle.places.specs.Columns.{columns, floatSizes, placeAt, columnIn}
 use Rattle.places.specs.laws.Places.{place-inside, line-at, column-at, place-of, place-tie, forward-earlier}
-use Rattle.starts.specs.Search.{Table, before, Search, goes, whiteFrom, bestStart, priced, mayStop, begins, newEntry}
-use Rattle.starts.specs.Choice.{Candidate, Starts, Any}
-use Rattle.starts.specs.laws.Found.{best-start}
-use Rattle.starts.specs.laws.Pages.{candidate-earlier}
+use Rattle.candidates.specs.Search.{Table, before, Search, goes, whiteFrom, bestStart, priced, mayStop, begins, newEntry}
+use Rattle.candidates.specs.Choice.{Candidate, Starts, Any}
+use Rattle.candidates.specs.laws.Found.{best-start}
+use Rattle.candidates.specs.laws.Pages.{candidate-earlier}
 use Rattle.filling.specs.Filled.{Side, Filled}
 use Rattle.filling.specs.laws.Entered.{side-before}
 use Rattle.solving.specs.Shown.{at, originOf, graphOf, shown, tableAt, Proper}

@@ -20,7 +20,7 @@ use Rattle.places.specs.declared.Entry.the-variants.{Unreached, Least}
 use Rattle.places.specs.Columns.{columns, floatSizes, placeAt}
 use Rattle.places.specs.laws.Columns.{columns-some}
 use Rattle.places.specs.laws.Places.{place-all, place-inside, line-at, column-at, place-same}
-use Rattle.starts.specs.Search.{Table, before, begins}
+use Rattle.candidates.specs.Search.{Table, before, begins}
 use Rattle.filling.specs.Filled.{Side}
 use Rattle.walk.specs.Trace.{lastSide}
 use Rattle.solving.specs.Shown.{at, originOf, graphOf, shown, finished, lastPlace, tableAt, Proper}

@@ -36,8 +36,8 @@ use Rattle.places.specs.declared.Entry.{Entry}
 use Rattle.places.specs.declared.Entry.the-variants.{Unreached, Least}
 use Rattle.places.specs.Columns.{columns, floatSizes}
 use Rattle.places.specs.laws.Address.{area-needed}
-use Rattle.starts.specs.Read.{tableIn, columnsIn}
-use Rattle.starts.specs.laws.Columns.{few-floats, columns-in}
+use Rattle.candidates.specs.Read.{tableIn, columnsIn}
+use Rattle.candidates.specs.laws.Columns.{few-floats, columns-in}
 use Rattle.filling.specs.Fill.{tall}
 use Rattle.filling.specs.Filled.{Roomy, Light, Filled}
 use Rattle.filling.specs.laws.Fill.{length-filled, filled-all}

@@ -22,12 +22,12 @@ use Rattle.blocks.specs.laws.Stacked.{stacked-none}
 use Rattle.blocks.specs.laws.Heights.{Low, stacked-nothing, stacked-small}
 use Rattle.blocks.specs.laws.Counts.{sum-floats, count-figures, count-tables}
 use Rattle.places.specs.Columns.{placeAt}
-use Rattle.starts.specs.Beside.{floatsHigh, floatKinds, alone, Bears}
+use Rattle.candidates.specs.Beside.{floatsHigh, floatKinds, alone, Bears}
 use Rattle.rules.specs.Parts.{allPlaced}
-use Rattle.starts.specs.Read.{searchOf, columnsIn, countsAt, rowOf, loadOf}
+use Rattle.candidates.specs.Read.{searchOf, columnsIn, countsAt, rowOf, loadOf}
 use Rattle.starts.specs.Sweep.{Layable, floatsAlone}
-use Rattle.starts.specs.laws.Heights.{beside-none}
-use Rattle.starts.specs.laws.Columns.{row-figures, row-tables, tables-low, within-at, place-at, proper-at}
+use Rattle.candidates.specs.laws.Heights.{beside-none}
+use Rattle.candidates.specs.laws.Columns.{row-figures, row-tables, tables-low, within-at, place-at, proper-at}
 use Rattle.rules.specs.laws.Page.{full-of}
 
 -- Of two kinds both are apart by one separation.

@@ -20,11 +20,11 @@ use Rattle.window.specs.laws.Sums.{sums-small}
 use Rattle.window.specs.laws.Slide.{reaches-readable}
 use Rattle.window.specs.laws.Parts.{later-left, later-least}
 use Rattle.window.specs.laws.White.{split-within, full-best, rest-best, rest-whitenable}
-use Rattle.starts.specs.Fronts.{bestFront, Fronted}
-use Rattle.starts.specs.Read.{columnsIn}
+use Rattle.candidates.specs.Fronts.{bestFront, Fronted}
+use Rattle.candidates.specs.Read.{columnsIn}
 use Rattle.starts.specs.Sweep.{Lent, Scratch, Summed}
-use Rattle.starts.specs.laws.Columns.{few-floats, columns-few}
-use Rattle.starts.specs.laws.Choice.{best-chosen}
+use Rattle.candidates.specs.laws.Columns.{few-floats, columns-few}
+use Rattle.candidates.specs.laws.Choice.{best-chosen}
 
 module _ {bytes : List ℕ} {g : Galley} {w : List ℕ} {j : ℕ} (lent : Lent bytes g w j) {sums words : List ℕ} (summed : Summed bytes g sums)
     (scratch : Scratch words) (load : Load) (order : load .htmin ≤ load .htmax) (i : ℕ) (line : i ≤ g .text .count) (window : Window)

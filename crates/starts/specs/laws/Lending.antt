@@ -1,65 +1,25 @@
 -- What is lent for a column is enough for the window, its queues and the best starts.
-use Prim.Native.Nat.{ℕ, zero, suc, _+_, _-_, _≤_, _<_}
+use Prim.Native.Nat.{ℕ, _+_, _-_, _≤_, _<_}
 use native.Mathlib.Nat.{mul-le-mul-right}
 use native.Mathlib.Omega.{arith}
 use mathlib.Core.Path.{sym, subst}
 use mathlib.Core.List.{List}
-use lib.ListN.{length}
-use Rattle.model.specs.Galley.{Sides, single, double}
 use Rattle.galley.specs.declared.Galley.{Galley}
-use Rattle.model.specs.Leaf.{sidesOf}
-use Rattle.galley.specs.Model.{sidesIn}
-use Rattle.galley.specs.Sound.{Sound}
 use Rattle.blocks.specs.declared.heights.Heights.{Heights}
 use Rattle.blocks.specs.Heights.{Separable}
 use Rattle.blocks.specs.laws.Heights.{Low}
-use Rattle.places.specs.Address.{wordsNeeded, Stands}
-use Rattle.places.specs.laws.Address.{address-in, area-needed}
+use Rattle.places.specs.Address.{Stands}
 use Rattle.window.specs.declared.slide.Window.{Window}
 use Rattle.window.specs.declared.parts.Parts.{Parts}
 use Rattle.window.specs.Slide.{Reachable, Slidable}
 use Rattle.window.specs.Queue.{linesOf, Payable}
 use Rattle.window.specs.Parts.{Both, Rises, Movable}
 use Rattle.window.specs.laws.Sums.{sums-small}
-use Rattle.starts.specs.Search.{before}
-use Rattle.starts.specs.Read.{sideOf, columnsIn, FewFloats, loadOf, Placed}
-use Rattle.starts.specs.Sweep.{Lent, Scratch, Summed, Wide, ColumnRoom}
-use Rattle.starts.specs.laws.Columns.{few-floats, columns-few}
-
--- The page before is on side 0 or 1.
-pub side-either : (g : Galley) (c : ℕ) → sideOf g c ≤ 1
-unfolding before
-side-either g c = go (sidesIn g)
-  where
-    go : (sides : Sides) → before sides c ≤ 1
-    go single = omega arith
-    go (double f) = omega arith
-
--- It is one that occurs where this one does.
-pub side-occurs : {bytes : List ℕ} {g : Galley} → Sound bytes g → (c : ℕ) → c < g .spec .sides → sideOf g c < g .spec .sides
-unfolding before sidesOf
-side-occurs {bytes} {g} sound c = go (g .spec .sides) (sound .specRanged .sidesSome) (sound .specRanged .sidesTwo)
-  where
-    go : (n : ℕ) → 1 ≤ n → n ≤ 2 → c < n → before (sidesOf n (g .folio)) c < n
-    go zero l m h = absurd (omega arith)
-    go (suc zero) l m h = omega arith
-    go (suc (suc zero)) l m h = omega arith
-    go (suc (suc (suc n))) l m h = absurd (omega arith)
-
--- A place of a galley within the limits stands in a work area that is long enough.
-pub stands-in : (g : Galley) (w : List ℕ) (i b side : ℕ) → g .text .count ≤ 4000 → FewFloats g → i ≤ g .text .count → b < columnsIn g
-    → side ≤ 1 → wordsNeeded (g .text .count) (columnsIn g) ≤ length w
-    → Stands w (g .text .count + 1) (record { line = i; column = b }) side
-stands-in g w i b side few floats h k l room =
-    record {
-      inside = record { high = omega arith; row = omega arith; wide = omega (arith, columns-few g floats); either = l };
-      room =
-          omega (
-            arith,
-            address-in (g .text .count + 1) i b side (columnsIn g) (omega arith) k l,
-            area-needed (g .text .count) (columnsIn g),
-          );
-    }
+use Rattle.candidates.specs.Read.{sideOf, columnsIn, loadOf, Placed}
+use Rattle.starts.specs.Sweep.{Lent, Scratch, Summed}
+use Rattle.candidates.specs.Cells.{Wide, ColumnRoom}
+use Rattle.candidates.specs.laws.Columns.{few-floats}
+use Rattle.candidates.specs.laws.Read.{side-either, stands-in}
 
 module _ {bytes : List ℕ} {g : Galley} {w : List ℕ} {j : ℕ} (lent : Lent bytes g w j) where
   -- A line of the column is a place.

@@ -20,18 +20,21 @@ use Rattle.window.specs.declared.slide.Window.{Window}
 use Rattle.window.specs.Slide.{whiteOf, Open}
 use Rattle.window.specs.Queue.{linesOf, Lines}
 use Rattle.starts.specs.declared.sweep.Pass.{Pass}
-use Rattle.starts.specs.Better.{chosen}
-use Rattle.starts.specs.Choice.{Starts, Between}
-use Rattle.starts.specs.Beside.{Bears}
-use Rattle.starts.specs.Read.{tableIn, sideOf, searchOf, lastColumn, lastPlace}
-use Rattle.starts.specs.Sweep.{Lent, passLoad, Passing, aloneOf, weighed, Ended, number, Swept, Changed, sweepEnd}
+use Rattle.candidates.specs.Better.{chosen}
+use Rattle.candidates.specs.Choice.{Starts, Between}
+use Rattle.candidates.specs.Beside.{Bears}
+use Rattle.candidates.specs.Read.{tableIn, sideOf, searchOf, lastColumn, lastPlace}
+use Rattle.starts.specs.Sweep.{Lent, passLoad, Passing, aloneOf, weighed, Ended, Swept, sweepEnd}
+use Rattle.candidates.specs.Cells.{number, Changed}
 use Rattle.starts.specs.Swept.{Early}
-use Rattle.starts.specs.laws.Heights.{kinds-some, beside-alone}
-use Rattle.starts.specs.laws.Columns.{columns-in, full-in, sought-in}
-use Rattle.starts.specs.laws.White.{white-lines, white-alone}
+use Rattle.candidates.specs.laws.Heights.{kinds-some, beside-alone}
+use Rattle.candidates.specs.laws.Columns.{columns-in, full-in, sought-in}
+use Rattle.candidates.specs.laws.White.{white-lines, white-alone}
 use Rattle.starts.specs.laws.Sweep.{window-best, alone-best, improved}
-use Rattle.starts.specs.laws.Lending.{side-either, side-occurs, lent-placed, can-stand}
-use Rattle.starts.specs.laws.Cells.{taken-changes, swept-next}
+use Rattle.candidates.specs.laws.Read.{side-either, side-occurs}
+use Rattle.starts.specs.laws.Lending.{lent-placed, can-stand}
+use Rattle.candidates.specs.laws.Cells.{taken-changes}
+use Rattle.starts.specs.laws.Cells.{swept-next}
 
 -- No least height is above the greatest.
 pub least-low : (bytes : List ℕ) (g : Galley) → Sound bytes g → (last : Bool) → floor (modelOf bytes g) last ≤ g .spec .htmax

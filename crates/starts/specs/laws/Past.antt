@@ -7,12 +7,12 @@ use mathlib.Core.List.{List}
 use Rattle.galley.specs.declared.Galley.{Galley}
 use Rattle.galley.specs.Model.{modelOf}
 use Rattle.places.specs.laws.Best.{best-as}
-use Rattle.starts.specs.Choice.{Candidate, Starts, Between}
-use Rattle.starts.specs.Beside.{Under, alone}
-use Rattle.starts.specs.Read.{sideOf, searchOf, countsAt}
+use Rattle.candidates.specs.Choice.{Candidate, Starts, Between}
+use Rattle.candidates.specs.Beside.{Under, alone}
+use Rattle.candidates.specs.Read.{sideOf, searchOf, countsAt}
 use Rattle.starts.specs.Sweep.{Lent, Knows, Known}
-use Rattle.starts.specs.laws.Pages.{candidate-under, column-over}
-use Rattle.starts.specs.laws.Columns.{sought-in, at-under}
+use Rattle.candidates.specs.laws.Pages.{candidate-under, column-over}
+use Rattle.candidates.specs.laws.Columns.{sought-in, at-under}
 use Rattle.starts.specs.laws.Lending.{lent-placed}
 
 -- Where no page to a place starts in the columns between, the starts from an earlier column on are known there too,

@@ -20,16 +20,18 @@ use Rattle.blocks.specs.Heights.{noHeights, Room, Stacked, blockBefore}
 use Rattle.blocks.specs.laws.Heights.{stacked-nothing, stacked-room, back-stacked}
 use Rattle.starts.specs.declared.sweep.Pass.{Pass}
 use Rattle.starts.specs.declared.sweep.Row.{Row}
-use Rattle.starts.specs.Choice.{Candidate}
-use Rattle.starts.specs.Beside.{Under, alone}
-use Rattle.starts.specs.Read.{sideOf, searchOf, countsAt, rowOf}
-use Rattle.starts.specs.Look.{Found, PastOrigin}
-use Rattle.starts.specs.Sweep.{fresh, ColumnRoom, Layable, floatsAlone, rowTop}
+use Rattle.candidates.specs.Choice.{Candidate}
+use Rattle.candidates.specs.Beside.{Under, alone}
+use Rattle.candidates.specs.Read.{sideOf, searchOf, countsAt, rowOf}
+use Rattle.candidates.specs.Look.{Found, PastOrigin}
+use Rattle.candidates.specs.Cells.{fresh, ColumnRoom}
+use Rattle.starts.specs.Sweep.{Layable, floatsAlone, rowTop}
 use Rattle.starts.specs.Swept.{RowSweep, RowRun, RowSwept, Sweep, SweepDone}
-use Rattle.starts.specs.laws.Columns.{few-floats, columns-few, row-next, row-grows, row-of, row-figures, row-tables, row-in, within-at, under-at}
+use Rattle.candidates.specs.laws.Columns.{few-floats, columns-few, row-next, row-grows, row-of, row-figures, row-tables, row-in, within-at, under-at}
 use Rattle.starts.specs.laws.Floats.{alone-at, floats-lay, alone-low}
 use Rattle.starts.specs.laws.Lending.{lent-room}
-use Rattle.starts.specs.laws.Cells.{scratched-then, lent-kept}
+use Rattle.candidates.specs.laws.Cells.{scratched-then}
+use Rattle.starts.specs.laws.Cells.{lent-kept}
 use Rattle.starts.specs.laws.Past.{known-past, start-under, start-short}
 use Rattle.starts.specs.laws.Look.{quiet-then, past-kept, start-past, past-quiet}
 

@@ -13,15 +13,17 @@ use Rattle.blocks.specs.declared.heights.Heights.{Heights}
 use Rattle.blocks.specs.Heights.{noHeights, Room, Stacked, blockBefore}
 use Rattle.blocks.specs.laws.Heights.{stacked-nothing, stacked-room, back-stacked}
 use Rattle.starts.specs.declared.sweep.Row.{Row}
-use Rattle.starts.specs.Choice.{Candidate}
-use Rattle.starts.specs.Read.{sideOf, searchOf, countsAt, rowOf}
-use Rattle.starts.specs.Sweep.{Lent, Summed, Known, number, Scratched, fresh, Cleared}
+use Rattle.candidates.specs.Choice.{Candidate}
+use Rattle.candidates.specs.Read.{sideOf, searchOf, countsAt, rowOf}
+use Rattle.starts.specs.Sweep.{Lent, Summed, Known}
+use Rattle.candidates.specs.Cells.{number, Scratched, fresh, Cleared}
 use Rattle.starts.specs.Swept.{ColumnSweep, ColumnSweepRun, ColumnSwept, RowSweep, RowSwept}
-use Rattle.starts.specs.laws.Columns.{row-next, row-grows, row-of, row-figures, row-tables, row-before, row-under, tables-low, within-at, under-at}
+use Rattle.candidates.specs.laws.Columns.{row-next, row-grows, row-of, row-figures, row-tables, row-before, row-under, tables-low, within-at, under-at}
 use Rattle.starts.specs.laws.Floats.{figures-alone}
 use Rattle.starts.specs.laws.Lending.{lent-room}
-use Rattle.starts.specs.laws.Cells.{scratched-then, lent-kept}
-use Rattle.starts.specs.laws.Clean.{clean-kept, blank-known, clear-sized}
+use Rattle.candidates.specs.laws.Cells.{scratched-then}
+use Rattle.starts.specs.laws.Cells.{lent-kept, blank-known}
+use Rattle.candidates.specs.laws.Clean.{clean-kept, clear-sized}
 use Rattle.starts.specs.laws.Past.{known-past, start-under, start-short}
 use Rattle.starts.specs.laws.Look.{past-kept, start-past}
 

@@ -24,13 +24,16 @@ use Rattle.window.specs.laws.Slide.{ends-first, ends-next}
 use Rattle.window.specs.laws.Parts.{both-none, both-same, both-beside}
 use Rattle.window.specs.laws.Windows.{window-beside, kept-beside, ends-rise}
 use Rattle.starts.specs.declared.sweep.Pass.{Pass}
-use Rattle.starts.specs.Fronts.{bestFront, Fronted}
-use Rattle.starts.specs.Read.{sideOf, columnsIn}
-use Rattle.starts.specs.Sweep.{Lent, passLoad, weighed, Ended, fresh, sweepEnd}
+use Rattle.candidates.specs.Fronts.{bestFront, Fronted}
+use Rattle.candidates.specs.Read.{sideOf, columnsIn}
+use Rattle.starts.specs.Sweep.{Lent, passLoad, weighed, Ended, sweepEnd}
+use Rattle.candidates.specs.Cells.{fresh}
 use Rattle.starts.specs.Swept.{Windowed, Taken, Early, SideSweep, SideRun, SideDone}
-use Rattle.starts.specs.laws.Lending.{side-either, can-slide, can-move}
+use Rattle.candidates.specs.laws.Read.{side-either}
+use Rattle.starts.specs.laws.Lending.{can-slide, can-move}
 use Rattle.starts.specs.laws.Fronts.{fronts-best, can-front}
-use Rattle.starts.specs.laws.Cells.{scratched-then, lent-kept}
+use Rattle.candidates.specs.laws.Cells.{scratched-then}
+use Rattle.starts.specs.laws.Cells.{lent-kept}
 use Rattle.starts.specs.laws.Pass.{least-low, end-from, end-inner, pass-ended, pass-changed, pass-swept}
 use Rattle.starts.specs.laws.Look.{quiet-kept, swept-skip}
 

@@ -22,13 +22,13 @@ use Rattle.window.specs.declared.slide.Load.{Load}
 use Rattle.window.specs.declared.slide.Window.{Window}
 use Rattle.window.specs.Slide.{Open}
 use Rattle.window.specs.Queue.{Lines}
-use Rattle.starts.specs.Better.{chosen, startAt}
-use Rattle.starts.specs.Search.{Table, Search, goes, whiteFrom, startFrom, bestStart}
-use Rattle.starts.specs.Choice.{Candidate, Starts, Any, Above, Level, Between}
-use Rattle.starts.specs.Beside.{Under, alone, Bears, Sought}
-use Rattle.starts.specs.laws.Choice.{best-chosen}
-use Rattle.starts.specs.laws.Found.{start-best, best-start}
-use Rattle.starts.specs.laws.Pages.{Keeps, goes-lines, goes-alone, candidate-earlier}
+use Rattle.candidates.specs.Better.{chosen, startAt}
+use Rattle.candidates.specs.Search.{Table, Search, goes, whiteFrom, startFrom, bestStart}
+use Rattle.candidates.specs.Choice.{Candidate, Starts, Any, Above, Level, Between}
+use Rattle.candidates.specs.Beside.{Under, alone, Bears, Sought}
+use Rattle.candidates.specs.laws.Choice.{best-chosen}
+use Rattle.candidates.specs.laws.Found.{start-best, best-start}
+use Rattle.candidates.specs.laws.Pages.{Keeps, goes-lines, goes-alone, candidate-earlier}
 
 module _ (s : Search) (sought : Sought s) (b : ℕ) (left : b ≤ s .column) (under : Under (s .galley) b (s .column)) where
   -- The best line of the window is the best of the column's lines before this one: those before the first are not reached.

@@ -14,11 +14,15 @@ use Rattle.galley.specs.Model.{textOf, modelOf}
 use Rattle.places.specs.declared.Entry.{Entry}
 use Rattle.window.specs.Slide.{shutAt}
 use Rattle.starts.specs.declared.sweep.Pass.{Pass}
-use Rattle.starts.specs.Read.{sideOf, columnsIn, lastPlace}
-use Rattle.starts.specs.Sweep.{passLoad, Passing, weighed, Ended, LinesStand, LastBest, number, Swept, Scratched, fresh}
+use Rattle.candidates.specs.Read.{sideOf, columnsIn, lastPlace}
+use Rattle.starts.specs.Sweep.{passLoad, Passing, weighed, Ended, Swept}
+use Rattle.candidates.specs.Last.{LinesStand, LastBest}
+use Rattle.candidates.specs.Cells.{number, Scratched, fresh}
 use Rattle.starts.specs.Swept.{Sweep, SweepRun, SweepDone, SideSweep, SideDone, LastLine, LineDone}
-use Rattle.starts.specs.laws.Lending.{side-either, can-stand, can-slide}
-use Rattle.starts.specs.laws.Cells.{scratched-then, lent-kept, swept-side}
+use Rattle.candidates.specs.laws.Read.{side-either}
+use Rattle.starts.specs.laws.Lending.{can-stand, can-slide}
+use Rattle.candidates.specs.laws.Cells.{scratched-then}
+use Rattle.starts.specs.laws.Cells.{lent-kept, swept-side}
 use Rattle.starts.specs.laws.Pass.{least-low, pass-ended, pass-changed, pass-swept}
 use Rattle.starts.specs.laws.Look.{quiet-kept, known-quiet}
 

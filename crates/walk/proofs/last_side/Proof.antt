@@ -5,7 +5,7 @@ use mathlib.Core.Path.{sym, _∙_}
 use borrow.Author.Tests.{ne-eqb}
 use borrow.Author.Needs.{needs}
 use Rattle.model.specs.Leaf.{sidesOf}
-use Rattle.starts.specs.Read.{tableIn}
+use Rattle.candidates.specs.Read.{tableIn}
 use Rattle.walk.specs.Trace.{lastSide}
 use Rattle.walk.specs.laws.Last.{last-double}
 use Rattle.walk.specs.laws.Walk.{full-stands}

@@ -7,7 +7,7 @@ use Rattle.model.specs.Gather.{pick}
 use Rattle.model.specs.Leaf.{sidesOf}
 use Rattle.places.specs.declared.Place.{Place}
 use Rattle.places.specs.declared.Entry.{Entry}
-use Rattle.starts.specs.Search.{Table}
+use Rattle.candidates.specs.Search.{Table}
 use Rattle.walk.specs.Trace.{cheaper, evenSide, lastSide}
 
 -- In double-sided work the side of even folios, unless the other entry is less dear.

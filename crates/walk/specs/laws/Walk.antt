@@ -16,10 +16,10 @@ use Rattle.places.specs.declared.Origin.{Origin}
 use Rattle.places.specs.declared.Entry.{Entry}
 use Rattle.places.specs.declared.Entry.the-variants.{Unreached, Least}
 use Rattle.places.specs.Address.{Stands}
-use Rattle.starts.specs.Search.{Table}
-use Rattle.starts.specs.Read.{tableIn, columnsIn, countsAt}
-use Rattle.starts.specs.laws.Columns.{place-at}
-use Rattle.starts.specs.laws.Lending.{stands-in}
+use Rattle.candidates.specs.Search.{Table}
+use Rattle.candidates.specs.Read.{tableIn, columnsIn, countsAt}
+use Rattle.candidates.specs.laws.Columns.{place-at}
+use Rattle.candidates.specs.laws.Read.{stands-in}
 use Rattle.filling.specs.laws.Entered.{side-low, side-before}
 use Rattle.walk.specs.declared.Stop.{Stop}
 use Rattle.walk.specs.Trace.{startOf, entryOf, back, atOrigin, countBack, writeBack}

@@ -13,8 +13,8 @@ use Rattle.blocks.specs.declared.heights.Heights.{Heights}
 use Rattle.blocks.specs.Counts.{placeOf}
 use Rattle.blocks.specs.Heights.{noHeights, Room, Stacked, blockBefore}
 use Rattle.blocks.specs.laws.Heights.{stacked-nothing, stacked-room, back-stacked}
-use Rattle.starts.specs.Read.{columnsIn, countsAt, rowOf}
-use Rattle.starts.specs.laws.Columns.{few-floats, columns-few, row-figures, row-tables, row-before, row-since, tables-low, within-at, columns-in, under-at}
+use Rattle.candidates.specs.Read.{columnsIn, countsAt, rowOf}
+use Rattle.candidates.specs.laws.Columns.{few-floats, columns-few, row-figures, row-tables, row-before, row-since, tables-low, within-at, columns-in, under-at}
 use Rattle.starts.specs.laws.Floats.{figures-alone}
 use Rattle.weighing.specs.Count.{pairsInto, Weighable, CountableRow, RowCounted, CountableColumn, ColumnCount, ColumnCounted, AllCount}
 use Rattle.weighing.specs.laws.Columns.{weighed-columns}

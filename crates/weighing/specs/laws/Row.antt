@@ -15,10 +15,10 @@ use Rattle.blocks.specs.declared.heights.Heights.{Heights}
 use Rattle.blocks.specs.Counts.{Within}
 use Rattle.blocks.specs.Heights.{noHeights, Room, Stacked, blockBefore}
 use Rattle.blocks.specs.laws.Heights.{stacked-nothing, stacked-room, back-stacked}
-use Rattle.starts.specs.Beside.{Under, alone}
-use Rattle.starts.specs.Read.{countsAt, rowOf}
+use Rattle.candidates.specs.Beside.{Under, alone}
+use Rattle.candidates.specs.Read.{countsAt, rowOf}
 use Rattle.starts.specs.Sweep.{Layable, floatsAlone}
-use Rattle.starts.specs.laws.Columns.{row-next, row-grows, row-of, row-figures, row-tables, row-in, tables-low, within-at, under-at}
+use Rattle.candidates.specs.laws.Columns.{row-next, row-grows, row-of, row-figures, row-tables, row-in, tables-low, within-at, under-at}
 use Rattle.starts.specs.laws.Floats.{alone-at, floats-lay, alone-low}
 use Rattle.weighing.specs.Count.{pairsBetween, pairsInto, Between, CountableRow, RowCount, RowCounted}
 use Rattle.weighing.specs.laws.Past.{rows-in, past, short-none, between-at, over-none, tall-none, weighable-between}

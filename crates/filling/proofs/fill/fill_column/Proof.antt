@@ -2,7 +2,7 @@
 -- last one asks for, and it fills the column as if they had left nothing. Where the column has no start they leave it filled.
 use mathlib.Core.Path.{refl, _∙_}
 use native.Mathlib.Omega.{arith}
-use Rattle.starts.specs.laws.Columns.{few-floats}
+use Rattle.candidates.specs.laws.Columns.{few-floats}
 use Rattle.starts.specs.laws.Lending.{lent-room}
 use Rattle.starts.specs.laws.Cells.{lent-kept}
 use Rattle.filling.specs.laws.First.{columns-past, column-none}

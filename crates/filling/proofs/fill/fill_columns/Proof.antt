@@ -2,7 +2,7 @@
 -- what all columns make of those at the start.
 use Prim.Native.Nat.{_-_}
 use native.Mathlib.Omega.{arith}
-use Rattle.starts.specs.laws.Columns.{few-floats}
+use Rattle.candidates.specs.laws.Columns.{few-floats}
 use Rattle.filling.specs.Run.{ColumnsRun}
 use Rattle.filling.specs.laws.Columns.{columns-first, columns-done, columns-column, columns-next}
 use borrow.Author.Needs.{needs}

@@ -6,8 +6,8 @@ use mathlib.Core.Path.{_≡_, _∙_}
 use Rattle.blocks.specs.Heights.{noHeights}
 use Rattle.rules.specs.laws.Walked.{waiting-few}
 use Rattle.window.specs.Slide.{Slid}
-use Rattle.starts.specs.Read.{countsAt}
-use Rattle.starts.specs.laws.Columns.{few-floats, within-at}
+use Rattle.candidates.specs.Read.{countsAt}
+use Rattle.candidates.specs.laws.Columns.{few-floats, within-at}
 use Rattle.starts.specs.laws.Lending.{floats-separable}
 use Rattle.pricing.specs.Stop.{stopAt}
 use Rattle.filling.specs.Next.{plain}

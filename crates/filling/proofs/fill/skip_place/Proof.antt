@@ -1,8 +1,8 @@
 -- `skip_place` meets its contract. The loop's invariant is `SkipSides`: the sides before c are unreached.
 use Prim.Native.Nat.{_-_}
 use native.Mathlib.Omega.{arith}
-use Rattle.starts.specs.laws.Columns.{columns-few}
-use Rattle.starts.specs.laws.Lending.{stands-in}
+use Rattle.candidates.specs.laws.Columns.{columns-few}
+use Rattle.candidates.specs.laws.Read.{stands-in}
 use Rattle.filling.specs.Skip.{SkipSides}
 use Rattle.filling.specs.laws.Skip.{skip-first, skip-side, skip-place}
 use borrow.Author.Needs.{needs}

@@ -9,9 +9,9 @@ use Rattle.galley.specs.Model.{modelOf}
 use Rattle.rules.specs.laws.Sane.{sound-sane}
 use Rattle.rules.specs.laws.Walked.{waiting-few}
 use Rattle.places.specs.Columns.{placeAt}
-use Rattle.starts.specs.Better.{chosen}
-use Rattle.starts.specs.Search.{priced}
-use Rattle.starts.specs.Read.{tableIn}
+use Rattle.candidates.specs.Better.{chosen}
+use Rattle.candidates.specs.Search.{priced}
+use Rattle.candidates.specs.Read.{tableIn}
 use Rattle.starts.specs.laws.Lending.{can-stand}
 use Rattle.filling.specs.laws.Own.{end-stops, end-cost}
 use Rattle.filling.specs.laws.NewEntry.{entry-origin, entry-forbidden, entry-proper, entry-told, cost-low}

@@ -1,7 +1,7 @@
 -- `sweep_end` meets its contract: by the test on the column.
 use native.Mathlib.Omega.{arith}
 use borrow.Author.Tests.{eq-eqb, ne-eqb}
-use Rattle.starts.specs.laws.Columns.{columns-few}
+use Rattle.candidates.specs.laws.Columns.{columns-few}
 use Rattle.starts.proofs.sweep.sweep_end.Statement.{statement}
 use Rattle.starts.proofs.sweep.sweep_end.Tie as tie
 

@@ -1,7 +1,7 @@
 -- `all_pairs` meets its contract. The loop's invariant is `AllCount`: the pages that end in columns before q are counted.
 use Prim.Native.Nat.{_-_}
 use native.Mathlib.Omega.{arith}
-use Rattle.starts.specs.laws.Columns.{few-floats}
+use Rattle.candidates.specs.laws.Columns.{few-floats}
 use Rattle.weighing.specs.Count.{AllCount}
 use Rattle.weighing.specs.laws.Count.{all-first, all-few, all-next, all-last}
 use borrow.Author.Needs.{needs}

@@ -1,7 +1,7 @@
 -- `pairs_into` meets its contract. The loop's invariant is `ColumnCount`: the pages from rows with b figures and more are counted. Where
 -- the figures alone are too tall, no earlier row adds anything.
 use native.Mathlib.Omega.{arith}
-use Rattle.starts.specs.laws.Columns.{few-floats}
+use Rattle.candidates.specs.laws.Columns.{few-floats}
 use Rattle.weighing.specs.Count.{ColumnCount}
 use Rattle.weighing.specs.laws.Count.{end-few, column-first, column-last, column-room, column-row, column-adds, column-tall}
 use borrow.Author.Needs.{needs}

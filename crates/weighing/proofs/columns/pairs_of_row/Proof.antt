@@ -2,7 +2,7 @@
 -- counted. Where the floats alone are too tall, no earlier column of the row adds anything.
 use native.Mathlib.Omega.{arith}
 use mathlib.Core.Path.{refl}
-use Rattle.starts.specs.laws.Columns.{few-floats}
+use Rattle.candidates.specs.laws.Columns.{few-floats}
 use Rattle.weighing.specs.Count.{RowCount}
 use Rattle.weighing.specs.laws.Row.{tables-few, row-first, row-last, row-room, row-lays, row-between, row-tall, row-adds}
 use borrow.Author.Needs.{needs}

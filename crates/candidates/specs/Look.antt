@@ -1,0 +1,40 @@
+-- Lines of a column that are not reached: found by looking at them, or known to stand before the origin of the search.
+use Prim.Native.Nat.{ℕ, _+_, _≤_, _<_}
+use mathlib.Core.Path.{_≡_}
+use mathlib.Core.List.{List}
+use Rattle.galley.specs.declared.Galley.{Galley}
+use Rattle.blocks.specs.declared.Counts.{Counts}
+use Rattle.places.specs.declared.Place.{Place}
+use Rattle.places.specs.declared.Entry.the-variants.{Unreached, Least}
+use Rattle.window.specs.Queue.{linesOf}
+use Rattle.candidates.specs.Read.{tableIn, countsAt}
+
+-- No line of column j from `from` on and before `to` is reached on the first n sides.
+pub record Quiet (g : Galley) (w : List ℕ) (j n from to : ℕ) : Type 0 where
+  pub none : (a c : ℕ) → from ≤ a → a < to → c < n → tableIn g w a j c ≡ Unreached
+
+-- r is no later than `to` and no earlier than `from`, and no line from `from` on and before r is reached on the side.
+pub record FoundOn (w : List ℕ) (tall column side from to r : ℕ) : Type 0 where
+  pub since : from ≤ to → from ≤ r
+  pub within : r ≤ to
+  pub quiet : (a : ℕ) → from ≤ a → a < r → linesOf w tall column side a ≡ Unreached
+
+-- r is at most one past the last line and no earlier than `from`, and no line from `from` on and before r is reached on a side that
+-- occurs.
+pub record Found (g : Galley) (w : List ℕ) (j from r : ℕ) : Type 0 where
+  pub since : from ≤ g .text .count + 1 → from ≤ r
+  pub within : r ≤ g .text .count + 1
+  pub quiet : Quiet g w j (g .spec .sides) from r
+
+-- The same of the first c sides.
+pub record LookRun (g : Galley) (w : List ℕ) (j from first c : ℕ) : Type 0 where
+  pub order : c ≤ g .spec .sides
+  pub since : from ≤ g .text .count + 1 → from ≤ first
+  pub within : first ≤ g .text .count + 1
+  pub quiet : Quiet g w j c from first
+
+-- Whatever is reached in the columns before j has the origin's counts or more in every stream: nothing before the origin is a start.
+pub record PastOrigin (g : Galley) (w : List ℕ) (j : ℕ) (origin : Counts) : Type 0 where
+  pub line : origin .lines ≤ g .text .count
+  pub past : (a b c x : ℕ) (s : Place) → a ≤ g .text .count → b < j → c < g .spec .sides → tableIn g w a b c ≡ Least x s
+      → (origin .lines ≤ a) × (origin .figures ≤ countsAt g 0 b .figures) × (origin .tables ≤ countsAt g 0 b .tables)

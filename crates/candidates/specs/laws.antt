@@ -1,0 +1,12 @@
+-- The laws of the starts that a page may have.
+pub mod Choice
+pub mod Found
+pub mod Heights
+pub mod Pages
+pub mod White
+pub mod Columns
+pub mod Read
+pub mod Lines
+pub mod Look
+pub mod Cells
+pub mod Clean
