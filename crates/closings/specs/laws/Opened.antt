@@ -7,11 +7,11 @@ use mathlib.Core.List.{List, _∷_}
 use lib.Dec.{eqb}
 use Rattle.model.specs.Gather.{pick, row}
 use Rattle.model.specs.Galley as model
-use Rattle.model.specs.Galley.{single, double, streams, zeros}
+use Rattle.model.specs.Galley.{single, double, respecified, streams, zeros}
 use Rattle.model.specs.Leaf.{sidesOf}
 use Rattle.model.specs.Book.{sidesOn, openOn}
 use Rattle.galley.specs.declared.Galley.{Galley}
-use Rattle.galley.specs.Model.{sidesIn, streamsOf, floatStreams, modelOf}
+use Rattle.galley.specs.Model.{streamsOf, floatStreams, modelOf}
 use Rattle.places.specs.Columns.{columns, floatSizes, floatsAt, placeAt}
 use Rattle.closings.specs.Chapter.{onFolio}
 
@@ -19,26 +19,13 @@ use Rattle.closings.specs.Chapter.{onFolio}
 pub model-on : (bytes : List ℕ) (f : ℕ) (g : Galley) → modelOf bytes (onFolio f g) ≡ openOn f (modelOf bytes g)
 unfolding openOn sidesOf floatStreams
 model-on bytes f g =
-    ap (λ (t : ℕ → model.Stream). record { spec = withSides (sidesIn (onFolio f g)); floats = floatStreams g; stream = t }) (fun-ext stream)
-    ∙ ap (λ (s : model.Sides). record { spec = withSides s; floats = floatStreams g; stream = streamsOf bytes g }) (sides (eqb (g .spec .sides) 2))
+    ap (λ (t : ℕ → model.Stream). record { spec = modelOf bytes (onFolio f g) .spec; floats = floatStreams g; stream = t }) (fun-ext stream)
+    ∙ ap (λ (s : model.Sides). respecified (g .spec .htmin) s (g .spec .lastmin) (modelOf bytes g)) (sides (eqb (g .spec .sides) 2))
   where
     stream : (s : ℕ) → streamsOf bytes (onFolio f g) s ≡ streamsOf bytes g s
     stream zero = refl
     stream (suc zero) = refl
     stream (suc (suc s)) = refl
-
-    withSides : model.Sides → model.Spec
-    withSides s =
-        record {
-          htmin = g .spec .htmin;
-          htmax = g .spec .htmax;
-          smin = g .spec .smin;
-          smax = g .spec .smax;
-          sides = s;
-          alpha = g .spec .alpha;
-          beta = g .spec .beta;
-          lastmin = g .spec .lastmin;
-        }
 
     sides : (b : Bool) → pick b (double f) single ≡ sidesOn f (pick b (double (g .folio)) single)
     sides true = unfold sidesOn in refl
