@@ -1,8 +1,9 @@
-"""Nothing stands in the sources for nobody.
+"""Nothing stands in the sources for nobody, and what the documents list of the tree is what it has.
 
 A name that a `use` brings in and its file does not use fails, and so does a definition or law that nothing reaches. Reached is what
-a function, a proof of one, a promise, the table of cases, or docs/PROMISES.md cites, and whatever that cites in turn. Two faults are
-planted first, so that the test is known to find them.
+a function, a proof of one, a promise, the table of cases, or docs/PROMISES.md cites, and whatever that cites in turn. So does a list of
+the crates, of the model's files or of the tests' parts that is not whole. Three faults are planted first, so that the test is known to
+find them.
 """
 import pathlib
 import re
@@ -82,26 +83,42 @@ def uncited(sources):
                     yield f'{source.path.relative_to(ROOT)}:{declaration.first + 1}: nothing cites {declaration.name}'
 
 
-def faults(sources):
-    return [*unused(sources), *uncited(sources)]
+def untold(readme):
+    """What a document lists and the tree has not, or the other way round."""
+    contributing = (ROOT / 'docs/CONTRIBUTING.md').read_text()
+    crates = re.findall(r'^(\w+):', (ROOT / 'crates.txt').read_text(), re.M)
+    files = re.findall(r'^pub mod (\w+)$', (CRATES / 'model/specs/Lib.antt').read_text(), re.M)
+    parts = [path.name for path in (ROOT / 'tests').iterdir() if path.is_dir() or not path.suffix]
+    for document, told, there in (
+            ('README.md, Layout', re.findall(r'^\| `crates/(\w+)` \|', readme, re.M), crates),
+            ('README.md, Reading the model', re.findall(r'`([A-Z]\w+)`', readme.split('## Reading the model')[1]), set(files) - {'laws'}),
+            ('docs/CONTRIBUTING.md, The gate', re.findall(r'`tests/(\w+)`(?=.*\|$)', contributing, re.M), set(parts) - {'run', '__pycache__'})):
+        for name in sorted(set(told) ^ set(there)):
+            yield f'{document}: {name} is {"not there" if name in told else "not listed"}'
 
 
-def planted():
-    """What is found in a file with a law that nothing cites and a name that it brings in for nothing."""
+def faults(sources, readme):
+    return [*unused(sources), *uncited(sources), *untold(readme)]
+
+
+def planted(readme):
+    """What is found with a law that nothing cites, a name that a file brings in for nothing and a crate that is not there."""
     path = CRATES / 'model/specs/Leaf.antt'
     text = path.read_text() + '\n-- A law of nothing.\npub planted-law : ℕ → ℕ\nplanted-law q = leaf single q\n'
     text = text.replace('use lib.Dec.{eqb}', 'use lib.Dec.{eqb, planted-name}')
-    return [fault for fault in faults(names.read(CRATES, {path: text})) if 'planted' in fault]
+    listed = readme.replace('| `crates/model` |', '| `crates/planted` |')
+    return [fault for fault in faults(names.read(CRATES, {path: text}), listed) if 'planted' in fault]
 
 
 def main():
-    found = faults(names.read(CRATES))
+    readme = (ROOT / 'README.md').read_text()
+    found = faults(names.read(CRATES), readme)
     for fault in found:
         print(fault)
-    caught = planted()
-    print(f'two faults planted, {len(caught)} found')
-    failed = len(found) + (len(caught) != 2)
-    print(f'{2 - (len(found) > 0) - (len(caught) != 2)} passed, {failed} failed')
+    caught = planted(readme)
+    print(f'three faults planted, {len(caught)} found')
+    failed = len(found) + (len(caught) != 3)
+    print(f'{2 - (len(found) > 0) - (len(caught) != 3)} passed, {failed} failed')
     return 1 if failed else 0
 
 

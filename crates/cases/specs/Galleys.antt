@@ -6,7 +6,7 @@ use Prim.Native.Nat.{ℕ}
 use lib.ListN.{replicate}
 use lib.Dec.{eqb}
 use Rattle.model.specs.Gather.{pick}
-use Rattle.model.specs.Galley.{Sides, single, double, Spec, Galley}
+use Rattle.model.specs.Galley.{Sides, single, double, Spec, Galley, respecified}
 use Rattle.cases.specs.Case.{Block, streamOf, galleyOf}
 
 -- A specification of the first edition.
@@ -177,18 +177,4 @@ keeping k g =
 
 -- A galley under the second edition, which holds its last page to a height.
 unfoldable pub closing : ℕ → Galley → Galley
-closing least g =
-    record {
-      spec = record {
-        htmin = g .spec .htmin;
-        htmax = g .spec .htmax;
-        smin = g .spec .smin;
-        smax = g .spec .smax;
-        sides = g .spec .sides;
-        alpha = g .spec .alpha;
-        beta = g .spec .beta;
-        lastmin = least;
-      };
-      floats = g .floats;
-      stream = g .stream;
-    }
+closing least g = respecified (g .spec .htmin) (g .spec .sides) least g

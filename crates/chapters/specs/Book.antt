@@ -30,6 +30,11 @@ pub data Outcome : Type 0 where
   read : List Chapter → Outcome
   refused : ℕ → ℕ → Outcome
 
+-- The chapters of a book, none where it was refused.
+unfoldable pub chaptersIn : Outcome → List Chapter
+chaptersIn (read cs) = cs
+chaptersIn (refused number place) = []
+
 -- What the chapters' lengths come to (document 02, S-9).
 unfoldable pub allBytes : List ℕ → ℕ
 allBytes [] = 0

@@ -8,16 +8,16 @@ use lib.Dec.{eqb, ltb}
 use Rattle.model.specs.Gather.{pick}
 use Rattle.model.specs.Galley.{Sides}
 use Rattle.galley.specs.declared.Galley.{Galley}
-use Rattle.galley.specs.Model.{sidesIn, modelOf}
+use Rattle.galley.specs.Model.{sidesIn}
 use Rattle.galley.specs.Sound.{Sound}
 use Rattle.places.specs.declared.Origin.{Origin}
 use Rattle.places.specs.Address.{wordsNeeded}
 use Rattle.candidates.specs.Search.{Table}
 use Rattle.candidates.specs.Read.{tableIn, columnsIn, FewFloats}
-use Rattle.filling.specs.Fill.{filled}
 use Rattle.walk.specs.declared.Stop.{Stop}
 use Rattle.walk.specs.Trace.{back}
 use Rattle.walk.specs.Traceable.{blocksIn, fullPlace, Visits, Walkable}
+use Rattle.solving.specs.Solved.{TabledFrom}
 
 -- The galley opened on another folio (document 02, S-9).
 abbrev pub onFolio : ℕ → Galley → Galley
@@ -32,12 +32,9 @@ pub record ChapterRoom (bytes : List ℕ) (g : Galley) (w : List ℕ) : Type 0 w
   pub sound : Sound bytes g
   pub room : wordsNeeded (g .text .count) (columnsIn g) ≤ length w
 
--- A work area that was so filled, whatever it held before.
-pub record Tabled (bytes : List ℕ) (g : Galley) (w : List ℕ) : Type 0 where
-  pub sound : Sound bytes g
-  pub before : List ℕ
-  pub enough : wordsNeeded (g .text .count) (columnsIn g) ≤ length before
-  pub is : w ≡ filled (modelOf bytes g) nothingYet before
+-- A work area that was filled from there, whatever it held before.
+abbrev pub Tabled : List ℕ → Galley → List ℕ → Type 0
+Tabled bytes g w = TabledFrom bytes g nothingYet w
 
 -- The galley's counts are within document 01's limits.
 pub record Counted (g : Galley) : Type 0 where

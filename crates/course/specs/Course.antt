@@ -21,11 +21,10 @@ use Rattle.galley.specs.Whole.{galleyOf}
 use Rattle.galley.specs.Model.{sidesIn, modelOf}
 use Rattle.needs.specs.Needs.{workNeeded, listNeeded}
 use Rattle.chapters.specs.declared.Book.{Book}
-use Rattle.chapters.specs.Book.{Chapter, read, bookOf, largest, bookList}
+use Rattle.chapters.specs.Book.{Chapter, read, chaptersIn, bookOf, largest, bookList}
 use Rattle.closings.specs.Chapter.{onFolio}
 use Rattle.course.specs.declared.Sums.{Sums}
 use Rattle.course.specs.Chapter.{closingList}
-use Rattle.course.specs.Weighed.{chaptersIn}
 
 -- A galley opened on a folio, as the page model has it.
 abbrev pub modelOn : List ℕ → Galley → ℕ → model.Galley

@@ -9,12 +9,7 @@ use Rattle.galley.specs.declared.Reading.the-variants as reads
 use Rattle.galley.specs.Whole.{galleyOf}
 use Rattle.galley.specs.Model.{modelOf}
 use Rattle.chapters.specs.declared.Book.{Book}
-use Rattle.chapters.specs.Book.{Chapter, Outcome, read, refused, bookOf}
-
--- The chapters of a book, none where it was refused.
-unfoldable pub chaptersIn : Outcome → List Chapter
-chaptersIn (read cs) = cs
-chaptersIn (refused number place) = []
+use Rattle.chapters.specs.Book.{Chapter, read, bookOf}
 
 -- What is weighed of all chapters; the folio on which a chapter opens is not looked at (document 02, S-5 and S-9).
 unfoldable pub allWeighed : List Chapter → ℕ

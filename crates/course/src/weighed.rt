@@ -1,8 +1,8 @@
 // What is weighed of all chapters of a book: whatever the folio on which a chapter opens.
 ghost use mathlib.Core.Path.{_≡_};
-ghost use Rattle.chapters.specs.Book.{bookOf};
+ghost use Rattle.chapters.specs.Book.{chaptersIn, bookOf};
 ghost use Rattle.chapters.specs.Steps.{Reads};
-ghost use Rattle.course.specs.Weighed.{BookRead, chaptersIn, allWeighed, ChapterWeighed};
+ghost use Rattle.course.specs.Weighed.{BookRead, allWeighed, ChapterWeighed};
 use blocks::Counts;
 use chapters::Book;
 

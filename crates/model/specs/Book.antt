@@ -8,7 +8,7 @@ use lib.ListN.{length}
 use lib.Dec.{leb}
 use Rattle.model.specs.declared.answer.Answer.{Answer}
 use Rattle.model.specs.declared.answer.Answer.the-variants.{Counted, Refused}
-use Rattle.model.specs.Galley.{Sides, single, double, Galley, Place, zeros}
+use Rattle.model.specs.Galley.{Sides, single, double, Galley, respecified, Place, zeros}
 use Rattle.model.specs.Leaf.{leaf}
 use Rattle.model.specs.Turns.{xOf}
 use Rattle.model.specs.White.{white}
@@ -23,21 +23,7 @@ sidesOn f (double e) = double f
 
 -- A chapter that opens on folio f (document 02, S-9).
 unfoldable pub openOn : ℕ → Galley → Galley
-openOn f g =
-    record {
-      spec = record {
-        htmin = g .spec .htmin;
-        htmax = g .spec .htmax;
-        smin = g .spec .smin;
-        smax = g .spec .smax;
-        sides = sidesOn f (g .spec .sides);
-        alpha = g .spec .alpha;
-        beta = g .spec .beta;
-        lastmin = g .spec .lastmin;
-      };
-      floats = g .floats;
-      stream = g .stream;
-    }
+openOn f g = respecified (g .spec .htmin) (sidesOn f (g .spec .sides)) (g .spec .lastmin) g
 
 -- The folio of the first page in work of this sidedness (document 02, S-1); single-sided work counts from 1.
 unfoldable pub folioIn : Sides → ℕ

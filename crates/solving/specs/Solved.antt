@@ -9,7 +9,10 @@ use Rattle.galley.specs.declared.Galley.{Galley}
 use Rattle.galley.specs.declared.Reading.the-variants as reads
 use Rattle.galley.specs.Whole.{galleyOf}
 use Rattle.galley.specs.Model.{modelOf}
+use Rattle.galley.specs.Sound.{Sound}
 use Rattle.places.specs.declared.Origin.{Origin}
+use Rattle.places.specs.Address.{wordsNeeded}
+use Rattle.candidates.specs.Read.{columnsIn}
 use Rattle.filling.specs.Fill.{filled}
 use Rattle.needs.specs.Needs.{workNeeded, listNeeded}
 use Rattle.solving.specs.Begun.{Opened}
@@ -26,7 +29,14 @@ pub record Soluble (bytes : List ℕ) (g : Galley) (opening : List ℕ) (from : 
   pub enough : workNeeded g ≤ length work
   pub room : listNeeded g ≤ length list
 
--- The work area was filled, whatever it held before, and the page list is long enough.
+-- A work area that was filled from where making begins, whatever it held before.
+pub record TabledFrom (bytes : List ℕ) (g : Galley) (from : Origin) (work : List ℕ) : Type 0 where
+  pub sound : Sound bytes g
+  pub before : List ℕ
+  pub enough : wordsNeeded (g .text .count) (columnsIn g) ≤ length before
+  pub is : work ≡ filled (modelOf bytes g) from before
+
+-- The work area was so filled, and the page list is long enough.
 pub record Solved (bytes : List ℕ) (g : Galley) (opening : List ℕ) (from : Origin) (work list : List ℕ) : Type 0 where
   pub reads : galleyOf bytes ≡ reads.Galley g
   pub opened : Opened bytes g opening from

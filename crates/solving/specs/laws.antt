@@ -7,4 +7,5 @@ pub mod Copied
 pub mod Begun
 pub mod Back
 pub mod Written
+pub mod Tabled
 pub mod Solved

@@ -7,5 +7,6 @@ pub mod Lists
 pub mod Ties
 pub mod Theorem
 pub mod Opening
+pub mod Following
 pub mod Best
 pub mod LeastAfter

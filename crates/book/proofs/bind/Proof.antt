@@ -1,5 +1,6 @@
 -- `bind` meets its contract: the best of the routes at the end is the best choice, or there is none, and the chapters along it are made.
 use borrow.Author.Needs.{needs}
+use native.Mathlib.Omega.{arith}
 use mathlib.Core.Path.{refl}
 use Rattle.book.specs.laws.Bind.{bind-read, bind-none, bind-found, bind-countable, bind-best}
 use Rattle.book.proofs.bind.Statement.{statement}
@@ -7,7 +8,7 @@ use Rattle.book.proofs.bind.Tie as tie
 
 returns : tie.Need-returns
 returns c =
-    bind-none (c .before .before .before .before .before .before .before .before .before .before .before .before .before .before .pre) _ (c .before .before .before .before .before .before .before .before .before .all-weighed .ensures) (c .before .before .before .before .before .before .all-routes .ensures) _ (c .before .before .best-end .ensures) (c .before .if1 .taken) _ (c .refused .ensures)
+    bind-none (c .before .before .before .before .before .before .before .before .before .before .before .before .before .before .pre) _ (c .before .before .before .before .before .before .before .before .before .all-weighed .ensures) (c .before .before .before .before .before .before .all-routes .ensures) _ (c .before .before .best-end .ensures) (omega (arith, c .before .if1 .taken)) _ (c .refused .ensures)
 
 along-requires : tie.Need-along-requires
 along-requires c κs =

@@ -4,8 +4,8 @@ use native.Mathlib.Omega.{arith}
 use mathlib.Core.Path.{refl}
 use lib.ListN.{length}
 use Rattle.galley.specs.laws.Sound.{sound}
+use Rattle.chapters.specs.laws.Lengths.{lent-is}
 use Rattle.course.specs.laws.Course.{one-galley}
-use Rattle.course.specs.laws.Room.{extent-bytes}
 use Rattle.book.specs.laws.Count.{count-first}
 use Rattle.book.proofs.counted.Statement.{statement}
 use Rattle.book.proofs.counted.Tie as tie
@@ -17,7 +17,7 @@ within c = rw (c .extent-of .ensures) (omega arith, count-first (c .before .befo
 galley-in-requires : tie.Need-galley-in-requires
 galley-in-requires c κs =
     let at = count-first (c .before .before .before .before .pre) in
-    rw (extent-bytes (c .before .before .before .before .args .galleys .now) (c .before .before .before .before .args .lengths .now) 0 (c .before .extent-of .result) (c .before .extent-of .ensures)) (at .galley, at .reads)
+    rw (lent-is (c .before .before .before .before .args .galleys .now) (c .before .before .before .before .args .lengths .now) 0 (c .before .extent-of .result) (c .before .extent-of .ensures)) (at .galley, at .reads)
 
 leaves-requires : tie.Need-leaves-requires
 leaves-requires c κs =
@@ -33,7 +33,7 @@ turned-requires c κs =
 returns : tie.Need-returns
 returns c = λ g e.
     let read =
-    rw (extent-bytes (c .before .before .before .before .before .before .before .args .galleys .now) (c .before .before .before .before .before .before .before .args .lengths .now) 0 (c .before .before .before .before .extent-of .result) (c .before .before .before .before .extent-of .ensures)) at (c .before .before .galley-in .ensures) in
+    rw (lent-is (c .before .before .before .before .before .before .before .args .galleys .now) (c .before .before .before .before .before .before .before .args .lengths .now) 0 (c .before .before .before .before .extent-of .result) (c .before .before .before .before .extent-of .ensures)) at (c .before .before .galley-in .ensures) in
     let same = one-galley _ (c .before .before .galley-in .result) g read e in
     rw (c .turned .ensures, c .before .leaves .ensures .0, same) refl
 

@@ -16,7 +16,7 @@ use Rattle.galley.specs.Model.{modelOf}
 use Rattle.chapters.specs.declared.Book.{Book}
 use Rattle.chapters.specs.Book.{Chapter, modelsOf, largest}
 use Rattle.chapters.specs.laws.Chapters.{chapter-at}
-use Rattle.chapters.specs.laws.Later.{read-same}
+use Rattle.chapters.specs.laws.Later.{chapters-read, read-same}
 use Rattle.chapters.specs.laws.Alike.{all-alike}
 use Rattle.course.specs.declared.Sums.{Sums}
 use Rattle.course.specs.Trace.{followed, Followable}
@@ -24,7 +24,6 @@ use Rattle.course.specs.Course.{noSums, listsOf, sumsOf, over, writtenOf, Cours
 use Rattle.course.specs.laws.Chapter.{closing-is-valid}
 use Rattle.course.specs.laws.Words.{written-all}
 use Rattle.course.specs.laws.Along.{course-leads, course-sums, sums-at}
-use Rattle.course.specs.laws.Room.{chapters-read}
 use Rattle.book.specs.Bind.{RouteFound, AlongMade}
 
 -- A course through a chapter at least has a page.
@@ -97,7 +96,7 @@ module _ {bytes lengths : List ℕ} {book : Book} {from : List ℕ} {last : ℕ}
         → AlongMade bytes lengths work list sums work′ list′
     along-made {sums} {work′} {list′} m =
         let choice = p .route .choice in
-        let read-is = chapters-read bytes lengths (first ∷ rest) (p .lent .room .is) in
+        let read-is = chapters-read (p .lent .room .is) in
         let lists : listsOf (first ∷ rest) folios ≡ choice =
         ap (listsOf (first ∷ rest)) course-is ∙ course-leads _ last (p .route .few) after _ (first ∷ rest) choice (p .route .folios) alike (p .route .course) .0 in
         let adds : sums ≡ sumsOf (first ∷ rest) folios noSums = m .adds ∙ ap (λ cs. sumsOf cs folios noSums) read-is in

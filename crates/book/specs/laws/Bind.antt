@@ -10,15 +10,14 @@ use Rattle.galley.specs.declared.Galley.{Galley}
 use Rattle.galley.specs.declared.Reading.the-variants as reads
 use Rattle.galley.specs.Whole.{galleyOf}
 use Rattle.chapters.specs.declared.Book.{Book}
-use Rattle.chapters.specs.Book.{Chapter, bookOf, modelsOf, chapterBytes}
-use Rattle.chapters.specs.laws.Later.{read-same}
+use Rattle.chapters.specs.Book.{Chapter, chaptersIn, bookOf, modelsOf, chapterBytes}
+use Rattle.chapters.specs.laws.Later.{chapters-read, read-same}
 use Rattle.chapters.specs.laws.Chapters.{chapter-at}
 use Rattle.routes.specs.declared.Routes.{Routes}
 use Rattle.routes.specs.Routes.{bestEnd}
 use Rattle.routes.specs.Next.{AllRouted}
 use Rattle.course.specs.declared.Sums.{Sums}
-use Rattle.course.specs.Weighed.{chaptersIn, allWeighed, BookRead}
-use Rattle.course.specs.laws.Room.{chapters-read}
+use Rattle.course.specs.Weighed.{allWeighed, BookRead}
 use Rattle.book.specs.declared.BookMade.{BookMade}
 use Rattle.book.specs.Make.{toldOf}
 use Rattle.book.specs.Bind.{BookLent, RouteFound, AlongMade, Countable, countedOf, Best}
@@ -37,7 +36,7 @@ module _ {bytes lengths : List ℕ} {book : Book} {work list : List ℕ} (p : Bo
 
   -- What is weighed of its chapters.
   all-weighed : (count : ℕ) → count ≡ allWeighed (chaptersIn (bookOf bytes lengths)) → count ≡ allWeighed (first ∷ rest)
-  all-weighed count is = is ∙ ap allWeighed (chapters-read bytes lengths (first ∷ rest) (p .room .is))
+  all-weighed count is = is ∙ ap allWeighed (chapters-read (p .room .is))
 
   module _ (count : ℕ) (weighed : count ≡ allWeighed (chaptersIn (bookOf bytes lengths))) {work₁ from : List ℕ} {routes : Routes}
       (routed : AllRouted bytes lengths work work₁ routes from) (last : ℕ) (told : last ≡ bestEnd (routes .one) (routes .two)) where

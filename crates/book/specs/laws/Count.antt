@@ -1,15 +1,16 @@
 -- The counts of a book are those of its best choice.
 use Prim.Native.Nat.{ℕ, _+_, _*_, _-_}
 use native.Mathlib.Omega.{arith}
-use mathlib.Core.Path.{_≡_, refl, sym, _∙_, ap}
+use mathlib.Core.Path.{_≡_, sym, _∙_, ap}
 use mathlib.Core.List.{List, [], _∷_}
 use mathlib.Core.Option.{Option, none, some}
 use Rattle.model.specs.declared.answer.Answer.the-variants.{Refused}
 use Rattle.model.specs.Galley as model
-use Rattle.model.specs.Galley.{Sides, single, double}
+use Rattle.model.specs.Galley.{Sides}
 use Rattle.model.specs.Leaf.{leaf}
 use Rattle.model.specs.Answers.{wordsOf}
-use Rattle.model.specs.Book.{sidesOn, folioIn, firstFolio, Choice, bookPages, bookX, bookY, bookTurns, bookWhite, bestBook, bookCounts, bookMade, bookWords, gathered}
+use Rattle.model.specs.Book.{firstFolio, Choice, bookPages, bookX, bookY, bookTurns, bookWhite, bestBook, bookCounts, bookMade, bookWords, gathered}
+use Rattle.theorems.specs.books.One.{own-sides}
 use Rattle.galley.specs.declared.Galley.{Galley}
 use Rattle.galley.specs.Model.{modelOf}
 use Rattle.chapters.specs.Book.{Chapter, modelsOf}
@@ -22,12 +23,6 @@ use Rattle.book.specs.Bind.{Countable, countedOf}
 -- The first chapter.
 pub count-first : {bytes lengths : List ℕ} {sums : Sums} (p : Countable bytes lengths sums) → ChapterAt bytes lengths (p .first) (p .rest) 0
 count-first {bytes} {lengths} p = chapter-at bytes lengths (p .first) (p .rest) (p .is) 0 (omega arith)
-
--- On its own folio a galley's sides are its own.
-own-sides : (s : Sides) → sidesOn (folioIn s) s ≡ s
-unfolding sidesOn folioIn
-own-sides single = refl
-own-sides (double f) = refl
 
 -- Where there is no choice the answer is 11, and no word is written.
 pub none-made : (gs : List model.Galley) → bestBook gs ≡ none → (bookMade gs ≡ Refused 11 0) × (bookWords gs ≡ [])

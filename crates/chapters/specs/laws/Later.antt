@@ -19,13 +19,9 @@ use Rattle.galley.specs.Place.{specSize}
 use Rattle.galley.specs.Sound.{Opening}
 use Rattle.galley.specs.Whole.{galleyOf}
 use Rattle.galley.specs.laws.Sound.{opening}
-use Rattle.chapters.specs.Book.{Chapter, Outcome, read, refused, allBytes, alike, hasFolio, before, later, laterFrom, chapterStart}
+use Rattle.chapters.specs.Book.{Chapter, Outcome, read, refused, chaptersIn, allBytes, alike, hasFolio, before, later, laterFrom, chapterStart}
 
 -- What was read is not refused, and is what it is.
-abbrev chaptersIn : Outcome → List Chapter
-chaptersIn (read cs) = cs
-chaptersIn (refused number place) = []
-
 pub unread : {A : Type 0} {number place : ℕ} {cs : List Chapter} → refused number place ≡ read cs → A
 unread e = let z : _≡_ {A = ℕ} 0 1 = ap kind e in absurd (omega arith)
   where
@@ -33,8 +29,13 @@ unread e = let z : _≡_ {A = ℕ} 0 1 = ap kind e in absurd (omega arith)
     kind (refused number place) = 0
     kind (read cs) = 1
 
+pub chapters-read : {o : Outcome} {cs : List Chapter} → o ≡ read cs → chaptersIn o ≡ cs
+unfolding chaptersIn
+chapters-read e = ap chaptersIn e
+
 pub read-same : {cs ds : List Chapter} → read cs ≡ read ds → cs ≡ ds
-read-same e = ap chaptersIn e
+unfolding chaptersIn
+read-same e = chapters-read e
 
 -- A chapter was taken only where the rest was.
 pub before-read : (c : Chapter) (rest : Outcome) (cs : List Chapter) → before c rest ≡ read cs

@@ -9,7 +9,8 @@ use lib.Seq.{slice, take-length, take-nil, drop-cons}
 use lib.Dec.{ltb, eqb}
 use borrow.Author.Tests.{ltb-false, eqb-true, eqb-false, not-true}
 use Rattle.model.specs.laws.Gather.{and-left, and-right}
-use Rattle.chapters.specs.Book.{allBytes, addsUp, chapterStart}
+use Rattle.chapters.specs.declared.extent.Extent.{Extent}
+use Rattle.chapters.specs.Book.{allBytes, addsUp, chapterStart, extentOf, chapterBytes}
 
 start-suc : (lengths : List ℕ) (i : ℕ) → i < length lengths → chapterStart lengths (suc i) ≡ chapterStart lengths i + getD lengths i 0
 unfolding allBytes
@@ -73,3 +74,11 @@ part-from (suc from) k (x ∷ l) = let e : suc from + k ≡ suc (from + k) = ome
 -- The bytes of a chapter as they are lent: so many after its start.
 pub part-slice : (from k : ℕ) (l : List ℕ) → take (from + k - from) (drop from l) ≡ slice from (from + k) l
 part-slice from k l = let e : from + k - from ≡ k = omega arith in ap (λ j. take j (drop from l)) e ∙ part-from from k l
+
+-- The bytes from one offset to another, as they are lent,
+abbrev pub lent : Extent → List ℕ → List ℕ
+lent e bytes = take (e .to - e .from) (drop (e .from) bytes)
+
+-- are those of the chapter that begins and ends there.
+pub lent-is : (bytes lengths : List ℕ) (k : ℕ) (e : Extent) → e ≡ extentOf lengths k → lent e bytes ≡ chapterBytes bytes lengths k
+lent-is bytes lengths k e is = rw is (part-slice (chapterStart lengths k) (getD lengths k 0) bytes)

@@ -29,7 +29,7 @@ use Rattle.solving.specs.Shown.{at, originOf, graphOf, tableAt, AllRight, Prope
 use Rattle.solving.specs.Back.{stateOf}
 use Rattle.solving.specs.laws.Back.{Walks, back-one}
 use Rattle.closings.specs.Chapter.{nothingYet, laterBack}
-use Rattle.closings.specs.laws.Chapter.{place-zeros}
+use Rattle.closings.specs.laws.Opened.{place-zeros}
 
 not-so : (b : Bool) → (b ≡ true → ⊥) → b ≡ false
 not-so false h = refl

@@ -4,10 +4,10 @@ use borrow.Author.Needs.{needs}
 use native.Mathlib.Omega.{arith}
 use mathlib.Core.Path.{_≡_, refl, _∙_}
 use lib.ListN.{length}
-use Rattle.chapters.specs.Book.{bookOf}
-use Rattle.course.specs.Weighed.{chaptersIn}
+use Rattle.chapters.specs.Book.{chaptersIn, bookOf}
+use Rattle.chapters.specs.laws.Lengths.{lent-is}
 use Rattle.course.specs.Course.{Making}
-use Rattle.course.specs.laws.Room.{extent-bytes, course-first, course-at, course-opens, course-chapter, course-next, course-done}
+use Rattle.course.specs.laws.Room.{course-first, course-at, course-opens, course-chapter, course-next, course-done}
 use Rattle.course.proofs.make_chapters.Statement.{statement}
 use Rattle.course.proofs.make_chapters.Tie as tie
 
@@ -29,12 +29,12 @@ opens c = course-opens (c .before .before .before .before .before .before .befor
 next-chapter-requires : tie.Need-next-chapter-requires Inv-loop μ-loop
 next-chapter-requires c κs =
     let st = c .before .before .before .before .before .before .before .before .loop in
-    rw (extent-bytes (c .before .before .before .before .before .before .before .before .before .before .before .before .before .before .args .galleys .now) (c .before .before .before .before .before .before .before .before .before .before .before .before .before .before .args .lengths .now) (st .k) (c .before .before .before .before .before .extent-of .result) (c .before .before .before .before .before .extent-of .ensures)) (course-chapter (c .before .before .before .before .before .before .before .before .before .before .before .before .before .before .pre) (c .before .before .before .before .before .before .if1 .taken) (st .inv .0) _ (st .inv .1))
+    rw (lent-is (c .before .before .before .before .before .before .before .before .before .before .before .before .before .before .args .galleys .now) (c .before .before .before .before .before .before .before .before .before .before .before .before .before .before .args .lengths .now) (st .k) (c .before .before .before .before .before .extent-of .result) (c .before .before .before .before .before .extent-of .ensures)) (course-chapter (c .before .before .before .before .before .before .before .before .before .before .before .before .before .before .pre) (c .before .before .before .before .before .before .if1 .taken) (st .inv .0) _ (st .inv .1))
 
 loop-again : tie.Need-loop-again Inv-loop μ-loop
 loop-again c =
     let st = c .before .before .before .before .before .before .before .before .before .before .before .before .before .loop in
-    let made = rw (extent-bytes (c .before .before .before .before .before .before .before .before .before .before .before .before .before .before .before .before .before .before .before .args .galleys .now) (c .before .before .before .before .before .before .before .before .before .before .before .before .before .before .before .before .before .before .before .args .lengths .now) (st .k) (c .before .before .before .before .before .before .before .before .before .before .extent-of .result) (c .before .before .before .before .before .before .before .before .before .before .extent-of .ensures)) at (c .before .before .before .before .next-chapter .ensures) in
+    let made = rw (lent-is (c .before .before .before .before .before .before .before .before .before .before .before .before .before .before .before .before .before .before .before .args .galleys .now) (c .before .before .before .before .before .before .before .before .before .before .before .before .before .before .before .before .before .before .before .args .lengths .now) (st .k) (c .before .before .before .before .before .before .before .before .before .before .extent-of .result) (c .before .before .before .before .before .before .before .before .before .before .extent-of .ensures)) at (c .before .before .before .before .next-chapter .ensures) in
     (course-next (c .before .before .before .before .before .before .before .before .before .before .before .before .before .before .before .before .before .before .before .pre) (c .before .before .before .before .before .before .before .before .before .before .before .if1 .taken) (st .inv .0) made, made .lent ∙ st .inv .1)
 
 returns : tie.Need-returns Inv-loop μ-loop

@@ -20,7 +20,7 @@ use Rattle.theorems.specs.books.Choosing.{AllAlike}
 use Rattle.theorems.specs.books.Course.{opensNext, Course, coursed}
 use Rattle.galley.specs.Model.{modelOf}
 use Rattle.chapters.specs.Book.{Chapter, modelsOf}
-use Rattle.closings.specs.laws.Chapter.{model-on}
+use Rattle.closings.specs.laws.Opened.{model-on}
 use Rattle.course.specs.declared.Sums.{Sums}
 use Rattle.course.specs.Chapter.{orNone}
 use Rattle.course.specs.Course.{modelOn, sideTo, listTo, LeadsTo, withList, listsOf, AllLead, sumsOf}

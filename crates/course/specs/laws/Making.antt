@@ -6,10 +6,9 @@ use mathlib.Core.List.{List, _∷_}
 use lib.ListN.{length, getD, drop, length-drop, drop-of-length-le}
 use lib.Seq.{drop-drop, getD-drop}
 use Rattle.model.specs.Answers.{wordsOf}
-use Rattle.chapters.specs.Book.{Chapter, bookOf, largest, bookList, chapterBytes}
+use Rattle.chapters.specs.Book.{Chapter, chaptersIn, bookOf, largest, bookList, chapterBytes}
 use Rattle.chapters.specs.laws.Chapters.{ChapterAt}
 use Rattle.course.specs.declared.Sums.{Sums}
-use Rattle.course.specs.Weighed.{chaptersIn}
 use Rattle.course.specs.Course.{listTo, LeadsTo, noSums, withList, modelOn, over, listsOf, AllLead, sumsOf, writtenOf, Small, SmallAfter, NextChapter, NextMade, CourseMade, Making}
 use Rattle.course.specs.laws.Course.{lead-fits}
 use Rattle.course.specs.laws.Words.{over-long}

@@ -1,35 +1,23 @@
 -- A book whose chapters are made one after another: what each turn may rest on.
-use Prim.Native.Nat.{ℕ, _+_, _-_, _≤_, _<_}
+use Prim.Native.Nat.{ℕ, _+_, _≤_, _<_}
 use native.Mathlib.Omega.{arith}
 use mathlib.Core.Path.{_≡_, refl, ap, subst}
 use mathlib.Core.List.{List, _∷_}
-use lib.ListN.{length, getD, take, drop}
+use lib.ListN.{length, getD}
 use Rattle.chapters.specs.declared.Book.{Book}
-use Rattle.chapters.specs.declared.extent.Extent.{Extent}
-use Rattle.chapters.specs.Book.{Chapter, read, bookOf, chapterStart, extentOf, chapterBytes}
-use Rattle.chapters.specs.laws.Lengths.{part-slice}
+use Rattle.chapters.specs.Book.{Chapter, chaptersIn, bookOf, chapterBytes}
+use Rattle.chapters.specs.laws.Later.{chapters-read}
 use Rattle.chapters.specs.laws.Chapters.{ChapterAt, chapter-at, chapters-many}
 use Rattle.course.specs.declared.Sums.{Sums}
-use Rattle.course.specs.Weighed.{chaptersIn}
 use Rattle.course.specs.Course.{noSums, NextChapter, NextMade, CourseRoom, CourseMade, Making}
 use Rattle.course.specs.laws.Making.{making-first, making-chapter, making-next, making-done}
-
--- The chapters of a book that was read.
-pub chapters-read : (bytes lengths : List ℕ) (cs : List Chapter) → bookOf bytes lengths ≡ read cs → chaptersIn (bookOf bytes lengths) ≡ cs
-unfolding chaptersIn
-chapters-read bytes lengths cs e = ap chaptersIn e
-
--- The bytes from where a chapter begins to where it ends are its own.
-pub extent-bytes : (bytes lengths : List ℕ) (k : ℕ) (e : Extent) → e ≡ extentOf lengths k
-    → take (e .to - e .from) (drop (e .from) bytes) ≡ chapterBytes bytes lengths k
-extent-bytes bytes lengths k e is = rw is (part-slice (chapterStart lengths k) (getD lengths k 0) bytes)
 
 module _ {bytes lengths : List ℕ} {book : Book} {folios work list : List ℕ} (p : CourseRoom bytes lengths book folios work list) where
   abbrev chapters : List Chapter
   chapters = p .first ∷ p .rest
 
   is-read : chaptersIn (bookOf bytes lengths) ≡ chapters
-  is-read = chapters-read bytes lengths chapters (p .is)
+  is-read = chapters-read (p .is)
 
   pub course-first : Making (chaptersIn (bookOf bytes lengths)) folios list 0 noSums list
   course-first = rw is-read (making-first chapters folios list (p .leads) (p .room))

@@ -25,11 +25,11 @@ use Rattle.candidates.specs.laws.Columns.{few-floats, columns-few, columns-in}
 use Rattle.weighing.specs.Columns.{pairsFrom}
 use Rattle.weighing.specs.laws.Columns.{weighed-columns}
 use Rattle.chapters.specs.declared.Book.{Book}
-use Rattle.chapters.specs.Book.{Chapter, bookOf, chapterBytes}
+use Rattle.chapters.specs.Book.{Chapter, chaptersIn, bookOf, chapterBytes}
+use Rattle.chapters.specs.laws.Later.{chapters-read}
 use Rattle.chapters.specs.laws.Chapters.{ChapterAt, chapter-at}
-use Rattle.course.specs.Weighed.{chaptersIn, allWeighed, BookRead, ChapterWeighed, Weighing}
+use Rattle.course.specs.Weighed.{allWeighed, BookRead, ChapterWeighed, Weighing}
 use Rattle.course.specs.laws.Course.{one-galley}
-use Rattle.course.specs.laws.Room.{chapters-read}
 
 -- Sums of numbers that are at most so much.
 below-most : (n most : ℕ) (f : ℕ → ℕ) → ((x : ℕ) → f x ≤ most) → below n f ≤ n * most
@@ -93,7 +93,7 @@ module _ {bytes lengths : List ℕ} {book : Book} (p : BookRead bytes lengths bo
   chapters = p .first ∷ p .rest
 
   is-read : chaptersIn (bookOf bytes lengths) ≡ chapters
-  is-read = chapters-read bytes lengths chapters (p .is)
+  is-read = chapters-read (p .is)
 
   pub weighing-first : Weighing (chaptersIn (bookOf bytes lengths)) 0 0
   weighing-first = record { within = omega arith; few = omega arith; goes = omega arith }

@@ -72,6 +72,22 @@ module _ {A : Type 0} (le : A → A → Bool) (o : Preference le) where
       go none (nothing e) = found (nil e)
       go (some y) (found f) = found (better x y xs f)
 
+  -- Whoever has the only first has what is found,
+  pub firstOf-is : (xs : List A) (x : A) → First x xs → ((y : A) → First y xs → y ≡ x) → firstOf le xs ≡ some x
+  firstOf-is xs x f only = go (firstOf le xs) (firstOf-found xs)
+    where
+      go : (r : Option A) → Found xs r → r ≡ some x
+      go none (nothing e) = absurd (List·Memᴰ·not-nil (subst (λ l. x ∈ l) e (f .among)))
+      go (some y) (found h) = ap some (only y h)
+
+  -- and whoever shows that there is none has that nothing is found.
+  pub firstOf-none : (xs : List A) → ((x : A) → x ∈ xs → ⊥) → firstOf le xs ≡ none
+  firstOf-none xs empty = go (firstOf le xs) (firstOf-found xs)
+    where
+      go : (r : Option A) → Found xs r → r ≡ none
+      go none h = refl
+      go (some y) (found h) = absurd (empty y (h .among))
+
 -- ps is the first of some lists by the order of preference.
 pub record LeastOf (g : Galley) (all : List (List Place)) (ps : List Place) : Type 0 where
   pub lawful : ps ∈ all
@@ -112,19 +128,13 @@ module _ (g : Galley) (all : List (List Place)) (sound : (ps : List Place) → p
 
   -- Whoever has the least list has the first,
   pub first-is : (ps : List Place) → LeastOf g all ps → firstOf (before g) all ≡ some ps
-  first-is ps a = go (firstOf (before g) all) first-makes
-    where
-      go : (r : Option (List Place)) → MakesOf g all r → r ≡ some ps
-      go none (impossible none-valid) = absurd (none-valid ps (a .lawful))
-      go (some qs) (makes b) = ap some (least-unique qs ps b a)
+  first-is ps a =
+      firstOf-is (before g) (before-preference g) all ps (record { among = a .lawful; ahead = a .ahead })
+      (λ qs f. least-unique qs ps (record { lawful = f .among; ahead = f .ahead }) a)
 
   -- and whoever shows that there is no list has that there is no first.
   pub first-none : ((ps : List Place) → ps ∈ all → ⊥) → firstOf (before g) all ≡ none
-  first-none empty = go (firstOf (before g) all) first-makes
-    where
-      go : (r : Option (List Place)) → MakesOf g all r → r ≡ none
-      go none m = refl
-      go (some qs) (makes b) = absurd (empty qs (b .lawful))
+  first-none = firstOf-none (before g) (before-preference g) all
 
 module _ (g : Galley) where
   -- ps is a valid list that no valid list comes before.

@@ -1,24 +1,20 @@
 -- The bytes of a chapter as they are lent: those from where it begins to where it ends.
-use Prim.Native.Nat.{ℕ, _+_, _-_, _≤_}
+use Prim.Native.Nat.{ℕ, _+_, _≤_}
 use native.Mathlib.Omega.{arith}
 use mathlib.Core.Path.{_≡_, sym, _∙_, ap, subst}
 use mathlib.Core.List.{List}
-use lib.ListN.{length, getD, take, drop}
+use lib.ListN.{length, getD}
 use Rattle.galley.specs.declared.Galley.{Galley}
 use Rattle.galley.specs.declared.Reading.the-variants as reads
 use Rattle.galley.specs.Whole.{galleyOf}
 use Rattle.chapters.specs.declared.extent.Extent.{Extent}
 use Rattle.chapters.specs.Book.{chapterStart, extentOf, chapterBytes}
 use Rattle.chapters.specs.Steps.{Reads}
-use Rattle.chapters.specs.laws.Lengths.{part-slice}
+use Rattle.chapters.specs.laws.Lengths.{lent, lent-is}
 use Rattle.routes.specs.declared.Routes.{Routes}
 use Rattle.routes.specs.Routes.{firstRoutes}
 use Rattle.routes.specs.Next.{NextRoom, Onward, Lies, Opens}
 use Rattle.routes.specs.laws.Next.{galley-same}
-
--- The bytes from one offset to another.
-abbrev pub lent : Extent → List ℕ → List ℕ
-lent e bytes = take (e .to - e .from) (drop (e .from) bytes)
 
 module _ {bytes lengths : List ℕ} {k : ℕ} (lies : Lies bytes lengths k) (e : Extent) (is : e ≡ extentOf lengths k) where
   -- It begins before it ends, within the bytes,
@@ -29,19 +25,16 @@ module _ {bytes lengths : List ℕ} {k : ℕ} (lies : Lies bytes lengths k) (e :
       omega (arith, lies .within)
 
   -- and what is lent is the chapter.
-  lent-is : lent e bytes ≡ chapterBytes bytes lengths k
-  lent-is = ap (λ (e : Extent). lent e bytes) is ∙ part-slice (chapterStart lengths k) (getD lengths k 0) bytes
-
   pub lent-reads : Reads (lent e bytes)
-  lent-reads = subst Reads (sym lent-is) (lies .holds)
+  lent-reads = subst Reads (sym (lent-is bytes lengths k e is)) (lies .holds)
 
   pub lent-room : {routes : Routes} {half : ℕ} {w from : List ℕ} → NextRoom (chapterBytes bytes lengths k) k routes half w from
       → NextRoom (lent e bytes) k routes half w from
-  lent-room {routes} {half} {w} {from} room = subst (λ b. NextRoom b k routes half w from) (sym lent-is) room
+  lent-room {routes} {half} {w} {from} room = subst (λ b. NextRoom b k routes half w from) (sym (lent-is bytes lengths k e is)) room
 
   pub lent-onward : {routes r : Routes} {from from′ : List ℕ} → Onward (lent e bytes) k routes from r from′
       → Onward (chapterBytes bytes lengths k) k routes from r from′
-  lent-onward {routes} {r} {from} {from′} on = subst (λ b. Onward b k routes from r from′) lent-is on
+  lent-onward {routes} {r} {from} {from′} on = subst (λ b. Onward b k routes from r from′) (lent-is bytes lengths k e is) on
 
 -- The routes before the first chapter, by the galley that it holds.
 pub lent-opens : {bytes lengths : List ℕ} (lies : Lies bytes lengths 0) (e : Extent) → e ≡ extentOf lengths 0 → (g : Galley)
@@ -49,4 +42,4 @@ pub lent-opens : {bytes lengths : List ℕ} (lies : Lies bytes lengths 0) (e : E
 lent-opens {bytes} {lengths} lies e is g holds r-is d told =
     r-is
     ∙ ap (λ (g : Galley). firstRoutes (g .spec .sides) (g .folio))
-    (galley-same (chapterBytes bytes lengths 0) d g told (ap galleyOf (sym (lent-is lies e is)) ∙ holds))
+    (galley-same (chapterBytes bytes lengths 0) d g told (ap galleyOf (sym (lent-is bytes lengths 0 e is)) ∙ holds))

@@ -21,7 +21,8 @@ use Rattle.candidates.specs.Read.{columnsIn}
 use Rattle.chapters.specs.laws.Alike.{sides-on}
 use Rattle.walk.specs.Traceable.{Traceable}
 use Rattle.closings.specs.Chapter.{onFolio, Tabled}
-use Rattle.closings.specs.laws.Chapter.{model-on, tabled-traceable}
+use Rattle.solving.specs.laws.Tabled.{tabled-traceable}
+use Rattle.closings.specs.laws.Opened.{model-on}
 
 -- Sides do not depend on the folio,
 pub side-of : (n f e q : ℕ) → side (sidesOf n f) q ≡ side (sidesOf n e) q

@@ -27,7 +27,8 @@ use Rattle.candidates.specs.Read.{tableIn, columnsIn}
 use Rattle.walk.specs.Trace.{entryOf}
 use Rattle.chapters.specs.laws.Alike.{sides-on}
 use Rattle.closings.specs.Chapter.{onFolio, Tabled}
-use Rattle.closings.specs.laws.Chapter.{model-on, closed-none, Closes, closed-best, closed-costs}
+use Rattle.closings.specs.laws.Opened.{model-on}
+use Rattle.closings.specs.laws.Chapter.{closed-none, Closes, closed-best, closed-costs}
 use Rattle.theorems.specs.pages.Sides.{side-side}
 use Rattle.routes.specs.declared.Route.the-variants.{Unreached, Least}
 use Rattle.routes.specs.Routes.{keptOf, isReached}

@@ -3,7 +3,6 @@ use Prim.Native.Nat.{ℕ, _+_, _-_, _*_, _≤_}
 use native.Mathlib.Nat.{le-refl, sub-zero, mul-comm, mul-le-mul, mul-le-mul-right}
 use native.Mathlib.Omega.{arith}
 use mathlib.Core.Path.{_≡_, refl, sym, _∙_, ap, subst}
-use mathlib.Core.Logic.{inl}
 use mathlib.Core.Bool.{Bool, true, false}
 use mathlib.Core.List.{List, [], _++_, append-assoc, append-nil}
 use lib.ListN.{length, take, drop, length-append, length-drop}
@@ -18,8 +17,8 @@ use Rattle.model.specs.laws.Lists.{_∈_}
 use Rattle.model.specs.laws.Words.{Shaped, length-words}
 use Rattle.model.specs.laws.Valid.{few-pages, valid-accepted}
 use Rattle.theorems.specs.turns.LeastTurns.{valid-counts}
-use Rattle.theorems.specs.turns.Bounds.{Limits, Narrow, narrow-limit}
-use Rattle.theorems.specs.pages.Opening.{accepted-follows}
+use Rattle.theorems.specs.turns.Bounds.{Limits, Narrow}
+use Rattle.theorems.specs.pages.Following.{accepted-follows}
 use Rattle.theorems.specs.pages.LeastAfter.{words-append}
 use Rattle.galley.specs.declared.Galley.{Galley}
 use Rattle.galley.specs.declared.Reading.the-variants as reads
@@ -35,45 +34,34 @@ use Rattle.places.specs.declared.Origin.{Origin}
 use Rattle.places.specs.declared.Entry.{Entry}
 use Rattle.places.specs.declared.Entry.the-variants.{Unreached, Least}
 use Rattle.places.specs.Columns.{columns, floatSizes}
-use Rattle.places.specs.laws.Address.{area-needed}
 use Rattle.candidates.specs.Read.{tableIn, columnsIn}
-use Rattle.candidates.specs.laws.Columns.{few-floats, columns-in}
-use Rattle.filling.specs.Fill.{tall}
-use Rattle.filling.specs.Filled.{Roomy, Light, Filled}
-use Rattle.filling.specs.laws.Fill.{length-filled, filled-all}
-use Rattle.filling.specs.laws.Price.{sound-limits, dearest-light}
+use Rattle.filling.specs.Filled.{Filled}
+use Rattle.filling.specs.laws.Price.{sound-limits}
 use Rattle.walk.specs.laws.Walk.{columns-in-some}
 use Rattle.walk.specs.declared.Stop.{Stop}
 use Rattle.walk.specs.Trace.{lastSide, entryOf, writeBack}
-use Rattle.walk.specs.Traceable.{isReached, blocksIn, WorkArea, fullPlace, lastStop, Visits, Traceable, Walkable, Writable, pagesBack}
+use Rattle.walk.specs.Traceable.{isReached, blocksIn, WorkArea, fullPlace, lastStop, Visits, Walkable, Writable, pagesBack}
 use Rattle.needs.specs.laws.Needs.{page-few}
-use Rattle.solving.specs.Shown.{lastPlace, AllRight, Proper}
+use Rattle.solving.specs.Shown.{AllRight, Proper}
 use Rattle.solving.specs.Back.{lastOf, Found}
-use Rattle.solving.specs.Solved.{Solved, Written}
+use Rattle.solving.specs.Solved.{TabledFrom, Solved, Written}
 use Rattle.solving.specs.laws.Last.{last-side}
-use Rattle.solving.specs.laws.Right.{table-right}
 use Rattle.solving.specs.laws.Back.{back-none, back-best}
 use Rattle.solving.specs.laws.Written.{best-valid, made-none, made-some}
+use Rattle.solving.specs.laws.Tabled.{last-place, tabled-narrow, tabled-filled, tabled-right, tabled-lent, tabled-traceable}
 
 -- A galley that was read keeps the ranges of documents 01 and 02.
 pub reads-limits : (bytes : List ℕ) (g : Galley) → galleyOf bytes ≡ reads.Galley g → Limits (modelOf bytes g)
 reads-limits bytes g e = sound-limits bytes g (sound bytes g e)
 
--- The last line and the last column are the full place.
-last-place : (bytes : List ℕ) (g : Galley) → lastPlace (modelOf bytes g) ≡ fullPlace g
-last-place bytes g = ap (λ (k : ℕ). record { line = g .text .count; column = k - 1 }) (columns-in bytes g)
-
 module _ {bytes : List ℕ} {g : Galley} {opening : List ℕ} {from : Origin} {work list : List ℕ}
     (solved : Solved bytes g opening from work list) where
-  light : Light (modelOf bytes g)
-  light = dearest-light bytes g (sound bytes g (solved .reads))
+  tabled : TabledFrom bytes g from work
+  unfolding columnsIn
+  tabled = record { sound = sound bytes g (solved .reads); before = solved .before; enough = solved .enough; is = solved .is }
 
   narrow : Narrow (modelOf bytes g)
-  narrow = narrow-limit (modelOf bytes g) (reads-limits bytes g (solved .reads))
-
-  room : Roomy (modelOf bytes g) (solved .before)
-  unfolding tall columnsIn
-  room = record { words = rw (columns-in bytes g, area-needed (g .text .count) (columnsIn g)) (solved .enough) }
+  narrow = tabled-narrow tabled
 
   proper : Proper (modelOf bytes g) (from .place)
   proper = solved .opened .proper
@@ -83,36 +71,13 @@ module _ {bytes : List ℕ} {g : Galley} {opening : List ℕ} {from : Origin} {w
   printed = pagesOf (modelOf bytes g) opening
 
   fill : Filled (modelOf bytes g) from (tableIn g work) 0 (columns (floatSizes (modelOf bytes g)))
-  unfolding tall
-  fill =
-      subst (λ w. Filled (modelOf bytes g) from (tableIn g w) 0 (columns (floatSizes (modelOf bytes g)))) (sym (solved .is))
-      (filled-all (modelOf bytes g) light from (solved .before) room)
+  fill = tabled-filled tabled
 
   right : AllRight (modelOf bytes g) from (tableIn g work)
-  unfolding tall
-  right =
-      subst (λ w. AllRight (modelOf bytes g) from (tableIn g w)) (sym (solved .is))
-      (table-right (modelOf bytes g) from proper light (solved .before) room)
+  right = tabled-right tabled proper
 
-  -- The work area is long enough for a walk over it,
   pub solved-lent : WorkArea g work
-  unfolding columnsIn
-  solved-lent =
-      let so = sound bytes g (solved .reads) in
-      let e = length-filled (modelOf bytes g) from (solved .before) in
-      let q = ap length (solved .is) in
-      record { lines = so .fewLines; floats = few-floats so; words = omega (arith, solved .enough) }
-
-  -- and its entries' starts lie before them.
-  traceable : Traceable g work
-  traceable =
-      record {
-        lent = solved-lent;
-        starts = λ a b c x s h k side e.
-            let n = columns-in bytes g in
-            let entered = fill .entered a b c x s (inl (omega arith)) h side e in
-            (entered .line, entered .column);
-      }
+  solved-lent = tabled-lent tabled
 
   -- Step by step, of what the functions return: the last stop, whether it is reached, the number of pages.
   module _ (last : Stop) (is : last ≡ lastStop g work) where
@@ -130,7 +95,7 @@ module _ {bytes : List ℕ} {g : Galley} {opening : List ℕ} {from : Origin} {w
         })
 
     pub walk-able : Walkable g work last
-    walk-able = record { table = traceable; visits = walk-visits }
+    walk-able = record { table = tabled-traceable tabled; visits = walk-visits }
 
     module _ (r : Bool) (told : r ≡ isReached (entryOf (tableIn g work) last)) where
       -- Where the full place is not reached, making answers 11 and writes nothing.

@@ -3,16 +3,15 @@ use Prim.Native.Nat.{ℕ, _≤_}
 use native.Mathlib.Omega.{arith}
 use mathlib.Core.Path.{_≡_, refl, sym, _∙_, ap, subst}
 use mathlib.Core.Bool.{true}
-use mathlib.Core.List.{List, [], _∷_, reverse, reverseAux, reverse-reverse, List·Memᴰ·not-nil}
+use mathlib.Core.List.{List, [], _∷_, reverse, reverseAux, reverse-reverse}
 use mathlib.Core.Option.{Option, none, some}
 use Rattle.model.specs.Galley.{Galley}
 use Rattle.model.specs.White.{white}
 use Rattle.model.specs.Order.{thenBy, by}
-use Rattle.model.specs.Best.{firstOf}
 use Rattle.model.specs.Book.{firstFolio, Choice, choices, bookTurns, bookWhite, tiesOf, tieOrder, bookBefore, bestBook}
 use Rattle.model.specs.laws.Lists.{_∈_}
 use Rattle.model.specs.laws.Order.{thenBy-last, lex-antisymm}
-use Rattle.model.specs.laws.Best.{Found, nothing, found, firstOf-found}
+use Rattle.model.specs.laws.Best.{firstOf-is, firstOf-none}
 use Rattle.model.specs.laws.Book.{tie-antisymm, book-preference}
 use Rattle.theorems.specs.books.Backward.{Chosen, sumBack, chosen-front, chosen-back, sum-front, ties-front, ties-same}
 use Rattle.theorems.specs.books.Turns.{Alike, turnsBack, turns-front}
@@ -80,30 +79,13 @@ module _ (h : Galley) (gs : List Galley) (all : AllAlike h gs) (some-folio : 1 �
       → bestBook (h ∷ gs) ≡ some cs
   unfolding bestBook
   best-is cs m ahead =
-      go (firstOf (bookBefore (firstFolio (h ∷ gs)) (h ∷ gs)) (choices (firstFolio (h ∷ gs)) (h ∷ gs)))
-      (firstOf-found (bookBefore (firstFolio (h ∷ gs)) (h ∷ gs)) (book-preference (firstFolio (h ∷ gs)) (h ∷ gs))
-      (choices (firstFolio (h ∷ gs)) (h ∷ gs)))
-    where
-      go : (r : Option Choice)
-          → Found (bookBefore (firstFolio (h ∷ gs)) (h ∷ gs)) (book-preference (firstFolio (h ∷ gs)) (h ∷ gs))
-          (choices (firstFolio (h ∷ gs)) (h ∷ gs)) r
-          → r ≡ some cs
-      go none (nothing e) = absurd (List·Memᴰ·not-nil (subst (λ l. cs ∈ l) e m))
-      go (some ds) (found x) = ap some (choices-same ds cs (x .among) m (x .ahead cs m) (ahead ds (x .among)))
+      let f = firstFolio (h ∷ gs) in
+      firstOf-is (bookBefore f (h ∷ gs)) (book-preference f (h ∷ gs)) (choices f (h ∷ gs)) cs (record { among = m; ahead = ahead })
+      (λ ds x. choices-same ds cs (x .among) m (x .ahead cs m) (ahead ds (x .among)))
 
   pub best-none : ((cs : Choice) → cs ∈ choices (firstFolio (h ∷ gs)) (h ∷ gs) → ⊥) → bestBook (h ∷ gs) ≡ none
   unfolding bestBook
-  best-none empty =
-      go (firstOf (bookBefore (firstFolio (h ∷ gs)) (h ∷ gs)) (choices (firstFolio (h ∷ gs)) (h ∷ gs)))
-      (firstOf-found (bookBefore (firstFolio (h ∷ gs)) (h ∷ gs)) (book-preference (firstFolio (h ∷ gs)) (h ∷ gs))
-      (choices (firstFolio (h ∷ gs)) (h ∷ gs)))
-    where
-      go : (r : Option Choice)
-          → Found (bookBefore (firstFolio (h ∷ gs)) (h ∷ gs)) (book-preference (firstFolio (h ∷ gs)) (h ∷ gs))
-          (choices (firstFolio (h ∷ gs)) (h ∷ gs)) r
-          → r ≡ none
-      go none x = refl
-      go (some ds) (found x) = absurd (empty ds (x .among))
+  best-none = let f = firstFolio (h ∷ gs) in firstOf-none (bookBefore f (h ∷ gs)) (book-preference f (h ∷ gs)) (choices f (h ∷ gs))
 
   -- The best choice, as a route to the next folio has it.
   pub record Bound (next : ℕ) (r : Route) : Type 0 where

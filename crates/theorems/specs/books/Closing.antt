@@ -28,7 +28,8 @@ use Rattle.theorems.specs.pages.Laws.{page-laws, page-domain}
 use Rattle.theorems.specs.pages.Ways.{way-side}
 use Rattle.theorems.specs.pages.Lists.{way-ends, way-follows, way-costs, list-way, list-pages, zeros-inside, past-beginning}
 use Rattle.theorems.specs.pages.Ties.{before-ways}
-use Rattle.theorems.specs.pages.Opening.{passes, onto, Opening, follows-accepted, accepted-follows, turns-follow, before-follow}
+use Rattle.theorems.specs.pages.Opening.{passes, onto, Opening}
+use Rattle.theorems.specs.pages.Following.{follows-accepted, accepted-follows, turns-follow, before-follow}
 
 -- The valid lists that close on side c (document 02, S-9: a chapter ends on one side or the other).
 unfoldable pub closing : Galley → ℕ → List (List Place)

@@ -24,7 +24,7 @@ use Rattle.theorems.specs.books.Choosing.{AllAlike}
 use Rattle.theorems.specs.books.Best.{best-is, best-none}
 
 -- Opened on its own folio a galley is itself.
-own-sides : (s : Sides) → sidesOn (folioIn s) s ≡ s
+pub own-sides : (s : Sides) → sidesOn (folioIn s) s ≡ s
 unfolding sidesOn folioIn
 own-sides single = refl
 own-sides (double f) = refl

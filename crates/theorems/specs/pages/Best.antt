@@ -17,7 +17,8 @@ use Rattle.theorems.specs.turns.Rank.{rank}
 use Rattle.theorems.specs.turns.Bounds.{Narrow}
 use Rattle.theorems.specs.pages.Graph.{State, end, Within, pageGraph, pagesOn}
 use Rattle.theorems.specs.pages.Theorem.{LeastFrom, table-empty, table-least}
-use Rattle.theorems.specs.pages.Opening.{after, Opening, end-inside, follows-accepted, accepted-follows, turns-follow, before-follow}
+use Rattle.theorems.specs.pages.Opening.{after, Opening, end-inside}
+use Rattle.theorems.specs.pages.Following.{follows-accepted, accepted-follows, turns-follow, before-follow}
 
 module _ (g : Galley) (sane : Sane g) (narrow : Narrow g) (os : List Place) (opening : Opening g os) where
   -- The opening and the least list from its end on are the best list that begins with it.

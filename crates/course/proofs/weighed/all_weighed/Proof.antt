@@ -3,9 +3,9 @@ use Prim.Native.Nat.{_+_, _-_, _≤_}
 use borrow.Author.Needs.{needs}
 use native.Mathlib.Omega.{arith}
 use lib.ListN.{length}
-use Rattle.chapters.specs.Book.{bookOf}
-use Rattle.course.specs.Weighed.{chaptersIn, Weighing}
-use Rattle.course.specs.laws.Room.{extent-bytes}
+use Rattle.chapters.specs.Book.{chaptersIn, bookOf}
+use Rattle.chapters.specs.laws.Lengths.{lent-is}
+use Rattle.course.specs.Weighed.{Weighing}
 use Rattle.course.specs.laws.Weighed.{weighing-first, weighing-at, weighing-next, weighing-done}
 use Rattle.course.proofs.weighed.all_weighed.Statement.{statement}
 use Rattle.course.proofs.weighed.all_weighed.Tie as tie
@@ -22,7 +22,7 @@ within c = rw (c .extent-of .ensures) (omega arith, weighing-at (c .before .befo
 
 -- One chapter more is counted.
 next : (c : tie.After-chapter-weighed Inv-loop μ-loop) → Weighing (chaptersIn (bookOf (c .before .before .before .before .before .before .before .before .args .galleys .now) (c .before .before .before .before .before .before .before .before .args .lengths .now))) (c .before .before .before .before .before .loop .k + 1) (c .before .before .before .before .before .loop .sum + c .chapter-weighed .result)
-next c = weighing-next (c .before .before .before .before .before .before .before .before .pre) (c .before .before .before .if1 .taken) (c .before .before .before .before .before .loop .inv) (rw (extent-bytes (c .before .before .before .before .before .before .before .before .args .galleys .now) (c .before .before .before .before .before .before .before .before .args .lengths .now) (c .before .before .before .before .before .loop .k) (c .before .before .extent-of .result) (c .before .before .extent-of .ensures)) at (c .chapter-weighed .ensures))
+next c = weighing-next (c .before .before .before .before .before .before .before .before .pre) (c .before .before .before .if1 .taken) (c .before .before .before .before .before .loop .inv) (rw (lent-is (c .before .before .before .before .before .before .before .before .args .galleys .now) (c .before .before .before .before .before .before .before .before .args .lengths .now) (c .before .before .before .before .before .loop .k) (c .before .before .extent-of .result) (c .before .before .extent-of .ensures)) at (c .chapter-weighed .ensures))
 
 -- There are few chapters.
 few : (c : tie.After-chapter-weighed Inv-loop μ-loop) → c .before .before .before .before .before .loop .k + 1 ≤ 200
@@ -33,7 +33,7 @@ few c =
 chapter-weighed-requires : tie.Need-chapter-weighed-requires Inv-loop μ-loop
 chapter-weighed-requires c κs =
     let at = weighing-at (c .before .before .before .before .before .before .before .pre) (c .before .before .if1 .taken) in
-    rw (extent-bytes (c .before .before .before .before .before .before .before .args .galleys .now) (c .before .before .before .before .before .before .before .args .lengths .now) (c .before .before .before .before .loop .k) (c .before .extent-of .result) (c .before .extent-of .ensures)) (at .galley, at .reads)
+    rw (lent-is (c .before .before .before .before .before .before .before .args .galleys .now) (c .before .before .before .before .before .before .before .args .lengths .now) (c .before .before .before .before .loop .k) (c .before .extent-of .result) (c .before .extent-of .ensures)) (at .galley, at .reads)
 
 pub all-weighed-spec : {M : Type 1} → statement M
 all-weighed-spec =
