@@ -16,12 +16,13 @@ use Rattle.window.specs.declared.slide.Window.{Window}
 use Rattle.window.specs.declared.parts.Parts.{Parts}
 use Rattle.window.specs.Slide.{Ends}
 use Rattle.window.specs.Queue.{linesOf}
-use Rattle.window.specs.Parts.{Both}
+use Rattle.window.specs.Parts.{Both, Rises}
 use Rattle.window.specs.Windows.{Kept}
 use Rattle.starts.specs.declared.sweep.Pass.{Pass}
 use Rattle.starts.specs.declared.sweep.Row.{Row}
 use Rattle.candidates.specs.Read.{sideOf, countsAt, rowOf}
 use Rattle.candidates.specs.Look.{Quiet, PastOrigin}
+use Rattle.starts.specs.Bound.{Bounded}
 use Rattle.starts.specs.Sweep.{Lent, Scratch, Summed, passLoad, Passing, Known, Swept, sweepEnd, rowTop}
 use Rattle.candidates.specs.Cells.{number, Scratched, Clean}
 
@@ -130,16 +131,19 @@ pub record SideSweep (bytes : List ℕ) (g : Galley) (w sums words : List ℕ) (
   pub windows : 0 < c → Windowed bytes g words pass (Taken g pass)
   pub swept : Swept bytes g w (pass .to) (pass .from) (number c 0)
 
--- Side c has come to line i.
-pub record SideRun (bytes : List ℕ) (g : Galley) (w₀ w sums words₀ words : List ℕ) (c : ℕ) (pass : Pass) (parts : Parts)
-    (window : Window) (i : ℕ) : Type 0 where
+-- Side c has come to line i: its lines after `since` are bounded, and its queues hold the window `fed`, from which the line's has risen.
+pub record SideRun (bytes : List ℕ) (g : Galley) (w₀ w sums words₀ words : List ℕ) (c : ℕ) (pass : Pass) (since : ℕ) (parts : Parts)
+    (fed window : Window) (i : ℕ) : Type 0 where
   pub from : pass .first ≤ i
   pub within : i ≤ sweepEnd g pass
   pub sized : length w ≡ length w₀
   pub wordsSized : length words ≡ length words₀
+  pub scratch : Scratch words
   pub ends : Ends (textOf bytes (g .text)) (passLoad g pass) window i
   pub windows : Windowed bytes g words pass (λ k. Taken g pass k × ((0 < c) ⊎ (k < i)))
-  pub held : Both (linesOf w (g .text .count + 1) (pass .from) (sideOf g c)) sums words 0 parts window
+  pub rises : Rises fed window
+  pub bounded : Bounded (linesOf w (g .text .count + 1) (pass .from) (sideOf g c)) words (g .text .count) since
+  pub held : Both (linesOf w (g .text .count + 1) (pass .from) (sideOf g c)) sums words 0 parts fed
   pub swept : Swept bytes g w (pass .to) (pass .from) (number c i)
   pub kept : Scratched g (pass .to) w₀ w
 

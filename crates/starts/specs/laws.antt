@@ -4,6 +4,7 @@ pub mod Floats
 pub mod Lending
 pub mod Fronts
 pub mod Cells
+pub mod Bound
 pub mod Pass
 pub mod Past
 pub mod Look

@@ -76,7 +76,8 @@ fn sweep_end(g: Galley, pass: Pass) -> usize
 }
 
 // The starts of a pass weighed on side c for every line that the sweep takes. Before the first reached line of their column there are
-// none to weigh, of lines or of floats alone.
+// none to weigh, of lines or of floats alone; and a line whose place holds less than all of them cost is passed over, so that the queues
+// hold the window of the last line that was not.
 fn sweep_side(
     s: &[u8],
     g: Galley,
@@ -97,13 +98,31 @@ fn sweep_side(
         column: pass.from,
         side,
     };
+    let several = window::slide::too_tall(sums, load, pass.first, g.text.count);
+    let since = crate::bound::bound_side(
+        work,
+        words,
+        source,
+        pass.to,
+        pass.first,
+        g.text.count,
+        several,
+    );
     let mut parts = window::parts::no_parts();
     let mut starts = window::slide::shut(load);
+    let mut fed = window::slide::shut(load);
     let mut i = pass.first;
     while i < end {
         let before = starts;
         starts = window::windows::window_of(sums, load, words, before, i, c);
-        parts = window::parts::move_on(work, sums, words, source, parts, before, starts);
+        let place = places::place_of(i, pass.to);
+        if crate::bound::beaten(work, words, g.text.count + 1, place, c, since, starts.low) {
+            i += 1;
+            continue;
+        }
+        let last = fed;
+        parts = window::parts::move_on(work, sums, words, source, parts, last, starts);
+        fed = starts;
         let lines = candidates::fronts::best_front(sums, words, parts, pass.from, load, i);
         improve(g, work, lines, i, c, pass);
         i += 1;

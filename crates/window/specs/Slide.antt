@@ -1,8 +1,10 @@
 -- The window of starting lines: the lines a from which a page to line i is neither too tall nor too short. With its floats
 -- fixed, a page grows with i and shrinks as a rises, so that no end of the window falls.
 use Prim.Native.Nat.{ℕ, suc, _+_, _-_, _*_, _≤_, _<_}
+use mathlib.Core.Bool.{Bool}
 use mathlib.Core.List.{List}
 use lib.ListN.{length}
+use lib.Dec.{ltb}
 use Rattle.model.specs.Galley.{Stream}
 use Rattle.model.specs.Height.{stacked}
 use Rattle.window.specs.declared.slide.Load.{Load}
@@ -13,6 +15,10 @@ use Rattle.window.specs.Sums.{spacedAt, bareAt, SmallPair, Sums}
 -- How far a page to line i reaches from the first line on, with so much beside its lines.
 abbrev pub reachedOf : List ℕ → ℕ → ℕ → ℕ → ℕ
 reachedOf sums space beside i = bareAt sums (2 * i + space) + beside
+
+-- A page from line a to line i is too tall.
+abbrev pub tooTall : List ℕ → Load → ℕ → ℕ → Bool
+tooTall sums load a i = ltb (load .htmax + spacedAt sums (2 * a + 0)) (reachedOf sums 0 (load .tight) i)
 
 -- That can be read, and fits a word.
 pub record Readable (sums : List ℕ) (space beside i : ℕ) : Type 0 where

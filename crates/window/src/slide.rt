@@ -1,7 +1,8 @@
 // The ends of a window of starting lines, moved on as the page's last line moves on. Heights are compared as sums, never as
 // differences.
 ghost use mathlib.Core.Path.{_≡_};
-ghost use Rattle.window.specs.Slide.{reachedOf, shutAt, Readable, Reachable, Slidable, FirstBelow, Slid};
+ghost use Prim.Native.Nat.{_+_};
+ghost use Rattle.window.specs.Slide.{reachedOf, shutAt, tooTall, Readable, Reachable, Slidable, FirstBelow, Slid};
 use crate::sums::LOOSE;
 use crate::sums::TIGHT;
 
@@ -64,6 +65,14 @@ pub fn first_below(
         a += 1;
     }
     a
+}
+
+// Whether a page from line a to line i is too tall.
+pub fn too_tall(sums: &[u32], load: Load, a: usize, i: usize) -> bool
+    requires { ⌜ Reachable (now sums) 0 (load .tight) (load .htmax + 1) a i ⌝ }
+    ensures { λ r. ⌜ r ≡ tooTall (now (sums .entry)) load a i ⌝ }
+{
+    load.htmax + sums[2 * (2 * a + TIGHT)] < reached(sums, TIGHT, load.tight, i)
 }
 
 // The window of a page that ends with line i, from that of the line before.

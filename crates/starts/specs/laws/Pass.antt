@@ -13,14 +13,17 @@ use Rattle.rules.specs.Sums.{whiteAt}
 use Rattle.galley.specs.declared.Galley.{Galley}
 use Rattle.galley.specs.Model.{textOf, modelOf}
 use Rattle.galley.specs.Sound.{Sound}
+use Rattle.places.specs.declared.Place.{Place}
 use Rattle.places.specs.declared.Entry.{Entry}
+use Rattle.places.specs.declared.Entry.the-variants.{Unreached, Least}
 use Rattle.places.specs.Columns.{placeAt}
 use Rattle.places.specs.Best.{Best}
 use Rattle.window.specs.declared.slide.Window.{Window}
 use Rattle.window.specs.Slide.{whiteOf, Open}
 use Rattle.window.specs.Queue.{linesOf, Lines}
 use Rattle.starts.specs.declared.sweep.Pass.{Pass}
-use Rattle.candidates.specs.Better.{chosen}
+use Rattle.candidates.specs.Better.{chosen, taken}
+use Rattle.candidates.specs.Search.{Search}
 use Rattle.candidates.specs.Choice.{Starts, Between}
 use Rattle.candidates.specs.Beside.{Bears}
 use Rattle.candidates.specs.Read.{tableIn, sideOf, searchOf, lastColumn, lastPlace}
@@ -30,7 +33,8 @@ use Rattle.starts.specs.Swept.{Early}
 use Rattle.candidates.specs.laws.Heights.{kinds-some, beside-alone}
 use Rattle.candidates.specs.laws.Columns.{columns-in, full-in, sought-in}
 use Rattle.candidates.specs.laws.White.{white-lines, white-alone}
-use Rattle.starts.specs.laws.Sweep.{window-best, alone-best, improved}
+use Rattle.starts.specs.laws.Sweep.{window-low, window-best, alone-best, improved}
+use Rattle.starts.specs.laws.Bound.{dearer}
 use Rattle.candidates.specs.laws.Read.{side-either, side-occurs}
 use Rattle.starts.specs.laws.Lending.{lent-placed, can-stand}
 use Rattle.candidates.specs.laws.Cells.{taken-changes}
@@ -87,9 +91,7 @@ module _ {bytes : List ℕ} {g : Galley} {w : List ℕ} {pass : Pass} (lent : Le
 
   module _ (early : Early g w pass) (last : Bool) (ends : lastPlace g i (pass .to) ≡ last) (least : pass .least ≡ floor (modelOf bytes g) last)
       (white : pass .white ≡ whiteAt g last (pass .heights .loose)) (window : Window)
-      (opened : Open (textOf bytes (g .text)) (passLoad g pass) window i) (lines : Entry)
-      (best : Best (Lines (linesOf w (g .text .count + 1) (pass .from) (sideOf g c)) (passWhite bytes g pass last i) (window .low) (window .high) (pass .from)) lines)
-      (swept : Swept bytes g w (pass .to) (pass .from) (number c i)) where
+      (opened : Open (textOf bytes (g .text)) (passLoad g pass) window i) where
     abbrev held : Entry
     held = tableIn g w i (pass .to) c
 
@@ -109,30 +111,56 @@ module _ {bytes : List ℕ} {g : Galley} {w : List ℕ} {pass : Pass} (lent : Le
           htmax = refl;
         }
 
-    weighed-best : Best (Starts (searchOf bytes g w i (pass .to) (sideOf g c)) (Between (pass .from) (pass .to)))
-        (chosen held (chosen lines (aloneOf g w i (sideOf g c) pass)))
-    unfolding whiteAt
-    weighed-best =
-        let s = searchOf bytes g w i (pass .to) (sideOf g c) in
+    -- The search of the place, and that no line of the column before the pass's first is a start of it.
+    abbrev sought-here : Search
+    sought-here = searchOf bytes g w i (pass .to) (sideOf g c)
+
+    early-here : (a : ℕ) → a < pass .first → a < i → tableIn g w a (pass .from) (sideOf g c) ≡ Unreached
+    early-here a l m = early .none a (sideOf g c) (omega arith) l (side-occurs (lent .sound) c occurs)
+
+    -- Where the place holds less than every line from the window's low end on, one line more is swept.
+    pub pass-beaten : (x : ℕ) (r : Place) → tableIn g w i (pass .to) c ≡ Least x r
+        → ((a y : ℕ) (t : Place) → window .low ≤ a → a ≤ i → linesOf w (g .text .count + 1) (pass .from) (sideOf g c) a ≡ Least y t → x < y)
+        → Swept bytes g w (pass .to) (pass .from) (number c i) → Swept bytes g w (pass .to) (pass .from) (number c (i + 1))
+    unfolding chosen taken
+    pass-beaten x r is dear swept =
         let sought = sought-in bytes g w i (pass .to) (sideOf g c) (lent-placed lent i line) in
         let left : pass .from ≤ pass .to = omega (arith, passing .before) in
-        improved s (pass .from) (pass .to) (passing .before) held lines (aloneOf g w i (sideOf g c) pass)
-        (swept .left i c line occurs (omega arith))
-        (window-best s sought (pass .from) left (passing .under) (passLoad g pass) bears
-        (λ a l m. early .none a (sideOf g c) (omega arith) l (side-occurs (lent .sound) c occurs)) window opened (passWhite bytes g pass last i)
-        (white-lines s (pass .from) last full-last (passLoad g pass) bears) lines best)
-        (alone-best s sought (pass .from) left (passing .under) (passing .before) (pass .heights .tight) (pass .heights .loose)
-        (pass .least) (pass .white) (passing .tight) (passing .loose) (bears .htmin) (passing .short)
-        (rw white (white-alone s (pass .from) last full-last (pass .heights .loose) (passing .loose))))
+        swept-next
+        (taken-changes g w i (pass .to) c line (lent .column) occurs (lent .sound .specRanged .sidesTwo) (lent .room) Unreached w refl)
+        (lent .sound .fewLines) line side (lent .sound .specRanged .sidesTwo) bytes (pass .from) swept
+        (dearer sought-here (pass .from) (pass .to) x r held is (λ a y start.
+        let low = window-low sought-here sought (pass .from) left (passing .under) (passLoad g pass) bears early-here window opened a y start in
+        let paid = start .reached in
+        omega (arith, dear a (paid .own) (paid .start) low (start .line) (paid .entry), paid .whole)) (swept .left i c line occurs (omega arith)))
 
-    module _ (v : List ℕ) (e : v ≡ weighed g w lines i c pass) where
-      -- The place holds the better of what it held and of what is weighed,
-      pub pass-changed : Changed g w v i (pass .to) c (chosen held (chosen lines (aloneOf g w i (sideOf g c) pass)))
-      pass-changed =
-          taken-changes g w i (pass .to) c line (lent .column) occurs (lent .sound .specRanged .sidesTwo) (lent .room)
-          (chosen lines (aloneOf g w i (sideOf g c) pass)) v e
+    module _ (lines : Entry)
+        (best : Best (Lines (linesOf w (g .text .count + 1) (pass .from) (sideOf g c)) (passWhite bytes g pass last i) (window .low) (window .high) (pass .from)) lines)
+        (swept : Swept bytes g w (pass .to) (pass .from) (number c i)) where
+      weighed-best : Best (Starts (searchOf bytes g w i (pass .to) (sideOf g c)) (Between (pass .from) (pass .to)))
+          (chosen held (chosen lines (aloneOf g w i (sideOf g c) pass)))
+      unfolding whiteAt
+      weighed-best =
+          let s = searchOf bytes g w i (pass .to) (sideOf g c) in
+          let sought = sought-in bytes g w i (pass .to) (sideOf g c) (lent-placed lent i line) in
+          let left : pass .from ≤ pass .to = omega (arith, passing .before) in
+          improved s (pass .from) (pass .to) (passing .before) held lines (aloneOf g w i (sideOf g c) pass)
+          (swept .left i c line occurs (omega arith))
+          (window-best s sought (pass .from) left (passing .under) (passLoad g pass) bears
+          early-here window opened (passWhite bytes g pass last i)
+          (white-lines s (pass .from) last full-last (passLoad g pass) bears) lines best)
+          (alone-best s sought (pass .from) left (passing .under) (passing .before) (pass .heights .tight) (pass .heights .loose)
+          (pass .least) (pass .white) (passing .tight) (passing .loose) (bears .htmin) (passing .short)
+          (rw white (white-alone s (pass .from) last full-last (pass .heights .loose) (passing .loose))))
 
-      -- and one line more is swept.
-      pub pass-swept : Swept bytes g v (pass .to) (pass .from) (number c (i + 1))
-      pass-swept =
-          swept-next pass-changed (lent .sound .fewLines) line side (lent .sound .specRanged .sidesTwo) bytes (pass .from) swept weighed-best
+      module _ (v : List ℕ) (e : v ≡ weighed g w lines i c pass) where
+        -- The place holds the better of what it held and of what is weighed,
+        pub pass-changed : Changed g w v i (pass .to) c (chosen held (chosen lines (aloneOf g w i (sideOf g c) pass)))
+        pass-changed =
+            taken-changes g w i (pass .to) c line (lent .column) occurs (lent .sound .specRanged .sidesTwo) (lent .room)
+            (chosen lines (aloneOf g w i (sideOf g c) pass)) v e
+
+        -- and one line more is swept.
+        pub pass-swept : Swept bytes g v (pass .to) (pass .from) (number c (i + 1))
+        pass-swept =
+            swept-next pass-changed (lent .sound .fewLines) line side (lent .sound .specRanged .sidesTwo) bytes (pass .from) swept weighed-best

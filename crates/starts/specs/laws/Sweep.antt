@@ -31,6 +31,27 @@ use Rattle.candidates.specs.laws.Found.{start-best, best-start}
 use Rattle.candidates.specs.laws.Pages.{Keeps, goes-lines, goes-alone, candidate-earlier}
 
 module _ (s : Search) (sought : Sought s) (b : ℕ) (left : b ≤ s .column) (under : Under (s .galley) b (s .column)) where
+  -- Which of them a page goes from, by what it has beside its lines.
+  page-lines : (load : Load) → Bears s b load → (a : ℕ) → a < s .line
+      → (goes s a b ≡ true)
+      ↔ Keeps (s .galley) (placeAt (s .galley) (s .line) (s .column))
+      (stacked (s .galley .stream 0) (s .galley .stream 0 .least) a (s .line) + load .tight)
+      (stacked (s .galley .stream 0) (s .galley .stream 0 .most) a (s .line) + load .loose)
+  page-lines load bears a l = rw (bears .tight, bears .loose) (goes-lines s sought a b l left under)
+
+  -- No page starts before the window.
+  pub window-low : (load : Load) → Bears s b load → ((a : ℕ) → a < load .first → a < s .line → s .table a b (s .side) ≡ Unreached)
+      → (window : Window) → Open (s .galley .stream 0) load window (s .line) → (a x : ℕ) → Candidate s a b x → window .low ≤ a
+  window-low load bears early window opened a x start = go (decLt a (s .line)) (decLe (load .first) a) (decLe (window .low) a)
+    where
+      go : Dec (a < s .line) → Dec (load .first ≤ a) → Dec (window .low ≤ a) → window .low ≤ a
+      go l f (yes h) = h
+      go (no l) f (no h) = absurd (omega (arith, opened .ends .low))
+      go (yes l) (no f) (no h) = absurd (no-reach (sym (early a (omega arith) l) ∙ start .reached .entry))
+      go (yes l) (yes f) (no h) =
+          let tall = opened .ends .passed a (s .line) f (omega arith) (le-refl (s .line)) in
+          absurd (omega (arith, page-lines load bears a l .0 (start .page) .short, bears .htmax))
+
   -- The best line of the window is the best of the column's lines before this one: those before the first are not reached.
   pub window-best : (load : Load) → Bears s b load → ((a : ℕ) → a < load .first → a < s .line → s .table a b (s .side) ≡ Unreached)
       → (window : Window) → Open (s .galley .stream 0) load window (s .line)
@@ -38,13 +59,6 @@ module _ (s : Search) (sought : Sought s) (b : ℕ) (left : b ≤ s .column) (un
       → Best (Lines (λ a. s .table a b (s .side)) white (window .low) (window .high) b) e → Best (Starts s (Above b (s .line))) e
   window-best load bears early window opened white whites e best = best-as starts lines best
     where
-      page : (a : ℕ) → a < s .line
-          → (goes s a b ≡ true)
-          ↔ Keeps (s .galley) (placeAt (s .galley) (s .line) (s .column))
-          (stacked (s .galley .stream 0) (s .galley .stream 0 .least) a (s .line) + load .tight)
-          (stacked (s .galley .stream 0) (s .galley .stream 0 .most) a (s .line) + load .loose)
-      page a l = rw (bears .tight, bears .loose) (goes-lines s sought a b l left under)
-
       fits : (a : ℕ) → window .low ≤ a → a < s .line
           → Dec (stacked (s .galley .stream 0) (s .galley .stream 0 .least) a (s .line) + load .tight ≤ load .htmax)
           → stacked (s .galley .stream 0) (s .galley .stream 0 .least) a (s .line) + load .tight ≤ load .htmax
@@ -61,7 +75,7 @@ module _ (s : Search) (sought : Sought s) (b : ℕ) (left : b ≤ s .column) (un
             record {
               line = omega arith;
               column = left;
-              page = page a l .1 (record { short = omega (arith, bears .htmax); enough = omega (arith, bears .htmin) });
+              page = page-lines load bears a l .1 (record { short = omega (arith, bears .htmax); enough = omega (arith, bears .htmin) });
               reached = subst (λ p. Paid (s .table a b (s .side)) p x) (whites a l) reached;
             },
           )
@@ -69,8 +83,8 @@ module _ (s : Search) (sought : Sought s) (b : ℕ) (left : b ≤ s .column) (un
       lines : (a b′ x : ℕ) → Starts s (Above b (s .line)) a b′ x → Lines (λ a. s .table a b (s .side)) white (window .low) (window .high) b a b′ x
       lines a b′ x ((e, l), c) =
           let d : Candidate s a b x = rw e at c in
-          let keeps = page a l .0 (d .page) in (
-            low keeps (from (decLe (load .first) a) (d .reached)) (decLe (window .low) a),
+          let keeps = page-lines load bears a l .0 (d .page) in (
+            window-low load bears early window opened a x d,
             high keeps (decLt a (window .high)),
             e,
             subst (λ p. Paid (s .table a b (s .side)) p x) (sym (whites a l)) (d .reached),
@@ -80,16 +94,6 @@ module _ (s : Search) (sought : Sought s) (b : ℕ) (left : b ≤ s .column) (un
           K = Keeps (s .galley) (placeAt (s .galley) (s .line) (s .column))
               (stacked (s .galley .stream 0) (s .galley .stream 0 .least) a (s .line) + load .tight)
               (stacked (s .galley .stream 0) (s .galley .stream 0 .most) a (s .line) + load .loose)
-
-          from : {p : ℕ} → Dec (load .first ≤ a) → Paid (s .table a b (s .side)) p x → load .first ≤ a
-          from (yes h) reached = h
-          from (no h) reached = absurd (no-reach (sym (early a (omega arith) l) ∙ reached .entry))
-
-          low : K → load .first ≤ a → Dec (window .low ≤ a) → window .low ≤ a
-          low k f (yes h) = h
-          low k f (no h) =
-              let tall = opened .ends .passed a (s .line) f (omega arith) (le-refl (s .line)) in
-              absurd (omega (arith, k .short, bears .htmax))
 
           high : K → Dec (a < window .high) → a < window .high
           high k (yes h) = h
