@@ -1,13 +1,14 @@
 -- `pairs_into` meets its contract. The loop's invariant is `ColumnCount`: the pages from all columns past that of these parts are counted.
 -- A turn counts one column more; those between it and the next add nothing.
+use Prim.Native.Nat.{_+_}
 use native.Mathlib.Omega.{arith}
 use mathlib.Core.Path.{_≡_}
 use denote.Ref.{now}
 use Rattle.starts.specs.Read.{countsAt}
 use Rattle.starts.specs.laws.Columns.{few-floats}
-use Rattle.weighing.specs.Count.{columnOf, CountableColumn, ColumnCount, ColumnStep}
+use Rattle.weighing.specs.Count.{columnOf, CountableColumn, ColumnCount, ColumnNext, ColumnStep}
 use Rattle.weighing.specs.laws.From.{from-lays, from-between}
-use Rattle.weighing.specs.laws.Count.{column-short, column-first, column-few, table-room, table-next, figure-room, figure-less, figure-next, column-last}
+use Rattle.weighing.specs.laws.Count.{column-short, column-first, column-few, table-room, table-next, figure-room, figure-next, column-last}
 use borrow.Author.Needs.{needs}
 use Rattle.weighing.proofs.columns.pairs_into.Statement.{statement}
 use Rattle.weighing.proofs.columns.pairs_into.Tie as tie
@@ -71,15 +72,12 @@ with-one-more-requires c κs =
     rw (end st)
     (figure-room (asked st) (st .loop .inv) (step turn) (c .before .before .before .before .before .if2 .taken) (rw (end st) at (c .if3 .left)))
 
-loop-less : tie.Need-loop-less Inv-loop μ-loop
-loop-less c =
-    let turn = c .before .before .before .before .before .before .before .before .before .before .before .before in
+-- The next column, with a figure more,
+figure : (c : tie.After-nothing3 Inv-loop μ-loop) → let turn = c .before .before .before .before .before .before .before .before .before .before .before .before in
     let st = turn .before .before .before .before .before .before in
-    rw (c .before .with-one-more .ensures, c .nothing3 .ensures, end st)
-    (figure-less (asked st) (st .loop .inv) (step turn) (c .before .before .before .before .before .before .before .if2 .taken) (rw (end st) at (c .before .before .if3 .left)))
-
-loop-again : tie.Need-loop-again Inv-loop μ-loop
-loop-again c =
+    let a = st .before .before .before .before .before .before .before .before .before .before .before .args in
+    ColumnNext (now (a .s)) (a .g) (a .first) (a .q) (st .loop .figures) (st .loop .tables) (c .before .with-one-more .result) (c .nothing3 .result) (st .loop .pairs + turn .pairs-between .result)
+figure c =
     let turn = c .before .before .before .before .before .before .before .before .before .before .before .before in
     let st = turn .before .before .before .before .before .before in
     rw (c .before .with-one-more .ensures, c .nothing3 .ensures, end st)
@@ -91,14 +89,12 @@ with-one-more-requires-2 c κs =
     let st = turn .before .before .before .before .before .before in
     rw (end st) (table-room (asked st) (st .loop .inv) (step turn) (c .if2 .left))
 
-loop-less-2 : tie.Need-loop-less-2 Inv-loop μ-loop
-loop-less-2 c =
-    let turn = c .before .before .before .before .before .before in
+-- or with a table more.
+table : (c : tie.After-with-one-more2 Inv-loop μ-loop) → let turn = c .before .before .before .before .before .before in
     let st = turn .before .before .before .before .before .before in
-    rw (c .with-one-more2 .ensures) (omega (arith, table-room (asked st) (st .loop .inv) (step turn) (c .before .if2 .left) .0))
-
-loop-again-2 : tie.Need-loop-again-2 Inv-loop μ-loop
-loop-again-2 c =
+    let a = st .before .before .before .before .before .before .before .before .before .before .before .args in
+    ColumnNext (now (a .s)) (a .g) (a .first) (a .q) (st .loop .figures) (st .loop .tables) (st .loop .figures) (c .with-one-more2 .result) (st .loop .pairs + turn .pairs-between .result)
+table c =
     let turn = c .before .before .before .before .before .before in
     let st = turn .before .before .before .before .before .before in
     rw (c .with-one-more2 .ensures, end st) (table-next (asked st) (st .loop .inv) (step turn) (c .before .if2 .left))
@@ -111,4 +107,5 @@ pairs-into-spec =
     (λ c κs. few-floats (c .before .before .pre .ready .sound))
     returns (λ c κs. search needs) (λ c κs. search needs) loop-holds floats-alone-requires pairs-between-requires
     (λ c. let st = c .before .before .before .before .before .before in omega (arith, column-few (asked st) (st .loop .inv) (step c)))
-    returns-2 with-one-more-requires (λ c κs. search needs) loop-less loop-again with-one-more-requires-2 loop-less-2 loop-again-2)
+    returns-2 with-one-more-requires (λ c κs. search needs) (λ c. figure c .less) (λ c. figure c .next) with-one-more-requires-2
+    (λ c. table c .less) (λ c. table c .next))
