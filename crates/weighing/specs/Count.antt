@@ -14,7 +14,7 @@ use Rattle.galley.specs.Sound.{Sound}
 use Rattle.blocks.specs.declared.Counts.{Counts}
 use Rattle.blocks.specs.declared.heights.Heights.{Heights}
 use Rattle.blocks.specs.Counts.{placeOf, Within}
-use Rattle.blocks.specs.Heights.{noHeights, blockBefore, Stacked}
+use Rattle.blocks.specs.Heights.{noHeights, blockBefore, Room, Stacked}
 use Rattle.starts.specs.Read.{columnsIn, countsAt, rowOf}
 use Rattle.starts.specs.Sweep.{floatsAlone, Summed}
 use Rattle.weighing.specs.declared.columns.Part.{Part}
@@ -52,6 +52,11 @@ nothing end = record { from = end; heights = noHeights }
 abbrev pub withOneMore : List ℕ → Stream → Part → ℕ → Part
 withOneMore bytes stream part end =
     record { from = part .from - 1; heights = blockBefore bytes stream (part .heights) (part .from - 1) end }
+
+-- A part that has a float before it, with room for that.
+pub record Extendable (bytes : List ℕ) (stream : Stream) (part : Part) (end : ℕ) : Type 0 where
+  pub some : 1 ≤ part .from
+  pub room : Room bytes stream (part .heights) end
 
 -- The part of a stream between what is placed first and a page's end.
 pub record PartOf (bytes : List ℕ) (stream : Stream) (first end : ℕ) (part : Part) : Type 0 where

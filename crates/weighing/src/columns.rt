@@ -6,9 +6,8 @@ ghost use Rattle.model.specs.Galley as model;
 ghost use Rattle.model.specs.Weighed.{weighedFrom};
 ghost use Rattle.galley.specs.Model.{modelOf};
 ghost use Rattle.blocks.specs.Counts.{placeOf};
-ghost use Rattle.blocks.specs.Heights.{Room};
 ghost use Rattle.window.specs.Sums.{Sums};
-ghost use Rattle.weighing.specs.Count.{pairsBetween, Weighable, Between, nothing, withOneMore, CountableColumn, ColumnCounted};
+ghost use Rattle.weighing.specs.Count.{pairsBetween, Weighable, Between, nothing, withOneMore, Extendable, CountableColumn, ColumnCounted};
 use blocks::Counts;
 use blocks::heights::Heights;
 use galley::Galley;
@@ -33,7 +32,7 @@ fn nothing(end: usize) -> Part
 
 // The part with one float more: the one before.
 fn with_one_more(s: &[u8], stream: Stream, part: Part, end: usize) -> Part
-    requires { ⌜ (1 ≤ part .from) × Room (now s) stream (part .heights) end ⌝ }
+    requires { ⌜ Extendable (now s) stream part end ⌝ }
     ensures { λ r. ⌜ r ≡ withOneMore (now (s .entry)) stream part end ⌝ }
 {
     let from = part.from - 1;

@@ -16,11 +16,10 @@ use Rattle.galley.specs.laws.Pick.{or-false}
 use Rattle.blocks.specs.declared.Counts.{Counts}
 use Rattle.blocks.specs.declared.heights.Heights.{Heights}
 use Rattle.blocks.specs.Counts.{placeOf}
-use Rattle.blocks.specs.Heights.{Room}
 use Rattle.starts.specs.Read.{columnsIn, countsAt, rowOf}
 use Rattle.starts.specs.laws.Columns.{few-floats, columns-few, row-next, row-grows, row-of, row-in, columns-in}
 use Rattle.weighing.specs.declared.columns.Part.{Part}
-use Rattle.weighing.specs.Count.{pairsInto, Weighable, nothing, withOneMore, columnOf, CountableColumn, ColumnCount, ColumnNext, ColumnStep, rowOver, rowsOver, ColumnCounted, AllCount}
+use Rattle.weighing.specs.Count.{pairsInto, Weighable, nothing, withOneMore, Extendable, columnOf, CountableColumn, ColumnCount, ColumnNext, ColumnStep, rowOver, rowsOver, ColumnCounted, AllCount}
 use Rattle.weighing.specs.laws.Columns.{weighed-columns}
 use Rattle.weighing.specs.laws.From.{end-within, over, short, from-before, from-pairs, row-passed, rows-passed}
 use Rattle.weighing.specs.laws.Part.{part-nothing, part-more, part-room}
@@ -84,7 +83,7 @@ module _ {bytes : List ℕ} {g : Galley} {sums : List ℕ} {first : Counts} {q :
           leb-false (tables .from) (first .tables)
           (or-false (ltb (g .spec .htmax) (floats .tight)) (leb (tables .from) (first .tables)) left .1)
 
-      pub table-room : (1 ≤ tables .from) × Room bytes (g .tables) (tables .heights) (countsAt g 0 q .tables)
+      pub table-room : Extendable bytes (g .tables) tables (countsAt g 0 q .tables)
       table-room =
           part-room bytes (g .tables) (first .tables) (end .tables) (run .tabled) some-tables (asked .ready .sound .tables .sound)
           (omega (arith, asked .ready .sound .tables .few)) (end-within asked .tables)
@@ -110,7 +109,7 @@ module _ {bytes : List ℕ} {g : Galley} {sums : List ℕ} {first : Counts} {q :
             leb-false (figures .from) (first .figures)
             (or-false (ltb (g .spec .htmax) (floats .tight) && leb (end .tables) (tables .from)) (leb (figures .from) (first .figures)) left .1)
 
-        pub figure-room : (1 ≤ figures .from) × Room bytes (g .figures) (figures .heights) (countsAt g 0 q .figures)
+        pub figure-room : Extendable bytes (g .figures) figures (countsAt g 0 q .figures)
         figure-room =
             part-room bytes (g .figures) (first .figures) (end .figures) (run .figured) some-figures (asked .ready .sound .figures .sound)
             (omega (arith, asked .ready .sound .figures .few)) (end-within asked .figures)

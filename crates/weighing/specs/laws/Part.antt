@@ -7,10 +7,9 @@ use mathlib.Core.List.{List}
 use Rattle.galley.specs.declared.Stream.{Stream}
 use Rattle.galley.specs.Model.{floatsOf}
 use Rattle.galley.specs.Sound.{SoundStream}
-use Rattle.blocks.specs.Heights.{Room}
 use Rattle.blocks.specs.laws.Heights.{stacked-nothing, stacked-room, back-stacked}
 use Rattle.weighing.specs.declared.columns.Part.{Part}
-use Rattle.weighing.specs.Count.{nothing, withOneMore, PartOf}
+use Rattle.weighing.specs.Count.{nothing, withOneMore, Extendable, PartOf}
 
 module _ (bytes : List ℕ) (stream : Stream) (first end : ℕ) where
   pub part-nothing : first ≤ end → PartOf bytes stream first end (nothing end)
@@ -27,5 +26,6 @@ module _ (bytes : List ℕ) (stream : Stream) (first end : ℕ) where
 
     -- There is room for one more.
     pub part-room : first < part .from → SoundStream bytes stream → stream .count ≤ 4000 → end ≤ stream .count
-        → (1 ≤ part .from) × Room bytes stream (part .heights) end
-    part-room l sound few within = (omega arith, stacked-room bytes stream (part .from) end (part .heights) sound few within (of .high))
+        → Extendable bytes stream part end
+    part-room l sound few within =
+        record { some = omega arith; room = stacked-room bytes stream (part .from) end (part .heights) sound few within (of .high) }
