@@ -8,7 +8,6 @@ use mathlib.Core.Option.{Option, none, some}
 use Rattle.model.specs.Galley.{Galley}
 use Rattle.model.specs.White.{white}
 use Rattle.model.specs.Order.{thenBy, by}
-use Rattle.model.specs.Best.{firstOf}
 use Rattle.model.specs.Book.{firstFolio, Choice, choices, bookTurns, bookWhite, tiesOf, tieOrder, bookBefore, bestBook}
 use Rattle.model.specs.laws.Lists.{_∈_}
 use Rattle.model.specs.laws.Order.{thenBy-last, lex-antisymm}
@@ -74,34 +73,31 @@ module _ (h : Galley) (gs : List Galley) (all : AllAlike h gs) (some-folio : 1 �
       (sym (ties-front f (h ∷ gs) cs m) ∙ ties ∙ ties-front f (h ∷ gs) ds n) in
       sym (reverse-reverse cs) ∙ ap reverse back ∙ reverse-reverse ds
 
+  -- What is the first of the choices, if any is.
+  abbrev First : Option Choice → Type 0
+  First r =
+      Found (bookBefore (firstFolio (h ∷ gs)) (h ∷ gs)) (book-preference (firstFolio (h ∷ gs)) (h ∷ gs)) (choices (firstFolio (h ∷ gs)) (h ∷ gs)) r
+
+  -- The best is the first of them.
+  best-first : First (bestBook (h ∷ gs))
+  unfolding bestBook
+  best-first =
+      firstOf-found (bookBefore (firstFolio (h ∷ gs)) (h ∷ gs)) (book-preference (firstFolio (h ∷ gs)) (h ∷ gs)) (choices (firstFolio (h ∷ gs)) (h ∷ gs))
+
   -- Whoever has a choice that no choice comes before has the best.
   pub best-is : (cs : Choice) → cs ∈ choices (firstFolio (h ∷ gs)) (h ∷ gs)
       → ((ds : Choice) → ds ∈ choices (firstFolio (h ∷ gs)) (h ∷ gs) → bookBefore (firstFolio (h ∷ gs)) (h ∷ gs) cs ds ≡ true)
       → bestBook (h ∷ gs) ≡ some cs
-  unfolding bestBook
-  best-is cs m ahead =
-      go (firstOf (bookBefore (firstFolio (h ∷ gs)) (h ∷ gs)) (choices (firstFolio (h ∷ gs)) (h ∷ gs)))
-      (firstOf-found (bookBefore (firstFolio (h ∷ gs)) (h ∷ gs)) (book-preference (firstFolio (h ∷ gs)) (h ∷ gs))
-      (choices (firstFolio (h ∷ gs)) (h ∷ gs)))
+  best-is cs m ahead = go (bestBook (h ∷ gs)) best-first
     where
-      go : (r : Option Choice)
-          → Found (bookBefore (firstFolio (h ∷ gs)) (h ∷ gs)) (book-preference (firstFolio (h ∷ gs)) (h ∷ gs))
-          (choices (firstFolio (h ∷ gs)) (h ∷ gs)) r
-          → r ≡ some cs
+      go : (r : Option Choice) → First r → r ≡ some cs
       go none (nothing e) = absurd (List·Memᴰ·not-nil (subst (λ l. cs ∈ l) e m))
       go (some ds) (found x) = ap some (choices-same ds cs (x .among) m (x .ahead cs m) (ahead ds (x .among)))
 
   pub best-none : ((cs : Choice) → cs ∈ choices (firstFolio (h ∷ gs)) (h ∷ gs) → ⊥) → bestBook (h ∷ gs) ≡ none
-  unfolding bestBook
-  best-none empty =
-      go (firstOf (bookBefore (firstFolio (h ∷ gs)) (h ∷ gs)) (choices (firstFolio (h ∷ gs)) (h ∷ gs)))
-      (firstOf-found (bookBefore (firstFolio (h ∷ gs)) (h ∷ gs)) (book-preference (firstFolio (h ∷ gs)) (h ∷ gs))
-      (choices (firstFolio (h ∷ gs)) (h ∷ gs)))
+  best-none empty = go (bestBook (h ∷ gs)) best-first
     where
-      go : (r : Option Choice)
-          → Found (bookBefore (firstFolio (h ∷ gs)) (h ∷ gs)) (book-preference (firstFolio (h ∷ gs)) (h ∷ gs))
-          (choices (firstFolio (h ∷ gs)) (h ∷ gs)) r
-          → r ≡ none
+      go : (r : Option Choice) → First r → r ≡ none
       go none x = refl
       go (some ds) (found x) = absurd (empty ds (x .among))
 
