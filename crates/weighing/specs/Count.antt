@@ -101,7 +101,7 @@ abbrev pub rowsOver : Galley → Counts → ℕ → Heights → Part → Part �
 rowsOver g first q floats figures tables =
     (ltb (g .spec .htmax) (floats .tight) && leb (countsAt g 0 q .tables) (tables .from)) || leb (figures .from) (first .figures)
 
--- All that end in the column are.
+-- All pages that end in the column are counted.
 pub record ColumnCounted (bytes : List ℕ) (g : Galley) (first : Counts) (q pairs : ℕ) : Type 0 where
   pub few : pairs ≤ 164098018251
   pub counted : pairs ≡ below (columnsIn g) (pairsInto bytes g first q)
