@@ -80,11 +80,6 @@ pub record ColumnCount (bytes : List ℕ) (g : Galley) (first : Counts) (q : ℕ
   pub few : pairs + suc (columnOf g figures tables) * 16008001 ≤ columnsIn g * 16008001
   pub counted : pairs + below (suc (columnOf g figures tables)) (pairsInto bytes g first q) ≡ below (columnsIn g) (pairsInto bytes g first q)
 
--- From a column the count goes on to an earlier one, with the pages up to there counted.
-pub record ColumnNext (bytes : List ℕ) (g : Galley) (first : Counts) (q : ℕ) (figures tables figures′ tables′ : Part) (pairs : ℕ) : Type 0 where
-  pub less : columnOf g figures′ tables′ < columnOf g figures tables
-  pub next : ColumnCount bytes g first q figures′ tables′ pairs
-
 -- What the column of these parts adds: the floats alone are so high, and so many pages start there.
 pub record ColumnStep (bytes : List ℕ) (g : Galley) (first : Counts) (q : ℕ) (figures tables : Part) (floats : Heights) (more : ℕ) : Type 0 where
   pub laid : floats ≡ floatsAlone (g .spec) (figures .heights) (tables .heights) (ltb (figures .from) (countsAt g 0 q .figures) && ltb (tables .from) (countsAt g 0 q .tables))

@@ -73,28 +73,29 @@ fn pairs_into(s: &[u8], g: Galley, sums: &[u32], first: Counts, q: usize) -> u64
     }
     let mut pairs: u64 = 0;
     let mut figures = nothing(end.figures);
-    let mut tables = nothing(end.tables);
     loop {
         let figured = figures.from < end.figures;
-        let tabled = tables.from < end.tables;
-        let floats = starts::sweep::floats_alone(
-            g,
-            figures.heights,
-            tables.heights,
-            figured & tabled,
-        );
-        pairs += pairs_between(g, sums, first.lines, floats.tight, figured | tabled);
-        let tall = g.spec.htmax < floats.tight;
-        if tall | (tables.from <= first.tables) {
-            // Where figures alone are too tall, so are they with one more.
-            if (tall & (end.tables <= tables.from)) | (figures.from <= first.figures) {
-                return pairs;
+        let mut tables = nothing(end.tables);
+        // Where figures alone are too tall, so are they with one more.
+        let bare = loop {
+            let tabled = tables.from < end.tables;
+            let floats = starts::sweep::floats_alone(
+                g,
+                figures.heights,
+                tables.heights,
+                figured & tabled,
+            );
+            pairs += pairs_between(g, sums, first.lines, floats.tight, figured | tabled);
+            let tall = g.spec.htmax < floats.tight;
+            if tall | (tables.from <= first.tables) {
+                break tall & (end.tables <= tables.from);
             }
-            figures = with_one_more(s, g.figures, figures, end.figures);
-            tables = nothing(end.tables);
-        } else {
             tables = with_one_more(s, g.tables, tables, end.tables);
+        };
+        if bare | (figures.from <= first.figures) {
+            return pairs;
         }
+        figures = with_one_more(s, g.figures, figures, end.figures);
     }
 }
 

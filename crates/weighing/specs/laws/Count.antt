@@ -19,7 +19,7 @@ use Rattle.blocks.specs.Counts.{placeOf}
 use Rattle.starts.specs.Read.{columnsIn, countsAt, rowOf}
 use Rattle.starts.specs.laws.Columns.{few-floats, columns-few, row-next, row-grows, row-of, row-in, columns-in}
 use Rattle.weighing.specs.declared.columns.Part.{Part}
-use Rattle.weighing.specs.Count.{pairsInto, Weighable, nothing, withOneMore, Extendable, columnOf, CountableColumn, ColumnCount, ColumnNext, ColumnStep, rowOver, rowsOver, ColumnCounted, AllCount}
+use Rattle.weighing.specs.Count.{pairsInto, Weighable, nothing, withOneMore, Extendable, columnOf, CountableColumn, ColumnCount, ColumnStep, rowOver, rowsOver, ColumnCounted, AllCount}
 use Rattle.weighing.specs.laws.Columns.{weighed-columns}
 use Rattle.weighing.specs.laws.From.{end-within, over, short, from-before, from-pairs, row-passed, rows-passed}
 use Rattle.weighing.specs.laws.Part.{part-nothing, part-more, part-room}
@@ -88,17 +88,14 @@ module _ {bytes : List ℕ} {g : Galley} {sums : List ℕ} {first : Counts} {q :
           part-room bytes (g .tables) (first .tables) (end .tables) (run .tabled) some-tables (asked .ready .sound .tables .sound)
           (omega (arith, asked .ready .sound .tables .few)) (end-within asked .tables)
 
-      pub table-next : ColumnNext bytes g first q figures tables figures (withOneMore bytes (g .tables) tables (countsAt g 0 q .tables)) (pairs + more)
+      pub table-next : ColumnCount bytes g first q figures (withOneMore bytes (g .tables) tables (countsAt g 0 q .tables)) (pairs + more)
       table-next =
           let next : from ≡ suc (rowOf g (figures .from) + (tables .from - 1)) = omega (arith, some-tables) in
           record {
-            less = omega arith;
-            next = record {
-              figured = run .figured;
-              tabled = part-more bytes (g .tables) (first .tables) (end .tables) (run .tabled) some-tables;
-              few = omega (arith, run .few, step .few);
-              counted = rw next at added;
-            };
+            figured = run .figured;
+            tabled = part-more bytes (g .tables) (first .tables) (end .tables) (run .tabled) some-tables;
+            few = omega (arith, run .few, step .few);
+            counted = rw next at added;
           }
 
     module _ (done : rowOver g first floats tables ≡ true) where
@@ -132,17 +129,14 @@ module _ {bytes : List ℕ} {g : Galley} {sums : List ℕ} {first : Counts} {q :
                 let (f, t) = row-in g (figures .from - 1) x (omega arith) (rw (← row-step) (omega arith)) in
                 over asked x (omega (arith, from-before asked (run .figured) (run .tabled), asked .column)) (λ a b. omega arith)
 
-        pub figure-next : ColumnNext bytes g first q figures tables (withOneMore bytes (g .figures) figures (countsAt g 0 q .figures)) (nothing (countsAt g 0 q .tables)) (pairs + more)
+        pub figure-next : ColumnCount bytes g first q (withOneMore bytes (g .figures) figures (countsAt g 0 q .figures)) (nothing (countsAt g 0 q .tables)) (pairs + more)
         figure-next =
             let none = past (suc (rowOf g (figures .from - 1) + end .tables)) from (pairsInto bytes g first q) figure-less row-between in
             record {
-              less = figure-less;
-              next = record {
-                figured = part-more bytes (g .figures) (first .figures) (end .figures) (run .figured) some-figures;
-                tabled = part-nothing bytes (g .tables) (first .tables) (end .tables) (omega (arith, run .tabled .since, run .tabled .within));
-                few = omega (arith, run .few, step .few, figure-less);
-                counted = omega (arith, added);
-              };
+              figured = part-more bytes (g .figures) (first .figures) (end .figures) (run .figured) some-figures;
+              tabled = part-nothing bytes (g .tables) (first .tables) (end .tables) (omega (arith, run .tabled .since, run .tabled .within));
+              few = omega (arith, run .few, step .few, figure-less);
+              counted = omega (arith, added);
             }
 
       -- or none is left.
