@@ -1,7 +1,8 @@
 -- The laws of the count.
 pub mod Columns
 pub mod Count
+pub mod From
 pub mod Lines
 pub mod Pairs
+pub mod Part
 pub mod Past
-pub mod Row

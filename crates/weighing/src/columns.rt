@@ -7,17 +7,50 @@ ghost use Rattle.model.specs.Weighed.{weighedFrom};
 ghost use Rattle.galley.specs.Model.{modelOf};
 ghost use Rattle.blocks.specs.Counts.{placeOf};
 ghost use Rattle.window.specs.Sums.{Sums};
-ghost use Rattle.weighing.specs.Count.{pairsBetween, Weighable, Between, CountableRow, RowCounted, CountableColumn, ColumnCounted};
+ghost use Rattle.weighing.specs.Count.{pairsBetween, Weighable, Between, nothing, withOneMore, Extendable, CountableColumn, ColumnCounted};
 use blocks::Counts;
 use blocks::heights::Heights;
 use galley::Galley;
+use galley::Stream;
 
-// The pages from a column to another whose floats between, alone, are so high and not too tall; without floats between, within a column.
-// They start at line `first` or past it.
+// What pages that end in a column have of a stream of floats: so many stand before where the pages start, and those from there to the end
+// have these heights.
+struct Part {
+    from: usize,
+    heights: Heights,
+}
+
+// Nothing, where as many are placed at the start as at the end.
+fn nothing(end: usize) -> Part
+    ensures { λ r. ⌜ r ≡ nothing end ⌝ }
+{
+    Part {
+        from: end,
+        heights: Heights { tight: 0, loose: 0 },
+    }
+}
+
+// The part with one float more: the one before.
+fn with_one_more(s: &[u8], stream: Stream, part: Part, end: usize) -> Part
+    requires { ⌜ Extendable (now s) stream part end ⌝ }
+    ensures { λ r. ⌜ r ≡ withOneMore (now (s .entry)) stream part end ⌝ }
+{
+    let from = part.from - 1;
+    Part {
+        from,
+        heights: blocks::heights::block_before(s, stream, part.heights, from, end),
+    }
+}
+
+// The pages from a column to another whose floats between are so high alone, none where that is too tall; without floats between, within
+// a column. They start at line `first` or past it.
 fn pairs_between(g: Galley, sums: &[u32], first: usize, floats: u32, some: bool) -> u64
     requires { ⌜ Between g (now sums) first floats ⌝ }
     ensures { λ r. ⌜ (r ≤ 16008001) × ((st : model.Stream) → Sums st (g .text .count) (now (sums .entry)) → r ≡ pairsBetween st g first floats some) ⌝ }
 {
+    if g.spec.htmax < floats {
+        return 0;
+    }
     let lines = g.text.count;
     if some {
         let beside = floats + g.spec.smin;
@@ -28,57 +61,42 @@ fn pairs_between(g: Galley, sums: &[u32], first: usize, floats: u32, some: bool)
     crate::lines::line_pairs(sums, lines, first, 0, g.spec.htmax)
 }
 
-// The pages that start in the columns of a row and end in column q: back to the tables placed first, or to the first column whose floats
-// to column q are too tall alone. The figures between have these heights.
-fn pairs_of_row(
-    s: &[u8],
-    g: Galley,
-    sums: &[u32],
-    first: Counts,
-    q: usize,
-    figures: usize,
-    heights: Heights,
-) -> u64
-    requires { ⌜ CountableRow (now s) g (now sums) first q figures heights ⌝ }
-    ensures { λ r. ⌜ RowCounted (now (s .entry)) g first q figures r ⌝ }
-{
-    let end = candidates::read::counts_at(g, 0, q);
-    let mut pairs: u64 = 0;
-    let mut tables = Heights { tight: 0, loose: 0 };
-    let mut t = end.tables + 1;
-    while first.tables < t {
-        t -= 1;
-        tables = blocks::heights::block_before(s, g.tables, tables, t, end.tables);
-        let both = (figures < end.figures) & (t < end.tables);
-        let floats = starts::sweep::floats_alone(g, heights, tables, both);
-        if g.spec.htmax < floats.tight {
-            return pairs;
-        }
-        let some = (figures < end.figures) | (t < end.tables);
-        pairs += pairs_between(g, sums, first.lines, floats.tight, some);
-    }
-    pairs
-}
-
-// The pages that end in column q: row by row, back to the figures placed first, or to the first row whose figures to column q are too tall
-// alone.
+// The pages that end in column q, by the columns where they start, from its own back: a table more on the page each time, back to the
+// tables placed first or until the floats are too tall alone; then a figure more, and again no table.
 fn pairs_into(s: &[u8], g: Galley, sums: &[u32], first: Counts, q: usize) -> u64
     requires { ⌜ CountableColumn (now s) g (now sums) first q ⌝ }
     ensures { λ r. ⌜ ColumnCounted (now (s .entry)) g first q r ⌝ }
 {
     let end = candidates::read::counts_at(g, 0, q);
+    if (end.figures < first.figures) | (end.tables < first.tables) {
+        return 0;
+    }
     let mut pairs: u64 = 0;
-    let mut heights = Heights { tight: 0, loose: 0 };
-    let mut b = end.figures + 1;
-    while first.figures < b {
-        b -= 1;
-        heights = blocks::heights::block_before(s, g.figures, heights, b, end.figures);
-        if g.spec.htmax < heights.tight {
+    let mut figures = nothing(end.figures);
+    loop {
+        let figured = figures.from < end.figures;
+        let mut tables = nothing(end.tables);
+        // Where figures alone are too tall, so are they with one more.
+        let bare = loop {
+            let tabled = tables.from < end.tables;
+            let floats = starts::sweep::floats_alone(
+                g,
+                figures.heights,
+                tables.heights,
+                figured & tabled,
+            );
+            pairs += pairs_between(g, sums, first.lines, floats.tight, figured | tabled);
+            let tall = g.spec.htmax < floats.tight;
+            if tall | (tables.from <= first.tables) {
+                break tall & (end.tables <= tables.from);
+            }
+            tables = with_one_more(s, g.tables, tables, end.tables);
+        };
+        if bare | (figures.from <= first.figures) {
             return pairs;
         }
-        pairs += pairs_of_row(s, g, sums, first, q, b, heights);
+        figures = with_one_more(s, g.figures, figures, end.figures);
     }
-    pairs
 }
 
 // All pages that start at or past what is placed first.

@@ -84,35 +84,25 @@ module _ (bytes : List ℕ) (at : ℕ) where
       record { marked = is; there = rw is at there; same = refl; fine = fine }
 
   -- A specification is of the edition that its mark says.
-  spec-found : (second : Bool) → markAt bytes at ≡ pick second G2 GS → isSecond bytes at ≡ second
+  edition-of : (second : Bool) → Edition (specOf second bytes at)
+  edition-of true = record { some = omega arith; two = omega arith; plain = λ z. absurd (omega arith) }
+  edition-of false = record { some = omega arith; two = omega arith; plain = λ _. refl }
+
+  spec-found : (second : Bool) → markAt bytes at ≡ specMark (pick second 2 1) → isSecond bytes at ≡ second
       → at + kindOf (markAt bytes at) .size ≤ length bytes → Found bytes at (specAt second bytes at)
   unfolding Found
-  spec-found true marked second there =
-      ranged-found (specInRange (specOf true bytes at)) (found.Spec (specOf true bytes at)) (λ r.
+  spec-found second marked is there =
+      ranged-found (specInRange (specOf second bytes at)) (found.Spec (specOf second bytes at)) (λ r.
       record {
         marked = marked;
         there = rw marked at there;
-        same = rw second;
-        fine = rw second (record {
-          ranged = spec-ranged (specOf true bytes at) r;
-          edition = record { some = omega arith; two = omega arith; plain = λ z. absurd (omega arith) };
-        });
-      })
-  spec-found false marked second there =
-      ranged-found (specInRange (specOf false bytes at)) (found.Spec (specOf false bytes at)) (λ r.
-      record {
-        marked = marked;
-        there = rw marked at there;
-        same = rw second;
-        fine = rw second (record {
-          ranged = spec-ranged (specOf false bytes at) r;
-          edition = record { some = omega arith; two = omega arith; plain = λ _. refl };
-        });
+        same = rw is;
+        fine = rw is (record { ranged = spec-ranged (specOf second bytes at) r; edition = edition-of second });
       })
 
   -- Either mark opens one.
   spec-marked : (first second : Bool) → eqb (markAt bytes at) GS ≡ first → isSecond bytes at ≡ second → (first || second) ≡ true
-      → markAt bytes at ≡ pick second G2 GS
+      → markAt bytes at ≡ specMark (pick second 2 1)
   spec-marked first true a b h = eqb-true (markAt bytes at) G2 b
   spec-marked true false a b h = eqb-true (markAt bytes at) GS a
   spec-marked false false a b h = absurd (true≢false (sym h))

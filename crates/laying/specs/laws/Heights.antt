@@ -2,7 +2,7 @@
 use Prim.Native.Nat.{ℕ, zero, suc, pred, _+_, _-_, _*_, _≤_, _<_}
 use native.Mathlib.Nat.{le-refl}
 use native.Mathlib.Omega.{arith}
-use mathlib.Core.Path.{_≡_, _∙_, ap}
+use mathlib.Core.Path.{_≡_, sym, _∙_, ap}
 use mathlib.Core.Bool.{Bool, true, false}
 use mathlib.Core.List.{List}
 use lib.Dec.{leb, ltb}
@@ -200,27 +200,23 @@ module _ (bytes : List ℕ) (g : Galley) (u v : Counts) where
           ))
 
       module _ (all : isLaid (laid .on) v ≡ true) where
-        -- and with all blocks any others keep it,
+        -- and with all blocks the height is the model's, whatever the spaces:
+        height-laid : (gap : model.Stream → ℕ → ℕ) (separation : ℕ)
+            → height (modelOf bytes g) gap separation (placeOf g u) (placeOf g v) ≡ heightUpto bytes g gap separation u (laid .on) v
+        height-laid gap separation =
+            height-of gap separation pu pv ∙ sym (height-all gap separation (laid .on) (p .to) (all-laid (laid .on) v all))
+
+        -- so any others keep rule 15,
         pub page-fits : laid .heights .tight ≤ g .spec .htmax → fits (modelOf bytes g) (placeOf g u) (placeOf g v) ≡ true
         unfolding fits tightest
         page-fits low =
             le-leb (tightest (modelOf bytes g) (placeOf g u) (placeOf g v)) (g .spec .htmax)
-            (omega (
-              arith,
-              p .tight,
-              height-all (λ st. st .least) (g .spec .smin) (laid .on) (p .to) (all-laid (laid .on) v all),
-              height-of (λ st. st .least) (g .spec .smin) pu pv,
-            ))
+            (omega (arith, p .tight, height-laid (λ st. st .least) (g .spec .smin)))
 
         -- and the loosest is the model's,
         pub page-loose : loosest (modelOf bytes g) (placeOf g u) (placeOf g v) ≡ laid .heights .loose
         unfolding loosest
-        page-loose =
-            rw (
-              p .loose,
-              height-all (λ st. st .most) (g .spec .smax) (laid .on) (p .to) (all-laid (laid .on) v all),
-              height-of (λ st. st .most) (g .spec .smax) pu pv,
-            )
+        page-loose = rw (p .loose) (height-laid (λ st. st .most) (g .spec .smax))
 
         -- which rule 16 judges.
         pub page-fills : (last : Bool)

@@ -7,18 +7,6 @@ use borrow.Author.Needs.{needs}
 use Rattle.places.proofs.put.Statement.{statement}
 use Rattle.places.proofs.put.Tie as tie
 
-slice-write-work-2 : tie.Need-slice-write-work-2
-slice-write-work-2 c = simp length-set (omega arith)
-
-slice-write-work-3 : tie.Need-slice-write-work-3
-slice-write-work-3 c = simp length-set (omega arith)
-
-slice-write-work-4 : tie.Need-slice-write-work-4
-slice-write-work-4 c = simp length-set (omega arith)
-
-slice-write-work-5 : tie.Need-slice-write-work-5
-slice-write-work-5 c = simp length-set (omega arith)
-
 returns : tie.Need-returns
 returns c =
     let at = c .before .before .before .args .at in
@@ -32,6 +20,6 @@ pub put-spec : {M : Type 1} → statement M
 put-spec =
     tie.close
     (tie.spec
-    (λ c. search needs) (λ c. search needs) (λ c κs. search needs) (λ c. search needs) (λ c. search needs) slice-write-work-2
-    (λ c κs. search needs) (λ c. search needs) (λ c. search needs) slice-write-work-3 (λ c. search needs) (λ c. search needs)
-    slice-write-work-4 (λ c. search needs) (λ c. search needs) slice-write-work-5 (λ c. search needs) returns)
+    (λ c. search needs) (λ c. search needs) (λ c κs. search needs) (λ c. search needs) (λ c. search needs) (λ c. simp length-set (omega arith))
+    (λ c κs. search needs) (λ c. search needs) (λ c. search needs) (λ c. simp length-set (omega arith)) (λ c. search needs) (λ c. search needs)
+    (λ c. simp length-set (omega arith)) (λ c. search needs) (λ c. search needs) (λ c. simp length-set (omega arith)) (λ c. search needs) returns)

@@ -10,10 +10,9 @@ use mathlib.Core.Option.{Option, none, some}
 use lib.ListN.{length}
 use lib.Dec.{eqb}
 use Rattle.model.specs.Gather.{pick}
-use Rattle.model.specs.Galley.{Galley, Place, zeros}
-use Rattle.model.specs.Turns.{xOf, turns}
+use Rattle.model.specs.Galley.{Galley, Place}
+use Rattle.model.specs.Turns.{xOf}
 use Rattle.model.specs.White.{white}
-use Rattle.model.specs.Order.{startsOf}
 use Rattle.model.specs.Best.{valid}
 use Rattle.model.specs.Book.{openOn, firstFolio, Choice, choices, bookPages, bookX, bookWhite}
 use Rattle.model.specs.laws.Lists.{_∈_, ∈-unmap}
@@ -22,8 +21,8 @@ use Rattle.theorems.specs.pages.Graph.{side}
 use Rattle.theorems.specs.books.Folios.{like, x-on, white-on}
 use Rattle.theorems.specs.books.Closing.{bestClosing}
 use Rattle.theorems.specs.books.Backward.{pagesIn}
-use Rattle.theorems.specs.books.Turns.{noChapter, crossing}
-use Rattle.theorems.specs.books.Routes.{Route, preferred, choose, through, route, cheaper, finish, ending, Along}
+use Rattle.theorems.specs.books.Turns.{noChapter}
+use Rattle.theorems.specs.books.Routes.{Route, preferred, choose, withList, through, route, cheaper, finish, ending, Along}
 use Rattle.theorems.specs.books.Choosing.{AllAlike}
 use Rattle.theorems.specs.books.Best.{Bound, alike-self}
 use Rattle.theorems.specs.books.Course.{opensNext, Course, Coursed, along-course, coursed, course-sum}
@@ -64,12 +63,7 @@ through-onward h f g rs o next r e = from (route h f rs o) refl e
     with-list : (q : Route) → route h f rs o ≡ some q → (b : Option (List Place))
         → _≡_ {A = Option Route} (elim b [
           | none ↦ none
-          | some ps ↦ some (record {
-            turns = q .turns + crossing h (noChapter rs) o + turns (openOn o g) ps;
-            white = q .white + white (openOn o g) ps;
-            folios = o ∷ q .folios;
-            starts = startsOf (zeros g) ps [];
-          })
+          | some ps ↦ some (withList h g (noChapter rs) o q ps)
         ]) (some r) → Onward h f rs o r
     with-list q is none e = let z : _≡_ {A = ℕ} 0 1 = cc in absurd (omega arith)
     with-list q is (some ps) e = record { before = q; was = is; folios = let z : _≡_ {A = List ℕ} (r .folios) (o ∷ q .folios) = cc in z }

@@ -37,19 +37,23 @@ choose none b = b
 choose (some a) none = some a
 choose (some a) (some b) = some (pick (preferred a b) a b)
 
--- A route to folio o goes on to the next through chapter g, by the best list that is valid there and closes so. `first` says that g is
--- the first chapter.
+-- A route to folio o with a list of chapter g after it. `first` says that g is the first chapter.
+abbrev pub withList : Galley → Galley → Bool → ℕ → Route → List Place → Route
+withList h g first o r ps =
+    record {
+      turns = r .turns + crossing h first o + turns (openOn o g) ps;
+      white = r .white + white (openOn o g) ps;
+      folios = o ∷ r .folios;
+      starts = startsOf (zeros g) ps [];
+    }
+
+-- A route to folio o goes on to the next through chapter g, by the best list that is valid there and closes so.
 unfoldable pub through : Galley → Galley → Bool → ℕ → ℕ → Option Route → Option Route
 through h g first o next none = none
 through h g first o next (some r) =
     elim (bestClosing (openOn o g) (side (h .spec .sides) (o + next))) [
       | none ↦ none
-      | some ps ↦ some (record {
-        turns = r .turns + crossing h first o + turns (openOn o g) ps;
-        white = r .white + white (openOn o g) ps;
-        folios = o ∷ r .folios;
-        starts = startsOf (zeros g) ps [];
-      })
+      | some ps ↦ some (withList h g first o r ps)
     ]
 
 -- The best route to a folio after the chapters, of which the last comes first; the first opens on folio f.

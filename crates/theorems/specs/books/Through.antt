@@ -25,7 +25,7 @@ use Rattle.theorems.specs.books.Folios.{like, like-on, side-on, Shifted,
 use Rattle.theorems.specs.books.Closing.{closing, bestClosing, closing-valid, valid-closing, closing-makes}
 use Rattle.theorems.specs.books.Backward.{pagesIn, Chosen, sumBack, tiesBack}
 use Rattle.theorems.specs.books.Turns.{Alike, turnsBack, noChapter, crossing, turns-next}
-use Rattle.theorems.specs.books.Routes.{Route, through, Along}
+use Rattle.theorems.specs.books.Routes.{Route, withList, through, Along}
 
 -- Two numbers compared one after the other, and then a test.
 pub in-turn : (t t′ w w′ : ℕ) (b : Bool)
@@ -208,12 +208,7 @@ through-right h f some-folio g a rs o next l (some r) (routed b) =
         → MakesOf (openOn o g) (closing (openOn o g) (side (h .spec .sides) (o + next))) e
         → Passes h f some-folio g a rs o next (elim e [
           | none ↦ none
-          | some ps ↦ some (record {
-            turns = r .turns + crossing h (noChapter rs) o + turns (openOn o g) ps;
-            white = r .white + white (openOn o g) ps;
-            folios = o ∷ r .folios;
-            starts = startsOf (zeros g) ps [];
-          })
+          | some ps ↦ some (withList h g (noChapter rs) o r ps)
         ])
     go none is (impossible empty) = no-pass (λ ps cs v. empty ps (v .closes))
     go (some ps) is (makes least) =

@@ -1,14 +1,13 @@
 -- What the count passes over adds nothing, and what is computed for two columns is the count of their pages.
 use Prim.Native.Nat.{ℕ, zero, suc, _+_, _-_, _≤_, _<_}
-use native.Mathlib.Nat.{mul-le-mul-right}
 use native.Mathlib.Omega.{arith}
-use native.Mathlib.Decide.{ℕ-discrete}
+use native.Mathlib.Decide.{decLe, ℕ-discrete}
 use mathlib.Core.Path.{_≡_, refl, sym, _∙_, ap}
 use mathlib.Core.Bool.{Bool, true, false, _&&_}
 use mathlib.Core.List.{List}
 use lib.ListN.{getD}
 use lib.Dec.{ltb, leb, eqb}
-use borrow.Author.Tests.{ltb-true, ltb-false, le-leb, leb-true, ne-eqb}
+use borrow.Author.Tests.{lt-ltb, le-ltb, ltb-true, ltb-false, le-leb, leb-true, ne-eqb}
 use Rattle.model.specs.Gather.{pick, every}
 use Rattle.model.specs.Galley.{Place, count}
 use Rattle.model.specs.Weighed as model
@@ -22,17 +21,12 @@ use Rattle.blocks.specs.laws.Counts.{count-figures, count-tables, under-of, wit
 use Rattle.places.specs.Columns.{columns, floatSizes, placeAt}
 use Rattle.window.specs.laws.Sums.{sums-small}
 use Rattle.candidates.specs.Beside.{Under, alone}
-use Rattle.candidates.specs.Read.{columnsIn, countsAt, rowOf}
+use Rattle.candidates.specs.Read.{columnsIn, countsAt}
 use Rattle.candidates.specs.laws.Columns.{columns-in, place-at, proper-at, under-at, at-under}
 use Rattle.candidates.specs.laws.Heights.{kinds-some, beside-alone}
 use Rattle.weighing.specs.Columns.{pairsFrom}
 use Rattle.weighing.specs.Count.{pairsBetween, pairsInto, Weighable, Between}
 use Rattle.weighing.specs.laws.Pairs.{below-past, pairs-not-past, pairs-not-under, pairs-too-tall, pairs-own, pairs-some}
-
--- A row up to the last lies within the columns.
-pub rows-in : (g : Galley) (b : ℕ) → b ≤ g .figures .count → rowOf g (suc b) ≤ columnsIn g
-unfolding rowOf columnsIn
-rows-in g b l = mul-le-mul-right (g .tables .count + 1) (omega arith)
 
 -- Columns from n on and before m that add nothing may be passed over.
 pub past : (n m : ℕ) (f : ℕ → ℕ) → n ≤ m → ((x : ℕ) → n ≤ x → x < m → f x ≡ 0) → below m f ≡ below n f
@@ -108,25 +102,6 @@ module _ (bytes : List ℕ) (g : Galley) (first : Counts) (inside : Within g fir
       go a true e =
           absurd (short (omega (arith, at a 1 (floats-some g) e, count-figures g first, count-figures g (countsAt g a x))) (tables a e (ℕ-discrete _ _)))
 
-  -- What is computed for two columns is the count of their pages.
-  pub between-at : (b q floats : ℕ) (some : Bool) → q < columnsIn g → b ≤ q → Under (modelOf bytes g) b q
-      → first .figures ≤ countsAt g 0 b .figures → first .tables ≤ countsAt g 0 b .tables → floats ≡ alone (modelOf bytes g) (λ st. st .least) (g .spec .smin) b q → floats ≤ g .spec .htmax → some ≡ ltb b q
-      → pairsInto bytes g first q b ≡ pairsBetween (textOf bytes (g .text)) g (first .lines) floats some
-  unfolding pairsBetween
-  between-at b q floats true to before under figures tables high short e =
-      let l = ltb-true b q (sym e) in
-      let wide : q < columns (floatSizes (modelOf bytes g)) = omega (arith, columns-in bytes g) in
-      let more = beside-alone (modelOf bytes g) (λ st. st .least) (g .spec .smin) b q (kinds-some (modelOf bytes g) b q wide under l) in
-      let apart = more ∙ ap (λ n. n + g .spec .smin) (sym high) in
-      pairs-some (modelOf bytes g) start (first .lines) b q wide l under (omega arith) (inside .lines) (past-at b figures tables)
-      ∙ rw apart refl
-  between-at b q floats false to before under figures tables high short e =
-      let l = ltb-false b q (sym e) in
-      let same : b ≡ q = omega arith in
-      ap (λ x. pairsFrom (modelOf bytes g) start x q) same
-      ∙ pairs-own (modelOf bytes g) start (first .lines) q (omega (arith, columns-in bytes g))
-      (past-at q (rw (← same) figures) (rw (← same) tables))
-
   -- A column with more of a stream than the end adds nothing,
   pub over-none : (x q : ℕ) → x < columnsIn g → q < columnsIn g
       → ((countsAt g 0 x .figures ≤ countsAt g 0 q .figures) → (countsAt g 0 x .tables ≤ countsAt g 0 q .tables) → ⊥) → pairsInto bytes g first q x ≡ 0
@@ -141,6 +116,39 @@ module _ (bytes : List ℕ) (g : Galley) (first : Counts) (inside : Within g fir
   tall-none x c q from to under tall figures tables =
       pairs-too-tall (modelOf bytes g) start x q (omega (arith, columns-in bytes g)) (omega (arith, columns-in bytes g)) c under tall
       (λ u. under-at bytes g x c figures (tables (at-under bytes g x q u .1)))
+
+  -- What is computed for two columns is the count of their pages, where the floats between are not too tall alone
+  between-short : (b q floats : ℕ) (some : Bool) → q < columnsIn g → b ≤ q → Under (modelOf bytes g) b q
+      → first .figures ≤ countsAt g 0 b .figures → first .tables ≤ countsAt g 0 b .tables → floats ≡ alone (modelOf bytes g) (λ st. st .least) (g .spec .smin) b q → floats ≤ g .spec .htmax → some ≡ ltb b q
+      → pairsInto bytes g first q b ≡ pairsBetween (textOf bytes (g .text)) g (first .lines) floats some
+  unfolding pairsBetween
+  between-short b q floats true to before under figures tables high short e =
+      let l = ltb-true b q (sym e) in
+      let wide : q < columns (floatSizes (modelOf bytes g)) = omega (arith, columns-in bytes g) in
+      let more = beside-alone (modelOf bytes g) (λ st. st .least) (g .spec .smin) b q (kinds-some (modelOf bytes g) b q wide under l) in
+      let apart = more ∙ ap (λ n. n + g .spec .smin) (sym high) in
+      pairs-some (modelOf bytes g) start (first .lines) b q wide l under (omega arith) (inside .lines) (past-at b figures tables)
+      ∙ rw (apart, le-ltb (g .spec .htmax) floats short) refl
+  between-short b q floats false to before under figures tables high short e =
+      let l = ltb-false b q (sym e) in
+      let same : b ≡ q = omega arith in
+      ap (λ x. pairsFrom (modelOf bytes g) start x q) same
+      ∙ pairs-own (modelOf bytes g) start (first .lines) q (omega (arith, columns-in bytes g))
+      (past-at q (rw (← same) figures) (rw (← same) tables))
+      ∙ rw (le-ltb (g .spec .htmax) floats short) refl
+
+  -- and where they are.
+  pub between-at : (b q floats : ℕ) (some : Bool) → q < columnsIn g → b ≤ q → Under (modelOf bytes g) b q
+      → first .figures ≤ countsAt g 0 b .figures → first .tables ≤ countsAt g 0 b .tables → floats ≡ alone (modelOf bytes g) (λ st. st .least) (g .spec .smin) b q → some ≡ ltb b q
+      → pairsInto bytes g first q b ≡ pairsBetween (textOf bytes (g .text)) g (first .lines) floats some
+  unfolding pairsBetween
+  between-at b q floats some to before under figures tables high e = go (decLe floats (g .spec .htmax))
+    where
+      go : Dec (floats ≤ g .spec .htmax) → pairsInto bytes g first q b ≡ pairsBetween (textOf bytes (g .text)) g (first .lines) floats some
+      go (yes short) = between-short b q floats some to before under figures tables high short e
+      go (no tall) =
+          tall-none b b q (omega arith) to under (omega arith) (omega arith) (λ k. omega arith)
+          ∙ rw (lt-ltb (g .spec .htmax) floats (omega arith)) refl
 
 -- Whatever is beside them, the lines can be paired.
 pub weighable-between : {bytes : List ℕ} {g : Galley} {sums : List ℕ} {first : Counts} → Weighable bytes g sums first → (floats : ℕ)
