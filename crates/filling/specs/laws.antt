@@ -8,6 +8,7 @@ pub mod Queues
 pub mod Own
 pub mod NewEntry
 pub mod First
+pub mod Side
 pub mod Sides
 pub mod Skip
 pub mod Column

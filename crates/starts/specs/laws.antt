@@ -8,6 +8,7 @@ pub mod Bound
 pub mod Pass
 pub mod Past
 pub mod Look
+pub mod Begin
 pub mod Side
 pub mod Sweeping
 pub mod Row

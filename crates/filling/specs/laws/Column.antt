@@ -40,7 +40,7 @@ use Rattle.filling.specs.laws.Price.{dearest-light}
 use Rattle.filling.specs.laws.First.{lines-quiet, first-filled, column-from}
 use Rattle.filling.specs.laws.Own.{lines-slide, walking-down}
 use Rattle.filling.specs.laws.Queues.{noEnds, queues-none}
-use Rattle.filling.specs.laws.Sides.{lent-roomy, lent-wide}
+use Rattle.filling.specs.laws.Side.{lent-roomy, lent-wide}
 
 -- Stores in a column before it is filled change nothing of it,
 pub scratched-same : {bytes : List ℕ} {task : Task} {w : List ℕ} {j : ℕ} → Next bytes task w 0 j → (v : List ℕ)

@@ -15,7 +15,7 @@ use Rattle.filling.specs.Run.{ColumnsRun}
 use Rattle.filling.specs.laws.Costs.{lent-filled}
 use Rattle.filling.specs.laws.Fill.{length-column, filled-start, filled-next, filled-to}
 use Rattle.filling.specs.laws.Price.{dearest-light}
-use Rattle.filling.specs.laws.Sides.{lent-roomy, lent-wide}
+use Rattle.filling.specs.laws.Side.{lent-roomy, lent-wide}
 
 -- One column after another.
 module _ {bytes : List ℕ} {task : Task} {w₀ sums words₀ : List ℕ} (table : TableNext bytes task w₀ sums words₀) where

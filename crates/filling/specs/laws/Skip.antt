@@ -25,7 +25,7 @@ use Rattle.filling.specs.Skip.{skipSides, skipLines, skipColumn, SkipSid
 use Rattle.filling.specs.laws.Entered.{side-low, below-side, sides-count, entry-entered}
 use Rattle.filling.specs.laws.Fill.{length-sides, length-place, room-kept, filled-keeps, filled-place}
 use Rattle.filling.specs.laws.Price.{dearest-light}
-use Rattle.filling.specs.laws.Sides.{lent-roomy, lent-wide}
+use Rattle.filling.specs.laws.Side.{lent-roomy, lent-wide}
 
 module _ (g : model.Galley) (light : Light g) (from : Origin) (origin : from .place .column < columns (floatSizes g)) (q : ℕ)
     (wide : q < columns (floatSizes g)) (early : q < from .place .column) where

@@ -1,10 +1,10 @@
--- The lines of a side in a sweep: what holds when it starts, at each line, and at its end.
+-- The lines of a side in a sweep: what holds at each of them, and at its end.
 use Prim.Native.Nat.{ℕ, _+_, _≤_, _<_}
 use native.Mathlib.Nat.{le-refl}
 use native.Mathlib.Numerals.{add-one}
 use native.Mathlib.Decide.{decLt, ℕ-discrete}
 use native.Mathlib.Omega.{arith}
-use mathlib.Core.Path.{_≡_, refl, sym, _∙_, subst}
+use mathlib.Core.Path.{_≡_, sym, _∙_, subst}
 use mathlib.Core.Logic.{_⊎_, inl, inr}
 use mathlib.Core.Bool.{false}
 use mathlib.Core.List.{List}
@@ -16,29 +16,29 @@ use Rattle.places.specs.declared.Entry.{Entry}
 use Rattle.window.specs.declared.slide.Window.{Window}
 use Rattle.window.specs.declared.queue.Source.{Source}
 use Rattle.window.specs.declared.parts.Parts.{Parts}
-use Rattle.window.specs.Slide.{shutAt, Reachable, Slidable, Open}
+use Rattle.window.specs.Slide.{Slidable, Open}
 use Rattle.window.specs.Queue.{linesOf, Payable}
-use Rattle.window.specs.Parts.{noParts, Both, Rises, Movable, Moved}
+use Rattle.window.specs.Parts.{Both, Rises, Movable, Moved}
 use Rattle.window.specs.Windows.{windowAt, Windowable, WindowFound}
-use Rattle.window.specs.laws.Slide.{ends-first, ends-next}
-use Rattle.window.specs.laws.Parts.{both-none, both-same, both-beside}
+use Rattle.window.specs.laws.Slide.{ends-next}
+use Rattle.window.specs.laws.Parts.{both-same, both-beside}
 use Rattle.window.specs.laws.Windows.{window-beside, kept-beside, ends-rise}
 use Rattle.starts.specs.declared.sweep.Pass.{Pass}
 use Rattle.candidates.specs.Fronts.{bestFront, Fronted}
-use Rattle.candidates.specs.Read.{sideOf, columnsIn}
-use Rattle.starts.specs.Bound.{Bounded, Standing, BoundFound, Comparable, Beaten}
+use Rattle.candidates.specs.Read.{sideOf}
+use Rattle.starts.specs.Bound.{Bounded, Comparable, Beaten}
 use Rattle.starts.specs.Sweep.{Lent, passLoad, weighed, Ended, sweepEnd}
 use Rattle.candidates.specs.Cells.{fresh}
 use Rattle.starts.specs.Swept.{Windowed, Taken, Early, SideSweep, SideRun, SideDone}
-use Rattle.candidates.specs.laws.Columns.{columns-few, few-floats}
 use Rattle.candidates.specs.laws.Read.{side-either}
-use Rattle.starts.specs.laws.Lending.{can-stand, can-slide, can-move}
+use Rattle.starts.specs.laws.Lending.{can-slide, can-move}
 use Rattle.starts.specs.laws.Fronts.{fronts-best, can-front}
 use Rattle.candidates.specs.laws.Cells.{scratched-then}
 use Rattle.starts.specs.laws.Cells.{lent-kept}
 use Rattle.starts.specs.laws.Bound.{bounded-beside, bounded-same}
-use Rattle.starts.specs.laws.Pass.{least-low, end-from, end-inner, pass-ended, pass-beaten, pass-changed, pass-swept}
-use Rattle.starts.specs.laws.Look.{quiet-kept, swept-skip}
+use Rattle.starts.specs.laws.Pass.{end-inner, pass-ended, pass-beaten, pass-changed, pass-swept}
+use Rattle.starts.specs.laws.Look.{quiet-kept}
+use Rattle.starts.specs.laws.Begin.{from-low, order}
 
 module _ {bytes : List ℕ} {g : Galley} {w₀ sums words₀ : List ℕ} {c : ℕ} {pass : Pass}
     (asked : SideSweep bytes g w₀ sums words₀ c pass) where
@@ -48,9 +48,6 @@ module _ {bytes : List ℕ} {g : Galley} {w₀ sums words₀ : List ℕ} {c : �
   abbrev column : List ℕ → ℕ → Entry
   column w = linesOf w (g .text .count + 1) (pass .from) (sideOf g c)
 
-  from-low : pass .from < columnsIn g
-  from-low = omega (arith, asked .passing .before, asked .lent .column)
-
   -- What is offered costs little.
   costs-low : {w : List ℕ} → Lent bytes g w (pass .to) → (i : ℕ) → i ≤ g .text .count → Payable (column w) i
   costs-low lent i l a m = lent .costs (pass .from) c (asked .passing .before) (asked .occurs) a (omega arith)
@@ -58,56 +55,6 @@ module _ {bytes : List ℕ} {g : Galley} {w₀ sums words₀ : List ℕ} {c : �
   -- The lines of the column from which pages of the pass start.
   abbrev source : Source
   source = record { tall = g .text .count + 1; column = pass .from; side = sideOf g c }
-
-  order : pass .least ≤ g .spec .htmax
-  order = rw (asked .least) (least-low bytes g (asked .lent .sound) false)
-
-  -- How far a page of all of them reaches can be read.
-  pub side-reaches : Reachable sums 0 (passLoad g pass .tight) (g .spec .htmax + 1) (pass .first) (g .text .count)
-  side-reaches =
-      can-slide (asked .lent) (asked .summed) 1 (pass .heights) (le-refl 1) (asked .passing .low) (pass .least) (pass .first) order
-      (shutAt (passLoad g pass)) (g .text .count) (le-refl _) (asked .first) (asked .first) (asked .first) .low
-
-  -- They can be bounded.
-  pub side-stands : Standing w₀ words₀ (record { tall = g .text .count + 1; column = pass .from; side = sideOf g c }) (g .text .count)
-  side-stands =
-      record {
-        stands = λ a l. can-stand (asked .lent) a (pass .from) (sideOf g c) l from-low (side-either g c);
-        few = asked .lent .sound .fewLines;
-        column = omega (arith, from-low, columns-few g (few-floats (asked .lent .sound)));
-        room = asked .scratch;
-      }
-
-  -- A side starts at the first line that is reached, with nothing in its queues: before it there is no start.
-  pub side-first : (words : List ℕ) → length words ≡ length words₀ → (since : ℕ)
-      → BoundFound w₀ words₀ (record { tall = g .text .count + 1; column = pass .from; side = sideOf g c }) (g .text .count) since words
-      → SideRun bytes g w₀ w₀ sums words words c pass since noParts (shutAt (passLoad g pass)) (shutAt (passLoad g pass)) (pass .first)
-  side-first words sized since found =
-      record {
-        from = le-refl _;
-        within = end-from g pass (pass .first) (asked .first);
-        sized = refl;
-        wordsSized = refl;
-        scratch = omega (arith, asked .scratch, sized);
-        ends = ends-first text (passLoad g pass) (pass .first) (le-refl _);
-        windows = kept-beside (found .beside) apart (λ k p. kept k (p .0) (p .1));
-        rises = record { low = le-refl _; split = le-refl _; high = le-refl _ };
-        bounded = found .bounded;
-        held = both-none (column w₀) sums words 0 (shutAt (passLoad g pass)) (λ a l m. absurd (none a l m));
-        swept = swept-skip (asked .lent) c (asked .occurs) (asked .early) (asked .first) (asked .swept);
-        kept = fresh;
-      }
-    where
-      apart : (k : ℕ) → Taken g pass k × ((0 < c) ⊎ (k < pass .first)) → (k + 8000 < 12001) ⊎ (16000 ≤ k + 8000)
-      apart k p = inl (omega (arith, end-inner g pass k (p .0 .1) .0, asked .lent .sound .fewLines))
-
-      none : (a : ℕ) → pass .first ≤ a → (a < pass .first) ⊎ (a < pass .first) → ⊥
-      none a l (inl m) = omega arith
-      none a l (inr m) = omega arith
-
-      kept : (k : ℕ) → Taken g pass k → (0 < c) ⊎ (k < pass .first) → Open text (passLoad g pass) (windowAt words₀ k) k
-      kept k l (inl p) = asked .windows p k l
-      kept k l (inr p) = absurd (omega (arith, l .0))
 
   module _ {words₁ w words : List ℕ} {since : ℕ} {parts : Parts} {fed window : Window} {i : ℕ}
       (run : SideRun bytes g w₀ w sums words₁ words c pass since parts fed window i) where
@@ -135,7 +82,7 @@ module _ {bytes : List ℕ} {g : Galley} {w₀ sums words₀ : List ℕ} {c : �
 
       slides : (window : Window) → window .low ≤ i → window .split ≤ i → window .high ≤ i → Slidable sums (passLoad g pass) window i
       slides window =
-          can-slide lent-now (asked .summed) 1 (pass .heights) (le-refl 1) (asked .passing .low) (pass .least) (pass .first) order window i line
+          can-slide lent-now (asked .summed) 1 (pass .heights) (le-refl 1) (asked .passing .low) (pass .least) (pass .first) (order asked) window i line
 
       pub side-slides : Windowable sums (passLoad g pass) words window i
       side-slides =
@@ -225,7 +172,7 @@ module _ {bytes : List ℕ} {g : Galley} {w₀ sums words₀ : List ℕ} {c : �
 
         pub side-moves : Movable w sums words′ source parts fed new
         side-moves =
-            can-move lent-now (asked .summed) (omega (arith, run .scratch, sized)) (pass .from) c from-low parts fed
+            can-move lent-now (asked .summed) (omega (arith, run .scratch, sized)) (pass .from) c (from-low asked) parts fed
             new i line (costs-low lent-now i line) (opened .ends .split) (opened .ends .high) rises-found 0 (omega arith) held-found
 
         -- The queues have moved on.
@@ -236,8 +183,8 @@ module _ {bytes : List ℕ} {g : Galley} {w₀ sums words₀ : List ℕ} {c : �
 
           pub side-fronted : Fronted sums words″ moved (pass .from) (passLoad g pass) i
           side-fronted =
-              can-front lent-now (asked .summed) (omega (arith, run .scratch, sized, sized″)) (passLoad g pass) order i
-              line new opened (column w) 0 (pass .from) moved held-next (done .fresh) from-low (omega arith) (costs-low lent-now i line)
+              can-front lent-now (asked .summed) (omega (arith, run .scratch, sized, sized″)) (passLoad g pass) (order asked) i
+              line new opened (column w) 0 (pass .from) moved held-next (done .fresh) (from-low asked) (omega arith) (costs-low lent-now i line)
               (slides new (opened .ends .low) (opened .ends .split) (opened .ends .high))
 
           -- One line more is swept.
@@ -247,7 +194,7 @@ module _ {bytes : List ℕ} {g : Galley} {w₀ sums words₀ : List ℕ} {c : �
               let lines = bestFront sums words″ moved (pass .from) (passLoad g pass) i in
               let inner = end-inner g pass i next .1 in
               let best =
-              fronts-best lent-now (asked .summed) (omega (arith, run .scratch, sized, sized″)) (passLoad g pass) order i
+              fronts-best lent-now (asked .summed) (omega (arith, run .scratch, sized, sized″)) (passLoad g pass) (order asked) i
               line new opened (column w) 0 (pass .from) moved held-next (done .fresh) in
               let changed =
               pass-changed lent-now (asked .passing) i c line (asked .occurs) early-now false inner (asked .least) (asked .white) new opened lines

@@ -4,7 +4,7 @@ use native.Mathlib.Omega.{arith}
 use Rattle.candidates.specs.laws.Columns.{few-floats, columns-few}
 use Rattle.starts.specs.laws.Lending.{can-stand}
 use Rattle.filling.specs.Fill.{tall, fillSide}
-use Rattle.filling.specs.laws.Sides.{side-either-here, side-moves, side-entry}
+use Rattle.filling.specs.laws.Side.{side-either-here, side-moves, side-entry}
 use borrow.Author.Needs.{needs}
 use Rattle.filling.proofs.side.fill_side.Statement.{statement}
 use Rattle.filling.proofs.side.fill_side.Tie as tie

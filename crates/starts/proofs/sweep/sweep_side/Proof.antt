@@ -8,7 +8,8 @@ use Rattle.starts.specs.Sweep.{sweepEnd}
 use Rattle.starts.specs.Swept.{SideRun}
 use Rattle.starts.specs.laws.Lending.{lent-wide, floats-separable}
 use Rattle.starts.specs.laws.Pass.{end-inner}
-use Rattle.starts.specs.laws.Side.{side-reaches, side-stands, side-first, side-last, side-slides, side-compares, side-beaten, side-moves, side-fronted, side-ended, side-next}
+use Rattle.starts.specs.laws.Begin.{side-reaches, side-stands, side-first}
+use Rattle.starts.specs.laws.Side.{side-last, side-slides, side-compares, side-beaten, side-moves, side-fronted, side-ended, side-next}
 use borrow.Author.Needs.{needs}
 use Rattle.starts.proofs.sweep.sweep_side.Statement.{statement}
 use Rattle.starts.proofs.sweep.sweep_side.Tie as tie
