@@ -22,7 +22,7 @@ use Rattle.theorems.specs.optimality.Graph.{unreached, least, Way, total
 use Rattle.theorems.specs.optimality.Cell.{Table, Right, Trace, Answer}
 use Rattle.theorems.specs.optimality.Theorem.{optimality}
 use Rattle.theorems.specs.turns.Rank.{rank}
-use Rattle.theorems.specs.turns.Bounds.{Narrow}
+use Rattle.theorems.specs.turns.Bounds.{Limits, Narrow, dearestList, list-limit}
 use Rattle.theorems.specs.pages.Graph.{State, stop, end, side, placeOf, full, Within, Step, price, beginning, pageGraph, pageAt, pagesOn, wayOf}
 use Rattle.theorems.specs.pages.Laws.{page-laws, page-domain}
 use Rattle.theorems.specs.pages.Ways.{way-side}
@@ -145,28 +145,39 @@ module _ (g : Galley) (sane : Sane g) (narrow : Narrow g) (c : ℕ) (occurs : si
       ∙ before-ways g (beginning g) [] (closed ∷ us) (closed ∷ ws) y z .1
       (omega arith, λ e. (page-laws g (beginning g) .tie-refl closed, λ q. f (omega arith)))
 
-  module _ (D : Table (pageGraph g (beginning g))) (right : Right (pageGraph g (beginning g)) D (Within g (beginning g))) where
-    tells : Answer (pageGraph g (beginning g)) D closed (D closed)
-    tells = optimality (pageGraph g (beginning g)) (page-laws g (beginning g)) (page-domain g (beginning g)) D right closed closed-within
+  -- A way there costs the turns and the white of its list.
+  closed-costs : (us : List State) → Way (pageGraph g (beginning g)) us closed
+      → rank (turns g (pagesOn (closed ∷ us))) (white g (pagesOn (closed ∷ us))) ≡ total (pageGraph g (beginning g)) us closed
+  unfolding onto total price
+  closed-costs us w =
+      let x = way-on us w in
+      let same = turns-follow g [] (nothing g sane) sane (pagesOn (closed ∷ us)) (way-follows g (beginning g) (closed ∷ us) x) in
+      let costs = way-costs g (beginning g) (closed ∷ us) x in
+      omega arith
 
-    -- Where the full place is unreached on that side no valid list closes on it.
-    pub closing-empty : D closed ≡ unreached → bestClosing g c ≡ none
-    closing-empty e =
-        closing-none g c (λ qs m. let (us, w, is) = closing-way qs m in tells .none e us w)
+  module _ (most : ℕ) (D : Table (pageGraph g (beginning g)))
+      (right : Right (pageGraph g (beginning g)) most D (Within g (beginning g))) where
+    tells : Answer (pageGraph g (beginning g)) most D closed (D closed)
+    tells = optimality (pageGraph g (beginning g)) (page-laws g (beginning g)) (page-domain g (beginning g)) most D right closed closed-within
+
+    -- Where the full place is unreached on that side within what any list can cost, no valid list closes on it.
+    pub closing-empty : Limits g → dearestList ≤ most → D closed ≡ unreached → bestClosing g c ≡ none
+    closing-empty limits enough e =
+        closing-none g c
+        (λ qs m.
+        let (us, w, is) = closing-way qs m in
+        let low = list-limit g sane limits qs (closing-accepted g c qs m .taken) in
+        let costs = ap (λ ps. rank (turns g ps) (white g ps)) is ∙ closed-costs us w in
+        tells .none e us w (omega arith))
 
     -- Where it is reached the walk back from it meets the best list that does, and its entry holds the turns and the white.
     pub closing-best : (cost : ℕ) (u : State) → D closed ≡ least cost u
         → (us : List State) × Trace (pageGraph g (beginning g)) D us closed × (bestClosing g c ≡ some (pagesOn (closed ∷ us)))
         × (rank (turns g (pagesOn (closed ∷ us))) (white g (pagesOn (closed ∷ us))) ≡ cost)
         × (startsOf (zeros g) (pagesOn (closed ∷ us)) [] ≡ map placeOf us)
-    unfolding onto total price
     closing-best cost u e =
         let (us, w) = tells .found cost u e in
-        let way = w .optimal .way in
-        let x = way-on us way in
-        let same = turns-follow g [] (nothing g sane) sane (pagesOn (closed ∷ us)) (way-follows g (beginning g) (closed ∷ us) x) in
-        let costs = way-costs g (beginning g) (closed ∷ us) x in
-        let is = w .cost in (
+        let way = w .optimal .way in (
           us,
           w .trace,
           closing-is g c (pagesOn (closed ∷ us)) (record {
@@ -175,6 +186,6 @@ module _ (g : Galley) (sane : Sane g) (narrow : Narrow g) (c : ℕ) (occurs : si
                 let (ws, y, q) = closing-way qs m in
                 rw q (before-closing us ws way y (w .optimal .cheapest ws y, w .optimal .first ws y));
           }),
-          omega arith,
+          closed-costs us way ∙ w .cost,
           way-starts us way,
         )

@@ -1,4 +1,5 @@
--- When a table of least costs is right: one condition for each cell, which looks only at the entries of its starts.
+-- When a table of least costs is right: one condition for each cell, which looks only at the entries of its starts. Costs never fall
+-- along a way, so that a table may leave out what costs more than a limit and still be right about everything else.
 use mathlib.Core.List.{List, [], _∷_}
 use mathlib.Core.Path.{_≡_}
 use Prim.Native.Nat.{ℕ, _<_}
@@ -25,7 +26,7 @@ module _ (G : Graph) where
   Ahead (least c u) (least d w) = le c d × (c ≡ d → tie u w)
 
 module _ (G : Graph) (D : Table G) where
-  open Graph G using (S, o, C, step, nil, add)
+  open Graph G using (S, o, C, step, add)
 
   -- The start u is reached and has a step to v, and c is its cost with that step added.
   pub record Offer (v : S) (c : C) (u : S) : Type 0 where
@@ -34,20 +35,6 @@ module _ (G : Graph) (D : Table G) where
     pub start : S
     pub reached : D u ≡ least cost start
     pub price : c ≡ add u v cost
-
-  -- The entry e of v has seen every start: it is the best of what they offer, or unreached where nothing is offered.
-  pub record Seen (v : S) (e : Entry C S) : Type 0 where
-    pub offered : (c : C) (u : S) → e ≡ least c u → Offer v c u
-    pub best : (c : C) (u : S) → Offer v c u → Ahead G e (least c u)
-
-  -- The entry e of v is right: the origin has the cost nil, and any other state has the best that all starts offer.
-  pub data Cell (v : S) (e : Entry C S) : Type 0 where
-    base : v ≡ o → (u : S) → e ≡ least nil u → Cell v e
-    inner : ¬ (v ≡ o) → Seen v e → Cell v e
-
-  -- Every cell of K is right.
-  abbrev pub Right : (S → Type 0) → Type 0
-  Right K = (v : S) → K v → Cell v (D v)
 
   -- The starts met on the walk from v back to the origin, each read from the entry of the state before.
   unfoldable pub Trace : List S → S → Type 0
@@ -61,7 +48,26 @@ module _ (G : Graph) (D : Table G) where
     pub optimal : Optimal G us v
     pub only : (vs : List S) → Optimal G vs v → vs ≡ us
 
-  -- What the entry e tells of v: that no way leads there, or the least cost, with the way itself by walking back.
+-- A table in which nothing is looked for that costs more than `most`.
+module _ (G : Graph) (most : G .C) (D : Table G) where
+  open Graph G using (S, o, C, nil, le)
+
+  -- The entry e of v has seen every start: it is the best of what they offer within the limit, or unreached where nothing is.
+  pub record Seen (v : S) (e : Entry C S) : Type 0 where
+    pub offered : (c : C) (u : S) → e ≡ least c u → Offer G D v c u × le c most
+    pub best : (c : C) (u : S) → Offer G D v c u → le c most → Ahead G e (least c u)
+
+  -- The entry e of v is right: the origin has the cost nil, and any other state has the best that all starts offer.
+  pub data Cell (v : S) (e : Entry C S) : Type 0 where
+    base : v ≡ o → (u : S) → e ≡ least nil u → Cell v e
+    inner : ¬ (v ≡ o) → Seen v e → Cell v e
+
+  -- Every cell of K is right.
+  abbrev pub Right : (S → Type 0) → Type 0
+  Right K = (v : S) → K v → Cell v (D v)
+
+  -- What the entry e tells of v: that no way within the limit leads there, or the least cost of all ways, with the best of them by
+  -- walking back.
   pub record Answer (v : S) (e : Entry C S) : Type 0 where
-    pub none : e ≡ unreached → (us : List S) → ¬ Way G us v
-    pub found : (c : C) (u : S) → e ≡ least c u → (us : List S) × Walk us v c
+    pub none : e ≡ unreached → (us : List S) → Way G us v → ¬ le (total G us v) most
+    pub found : (c : C) (u : S) → e ≡ least c u → (us : List S) × Walk G D us v c

@@ -1,7 +1,9 @@
--- The principle of optimality: where every cell is right, the table tells the best way to each state of the domain.
+-- The principle of optimality: where every cell is right, the table tells the best way to each state of the domain, or that none
+-- leads there within the table's limit.
 -- The main theorem is the last, `optimality`; the laws before it are its parts, each of use alone.
 use mathlib.Core.List.{List, [], _∷_}
 use mathlib.Core.Path.{_≡_, refl, sym}
+use mathlib.Core.Logic.{_⊎_, inl, inr}
 use Prim.Native.Nat.{ℕ, suc, zero, _≤_, _<_}
 use native.Mathlib.Omega.{arith}
 use lib.ListN.{length}
@@ -28,7 +30,7 @@ module _ (G : Graph) (L : Laws G) where
       let e = L .le-antisym (p .cheapest vs (q .way)) (q .cheapest us (p .way)) in
       first-antisym us vs (p .first vs (q .way) (sym e)) (q .first us (p .way) e)
 
-module _ (G : Graph) (L : Laws G) (R : Domain G) (D : Table G) (right : Right G D (R .In)) where
+module _ (G : Graph) (L : Laws G) (R : Domain G) (most : G .C) (D : Table G) (right : Right G most D (R .In)) where
   open Graph G using (S, o, C, step, nil, add, le)
 
   -- The origin is reached, at the cost nil.
@@ -36,7 +38,7 @@ module _ (G : Graph) (L : Laws G) (R : Domain G) (D : Table G) (right : Right G 
   at-origin {v} i e = elim (right v i) [ base e′ u p ↦ (u, p) | inner n s ↦ absurd (n e) ]
 
   -- Any other state has the best that all starts offer.
-  pub past-origin : {v : S} → R .In v → ¬ (v ≡ o) → Seen G D v (D v)
+  pub past-origin : {v : S} → R .In v → ¬ (v ≡ o) → Seen G most D v (D v)
   past-origin {v} i n = elim (right v i) [ base e u p ↦ absurd (n e) | inner n′ s ↦ s ]
 
   -- One step back: the start in an entry is reached, has a step at the entry's cost, and lies in the domain, lower.
@@ -47,21 +49,26 @@ module _ (G : Graph) (L : Laws G) (R : Domain G) (D : Table G) (right : Right G 
       → D v ≡ least c u
       → Offer G D v c u × R .In u × (R .rank u < R .rank v)
   step-back {v} {c} {u} i n p =
-      let x = past-origin i n .offered c u p in
+      let (x, _) = past-origin i n .offered c u p in
       (x, R .closed i (x .may), R .falls i (x .may))
 
   -- A reached start is on offer at its cost with the step added.
   pub on-offer : {u v : S} {a : C} {s : S} → step u v → D u ≡ least a s → Offer G D v (add u v a) u
   on-offer m p = record { may = m; cost = _; start = _; reached = p; price = refl }
 
-  -- A state with a way is reached, at no higher cost than the way's.
+  -- A state with a way within the limit is reached, at no higher cost than the way's.
   pub reached :
-      (us : List S) {v : S} → R .In v → Way G us v → (c : C) × (u : S) × (D v ≡ least c u) × le c (total G us v)
+      (us : List S) {v : S}
+      → R .In v
+      → Way G us v
+      → le (total G us v) most
+      → (c : C) × (u : S) × (D v ≡ least c u) × le c (total G us v)
   unfolding Way total Ahead
-  reached [] i w = let (u, p) = at-origin i w in (nil, u, p, L .le-refl nil)
-  reached (u ∷ us) {v} i (m, w) =
-      let (a, t, p, l) = reached us (R .closed i m) w in
-      go (D v) refl (past-origin i (L .origin m) .best _ u (on-offer m p)) (L .add-mono u v l)
+  reached [] i w h = let (u, p) = at-origin i w in (nil, u, p, L .le-refl nil)
+  reached (u ∷ us) {v} i (m, w) h =
+      let (a, t, p, l) = reached us (R .closed i m) w (L .le-trans (L .add-grows u v (total G us u)) h) in
+      let k = L .add-mono u v l in
+      go (D v) refl (past-origin i (L .origin m) .best _ u (on-offer m p) (L .le-trans k h)) k
     where
       go :
           {d b : C}
@@ -72,6 +79,10 @@ module _ (G : Graph) (L : Laws G) (R : Domain G) (D : Table G) (right : Right G 
           → (c : C) × (s : S) × (D v ≡ least c s) × le c b
       go unreached q h k = absurd h
       go (least c s) q h k = (c, s, q, L .le-trans (h .0) k)
+
+  -- Past the origin an entry's cost is within the limit.
+  pub entry-within : {v : S} {c : C} {u : S} → R .In v → ¬ (v ≡ o) → D v ≡ least c u → le c most
+  entry-within {v} {c} {u} i n p = past-origin i n .offered c u p .1
 
   -- The walk back is a way, and the entry that it begins at holds the way's cost.
   pub trace-way :
@@ -118,29 +129,51 @@ module _ (G : Graph) (L : Laws G) (R : Domain G) (D : Table G) (right : Right G 
   trace-first [] vs i t w e = tt
   trace-first (u ∷ us) [] i t w e = absurd (t .0 w)
   trace-first (u ∷ us) (w ∷ ws) {v} i (n, (c, p), t) (m, x) e =
-      let (a, s, q, l) = reached ws (R .closed i m) x in
       let (_, (_, r)) = trace-way (u ∷ us) i (n, (c, p), t) in
       let f : add w v (total G ws w) ≡ c = cc in
-      let (h, k) = rw p at (past-origin i n .best _ w (on-offer m q)) in (
-        k (L .le-antisym h (rw f at (L .add-mono w v l))),
+      let near : le (add w v (total G ws w)) most = rw f (entry-within i n p) in (
+        go f near (reached ws (R .closed i m) x (L .le-trans (L .add-grows w v (total G ws w)) near)),
         λ g. trace-first us ws (step-back i n p .1) t (rw g x) (L .add-cancel u v (rw (← g) at e)),
       )
+    where
+      go :
+          {b : C}
+          → add w v b ≡ c
+          → le (add w v b) most
+          → (a : C) × (s : S) × (D w ≡ least a s) × le a b
+          → G .tie u w
+      go f near (a, s, q, l) =
+          let more = L .add-mono w v l in
+          let (h, k) = rw p at (past-origin i n .best _ w (on-offer m q) (L .le-trans more near)) in
+          k (L .le-antisym h (rw f at more))
+
+  -- Of all ways it costs the least: what is not within the limit costs more than what is.
+  pub trace-cheapest : (us vs : List S) {v : S} → R .In v → Trace G D us v → Way G vs v → le (total G us v) (total G vs v)
+  unfolding Way total Trace
+  trace-cheapest [] [] i t w = L .le-refl nil
+  trace-cheapest [] (w ∷ ws) i t (m, x) = absurd (L .origin m t)
+  trace-cheapest (u ∷ us) vs {v} i (n, (c, p), t) w =
+      let (_, (s, r)) = trace-way (u ∷ us) i (n, (c, p), t) in
+      go (L .le-total (total G vs v) most) (entry-within i n r)
+    where
+      go : le (total G vs v) most ⊎ le most (total G vs v) → le (total G (u ∷ us) v) most → le (total G (u ∷ us) v) (total G vs v)
+      go (inl h) k =
+          let (d, s, q, l) = reached vs i w h in
+          let (_, (_, r)) = trace-way (u ∷ us) i (n, (c, p), t) in
+          let e : d ≡ total G (u ∷ us) v = cc in
+          rw e at l
+      go (inr h) k = L .le-trans k h
 
   -- The walk back is an optimal way.
   pub trace-optimal : {us : List S} {v : S} → R .In v → Trace G D us v → Optimal G us v
   trace-optimal {us} {v} i t =
-      let (way, (u, p)) = trace-way us i t in
-      record {
-        way = way;
-        cheapest = λ vs w. let (c, s, q, l) = reached vs i w in let e : c ≡ total G us v = cc in rw e at l;
-        first = λ vs. trace-first us vs i t;
-      }
+      record { way = trace-way us i t .0; cheapest = λ vs. trace-cheapest us vs i t; first = λ vs. trace-first us vs i t }
 
-  -- The principle of optimality: the entry of a state of the domain tells the one optimal way to it, or that none is.
-  pub optimality : (v : S) → R .In v → Answer G D v (D v)
+  -- The principle of optimality: the entry of a state of the domain tells the one optimal way to it, or that none is within the limit.
+  pub optimality : (v : S) → R .In v → Answer G most D v (D v)
   optimality v i =
       record {
-        none = λ e us w. let r = reached us i w in let z : _≡_ {A = ℕ} 0 1 = cc in absurd (omega arith);
+        none = λ e us w h. let r = reached us i w h in let z : _≡_ {A = ℕ} 0 1 = cc in absurd (omega arith);
         found =
             λ c u e.
             let (us, t) = traced i e in

@@ -1,8 +1,10 @@
 -- The graph of pages obeys the laws of graphs, and the states of the table are a domain.
 use Prim.Native.Nat.{ℕ, suc, _≤_, _<_}
 use native.Mathlib.Nat.{le-trans}
+use native.Mathlib.Decide.{decLt}
 use native.Mathlib.Omega.{arith}
 use mathlib.Core.Path.{_≡_, refl, sym, _∙_, ap}
+use mathlib.Core.Logic.{_⊎_, inl, inr}
 use mathlib.Core.Bool.{true}
 use lib.ListN.{getD}
 use Rattle.model.specs.Galley.{Sides, Galley, Place, count, blocks}
@@ -85,6 +87,14 @@ module _ (g : Galley) (from : Origin) where
   no-origin (stop u b) end p e = let z : _≡_ {A = ℕ} 0 1 = cc in absurd (omega arith)
   no-origin end t p e = p
 
+  -- Of two costs one is no more than the other.
+  either : (a b : ℕ) → (a ≤ b) ⊎ (b ≤ a)
+  either a b = go (decLt b a)
+    where
+      go : Dec (b < a) → (a ≤ b) ⊎ (b ≤ a)
+      go (yes l) = inr (omega arith)
+      go (no n) = inl (omega arith)
+
   -- The graph of pages obeys the laws of graphs.
   pub page-laws : Laws (pageGraph g from)
   page-laws =
@@ -92,6 +102,8 @@ module _ (g : Galley) (from : Origin) where
         le-refl = λ a. omega arith;
         le-trans = λ p q. omega arith;
         le-antisym = λ p q. omega arith;
+        le-total = either;
+        add-grows = λ u v a. omega arith;
         add-mono = λ u v p. omega arith;
         add-cancel = λ u v p. omega arith;
         tie-refl = prefers-refl (g .spec .sides);

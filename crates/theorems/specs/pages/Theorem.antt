@@ -1,7 +1,9 @@
--- From any origin the optimal way through the graph of pages has the least of the lists that go on from there; where there is no
--- way, no list goes on.
-use Prim.Native.Nat.{ℕ, suc, _+_, _≤_}
-use mathlib.Core.Path.{_≡_, sym, _∙_}
+-- From any origin the optimal way through the graph of pages has the least of the lists that go on from there; where the end is
+-- unreached, every list that goes on costs more than the table's limit.
+use Prim.Native.Nat.{ℕ, suc, _+_, _≤_, _<_}
+use native.Mathlib.Decide.{decLt}
+use native.Mathlib.Omega.{arith}
+use mathlib.Core.Path.{_≡_, sym, _∙_, ap}
 use mathlib.Core.Logic.{_↔_}
 use mathlib.Core.Bool.{true}
 use mathlib.Core.List.{List}
@@ -22,13 +24,6 @@ pub record LeastFrom (g : Galley) (from : Origin) (earlier ps : List Place) : Ty
   pub ahead : (qs : List Place) → Follows g from qs → beforeFrom g from earlier ps qs ≡ true
 
 module _ (g : Galley) (from : Origin) (inside : Inside (sizes g) (from .place)) where
-  -- No way leads to the end exactly where no list goes on from the origin.
-  pub no-way : ((us : List State) → ¬ Way (pageGraph g from) us end) ↔ ((ps : List Place) → ¬ Follows g from ps)
-  no-way = (
-    λ h ps f. h (wayOf g from ps) (list-way g from inside ps f),
-    λ h us w. h (pagesOn us) (way-follows g from us w),
-  )
-
   -- A way to the end is optimal exactly where its list is the least, whatever the earlier starts.
   pub optimal-least : (earlier : List Place) (us : List State) → Way (pageGraph g from) us end
       → Optimal (pageGraph g from) us end ↔ LeastFrom g from earlier (pagesOn us)
@@ -48,15 +43,23 @@ module _ (g : Galley) (from : Origin) (inside : Inside (sizes g) (from .place)) 
           × (total (pageGraph g from) ws end ≡ total (pageGraph g from) us end → First (pageGraph g from) us ws)
       ahead l ws x = before-ways g from earlier us ws w x .0 (l .ahead (pagesOn ws) (way-follows g from ws x))
 
-  module _ (D : Table (pageGraph g from)) (right : Right (pageGraph g from) D (Within g from)) where
+  module _ (most : ℕ) (D : Table (pageGraph g from)) (right : Right (pageGraph g from) most D (Within g from)) where
     -- The principle of optimality: what the entry of the end of a right table tells.
-    tells : Answer (pageGraph g from) D end (D end)
+    tells : Answer (pageGraph g from) most D end (D end)
     unfolding Within
-    tells = optimality (pageGraph g from) (page-laws g from) (page-domain g from) D right end tt
+    tells = optimality (pageGraph g from) (page-laws g from) (page-domain g from) most D right end tt
 
-    -- Where the end is unreached no list goes on from the origin.
-    pub table-empty : D end ≡ unreached → (ps : List Place) → ¬ Follows g from ps
-    table-empty e = no-way .0 (tells .none e)
+    -- Where the end is unreached, every list that goes on from the origin costs more than the limit.
+    pub table-empty : D end ≡ unreached → (ps : List Place) → Follows g from ps
+        → most < from .cost + ranked g (suc (from .pages)) (from .place) ps
+    table-empty e ps f =
+        let w = list-way g from inside ps f in
+        let costs = way-costs g from (wayOf g from ps) w ∙ ap (λ qs. from .cost + ranked g (suc (from .pages)) (from .place) qs) (list-pages g from ps) in
+        go (decLt most (total (pageGraph g from) (wayOf g from ps) end)) costs (tells .none e (wayOf g from ps) w)
+      where
+        go : {c d : ℕ} → Dec (most < c) → c ≡ d → ¬ (c ≤ most) → most < d
+        go (yes l) q n = omega arith
+        go (no l) q n = absurd (n (omega arith))
 
     -- Where the end is reached the walk back from it meets the least list, and its entry holds what all pages cost
     -- with their white.

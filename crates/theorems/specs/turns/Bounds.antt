@@ -147,3 +147,15 @@ white-limit g l ps h =
 -- which fits beside the turns.
 pub narrow-limit : (g : Galley) → Limits g → Narrow g
 narrow-limit g l = let limit = whitest g l in omega arith
+
+-- The most that a list can cost with its white.
+abbrev pub dearestList : ℕ
+dearestList = rank 1066499000 424900000
+
+-- Within the limits no accepted list costs more.
+pub list-limit : (g : Galley) → Sane g → Limits g → (ps : List Place)
+    → accepts (allowed g) (sizes g) 1 (zeros g) ps ≡ true → rank (turns g ps) (white g ps) ≤ dearestList
+list-limit g sane l ps h =
+    let dear = turns-limit g sane l ps h in
+    let light = white-limit g l ps h in
+    omega arith
