@@ -1,7 +1,7 @@
 -- The best start of a place by line and column, for any number of float streams, and the entry that the place gets.
 use Prim.Native.Nat.{ℕ, zero, suc, _+_, _-_}
 use mathlib.Core.Bool.{Bool, _&&_}
-use lib.Dec.{eqb}
+use lib.Dec.{eqb, ltb}
 use Rattle.model.specs.Gather.{pick}
 use Rattle.model.specs.Galley.{Sides, single, double, Galley}
 use Rattle.theorems.specs.pages.Graph.{side, full}
@@ -65,10 +65,14 @@ inColumns s (suc b) = chosen (inColumns s b) (onLines s b (suc (s .line)))
 unfoldable pub bestStart : Search → Entry
 bestStart s = inColumns s (suc (s .column))
 
--- An entry with the rest of the page's price added.
-unfoldable pub priced : ℕ → Entry → Entry
-priced p Unreached = Unreached
-priced p (Least x s) = Least (x + p) s
+-- The most that a place may cost to be looked for: what was paid where the search begins, and its limit.
+abbrev pub mostFrom : Origin → ℕ
+mostFrom from = from .cost + from .limit
+
+-- An entry with the rest of the page's price added; unreached where that is more than `most`.
+unfoldable pub priced : ℕ → ℕ → Entry → Entry
+priced most p Unreached = Unreached
+priced most p (Least x s) = pick (ltb most (x + p)) Unreached (Least (x + p) s)
 
 -- A page may end at a place on side c: rules 14 and 17, which do not depend on where it starts.
 unfoldable pub mayStop : Galley → ℕ → ℕ → ℕ → Bool
@@ -79,11 +83,11 @@ unfoldable pub begins : Sides → Origin → ℕ → ℕ → ℕ → Bool
 begins sides from i q c = eqb i (from .place .line) && (eqb q (from .place .column) && eqb c (side sides (from .pages)))
 
 -- The entry that a place gets on side c, from the entries of the places before it: where the search begins, what was paid there;
--- else the best start, which has the page's white, with its turns.
+-- else the best start, which has the page's white, with its turns, if that is no more than the search looks for.
 unfoldable pub newEntry : Galley → Origin → Table → ℕ → ℕ → ℕ → Entry
 newEntry g from t i q c =
     pick (begins (g .spec .sides) from i q c) (Least (from .cost) (from .place))
     (pick (mayStop g i q c)
-    (priced (rank (pageCost g c (full g (placeAt g i q)) (placeAt g i q)) 0)
+    (priced (mostFrom from) (rank (pageCost g c (full g (placeAt g i q)) (placeAt g i q)) 0)
     (bestStart (record { galley = g; table = t; line = i; column = q; side = before (g .spec .sides) c })))
     Unreached)

@@ -34,10 +34,11 @@ use Rattle.filling.specs.Filled.{Side, Filled}
 use Rattle.pricing.specs.Stop.{stopAt, turnsOn}
 use Rattle.pricing.specs.Price.{waitsAt}
 
--- The entries before (i, j) are filled, from an origin of the galley at which little was paid.
+-- The entries before (i, j) are filled, from an origin of the galley at which little was paid, with a limit that no list passes.
 pub record Next (bytes : List ℕ) (task : Task) (w : List ℕ) (i j : ℕ) : Type 0 where
   pub lent : Lent bytes (task .galley) w j
   pub cheap : task .origin .cost ≤ 4600000000000000000
+  pub limited : task .origin .limit ≤ 4600000000000000000
   pub line : task .origin .place .line ≤ task .galley .text .count
   pub origin : task .origin .place .column < columnsIn (task .galley)
   pub filled : Filled (modelOf bytes (task .galley)) (task .origin) (tableIn (task .galley) w) i j
@@ -177,6 +178,7 @@ pub record LastNext (bytes : List ℕ) (task : Task) (w sums words : List ℕ) (
 pub record Fillable (bytes : List ℕ) (g : Galley) (from : Origin) (w : List ℕ) : Type 0 where
   pub sound : Sound bytes g
   pub cheap : from .cost ≤ 4600000000000000000
+  pub limited : from .limit ≤ 4600000000000000000
   pub line : from .place .line ≤ g .text .count
   pub origin : from .place .column < columnsIn g
   pub room : wordsNeeded (g .text .count) (columnsIn g) ≤ length w

@@ -64,7 +64,8 @@ fn lines_above(
     candidates::last::last_lines(g, work, sums, load, end.column, side)
 }
 
-// The entry that a place gets on a side, whose words hold the best start in an earlier column.
+// The entry that a place gets on a side, whose words hold the best start in an earlier column. What costs more than the search looks for is
+// left unreached: costs never fall from page to page, so that no list within the limit goes through it.
 fn new_entry(
     s: &[u8],
     task: Task,
@@ -94,7 +95,11 @@ fn new_entry(
         return Entry::Unreached;
     };
     let price = pricing::price(g, end.stop.full, end.turns, end.waiting);
-    Entry::Least(x + places::joined(0, price), from)
+    let cost = x + places::joined(0, price);
+    if task.origin.cost + task.origin.limit < cost {
+        return Entry::Unreached;
+    }
+    Entry::Least(cost, from)
 }
 
 // One side of a place: the queues moved on to the window of its line, and the entry stored.

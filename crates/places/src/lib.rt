@@ -25,11 +25,13 @@ pub enum Entry {
     Least(u64, Place),
 }
 
-// Where a search begins: the place, the pages before it, and what they cost.
+// Where a search begins: the place, the pages before it, and what they cost; and how far it goes: what the pages after it may cost in all
+// to be looked for.
 pub struct Origin {
     pub place: Place,
     pub pages: u32,
     pub cost: u64,
+    pub limit: u64,
 }
 
 // The place of so many lines and a column.

@@ -70,6 +70,7 @@ column-last {task = task} {w} {j = j} column v words′ sized done =
                 record {
                   lent = lent-kept (done .kept) (column .next .lent);
                   cheap = column .next .cheap;
+                  limited = column .next .limited;
                   line = column .next .line;
                   origin = column .next .origin;
                   filled =
@@ -176,6 +177,7 @@ module _ {bytes : List ℕ} {task : Task} {w₀ sums words₀ : List ℕ} {j fir
                 record {
                   lent = lent;
                   cheap = column .next .cheap;
+                  limited = column .next .limited;
                   line = column .next .line;
                   origin = column .next .origin;
                   filled = run .entries;

@@ -52,6 +52,7 @@ module _ {bytes : List ℕ} {task : Task} {w₀ sums words₀ : List ℕ} (table
                       lent-filled w (table .fillable .sound) (table .fillable .cheap) (run .entries) some
                       (omega (arith, table .fillable .room, run .sized));
                   cheap = table .fillable .cheap;
+                  limited = table .fillable .limited;
                   line = table .fillable .line;
                   origin = table .fillable .origin;
                   filled = run .entries;

@@ -84,7 +84,7 @@ module _ {bytes : List ℕ} {task : Task} {w₀ sums words₀ ends₀ : List ℕ
       sides-side =
           record {
             next =
-                record { lent = lent; cheap = next .next .cheap; line = next .next .line; origin = next .next .origin; filled = run .entries };
+                record { lent = lent; cheap = next .next .cheap; limited = next .next .limited; line = next .next .line; origin = next .next .origin; filled = run .entries };
             ending = record { line = next .ending .line; counts = next .ending .counts; found = next .ending .found; stop = next .ending .stop };
             summed = next .summed;
             scratch = omega (arith, next .scratch, run .wordsSized);

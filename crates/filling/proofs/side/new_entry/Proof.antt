@@ -10,7 +10,9 @@ use Rattle.rules.specs.laws.Sane.{sound-sane}
 use Rattle.rules.specs.laws.Walked.{waiting-few}
 use Rattle.places.specs.Columns.{placeAt}
 use Rattle.candidates.specs.Better.{chosen}
-use Rattle.candidates.specs.Search.{priced}
+use Rattle.places.specs.declared.Entry.the-variants.{Least}
+use Rattle.candidates.specs.Search.{mostFrom, priced, newEntry}
+use Rattle.candidates.specs.laws.Priced.{priced-within, priced-beyond}
 use Rattle.candidates.specs.Read.{tableIn}
 use Rattle.starts.specs.laws.Lending.{can-stand}
 use Rattle.filling.specs.laws.Own.{end-stops, end-cost}
@@ -99,17 +101,26 @@ priced-at c =
     c .price .ensures (a .s .now) (a .end .at) (a .end .side) (entry-proper (start .pre)) (sound-sane (a .s .now) (a .task .galley) (start .pre .next .lent .sound)) (start .pre .above .full) (start .pre .turns) (start .pre .ending .found)
     ∙ end-cost (a .s .now) (a .task .galley) (a .end) (start .pre .ending .counts) (a .end .side)
 
-add-t23 : tie.Need-add-t23
-add-t23 c =
+add-cost : tie.Need-add-cost
+add-cost c =
     let chose = c .before .before .before .before .before in
     let start = chose .before .before .before .before .before .before .before .before .before .before .before .before .before .before in
     let lines = chose .before .lines-above in
     let low = cost-low (start .pre) (lines .result) (lines .ensures) _ (told chose) _ _ (c .before .before .before .start .given .1) in
     omega (arith, low, c .joined .ensures, priced-at (c .before))
 
-returns-4 : tie.Need-returns-4
-unfolding priced
-returns-4 c =
+add-if3 : tie.Need-add-if3
+add-if3 c =
+    let start = c .before .before .before .before .before .before .before .before .before .before .before .before .before .before .before .before .before .before .before .before in
+    omega (arith, start .pre .next .cheap, start .pre .next .limited)
+
+-- The entry has the price of the page added to what its start costs.
+entered : (c : tie.After-joined)
+    → (let a = c .before .before .before .before .before .before .before .before .before .before .before .before .before .before .before .before .before .before .before .args in
+    let found = c .before .before .before .start .given in
+    newEntry (modelOf (a .s .now) (a .task .galley)) (a .task .origin) (tableIn (a .task .galley) (a .work .now)) (a .end .at .lines) (a .end .column) (a .end .side)
+    ≡ priced (mostFrom (a .task .origin)) (c .joined .result) (Least (found .0 .0) (found .0 .1 .0)))
+entered c =
     let chose = c .before .before .before .before .before in
     let asked = chose .before .before .before .before .before .before in
     let origin = asked .before .before in
@@ -117,10 +128,15 @@ returns-4 c =
     let a = start .args in
     let lines = chose .before .lines-above in
     rw (c .joined .ensures, priced-at (c .before))
-    (sym
     (entry-told (start .pre) (lines .result) (lines .ensures) _ (sym (c .before .before .before .start .given .1) ∙ told chose)
     (sym (origin .is-origin .ensures) ∙ asked .before .if1 .left)
-    (end-stops (a .s .now) (a .task .galley) (a .end) (start .pre .ending .counts) (a .end .side) ∙ sym (asked .may-stop .ensures (a .s .now) (a .task .galley) (a .end .at) (a .end .side) (entry-proper (start .pre)) (start .pre .ending .stop) (start .pre .turns)) ∙ not-false (asked .may-stop .result) (chose .before .before .before .before .before .if2 .left))))
+    (end-stops (a .s .now) (a .task .galley) (a .end) (start .pre .ending .counts) (a .end .side) ∙ sym (asked .may-stop .ensures (a .s .now) (a .task .galley) (a .end .at) (a .end .side) (entry-proper (start .pre)) (start .pre .ending .stop) (start .pre .turns)) ∙ not-false (asked .may-stop .result) (chose .before .before .before .before .before .if2 .left)))
+
+returns-4 : tie.Need-returns-4
+returns-4 c = sym (entered (c .before .before) ∙ priced-beyond _ _ _ _ (omega (arith, c .if3 .taken)))
+
+returns-5 : tie.Need-returns-5
+returns-5 c = sym (entered (c .before .before) ∙ priced-within _ _ _ _ (omega (arith, c .if3 .left)))
 
 pub new-entry-spec : {M : Type 1} → statement M
 new-entry-spec =
@@ -128,4 +144,4 @@ new-entry-spec =
     (tie.spec
     (λ c κs. search needs) returns (λ c κs. search needs) returns-2 (λ c κs. search needs) add-entry-of entry-of-requires
     (λ c κs. search needs) (λ c κs. search needs) (λ c. search needs) (λ c. search needs) returns-3 price-requires (λ c κs. search needs)
-    add-t23 returns-4)
+    add-cost add-if3 returns-4 returns-5)
