@@ -11,6 +11,7 @@ use Rattle.galley.specs.declared.Galley.{Galley}
 use Rattle.galley.specs.Model.{sidesIn}
 use Rattle.galley.specs.Sound.{Sound}
 use Rattle.places.specs.declared.Origin.{Origin}
+use Rattle.places.specs.Entry.{boundless}
 use Rattle.places.specs.Address.{wordsNeeded}
 use Rattle.candidates.specs.Search.{Table}
 use Rattle.candidates.specs.Read.{tableIn, columnsIn, FewFloats}
@@ -23,9 +24,10 @@ use Rattle.solving.specs.Solved.{TabledFrom}
 abbrev pub onFolio : ℕ → Galley → Galley
 onFolio f g = record { spec = g .spec; folio = f; text = g .text; figures = g .figures; tables = g .tables }
 
--- Where a chapter begins: nothing is placed, there is no page yet, and nothing is paid.
+-- Where a chapter begins: nothing is placed, there is no page yet, and nothing is paid; every list is looked for, since the next chapter
+-- may want a dearer one.
 abbrev pub nothingYet : Origin
-nothingYet = record { place = record { line = 0; column = 0 }; pages = 0; cost = 0 }
+nothingYet = record { place = record { line = 0; column = 0 }; pages = 0; cost = 0; limit = boundless }
 
 -- A galley that was read, on whatever folio it opens, and a work area as long as it needs.
 pub record ChapterRoom (bytes : List ℕ) (g : Galley) (w : List ℕ) : Type 0 where

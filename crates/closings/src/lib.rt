@@ -10,6 +10,7 @@ ghost use Rattle.walk.specs.Trace.{entryOf};
 ghost use Rattle.walk.specs.Traceable.{WorkArea, Visits};
 ghost use Rattle.closings.specs.Chapter.{onFolio, nothingYet, closingStop, ChapterRoom, Counted, BothWalk, laterStarts};
 use galley::Galley;
+use places::BOUNDLESS;
 use places::Entry;
 use places::Origin;
 use places::Place;
@@ -41,6 +42,7 @@ pub fn fill_chapter(s: &[u8], g: Galley, work: &mut [u32])
         place: Place { line: 0, column: 0 },
         pages: 0,
         cost: 0,
+        limit: BOUNDLESS,
     };
     filling::fill::fill(s, g, origin, work);
 }

@@ -2,6 +2,7 @@
 ghost use Rattle.course.specs.Chapter.{Makeable, Written, Made};
 use galley::Galley;
 use model::answer::Answer;
+use places::BOUNDLESS;
 use places::Origin;
 use places::Place;
 
@@ -16,6 +17,7 @@ fn write_chapter(s: &[u8], g: Galley, side: usize, work: &mut [u32], pages: &mut
         place: Place { line: 0, column: 0 },
         pages: 0,
         cost: 0,
+        limit: BOUNDLESS,
     };
     let p = walk::count_pages(g, work, origin, last);
     walk::write_pages(g, work, last, p, pages);

@@ -25,6 +25,10 @@ highOf cost = cost / 4294967296
 abbrev pub joined : ℕ → ℕ → ℕ
 joined low high = high * 4294967296 + low
 
+-- A limit that no list passes.
+abbrev pub boundless : ℕ
+boundless = 4600000000000000000
+
 -- A place is either unreached or has a least cost, by its tag (document 01, "Making").
 abbrev pub tagged : Bool → ℕ → Place → Entry
 tagged true cost start = Least cost start

@@ -25,6 +25,9 @@ pub enum Entry {
     Least(u64, Place),
 }
 
+// A limit that no list passes: the dearest costs 1,066,499,000 turns and 424,900,000 of white.
+pub const BOUNDLESS: u64 = 4600000000000000000;
+
 // Where a search begins: the place, the pages before it, and what they cost; and how far it goes: what the pages after it may cost in all
 // to be looked for.
 pub struct Origin {

@@ -16,6 +16,7 @@ use Rattle.blocks.specs.Counts.{Within}
 use Rattle.rules.specs.declared.counts.Sums.{Sums}
 use Rattle.rules.specs.Parts.{CountLimits, printedCost}
 use Rattle.places.specs.declared.Origin.{Origin}
+use Rattle.places.specs.Entry.{boundless}
 use Rattle.candidates.specs.Read.{FewFloats}
 use Rattle.solving.specs.declared.opening.Begun.{Begun}
 use Rattle.solving.specs.declared.opening.Begun.the-variants as begun
@@ -29,6 +30,7 @@ originAfter g pages at sums =
       place = record { line = at .lines; column = at .figures * (g .tables .count + 1) + at .tables };
       pages = pages;
       cost = printedCost g pages sums;
+      limit = boundless;
     }
 
 -- Pages that end within a galley that keeps to the limits, after which one more has room.

@@ -11,7 +11,7 @@ use Rattle.places.specs.declared.Origin.{Origin}
 use Rattle.places.specs.declared.Entry.{Entry}
 use Rattle.places.specs.declared.Entry.the-variants.{Unreached, Least}
 use Rattle.places.specs.Columns.{columns, floatSizes, placeAt, columnIn}
-use Rattle.candidates.specs.Search.{Table, before}
+use Rattle.candidates.specs.Search.{Table, before, mostFrom}
 use Rattle.walk.specs.Trace.{lastSide}
 
 -- The place that a line and a column are.
@@ -48,9 +48,9 @@ tableAt g t end =
     let c = lastSide (g .spec .sides) t m in
     finished (stop (at g m) c) (t (m .line) (m .column) c)
 
--- Every entry of the table is right, the end's included.
+-- Every entry of the table is right within what the search looks for, the end's included.
 abbrev pub AllRight : Galley → Origin → Table → Type 0
-AllRight g from t = cell.Right (graphOf g from) (tableAt g t) (Within g (originOf g from))
+AllRight g from t = cell.Right (graphOf g from) (mostFrom from) (tableAt g t) (Within g (originOf g from))
 
 -- A line and a column of the galley.
 pub record Proper (g : Galley) (s : Place) : Type 0 where

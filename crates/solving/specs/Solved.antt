@@ -11,9 +11,13 @@ use Rattle.galley.specs.Whole.{galleyOf}
 use Rattle.galley.specs.Model.{modelOf}
 use Rattle.galley.specs.Sound.{Sound}
 use Rattle.places.specs.declared.Origin.{Origin}
+use Rattle.places.specs.declared.Entry.the-variants.{Unreached}
+use Rattle.places.specs.Entry.{boundless}
 use Rattle.places.specs.Address.{wordsNeeded}
-use Rattle.candidates.specs.Read.{columnsIn}
+use Rattle.candidates.specs.Read.{tableIn, columnsIn}
 use Rattle.filling.specs.Fill.{filled}
+use Rattle.walk.specs.Trace.{entryOf}
+use Rattle.walk.specs.Traceable.{lastStop}
 use Rattle.needs.specs.Needs.{workNeeded, listNeeded}
 use Rattle.solving.specs.Begun.{Opened}
 
@@ -36,13 +40,14 @@ pub record TabledFrom (bytes : List ℕ) (g : Galley) (from : Origin) (work : Li
   pub enough : wordsNeeded (g .text .count) (columnsIn g) ≤ length before
   pub is : work ≡ filled (modelOf bytes g) from before
 
--- The work area was so filled, and the page list is long enough.
+-- The work area was so filled, without a limit if the full place is not reached, and the page list is long enough.
 pub record Solved (bytes : List ℕ) (g : Galley) (opening : List ℕ) (from : Origin) (work list : List ℕ) : Type 0 where
   pub reads : galleyOf bytes ≡ reads.Galley g
   pub opened : Opened bytes g opening from
   pub before : List ℕ
   pub enough : workNeeded g ≤ length before
   pub is : work ≡ filled (modelOf bytes g) from before
+  pub sought : entryOf (tableIn g work) (lastStop g work) ≡ Unreached → from .limit ≡ boundless
   pub room : listNeeded g ≤ length list
 
 -- The answer is that of the best list that begins with the opening, or 11, and its words stand before the rest of the page list.

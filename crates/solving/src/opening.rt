@@ -8,6 +8,7 @@ ghost use Rattle.solving.specs.Begun.{Ending, originAfter, BegunAfter};
 use blocks::Counts;
 use galley::Galley;
 use openings::Opening;
+use places::BOUNDLESS;
 use places::Origin;
 use rules::counts::Sums;
 
@@ -28,6 +29,7 @@ fn origin_after(g: Galley, pages: u32, at: Counts, sums: Sums) -> Origin
         place: places::place_of(at.lines, column),
         pages,
         cost: counting::printed_cost(g, pages, sums),
+        limit: BOUNDLESS,
     }
 }
 

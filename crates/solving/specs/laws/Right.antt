@@ -3,12 +3,13 @@
 use Prim.Native.Nat.{ℕ, zero, suc, _+_, _≤_, _<_}
 use native.Mathlib.Decide.{decLt}
 use native.Mathlib.Omega.{arith}
-use mathlib.Core.Path.{_≡_, ap}
+use mathlib.Core.Path.{_≡_, _∙_, ap}
 use mathlib.Core.Logic.{_⊎_, inl, inr}
 use Rattle.model.specs.Galley.{Galley, Place, count, sizes}
 use Rattle.model.specs.laws.Rules.{kept}
 use Rattle.model.specs.laws.Lists.{Inside}
-use Rattle.theorems.specs.optimality.Cell.{Right}
+use Rattle.theorems.specs.optimality.Graph as graph
+use Rattle.theorems.specs.optimality.Cell.{Cell, base, inner, Right}
 use Rattle.theorems.specs.optimality.Storing as storing
 use Rattle.theorems.specs.pages.Graph.{State, stop, end, Within, Step}
 use Rattle.places.specs.declared.Origin.{Origin}
@@ -19,8 +20,9 @@ use Rattle.filling.specs.Fill.{Words, held, fillSide, fillSides, sideCount, fil
 use Rattle.filling.specs.Filled.{Roomy, Side, Light, Filled}
 use Rattle.filling.specs.laws.Entered.{side-low, side-below, below-side}
 use Rattle.filling.specs.laws.Fill.{length-sides, length-place, length-column, room-kept, side-same, side-other, earlier-next, earlier-column, filled-start, filled-next, filled-keeps, filled-place}
-use Rattle.solving.specs.Shown.{originOf, graphOf, shown, tableAt, AllRight, Proper}
-use Rattle.solving.specs.laws.Shown.{shown-at, end-right}
+use Rattle.candidates.specs.Search.{mostFrom}
+use Rattle.solving.specs.Shown.{at, originOf, graphOf, shown, lastPlace, tableAt, AllRight, Proper}
+use Rattle.solving.specs.laws.Shown.{shown-at, last-wide, full-within, end-right}
 use Rattle.solving.specs.laws.Seen.{entry-cell}
 
 -- A place of the table is one of the galley, and its side occurs.
@@ -42,7 +44,7 @@ Done g from i q k end = ⊥
 -- Their entries are right, and every entry filled so far keeps what entries keep.
 pub record Sofar (g : Galley) (from : Origin) (w : Words) (i q k : ℕ) : Type 0 where
   pub entered : Filled g from (held g w) i q
-  pub right : Right (graphOf g from) (tableAt g (held g w)) (Done g from i q k)
+  pub right : Right (graphOf g from) (mostFrom from) (tableAt g (held g w)) (Done g from i q k)
 
 earlier-trans : (a b p r i q : ℕ) → Earlier a b p r → Earlier p r i q → Earlier a b i q
 earlier-trans a b p r i q (inl l) (inl m) = inl (omega arith)
@@ -75,10 +77,10 @@ module _ (g : Galley) (from : Origin) (origin : Proper g (from .place)) (light :
   module _ (i q : ℕ) (high : i ≤ g .stream 0 .size) (wide : q < columns (floatSizes g)) where
     -- One side of (i, q) filled.
     right-side : (c : ℕ) (w : Words) → Roomy g w → Side (g .spec .sides) c → Sofar g from w i q c
-        → Right (graphOf g from) (tableAt g (held g (fillSide g from i q c w))) (Done g from i q (suc c))
+        → Right (graphOf g from) (mostFrom from) (tableAt g (held g (fillSide g from i q c w))) (Done g from i q (suc c))
     unfolding Done tableAt
     right-side c w room occurs sofar =
-        storing.stored (graphOf g from) (tableAt g (held g w)) (tableAt g (held g w′)) (done-closed i q c) starts-done only same (sofar .right)
+        storing.stored (graphOf g from) (mostFrom from) (tableAt g (held g w)) (tableAt g (held g w′)) (done-closed i q c) starts-done only same (sofar .right)
         (rw (shown-at g (held g w′) i q c wide, side-same g from i q c w room high wide low)
         (entry-cell g from origin (held g w) i q c high wide occurs (sofar .entered)))
       where
@@ -186,16 +188,32 @@ module _ (g : Galley) (from : Origin) (origin : Proper g (from .place)) (light :
   unfolding Done
   nothing-done w = record { entered = filled-start g light from (held g w); right = none }
     where
-      none : Right (graphOf g from) (tableAt g (held g w)) (Done g from 0 0 0)
+      none : Right (graphOf g from) (mostFrom from) (tableAt g (held g w)) (Done g from 0 0 0)
       none (stop v c) (h, inl (inl l)) = absurd (omega arith)
       none (stop v c) (h, inl (inr (e, l))) = absurd (omega arith)
       none (stop v c) (h, inr (x, y, z)) = absurd (omega arith)
       none end d = absurd d
 
-  -- After filling the whole table is right, the end included, whatever the work area held before.
-  pub table-right : (w : Words) → Roomy g w → AllRight g from (held g (filled g from w))
+  -- A right entry is within what the search looks for.
+  cell-within : (t : State → graph.Entry ℕ State) (v : State) (e : graph.Entry ℕ State) (x : ℕ) (u : State)
+      → Cell (graphOf g from) (mostFrom from) t v e → e ≡ graph.least x u → x ≤ mostFrom from
+  cell-within t v e x u (base o s p) q = let is : from .cost ≡ x = cc in omega arith
+  cell-within t v e x u (inner n s) q = s .offered x u q .1
+
+  -- After filling the places of the table are right,
+  places-right : (w : Words) → Roomy g w → (v : Place) (c : ℕ) → Within g (originOf g from) (stop v c)
+      → Cell (graphOf g from) (mostFrom from) (tableAt g (held g (filled g from w))) (stop v c) (tableAt g (held g (filled g from w)) (stop v c))
   unfolding filled Done
-  table-right w room (stop v c) h =
+  places-right w room v c h =
       right-across (columns (floatSizes g)) 0 w (omega arith) room (nothing-done w) .right (stop v c)
       (h, inl (inl (place-of g v (inside-of g from v c h) .column)))
-  table-right w room end h = end-right g from origin (held g (fillColumns g from (columns (floatSizes g)) 0 w))
+
+  -- and with the end the whole of it, whatever the work area held before.
+  pub table-right : (w : Words) → Roomy g w → AllRight g from (held g (filled g from w))
+  unfolding shown
+  table-right w room (stop v c) h = places-right w room v c h
+  table-right w room end h =
+      end-right g from origin (held g (filled g from w))
+      (λ c x s occurs e.
+      cell-within (tableAt g (held g (filled g from w))) _ _ x _ (places-right w room (at g (lastPlace g)) c (full-within g from origin c occurs))
+      (shown-at g (held g (filled g from w)) (lastPlace g .line) (lastPlace g .column) c (last-wide g) ∙ ap (shown g c) e))

@@ -24,14 +24,15 @@ use Rattle.places.specs.declared.Entry.the-variants.{Unreached, Least}
 use Rattle.places.specs.Best.{Leads, Best}
 use Rattle.places.specs.Columns.{columns, floatSizes, placeAt, columnIn}
 use Rattle.places.specs.laws.Places.{place-inside, line-at, column-at, place-of, place-tie, forward-earlier}
-use Rattle.candidates.specs.Search.{Table, before, Search, goes, whiteFrom, bestStart, priced, mayStop, begins, newEntry}
+use Rattle.candidates.specs.Search.{Table, before, Search, goes, whiteFrom, bestStart, mostFrom, priced, mayStop, begins, newEntry}
 use Rattle.candidates.specs.Choice.{Candidate, Starts, Any}
 use Rattle.candidates.specs.laws.Found.{best-start}
+use Rattle.candidates.specs.laws.Priced.{priced-within, priced-least}
 use Rattle.candidates.specs.laws.Pages.{candidate-earlier}
 use Rattle.filling.specs.Filled.{Side, Filled}
 use Rattle.filling.specs.laws.Entered.{side-before}
 use Rattle.solving.specs.Shown.{at, originOf, graphOf, shown, tableAt, Proper}
-use Rattle.solving.specs.laws.Shown.{shown-at, origin-here, not-origin}
+use Rattle.solving.specs.laws.Shown.{shown-at, shown-least, origin-here, not-origin}
 
 -- A page on side c follows one on the side before it, and no other.
 side-after : (sides : Sides) (c : ℕ) → Side sides c → c ≡ side sides (suc (before sides c))
@@ -62,7 +63,7 @@ module _ (g : Galley) (from : Origin) (origin : Proper g (from .place)) (t : Tab
 
   -- An entry, with the rest of the page's price added, as the graph has it.
   now : Entry → graph.Entry ℕ State
-  now e = shown g c (priced cost e)
+  now e = shown g c (priced (mostFrom from) cost e)
 
   begun : ℕ → ℕ → State
   begun a b = stop (placeAt g a b) (before (g .spec .sides) c)
@@ -140,33 +141,36 @@ module _ (g : Galley) (from : Origin) (origin : Proper g (from .place)) (t : Tab
       }
 
   module _ (may : mayStop g i q c ≡ true) where
-    -- The best start, with the price of the page, is offered by the graph,
+    -- The best start, with the price of the page, is offered by the graph within what the search looks for,
     offered : (e : Entry) → Best (Starts search Any) e → (x : ℕ) (u : State) → now e ≡ graph.least x u
-        → Offer (graphOf g from) (tableAt g t) here x u
-    unfolding now priced shown search here price cost begun whiteFrom
-    offered Unreached best x u h = let z : _≡_ {A = ℕ} 0 1 = cc in absurd (omega arith)
-    offered (Least y r) best x u h =
-        let d = best .may y r refl .1 in
+        → Offer (graphOf g from) (tableAt g t) here x u × (x ≤ mostFrom from)
+    unfolding now shown search here price cost begun whiteFrom
+    offered e best x u h =
+        let shows = shown-least g c (priced (mostFrom from) cost e) x u h in
+        let r = shows .start in
+        let paid = priced-least (mostFrom from) cost e x r (shows .entry) in
+        let d = best .may (paid .own) r (paid .entry) .1 in
         let left = d .column in
-        let begins : begun (r .line) (r .column) ≡ u = cc in
-        let sum : y + cost ≡ x = cc in
-        let side = before (g .spec .sides) c in
-        rw (← begins, ← sum)
-        (record {
-          may = page-from (r .line) (r .column) y d may;
-          cost = d .reached .own;
-          start = stop (at g (d .reached .start)) (before (g .spec .sides) side);
-          reached = shown-at g t (r .line) (r .column) side (omega arith) ∙ ap (shown g side) (d .reached .entry);
-          price = omega (arith, d .reached .whole);
-        })
+        let side = before (g .spec .sides) c in (
+          rw (shows .shows)
+          (record {
+            may = page-from (r .line) (r .column) (paid .own) d may;
+            cost = d .reached .own;
+            start = stop (at g (d .reached .start)) (before (g .spec .sides) side);
+            reached = shown-at g t (r .line) (r .column) side (omega arith) ∙ ap (shown g side) (d .reached .entry);
+            price = omega (arith, d .reached .whole, paid .whole);
+          }),
+          paid .within,
+        )
 
     -- and no offer is ahead of it.
-    ahead : (e : Entry) → Best (Starts search Any) e → (a b y : ℕ) → b ≤ q → Leads e a b y
+    ahead : (e : Entry) → Best (Starts search Any) e → (a b y : ℕ) → b ≤ q → y + cost ≤ mostFrom from → Leads e a b y
         → Ahead (graphOf g from) (now e) (graph.least (y + cost) (begun a b))
-    unfolding now priced shown Leads Ahead Prefers begun search
-    ahead Unreached best a b y k l = absurd l
-    ahead (Least x r) best a b y k (l, f) =
-        let left = best .may x r refl .1 .column in (
+    unfolding now shown Leads Ahead Prefers begun search
+    ahead Unreached best a b y k m l = absurd l
+    ahead (Least x r) best a b y k m (l, f) =
+        let left = best .may x r refl .1 .column in
+        rw (priced-within (mostFrom from) cost x r (omega arith)) (
           omega arith,
           λ e. (
             place-tie g (r .line) (r .column) a b (omega arith) (omega arith) .1 (f (omega arith)),
@@ -175,9 +179,9 @@ module _ (g : Galley) (from : Origin) (origin : Proper g (from .place)) (t : Tab
         )
 
     best-ahead : (e : Entry) → Best (Starts search Any) e → (x : ℕ) (u : State) → Offer (graphOf g from) (tableAt g t) here x u
-        → Ahead (graphOf g from) (now e) (graph.least x u)
+        → x ≤ mostFrom from → Ahead (graphOf g from) (now e) (graph.least x u)
     unfolding here Step tableAt price cost shown begun lacks
-    best-ahead e best x (stop u d) o = go (t (count u 0) (columnIn g u) d) refl
+    best-ahead e best x (stop u d) o most = go (t (count u 0) (columnIn g u) d) refl
       where
         st : HasPage u d
         st = has-page u d (o .may)
@@ -195,19 +199,19 @@ module _ (g : Galley) (from : Origin) (origin : Proper g (from .place)) (t : Tab
             let sum : y + lacks u + cost ≡ x = omega arith in
             let begins : begun (count u 0) (columnIn g u) ≡ stop u d = cc (st .shape, st .on-side) in
             rw (← sum, ← begins)
-            (ahead e best (count u 0) (columnIn g u) (y + lacks u) (st .left)
+            (ahead e best (count u 0) (columnIn g u) (y + lacks u) (st .left) (omega arith)
             (best .leads (count u 0) (columnIn g u) (y + lacks u) (tt, candidate u d st y r h)))
-    best-ahead e best x end o = absurd (o .may)
+    best-ahead e best x end o most = absurd (o .may)
 
     -- So what the search finds is the best of all starts.
-    best-seen : Seen (graphOf g from) (tableAt g t) here (now (bestStart search))
+    best-seen : Seen (graphOf g from) (mostFrom from) (tableAt g t) here (now (bestStart search))
     best-seen =
         record { offered = offered (bestStart search) (best-start search); best = best-ahead (bestStart search) (best-start search) }
 
   -- Where no page may end here, nothing has a page to it.
-  none-seen : mayStop g i q c ≡ false → Seen (graphOf g from) (tableAt g t) here (now Unreached)
+  none-seen : mayStop g i q c ≡ false → Seen (graphOf g from) (mostFrom from) (tableAt g t) here (now Unreached)
   unfolding now priced shown here
-  none-seen shut = none-reached (graphOf g from) (tableAt g t) none
+  none-seen shut = none-reached (graphOf g from) (mostFrom from) (tableAt g t) none
     where
       never : (u : Place) (d : ℕ) → HasPage u d → ⊥
       never u d st = let m = st .may in let z : _≡_ {A = ℕ} 0 1 = cc in omega arith
@@ -217,13 +221,13 @@ module _ (g : Galley) (from : Origin) (origin : Proper g (from .place)) (t : Tab
       none end st = unfold Step in absurd st
 
   -- The entry that line i and column q get on side c is right.
-  pub entry-cell : Cell (graphOf g from) (tableAt g t) (stop (placeAt g i q) c) (shown g c (newEntry g from t i q c))
+  pub entry-cell : Cell (graphOf g from) (mostFrom from) (tableAt g t) (stop (placeAt g i q) c) (shown g c (newEntry g from t i q c))
   unfolding newEntry here now search cost shown priced
   entry-cell = go (begins (g .spec .sides) from i q c) refl (mayStop g i q c) refl
     where
       go : (a : Bool) → begins (g .spec .sides) from i q c ≡ a → (b : Bool) → mayStop g i q c ≡ b
-          → Cell (graphOf g from) (tableAt g t) (stop (placeAt g i q) c)
-          (shown g c (pick a (Least (from .cost) (from .place)) (pick b (priced cost (bestStart search)) Unreached)))
+          → Cell (graphOf g from) (mostFrom from) (tableAt g t) (stop (placeAt g i q) c)
+          (shown g c (pick a (Least (from .cost) (from .place)) (pick b (priced (mostFrom from) cost (bestStart search)) Unreached)))
       go true e b m = Cell.base (origin-here g from i q c e) (stop (at g (from .place)) (before (g .spec .sides) c)) refl
       go false e true m = Cell.inner (not-origin g from (origin .column) i q c wide e) (best-seen m)
       go false e false m = Cell.inner (not-origin g from (origin .column) i q c wide e) (none-seen m)

@@ -106,7 +106,8 @@ module _ {bytes : List ℕ} {g : Galley} {opening : List ℕ} {from : Origin} {w
           go Unreached q h =
               let b =
               back-none (modelOf bytes g) (reads-sane bytes g (solved .reads)) narrow printed (solved .opened .whole .printed) from (solved .opened .is) proper
-              (tableIn g work) right fill (ap (entryOf (tableIn g work)) (sym at-last) ∙ q) in
+              (tableIn g work) right fill (reads-limits bytes g (solved .reads)) (omega (arith, solved .sought (ap (entryOf (tableIn g work)) (sym is) ∙ q)))
+              (ap (entryOf (tableIn g work)) (sym at-last) ∙ q) in
               let (a, w) = made-none (modelOf bytes g) opening (solved .opened .stands) b in
               record { answers = a; listed = sym (ap (λ l. l ++ drop (length l) list) w) }
           go (Least x s) q h = let z : _≡_ {A = ℕ} 0 1 = cc in absurd (omega arith)
