@@ -1,4 +1,3 @@
 -- The laws of making.
-pub mod Beyond
 pub mod Made
 pub mod Nothing

@@ -39,8 +39,9 @@ fn make_from(
     requires { ⌜ Soluble (now s) g (now opening) origin needed (now work) (now pages) ⌝ }
     ensures { λ r. ⌜ MadeAfter (now (s .entry)) (now (opening .entry)) (now (work .entry)) (now (pages .entry)) (r .answer) (r .weighed) (now (work .exit)) (now (pages .exit)) ⌝ }
 {
-    filling::fill::fill(s, g, origin, work);
-    let answer = solving::best_pages(s, g, opening, origin, work, pages);
+    let turns = 200;
+    let sought = limits::fill_far(s, g, origin, turns, work);
+    let answer = solving::best_pages(s, g, opening, sought, work, pages);
     places::clear(work, needed);
     let line = origin.place.line as usize;
     let first = candidates::read::counts_at(g, line, origin.place.column as usize);

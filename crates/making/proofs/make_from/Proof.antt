@@ -8,7 +8,7 @@ use Rattle.making.proofs.make_from.Statement.{statement}
 use Rattle.making.proofs.make_from.Tie as tie
 
 best-pages-requires : tie.Need-best-pages-requires
-best-pages-requires c κs = soluble-solved (c .before .before .before .before .before .before .before .before .before .before .pre) _ (c .before .before .before .before .fill .ensures)
+best-pages-requires c κs = soluble-solved (c .before .before .before .before .before .before .before .before .before .before .pre) _ _ (c .before .before .before .before .fill-far .ensures)
 
 counts-at-requires : tie.Need-counts-at-requires
 counts-at-requires c κs = few-floats (sound _ _ (c .before .before .before .before .before .before .before .before .before .before .before .before .before .before .before .before .before .before .before .pre .reads))
@@ -20,7 +20,7 @@ weighed-requires c κs =
 
 returns : tie.Need-returns
 returns c =
-    made-best (c .before .before .before .before .before .before .before .before .before .before .before .before .before .before .before .before .before .before .before .before .before .pre) _ _ _ _ _ (c .before .before .before .before .before .before .before .before .before .before .before .before .before .before .before .fill .ensures) (c .before .before .before .before .before .before .clear .ensures) (c .before .before .before .before .before .before .before .before .before .before .best-pages .ensures)
+    made-best (c .before .before .before .before .before .before .before .before .before .before .before .before .before .before .before .before .before .before .before .before .before .pre) _ _ _ _ _ _ (c .before .before .before .before .before .before .before .before .before .before .before .before .before .before .before .fill-far .ensures) (c .before .before .before .before .before .before .clear .ensures) (c .before .before .before .before .before .before .before .before .before .before .best-pages .ensures)
     (rw (c .before .counts-at .ensures) at (c .weighed .ensures))
 
 pub make-from-spec : {M : Type 1} → statement M

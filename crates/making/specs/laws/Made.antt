@@ -1,7 +1,7 @@
 -- What each way out of making leaves: its answer and every word of the lent memory.
 use Prim.Native.Nat.{ℕ, _+_, _≤_, _<_}
 use native.Mathlib.Omega.{arith}
-use mathlib.Core.Path.{_≡_, refl, sym, _∙_, ap}
+use mathlib.Core.Path.{_≡_, refl, sym, _∙_, ap, subst}
 use mathlib.Core.Bool.{Bool, true, false}
 use mathlib.Core.List.{List}
 use mathlib.Core.Option.{Option, none, some}
@@ -22,18 +22,15 @@ use Rattle.galley.specs.Model.{modelOf}
 use Rattle.galley.specs.laws.Sound.{sound}
 use Rattle.blocks.specs.Counts.{placeOf, Within}
 use Rattle.places.specs.declared.Origin.{Origin}
-use Rattle.places.specs.Address.{area}
-use Rattle.places.specs.Entry.{cleared}
-use Rattle.places.specs.laws.Address.{area-needed}
+use Rattle.places.specs.Entry.{boundless, cleared}
 use Rattle.candidates.specs.Read.{columnsIn, countsAt}
 use Rattle.candidates.specs.laws.Columns.{columns-in, within-at, place-at}
-use Rattle.filling.specs.Fill.{tall, filled}
 use Rattle.filling.specs.Next.{Fillable}
 use Rattle.needs.specs.Needs.{workNeeded, listNeeded}
 use Rattle.making.specs.After.{stands, makeAfterRead, makeAfterOf, workMadeRead, workMadeAfter, listMadeRead, listMadeAfter, weighedAfterRead, weighedAfterOf, MadeAfter}
 use Rattle.solving.specs.Begun.{Opened}
 use Rattle.solving.specs.Solved.{Readable, Soluble, Solved, Written}
-use Rattle.making.specs.laws.Beyond.{cleared-filled}
+use Rattle.limits.specs.Sought.{within, Sought}
 use Rattle.solving.specs.laws.Written.{made-turned}
 
 -- Nothing turns an opening away, or something does.
@@ -47,12 +44,6 @@ unfolding makeAfterOf makeAfterRead weighedAfterOf weighedAfterRead workMadeAfte
 made-refused bytes opening work list n at e = record { answers = rw e refl; counts = rw e refl; clean = rw e refl; listed = rw e refl }
 
 module _ {bytes : List ℕ} {g : Galley} (asked : Readable bytes g) where
-  forgets : (from : Origin) (w : List ℕ) → cleared (workNeeded g) (filled (modelOf bytes g) from w) ≡ cleared (workNeeded g) w
-  unfolding tall columnsIn
-  forgets from w =
-      let e = ap (area (g .text .count + 1)) (columns-in bytes g) ∙ area-needed (g .text .count) (columnsIn g) in
-      rw e at (cleared-filled (modelOf bytes g) from w)
-
   module _ (opening work list : List ℕ) (n : ℕ) (is : n ≡ workNeeded g) where
     -- 9: the work area is too short; its place is the words needed.
     pub made-nine : length work < n → (at : ℕ) → at ≡ n → MadeAfter bytes opening work list (Refused 9 at) 0 work list
@@ -99,6 +90,12 @@ module _ {bytes : List ℕ} {g : Galley} (asked : Readable bytes g) where
         pub made-soluble : (from : Origin) → Opened bytes g opening from → Soluble bytes g opening from n work list
         made-soluble from opened = record { reads = asked .reads; opened = opened; is = is; enough = omega arith; room = room }
 
+-- Making may begin there with another limit.
+opened-within : {bytes : List ℕ} {g : Galley} {opening : List ℕ} {from : Origin} → Opened bytes g opening from → (limit : ℕ)
+    → limit ≤ boundless → Opened bytes g opening (within limit from)
+opened-within o limit low =
+    record { stands = o .stands; whole = o .whole; is = o .is; proper = o .proper; cheap = o .cheap; limited = low }
+
 -- The best list that begins with the opening.
 module _ {bytes : List ℕ} {g : Galley} {opening : List ℕ} {from : Origin} {n : ℕ} {work list : List ℕ}
     (asked : Soluble bytes g opening from n work list) where
@@ -108,14 +105,24 @@ module _ {bytes : List ℕ} {g : Galley} {opening : List ℕ} {from : Origin} {n
       record {
         sound = sound bytes g (asked .reads);
         cheap = asked .opened .cheap;
+        limited = asked .opened .limited;
         line = asked .opened .proper .line;
         origin = omega (arith, asked .opened .proper .column, columns-in bytes g);
         room = omega (arith, asked .enough);
       }
 
-  pub soluble-solved : (work′ : List ℕ) → work′ ≡ filled (modelOf bytes g) from work → Solved bytes g opening from work′ list
-  soluble-solved work′ e =
-      record { reads = asked .reads; opened = asked .opened; before = work; enough = asked .enough; is = e; room = asked .room }
+  -- What was sought from there is solved.
+  pub soluble-solved : (work′ : List ℕ) (r : Origin) → Sought bytes g from work work′ r → Solved bytes g opening r work′ list
+  soluble-solved work′ r sought =
+      record {
+        reads = asked .reads;
+        opened = subst (λ (o : Origin). Opened bytes g opening o) (sym (sought .same)) (opened-within (asked .opened) (r .limit) (sought .low));
+        before = sought .before;
+        enough = omega (arith, asked .enough, sought .long);
+        is = sought .is;
+        sought = sought .sought;
+        room = asked .room;
+      }
 
   -- The place of the origin lies within the galley.
   pub soluble-first : Within g (countsAt g (from .place .line) (from .place .column))
@@ -132,18 +139,16 @@ module _ {bytes : List ℕ} {g : Galley} {opening : List ℕ} {from : Origin} {n
       ∙ end-onto (modelOf bytes g) (beginning (modelOf bytes g)) (pagesOf (modelOf bytes g) opening)
 
   -- The best list, or 11: the work area is cleared, and what is weighed from the opening's end on is counted.
-  pub made-best : (work′ work″ list′ : List ℕ) (answer : Answer) (count : ℕ) → work′ ≡ filled (modelOf bytes g) from work
+  pub made-best : (work′ work″ list′ : List ℕ) (r : Origin) (answer : Answer) (count : ℕ) → Sought bytes g from work work′ r
       → work″ ≡ cleared n work′ → Written bytes g opening list answer list′
       → count ≡ weighedFrom (modelOf bytes g) (placeOf g (countsAt g (from .place .line) (from .place .column)))
       → MadeAfter bytes opening work list answer count work″ list′
   unfolding makeAfterOf makeAfterRead weighedAfterOf weighedAfterRead workMadeAfter workMadeRead listMadeAfter listMadeRead stands
-  made-best work′ work″ list′ answer count e f w c =
+  made-best work′ work″ list′ r answer count sought f w c =
       let t = le-ltb (length work) (workNeeded g) (asked .enough) in
       let u = le-ltb (length list) (listNeeded g) (asked .room) in
       let stood : stands bytes g opening ≡ true = ap standing (asked .opened .stands) in
-      let clean : work″ ≡ cleared (workNeeded g) work =
-      f ∙ ap (λ k. cleared k work′) (asked .is) ∙ ap (cleared (workNeeded g)) e
-      ∙ forgets (record { reads = asked .reads }) from work in
+      let clean : work″ ≡ cleared (workNeeded g) work = f ∙ ap (λ k. cleared k work′) (asked .is) ∙ sought .clean in
       let counted = c ∙ ap (weighedFrom (modelOf bytes g)) first-is in
       record {
         answers = rw (asked .reads) (simp (t, u) (w .answers));

@@ -175,4 +175,5 @@ module _ {bytes : List ℕ} {g : Galley} (so : Sound bytes g) {ws : List ℕ} {p
             ∙ ap (λ (n : ℕ). record { place = after (modelOf bytes g) os .place; pages = after (modelOf bytes g) os .pages; cost = n }) cost-is;
         proper = record { line = inside .lines; column = omega (arith, column-low g at inside, columns-in bytes g) };
         cheap = omega (arith, cost-is, ap (λ n. n * heaviest (modelOf bytes g)) placed-is);
+        limited = omega arith;
       })

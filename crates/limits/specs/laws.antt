@@ -1,0 +1,3 @@
+-- The laws of a search with limits.
+pub mod Beyond
+pub mod Sought
