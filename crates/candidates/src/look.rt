@@ -43,13 +43,13 @@ fn last_on(work: &[u32], tall: usize, column: usize, side: usize, from: usize, t
     requires { ⌜ ((a : ℕ) → a < to → Stands (now work) tall (record { line = a; column = column }) side) ⌝ }
     ensures { λ r. ⌜ LastOn (now (work .entry)) tall column side from to r ⌝ }
 {
-    let mut a = to;
-    while from < a {
-        a -= 1;
-        let place = places::place_of(a, column);
+    let mut last = to;
+    while from < last {
+        last -= 1;
+        let place = places::place_of(last, column);
         let entry = places::entry_of(work, tall, place, side);
         let Entry::Unreached = entry else {
-            return a;
+            return last;
         };
     }
     from

@@ -149,7 +149,7 @@ pub record SideRun (bytes : List ℕ) (g : Galley) (w₀ w sums words₀ words :
   pub ends : Ends (textOf bytes (g .text)) (passLoad g pass) window i
   pub windows : Windowed bytes g words pass (λ k. Taken pass stop k × ((0 < c) ⊎ (k < i)))
   pub rises : Rises fed window
-  pub bounded : Bounded (linesOf w (g .text .count + 1) (pass .from) (sideOf g c)) words (g .text .count) since
+  pub bounded : Bounded (linesOf w (g .text .count + 1) (pass .from) (sideOf g c)) words (pass .last) since
   pub held : Both (linesOf w (g .text .count + 1) (pass .from) (sideOf g c)) sums words 0 parts fed
   pub swept : Swept bytes g w (pass .to) (pass .from) (number c i)
   pub kept : Scratched g (pass .to) w₀ w

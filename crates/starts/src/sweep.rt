@@ -94,9 +94,9 @@ fn sweep_stop(g: Galley, sums: &[u32], pass: Pass) -> usize
     end
 }
 
-// The starts of a pass weighed on side c for every line up to `stop`. Before the first reached line of their column there are
-// none to weigh, of lines or of floats alone; and a line whose place holds less than all of them cost is passed over, so that the queues
-// hold the window of the last line that was not.
+// The starts of a pass weighed on side c for every line that the sweep takes. Before the first reached line of their column and from line
+// `stop` on there are none to weigh, of lines or of floats alone; and a line whose place holds less than all of them cost is passed over,
+// so that the queues hold the window of the last line that was not.
 fn sweep_side(
     s: &[u8],
     g: Galley,
@@ -117,14 +117,14 @@ fn sweep_side(
         column: pass.from,
         side,
     };
-    let several = window::slide::too_tall(sums, load, pass.first, g.text.count);
+    let several = window::slide::too_tall(sums, load, pass.first, pass.last);
     let since = crate::bound::bound_side(
         work,
         words,
         source,
         pass.to,
         pass.first,
-        g.text.count,
+        pass.last,
         several,
     );
     let mut parts = window::parts::no_parts();
@@ -135,7 +135,16 @@ fn sweep_side(
         let before = starts;
         starts = window::windows::window_of(sums, load, words, before, i, c);
         let place = places::place_of(i, pass.to);
-        if crate::bound::beaten(work, words, g.text.count + 1, place, c, since, starts.low) {
+        if crate::bound::beaten(
+            work,
+            words,
+            source.tall,
+            place,
+            c,
+            since,
+            starts.low,
+            pass.last,
+        ) {
             i += 1;
             continue;
         }

@@ -40,25 +40,30 @@ module _ {bytes : List ℕ} {g : Galley} {w₀ sums words₀ : List ℕ} {c : �
   pub order : pass .least ≤ g .spec .htmax
   order = rw (asked .least) (least-low bytes g (asked .lent .sound) false)
 
-  -- How far a page of all of them reaches can be read.
-  pub side-reaches : Reachable sums 0 (passLoad g pass .tight) (g .spec .htmax + 1) (pass .first) (g .text .count)
+  -- The last line that is reached is one of the galley's.
+  pub last-low : pass .last ≤ g .text .count
+  last-low = asked .late .within (asked .first)
+
+  -- How far a page of all that may be reached goes can be read.
+  pub side-reaches : Reachable sums 0 (passLoad g pass .tight) (g .spec .htmax + 1) (pass .first) (pass .last)
   side-reaches =
+      let since = asked .late .since in
       can-slide (asked .lent) (asked .summed) 1 (pass .heights) (le-refl 1) (asked .passing .low) (pass .least) (pass .first) order
-      (shutAt (passLoad g pass)) (g .text .count) (le-refl _) (asked .first) (asked .first) (asked .first) .low
+      (shutAt (passLoad g pass)) (pass .last) last-low since since since .low
 
   -- They can be bounded.
-  pub side-stands : Standing w₀ words₀ (record { tall = g .text .count + 1; column = pass .from; side = sideOf g c }) (g .text .count)
+  pub side-stands : Standing w₀ words₀ (record { tall = g .text .count + 1; column = pass .from; side = sideOf g c }) (pass .last)
   side-stands =
       record {
-        stands = λ a l. can-stand (asked .lent) a (pass .from) (sideOf g c) l from-low (side-either g c);
-        few = asked .lent .sound .fewLines;
+        stands = λ a l. can-stand (asked .lent) a (pass .from) (sideOf g c) (omega (arith, last-low)) from-low (side-either g c);
+        few = omega (arith, last-low, asked .lent .sound .fewLines);
         column = omega (arith, from-low, columns-few g (few-floats (asked .lent .sound)));
         room = asked .scratch;
       }
 
   -- A side starts at the first line that is reached, with nothing in its queues: before it there is no start.
   pub side-first : (words : List ℕ) → length words ≡ length words₀ → (since : ℕ)
-      → BoundFound w₀ words₀ (record { tall = g .text .count + 1; column = pass .from; side = sideOf g c }) (g .text .count) since words
+      → BoundFound w₀ words₀ (record { tall = g .text .count + 1; column = pass .from; side = sideOf g c }) (pass .last) since words
       → SideRun bytes g w₀ w₀ sums words words c pass stop since noParts (shutAt (passLoad g pass)) (shutAt (passLoad g pass)) (pass .first)
   side-first words sized since found =
       record {

@@ -12,7 +12,10 @@ use lib.ListN.{length}
 use Rattle.model.specs.Galley.{Stream}
 use Rattle.galley.specs.declared.Galley.{Galley}
 use Rattle.galley.specs.Model.{textOf}
+use Rattle.places.specs.declared.Place.{Place}
 use Rattle.places.specs.declared.Entry.{Entry}
+use Rattle.places.specs.declared.Entry.the-variants.{Least}
+use Rattle.places.specs.laws.Best.{no-reach}
 use Rattle.window.specs.declared.slide.Window.{Window}
 use Rattle.window.specs.declared.queue.Source.{Source}
 use Rattle.window.specs.declared.parts.Parts.{Parts}
@@ -30,8 +33,8 @@ use Rattle.candidates.specs.Read.{sideOf, searchOf, lastPlace}
 use Rattle.starts.specs.Bound.{Bounded, Comparable, Beaten}
 use Rattle.starts.specs.Sweep.{Lent, passLoad, weighed, Ended, Swept, sweepEnd}
 use Rattle.candidates.specs.Cells.{number}
-use Rattle.starts.specs.Swept.{Windowed, Taken, Early, SideSweep, SideRun, SideDone}
-use Rattle.candidates.specs.laws.Read.{side-either}
+use Rattle.starts.specs.Swept.{Windowed, Taken, Early, Late, SideSweep, SideRun, SideDone}
+use Rattle.candidates.specs.laws.Read.{side-either, side-occurs}
 use Rattle.starts.specs.laws.Lending.{can-slide, can-move}
 use Rattle.starts.specs.laws.Fronts.{fronts-best, can-front}
 use Rattle.candidates.specs.laws.Cells.{scratched-then}
@@ -39,7 +42,7 @@ use Rattle.starts.specs.laws.Cells.{lent-kept}
 use Rattle.starts.specs.laws.Bound.{bounded-beside, bounded-same}
 use Rattle.starts.specs.laws.Pass.{end-low, end-inner, pass-ended, pass-late, pass-beaten, pass-changed, pass-swept}
 use Rattle.starts.specs.laws.Look.{quiet-kept, last-kept, swept-skip}
-use Rattle.starts.specs.laws.Begin.{from-low, order}
+use Rattle.starts.specs.laws.Begin.{from-low, order, last-low}
 
 module _ {bytes : List ℕ} {g : Galley} {w₀ sums words₀ : List ℕ} {c : ℕ} {pass : Pass} {stop : ℕ}
     (asked : SideSweep bytes g w₀ sums words₀ c pass stop) where
@@ -68,6 +71,18 @@ module _ {bytes : List ℕ} {g : Galley} {w₀ sums words₀ : List ℕ} {c : �
     early-now : Early g w pass
     early-now = quiet-kept (run .kept) two two (asked .passing .before) (omega (arith, asked .first)) (asked .early)
 
+    late-now : Late g w pass
+    late-now = last-kept (run .kept) two two (asked .passing .before) (asked .late)
+
+    -- What is reached is no later than the last line of the pass.
+    reached-low : (a y : ℕ) (t : Place) → a ≤ g .text .count → column w a ≡ Least y t → a ≤ pass .last
+    reached-low a y t l e = go (decLt (pass .last) a)
+      where
+        go : Dec (pass .last < a) → a ≤ pass .last
+        go (no h) = omega arith
+        go (yes h) =
+            absurd (no-reach (sym (late-now .quiet .none a (sideOf g c) (omega arith) (omega arith) (side-occurs (asked .lent .sound) c (asked .occurs))) ∙ e))
+
     -- It ends where the sweep stops: from there on there is nothing to weigh.
     pub side-last : stop ≤ i → SideDone bytes g w₀ w words c pass stop
     side-last l =
@@ -85,8 +100,7 @@ module _ {bytes : List ℕ} {g : Galley} {w₀ sums words₀ : List ℕ} {c : �
             let inner = end-inner g pass k m in
             let after = asked .stopped .after (omega arith) in
             pass-late lent-now (asked .passing) k c (inner .0) (asked .occurs) false (inner .1) (asked .least)
-            (last-kept (run .kept) two two (asked .passing .before) (asked .late)) (omega arith)
-            (asked .stopped .tall text (asked .summed .rows) k l m) a y
+            late-now (omega arith) (asked .stopped .tall text (asked .summed .rows) k l m) a y
 
     module _ (next : i < stop) where
       inner : (i ≤ g .text .count) × (lastPlace g i (pass .to) ≡ false)
@@ -122,7 +136,7 @@ module _ {bytes : List ℕ} {g : Galley} {w₀ sums words₀ : List ℕ} {c : �
             both-beside (omega (arith, run .rises .split, run .ends .split, side-line, asked .lent .sound .fewLines))
             (omega (arith, run .rises .high, run .ends .high, side-line, asked .lent .sound .fewLines)) (found .beside) (inl (omega arith)) (run .held)
 
-        bounded-found : Bounded (column w) words′ (g .text .count) since
+        bounded-found : Bounded (column w) words′ (pass .last) since
         bounded-found = bounded-beside (found .beside) (omega (arith, side-line, asked .lent .sound .fewLines)) (run .bounded)
 
         rises-found : Rises fed new
@@ -153,17 +167,16 @@ module _ {bytes : List ℕ} {g : Galley} {w₀ sums words₀ : List ℕ} {c : �
                 (sym (window-beside (found .beside) k (apart n (decLt k i)))) (run .windows k (l, before n p))
 
         -- The place can be compared with the bounds,
-        pub side-compares : Comparable w words′ (g .text .count + 1) (record { line = i; column = pass .to }) c (new .low)
+        pub side-compares : Comparable w words′ (g .text .count + 1) (record { line = i; column = pass .to }) c (pass .last)
         side-compares =
             record {
               stands = side-ended .end;
-              few = omega (arith, opened .ends .low, side-line, asked .lent .sound .fewLines);
-              short = omega (arith, asked .lent .sound .fewLines);
+              few = omega (arith, last-low asked, asked .lent .sound .fewLines);
               room = omega (arith, run .scratch, sized);
             }
 
         -- and where it holds less than all that the pass offers, the line is passed over.
-        pub side-beaten : Beaten w words′ (g .text .count + 1) (record { line = i; column = pass .to }) c since (new .low)
+        pub side-beaten : Beaten w words′ (g .text .count + 1) (record { line = i; column = pass .to }) c since (new .low) (pass .last)
             → SideRun bytes g w₀ w sums words₁ words′ c pass stop since parts fed new (i + 1)
         side-beaten beaten =
             record {
@@ -183,7 +196,7 @@ module _ {bytes : List ℕ} {g : Galley} {w₀ sums words₀ : List ℕ} {c : �
                   omega (
                     arith,
                     beaten .less,
-                    bounded-found .low (new .low) a y t (beaten .after) (omega (arith, beaten .before)) l (omega (arith, side-line)) e,
+                    bounded-found .low (new .low) a y t (beaten .after) (beaten .before) l (reached-low a y t (omega (arith, side-line)) e) e,
                   )) (run .swept);
               kept = run .kept;
             }
@@ -228,7 +241,7 @@ module _ {bytes : List ℕ} {g : Galley} {w₀ sums words₀ : List ℕ} {c : �
                 windows = kept-beside (done .beside) (λ k p. inr (omega (arith, run .held .first))) windows-found;
                 rises = record { low = le-refl _; split = le-refl _; high = le-refl _ };
                 bounded =
-                    bounded-same others
+                    bounded-same (λ a l. others a (omega (arith, last-low asked)))
                     (bounded-beside (done .beside) (omega (arith, run .held .first)) bounded-found);
                 held = both-same i (opened .ends .split) (opened .ends .high) (λ a l. others a (omega (arith, side-line))) held-next;
                 swept =

@@ -1,4 +1,4 @@
--- `last_on` meets its contract. The loop's invariant: no line from a on and before `to` is reached.
+-- `last_on` meets its contract. The loop's invariant: no line from `last` on and before `to` is reached.
 use Prim.Native.Nat.{ℕ, _-_, _≤_, _<_}
 use native.Mathlib.Nat.{le-refl}
 use native.Mathlib.Omega.{arith}
@@ -11,10 +11,10 @@ use Rattle.candidates.proofs.look.last_on.Statement.{statement}
 use Rattle.candidates.proofs.look.last_on.Tie as tie
 
 abbrev Inv-loop : tie.InvT-loop
-Inv-loop work tall column side from to a₀ a = (a ≤ to) × ((b : ℕ) → a ≤ b → b < to → linesOf work tall column side b ≡ Unreached)
+Inv-loop work tall column side from to last₀ last = (last ≤ to) × ((b : ℕ) → last ≤ b → b < to → linesOf work tall column side b ≡ Unreached)
 
 abbrev μ-loop : tie.MeasureT-loop
-μ-loop work tall column side from to a₀ a = a
+μ-loop work tall column side from to last₀ last = last
 
 loop-holds : tie.Need-loop-holds Inv-loop μ-loop
 loop-holds c = (omega arith, λ b l m. absurd (omega arith))
@@ -22,13 +22,13 @@ loop-holds c = (omega arith, λ b l m. absurd (omega arith))
 place-of-requires : tie.Need-place-of-requires Inv-loop μ-loop
 place-of-requires c κs =
     let st = c .before .loop in
-    let inside = c .before .before .before .pre (st .a - 1) (omega (arith, c .loop-test .taken, st .inv .0)) .inside in
+    let inside = c .before .before .before .pre (st .last - 1) (omega (arith, c .loop-test .taken, st .inv .0)) .inside in
     record { line = omega (arith, inside .row, inside .high); column = inside .wide }
 
 entry-of-requires : tie.Need-entry-of-requires Inv-loop μ-loop
 entry-of-requires c κs =
     let st = c .before .before .loop in
-    rw (c .place-of .ensures) (c .before .before .before .before .pre (st .a - 1) (omega (arith, c .before .loop-test .taken, st .inv .0)))
+    rw (c .place-of .ensures) (c .before .before .before .before .pre (st .last - 1) (omega (arith, c .before .loop-test .taken, st .inv .0)))
 
 loop-again : tie.Need-loop-again Inv-loop μ-loop
 loop-again c =
@@ -37,7 +37,7 @@ loop-again c =
     let a = told .before .before .before .before .before .args in
     let here = sym (rw (told .before .place-of .ensures) at (told .entry-of .ensures)) ∙ c .enum-told .given .1 in (
       omega (arith, st .inv .0),
-      quiet-back (linesOf (a .work .now) (a .tall) (a .column) (a .side)) (st .a) (a .to) (st .inv .1) here,
+      quiet-back (linesOf (a .work .now) (a .tall) (a .column) (a .side)) (st .last) (a .to) (st .inv .1) here,
     )
 
 returns : tie.Need-returns Inv-loop μ-loop

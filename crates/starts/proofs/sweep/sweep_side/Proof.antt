@@ -53,79 +53,76 @@ place-of-requires c κs =
       column = omega (arith, start .pre .lent .column, columns-few (start .args .g) (few-floats (start .pre .lent .sound)));
     }
 
-add-beaten : tie.Need-add-beaten Inv-loop μ-loop
-add-beaten c = omega (arith, c .before .before .before .before .before .before .before .before .before .before .before .before .before .before .before .before .before .before .before .before .before .before .before .before .before .before .pre .lent .sound .fewLines)
-
 beaten-requires : tie.Need-beaten-requires Inv-loop μ-loop
 beaten-requires c κs =
-    let found = c .before .before .before .before .before .before in
-    rw (c .before .before .before .place-of .ensures)
-    (side-compares (c .before .before .before .before .before .before .before .before .before .before .before .before .before .before .before .before .before .before .before .before .before .before .before .before .before .before .pre) (c .before .before .before .before .before .before .before .before .before .loop .inv) (c .before .before .before .before .before .before .before .before .loop-test .taken) _
-    (search (needs, c .before .before .before .before .slice-known4 .given, c .before .before .before .before .before .words2 .given)) (found .window-of .result)
-    (rw (c .before .before .before .before .before .before .before .before .before .before .before .before .before .before .before .before .before .before .before .before .before .load-of .ensures) at (found .window-of .ensures)))
+    let found = c .before .before .before .before .before in
+    rw (c .before .before .place-of .ensures)
+    (side-compares (c .before .before .before .before .before .before .before .before .before .before .before .before .before .before .before .before .before .before .before .before .before .before .before .before .before .pre) (c .before .before .before .before .before .before .before .before .loop .inv) (c .before .before .before .before .before .before .before .loop-test .taken) _
+    (search (needs, c .before .before .before .slice-known4 .given, c .before .before .before .before .words2 .given)) (found .window-of .result)
+    (rw (c .before .before .before .before .before .before .before .before .before .before .before .before .before .before .before .before .before .before .before .before .load-of .ensures) at (found .window-of .ensures)))
 
 add-i : tie.Need-add-i Inv-loop μ-loop
 add-i c =
-    let start = c .before .before .before .before .before .before .before .before .before .before .before .before .before .before .before .before .before .before .before .before .before .before .before .before .before .before .before .before in
+    let start = c .before .before .before .before .before .before .before .before .before .before .before .before .before .before .before .before .before .before .before .before .before .before .before .before .before .before .before in
     omega (
       arith,
       start .pre .lent .sound .fewLines,
-      side-line (start .pre) (c .before .before .before .before .before .before .before .before .before .before .before .loop .inv) (c .before .before .before .before .before .before .before .before .before .before .loop-test .taken),
+      side-line (start .pre) (c .before .before .before .before .before .before .before .before .before .before .loop .inv) (c .before .before .before .before .before .before .before .before .before .loop-test .taken),
     )
 
 loop-again : tie.Need-loop-again Inv-loop μ-loop
 loop-again c =
-    let found = c .before .before .before .before .before .before .before .before in
-    side-beaten (c .before .before .before .before .before .before .before .before .before .before .before .before .before .before .before .before .before .before .before .before .before .before .before .before .before .before .before .before .pre) (c .before .before .before .before .before .before .before .before .before .before .before .loop .inv) (c .before .before .before .before .before .before .before .before .before .before .loop-test .taken) _
-    (search (needs, c .before .before .before .before .before .before .slice-known4 .given, c .before .before .before .before .before .before .before .words2 .given)) (found .window-of .result)
-    (rw (c .before .before .before .before .before .before .before .before .before .before .before .before .before .before .before .before .before .before .before .before .before .before .before .load-of .ensures) at (found .window-of .ensures))
-    (rw (c .before .before .before .before .before .place-of .ensures) at (c .before .beaten .ensures (c .if1 .taken)))
+    let found = c .before .before .before .before .before .before .before in
+    side-beaten (c .before .before .before .before .before .before .before .before .before .before .before .before .before .before .before .before .before .before .before .before .before .before .before .before .before .before .before .pre) (c .before .before .before .before .before .before .before .before .before .before .loop .inv) (c .before .before .before .before .before .before .before .before .before .loop-test .taken) _
+    (search (needs, c .before .before .before .before .before .slice-known4 .given, c .before .before .before .before .before .before .words2 .given)) (found .window-of .result)
+    (rw (c .before .before .before .before .before .before .before .before .before .before .before .before .before .before .before .before .before .before .before .before .before .before .load-of .ensures) at (found .window-of .ensures))
+    (rw (c .before .before .before .before .place-of .ensures) at (c .before .beaten .ensures (c .if1 .taken)))
 
 move-on-requires : tie.Need-move-on-requires Inv-loop μ-loop
 move-on-requires c κs =
-    let found = c .before .before .before .before .before .before .before .before .before .before in
-    rw (c .before .before .before .before .before .before .before .before .before .before .before .before .before .before .before .before .before .before .before .before .before .before .before .before .side-before .ensures)
-    (side-moves (c .before .before .before .before .before .before .before .before .before .before .before .before .before .before .before .before .before .before .before .before .before .before .before .before .before .before .before .before .before .before .pre) (c .before .before .before .before .before .before .before .before .before .before .before .before .before .loop .inv) (c .before .before .before .before .before .before .before .before .before .before .before .before .loop-test .taken) _
-    (search (needs, c .before .before .before .before .before .before .before .before .slice-known4 .given, c .before .before .before .before .before .before .before .before .before .words2 .given)) (found .window-of .result)
-    (rw (c .before .before .before .before .before .before .before .before .before .before .before .before .before .before .before .before .before .before .before .before .before .before .before .before .before .load-of .ensures) at (found .window-of .ensures)))
+    let found = c .before .before .before .before .before .before .before .before .before in
+    rw (c .before .before .before .before .before .before .before .before .before .before .before .before .before .before .before .before .before .before .before .before .before .before .before .side-before .ensures)
+    (side-moves (c .before .before .before .before .before .before .before .before .before .before .before .before .before .before .before .before .before .before .before .before .before .before .before .before .before .before .before .before .before .pre) (c .before .before .before .before .before .before .before .before .before .before .before .before .loop .inv) (c .before .before .before .before .before .before .before .before .before .before .before .loop-test .taken) _
+    (search (needs, c .before .before .before .before .before .before .before .slice-known4 .given, c .before .before .before .before .before .before .before .before .words2 .given)) (found .window-of .result)
+    (rw (c .before .before .before .before .before .before .before .before .before .before .before .before .before .before .before .before .before .before .before .before .before .before .before .before .load-of .ensures) at (found .window-of .ensures)))
 
 best-front-requires : tie.Need-best-front-requires Inv-loop μ-loop
 best-front-requires c κs =
     let moved = c .before .before .before in
-    let found = c .before .before .before .before .before .before .before .before .before .before .before .before .before .before in
-    let load = c .before .before .before .before .before .before .before .before .before .before .before .before .before .before .before .before .before .before .before .before .before .before .before .before .before .before .before .before .before .load-of .ensures in
+    let found = c .before .before .before .before .before .before .before .before .before .before .before .before .before in
+    let load = c .before .before .before .before .before .before .before .before .before .before .before .before .before .before .before .before .before .before .before .before .before .before .before .before .before .before .before .before .load-of .ensures in
     rw load
-    (side-fronted (c .before .before .before .before .before .before .before .before .before .before .before .before .before .before .before .before .before .before .before .before .before .before .before .before .before .before .before .before .before .before .before .before .before .before .pre) (c .before .before .before .before .before .before .before .before .before .before .before .before .before .before .before .before .before .loop .inv) (c .before .before .before .before .before .before .before .before .before .before .before .before .before .before .before .before .loop-test .taken) _
-    (search (needs, c .before .before .before .before .before .before .before .before .before .before .before .before .slice-known4 .given, c .before .before .before .before .before .before .before .before .before .before .before .before .before .words2 .given)) (found .window-of .result)
+    (side-fronted (c .before .before .before .before .before .before .before .before .before .before .before .before .before .before .before .before .before .before .before .before .before .before .before .before .before .before .before .before .before .before .before .before .before .pre) (c .before .before .before .before .before .before .before .before .before .before .before .before .before .before .before .before .loop .inv) (c .before .before .before .before .before .before .before .before .before .before .before .before .before .before .before .loop-test .taken) _
+    (search (needs, c .before .before .before .before .before .before .before .before .before .before .before .slice-known4 .given, c .before .before .before .before .before .before .before .before .before .before .before .before .words2 .given)) (found .window-of .result)
     (rw load at (found .window-of .ensures)) _
     (search (needs, c .before .slice-known5 .given, c .before .before .words3 .given)) (moved .move-on .result)
-    (rw (c .before .before .before .before .before .before .before .before .before .before .before .before .before .before .before .before .before .before .before .before .before .before .before .before .before .before .before .before .side-before .ensures) at (moved .move-on .ensures)))
+    (rw (c .before .before .before .before .before .before .before .before .before .before .before .before .before .before .before .before .before .before .before .before .before .before .before .before .before .before .before .side-before .ensures) at (moved .move-on .ensures)))
 
 improve-requires : tie.Need-improve-requires Inv-loop μ-loop
-improve-requires c κs = side-ended (c .before .before .before .before .before .before .before .before .before .before .before .before .before .before .before .before .before .before .before .before .before .before .before .before .before .before .before .before .before .before .before .before .before .before .before .before .pre) (c .before .before .before .before .before .before .before .before .before .before .before .before .before .before .before .before .before .before .before .loop .inv) (c .before .before .before .before .before .before .before .before .before .before .before .before .before .before .before .before .before .before .loop-test .taken)
+improve-requires c κs = side-ended (c .before .before .before .before .before .before .before .before .before .before .before .before .before .before .before .before .before .before .before .before .before .before .before .before .before .before .before .before .before .before .before .before .before .before .before .pre) (c .before .before .before .before .before .before .before .before .before .before .before .before .before .before .before .before .before .before .loop .inv) (c .before .before .before .before .before .before .before .before .before .before .before .before .before .before .before .before .before .loop-test .taken)
 
 add-i-2 : tie.Need-add-i-2 Inv-loop μ-loop
 add-i-2 c =
-    let start = c .before .before .before .before .before .before .before .before .before .before .before .before .before .before .before .before .before .before .before .before .before .before .before .before .before .before .before .before .before .before .before .before .before .before .before .before .before .before .before in
+    let start = c .before .before .before .before .before .before .before .before .before .before .before .before .before .before .before .before .before .before .before .before .before .before .before .before .before .before .before .before .before .before .before .before .before .before .before .before .before .before in
     omega (
       arith,
       start .pre .lent .sound .fewLines,
-      side-line (start .pre) (c .before .before .before .before .before .before .before .before .before .before .before .before .before .before .before .before .before .before .before .before .before .before .loop .inv) (c .before .before .before .before .before .before .before .before .before .before .before .before .before .before .before .before .before .before .before .before .before .loop-test .taken),
+      side-line (start .pre) (c .before .before .before .before .before .before .before .before .before .before .before .before .before .before .before .before .before .before .before .before .before .loop .inv) (c .before .before .before .before .before .before .before .before .before .before .before .before .before .before .before .before .before .before .before .before .loop-test .taken),
     )
 
 loop-less-2 : tie.Need-loop-less-2 Inv-loop μ-loop
-loop-less-2 c = omega (arith, c .before .before .before .before .before .before .before .before .before .before .before .before .before .before .before .before .before .before .before .before .before .loop-test .taken)
+loop-less-2 c = omega (arith, c .before .before .before .before .before .before .before .before .before .before .before .before .before .before .before .before .before .before .before .before .loop-test .taken)
 
 loop-again-2 : tie.Need-loop-again-2 Inv-loop μ-loop
 loop-again-2 c =
     let moved = c .before .before .before .before .before .before .before .before in
-    let found = c .before .before .before .before .before .before .before .before .before .before .before .before .before .before .before .before .before .before .before in
-    let load = c .before .before .before .before .before .before .before .before .before .before .before .before .before .before .before .before .before .before .before .before .before .before .before .before .before .before .before .before .before .before .before .before .before .before .load-of .ensures in
-    side-next (c .before .before .before .before .before .before .before .before .before .before .before .before .before .before .before .before .before .before .before .before .before .before .before .before .before .before .before .before .before .before .before .before .before .before .before .before .before .before .before .pre) (c .before .before .before .before .before .before .before .before .before .before .before .before .before .before .before .before .before .before .before .before .before .before .loop .inv) (c .before .before .before .before .before .before .before .before .before .before .before .before .before .before .before .before .before .before .before .before .before .loop-test .taken) _
-    (search (needs, c .before .before .before .before .before .before .before .before .before .before .before .before .before .before .before .before .before .slice-known4 .given, c .before .before .before .before .before .before .before .before .before .before .before .before .before .before .before .before .before .before .words2 .given)) (found .window-of .result)
+    let found = c .before .before .before .before .before .before .before .before .before .before .before .before .before .before .before .before .before .before in
+    let load = c .before .before .before .before .before .before .before .before .before .before .before .before .before .before .before .before .before .before .before .before .before .before .before .before .before .before .before .before .before .before .before .before .before .load-of .ensures in
+    side-next (c .before .before .before .before .before .before .before .before .before .before .before .before .before .before .before .before .before .before .before .before .before .before .before .before .before .before .before .before .before .before .before .before .before .before .before .before .before .before .pre) (c .before .before .before .before .before .before .before .before .before .before .before .before .before .before .before .before .before .before .before .before .before .loop .inv) (c .before .before .before .before .before .before .before .before .before .before .before .before .before .before .before .before .before .before .before .before .loop-test .taken) _
+    (search (needs, c .before .before .before .before .before .before .before .before .before .before .before .before .before .before .before .before .slice-known4 .given, c .before .before .before .before .before .before .before .before .before .before .before .before .before .before .before .before .before .words2 .given)) (found .window-of .result)
     (rw load at (found .window-of .ensures)) _
     (search (needs, c .before .before .before .before .before .before .slice-known5 .given, c .before .before .before .before .before .before .before .words3 .given)) (moved .move-on .result)
-    (rw (c .before .before .before .before .before .before .before .before .before .before .before .before .before .before .before .before .before .before .before .before .before .before .before .before .before .before .before .before .before .before .before .before .before .side-before .ensures) at (moved .move-on .ensures)) _
+    (rw (c .before .before .before .before .before .before .before .before .before .before .before .before .before .before .before .before .before .before .before .before .before .before .before .before .before .before .before .before .before .before .before .before .side-before .ensures) at (moved .move-on .ensures)) _
     (rw (c .before .before .before .before .best-front .ensures, load) at (c .before .before .improve .ensures))
 
 returns : tie.Need-returns Inv-loop μ-loop
@@ -138,6 +135,6 @@ sweep-side-spec =
     tie.close
     (tie.spec
     Inv-loop μ-loop load-of-requires (λ c κs. search needs) add-t22 too-tall-requires bound-side-requires (λ c κs. search needs)
-    (λ c κs. search needs) (λ c κs. search needs) loop-holds window-of-requires place-of-requires add-beaten beaten-requires add-i
+    (λ c κs. search needs) (λ c κs. search needs) loop-holds window-of-requires place-of-requires beaten-requires add-i
     (λ c. search needs) loop-again move-on-requires best-front-requires improve-requires add-i-2 loop-less-2 loop-again-2
     (λ c. search needs) (λ c. search needs) returns)

@@ -1,8 +1,6 @@
 -- `sweep_stop` meets its contract. The loop's invariant: line i is after the last one of the pass.
 use Prim.Native.Nat.{_-_, _<_}
-use native.Mathlib.Omega.{arith}
 use mathlib.Core.Path.{sym, _∙_}
-use Rattle.starts.specs.laws.Pass.{end-inner}
 use Rattle.starts.specs.laws.Stop.{stop-reaches, stop-found, stop-none}
 use borrow.Author.Needs.{needs}
 use Rattle.starts.proofs.sweep.sweep_stop.Statement.{statement}
