@@ -33,6 +33,18 @@ pub record LookRun (g : Galley) (w : List ℕ) (j from first c : ℕ) : Type 0 w
   pub within : first ≤ g .text .count + 1
   pub quiet : Quiet g w j c from first
 
+-- r is no earlier than `from` and, where that is before `to`, before it too; and no line after r and before `to` is reached on the side.
+pub record LastOn (w : List ℕ) (tall column side from to r : ℕ) : Type 0 where
+  pub since : from ≤ r
+  pub within : from < to → r < to
+  pub quiet : (a : ℕ) → r < a → a < to → linesOf w tall column side a ≡ Unreached
+
+-- r is no earlier than `from` and, where that is a line, a line too; and no line after r is reached on the first n sides.
+pub record LastFound (g : Galley) (w : List ℕ) (j n from r : ℕ) : Type 0 where
+  pub since : from ≤ r
+  pub within : from ≤ g .text .count → r ≤ g .text .count
+  pub quiet : Quiet g w j n (r + 1) (g .text .count + 1)
+
 -- Whatever is reached in the columns before j has the origin's counts or more in every stream: nothing before the origin is a start.
 pub record PastOrigin (g : Galley) (w : List ℕ) (j : ℕ) (origin : Counts) : Type 0 where
   pub line : origin .lines ≤ g .text .count

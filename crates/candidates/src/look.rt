@@ -1,9 +1,9 @@
-// The first line of a column that is reached. A place that was never reached offers no start, so that a sweep begins there, and a column
-// without one is passed over.
+// The first and the last line of a column that are reached. A place that was never reached offers no start, so that a sweep begins at the
+// first and ends a page after the last, and a column without one is passed over.
 ghost use Prim.Native.Nat.{ℕ, _<_};
 ghost use Rattle.places.specs.Address.{Stands};
 ghost use Rattle.candidates.specs.Cells.{ColumnRoom};
-ghost use Rattle.candidates.specs.Look.{FoundOn, Found};
+ghost use Rattle.candidates.specs.Look.{FoundOn, Found, LastOn, LastFound};
 use galley::Galley;
 use places::Entry;
 
@@ -36,4 +36,35 @@ pub fn first_line(g: Galley, work: &[u32], column: usize, from: usize) -> usize
         c += 1;
     }
     first
+}
+
+// The last line from `from` on and before `to` that is reached in a column on a side; `from` where there is none.
+fn last_on(work: &[u32], tall: usize, column: usize, side: usize, from: usize, to: usize) -> usize
+    requires { ⌜ ((a : ℕ) → a < to → Stands (now work) tall (record { line = a; column = column }) side) ⌝ }
+    ensures { λ r. ⌜ LastOn (now (work .entry)) tall column side from to r ⌝ }
+{
+    let mut last = to;
+    while from < last {
+        last -= 1;
+        let place = places::place_of(last, column);
+        let entry = places::entry_of(work, tall, place, side);
+        let Entry::Unreached = entry else {
+            return last;
+        };
+    }
+    from
+}
+
+// The last line from `from` on that is reached in a column on any side that occurs; `from` where there is none.
+pub fn last_line(g: Galley, work: &[u32], column: usize, from: usize) -> usize
+    requires { ⌜ ColumnRoom g (now work) column ⌝ }
+    ensures { λ r. ⌜ LastFound g (now (work .entry)) column (g .spec .sides) from r ⌝ }
+{
+    let mut last = from;
+    let mut c = 0;
+    while c < g.spec.sides as usize {
+        last = last_on(work, g.text.count + 1, column, c, last, g.text.count + 1);
+        c += 1;
+    }
+    last
 }

@@ -59,18 +59,17 @@ pub record BoundRun (work words₀ words : List ℕ) (source : Source) (lines : 
   pub bounded : (k b x : ℕ) (r : Place) → a ≤ k → k < lines → k ≤ b → b ≤ lines → linesIn work source b ≡ Least x r → boundAt words k ≤ x
   pub beside : Beside words₀ words 12001 16000
 
--- A place stands in the work area, and a bound in the words.
-pub record Comparable (work words : List ℕ) (tall : ℕ) (place : Place) (side low : ℕ) : Type 0 where
+-- A place stands in the work area, and the bounds before line `last` in the words.
+pub record Comparable (work words : List ℕ) (tall : ℕ) (place : Place) (side last : ℕ) : Type 0 where
   pub stands : Stands work tall place side
-  pub few : low ≤ 4000
-  pub short : tall ≤ 4001
+  pub few : last ≤ 4000
   pub room : 48000 ≤ length words
 
 -- The place is reached at less than the bound of line `low`, which there is.
-pub record Beaten (work words : List ℕ) (tall : ℕ) (place : Place) (side since low : ℕ) : Type 0 where
+pub record Beaten (work words : List ℕ) (tall : ℕ) (place : Place) (side since low last : ℕ) : Type 0 where
   pub cost : ℕ
   pub start : Place
   pub held : tableOf tall work (place .line) (place .column) side ≡ Least cost start
   pub after : since < low
-  pub before : low + 1 < tall
+  pub before : low < last
   pub less : cost < boundAt words low

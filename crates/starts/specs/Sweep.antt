@@ -6,12 +6,13 @@ use mathlib.Core.List.{List}
 use lib.ListN.{length}
 use lib.Dec.{ltb}
 use Rattle.model.specs.Gather.{pick}
+use Rattle.model.specs.Galley.{Stream}
 use Rattle.galley.specs.declared.Spec.{Spec}
 use Rattle.galley.specs.declared.Galley.{Galley}
 use Rattle.galley.specs.Model.{textOf, modelOf}
 use Rattle.galley.specs.Sound.{Sound}
 use Rattle.blocks.specs.declared.heights.Heights.{Heights}
-use Rattle.blocks.specs.Heights.{separated}
+use Rattle.blocks.specs.Heights.{Separable, separated}
 use Rattle.blocks.specs.laws.Heights.{Low}
 use Rattle.places.specs.declared.Entry.{Entry}
 use Rattle.places.specs.declared.Entry.the-variants.{Unreached}
@@ -19,6 +20,7 @@ use Rattle.places.specs.Address.{wordsNeeded, address, Stands}
 use Rattle.places.specs.Best.{Affordable, Best}
 use Rattle.window.specs.declared.slide.Load.{Load}
 use Rattle.window.specs.Sums.{Sums}
+use Rattle.window.specs.Slide.{Reachable, Tall}
 use Rattle.window.specs.Queue.{linesOf, Payable}
 use Rattle.starts.specs.declared.sweep.Pass.{Pass}
 use Rattle.starts.specs.declared.sweep.Row.{Row}
@@ -26,7 +28,7 @@ use Rattle.candidates.specs.Better.{chosen, startAt, taken}
 use Rattle.candidates.specs.Choice.{Starts, Between}
 use Rattle.candidates.specs.Beside.{Under, alone}
 use Rattle.candidates.specs.Read.{tableIn, sideOf, searchOf, columnsIn, lastColumn, loadOf}
-use Rattle.candidates.specs.Cells.{number}
+use Rattle.candidates.specs.Cells.{number, Wide}
 
 -- What the lines of column b cost, on the side before side c, is small.
 abbrev pub Costs : Galley → List ℕ → ℕ → ℕ → Type 0
@@ -92,9 +94,25 @@ pub record Swept (bytes : List ℕ) (g : Galley) (w : List ℕ) (j b n : ℕ) : 
   pub done : (k c : ℕ) → k ≤ g .text .count → c < g .spec .sides → number c k < n → Knows bytes g w k j c (Between b j)
   pub left : (k c : ℕ) → k ≤ g .text .count → c < g .spec .sides → n ≤ number c k → Knows bytes g w k j c (Between (suc b) j)
 
--- The lines that a sweep takes: all, but for the last line of the last column, where a page may be short.
+-- The lines that a sweep may take: all, but for the last line of the last column, where a page may be short.
 abbrev pub sweepEnd : Galley → Pass → ℕ
 sweepEnd g pass = pick (lastColumn g (pass .to)) (g .text .count) (g .text .count + 1)
+
+-- The last line of a pass is one of the galley's, and pages from it can be measured.
+pub record Stoppable (g : Galley) (sums : List ℕ) (pass : Pass) : Type 0 where
+  pub wide : Wide g (pass .to)
+  pub separable : Separable (g .spec) 1 (pass .heights)
+  pub order : pass .first ≤ pass .last
+  pub line : pass .last ≤ g .text .count
+  pub reaches : Reachable sums 0 (passLoad g pass .tight) (g .spec .htmax + 1) (pass .last) (g .text .count)
+
+-- Of the lines that a sweep may take, those from `stop` on are after the last of the pass, and pages from there to them are too tall.
+pub record Stopped (g : Galley) (sums : List ℕ) (pass : Pass) (stop : ℕ) : Type 0 where
+  pub from : pass .first ≤ stop
+  pub within : stop ≤ sweepEnd g pass
+  pub after : stop < sweepEnd g pass → pass .last < stop
+  pub tall : (st : Stream) → Sums st (g .text .count) sums → (e : ℕ) → stop ≤ e → e < sweepEnd g pass
+      → Tall st (passLoad g pass) (pass .last) e
 
 -- Heights of figures and of tables whose sum, with a separation, is a word.
 pub record Layable (spec : Spec) (figures tables : Heights) : Type 0 where

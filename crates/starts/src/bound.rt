@@ -59,8 +59,8 @@ fn bound_lines(work: &[u32], words: &mut [u32], source: Source, since: usize, li
 }
 
 // The line of a source after which there are bounds, for pages that end in column `to`: the first one that is reached, or the last, where
-// bounds are of no use. That is where all lines together are no more than a page, where all cost as much, and where no other column was
-// weighed before.
+// bounds are of no use. That is where all lines from the one to the other are no more than a page, where all cost as much, and where no
+// other column was weighed before.
 pub fn bound_side(
     work: &[u32],
     words: &mut [u32],
@@ -93,7 +93,7 @@ pub fn bound_side(
     first
 }
 
-// Whether a place holds less than the bound of line `low`: there is one after line `since` and before the last of a column's `tall` lines.
+// Whether a place holds less than the bound of line `low`: there is one after line `since` and before line `last`.
 pub fn beaten(
     work: &[u32],
     words: &[u32],
@@ -102,14 +102,15 @@ pub fn beaten(
     side: usize,
     since: usize,
     low: usize,
+    last: usize,
 ) -> bool
-    requires { ⌜ Comparable (now work) (now words) tall place side low ⌝ }
-    ensures { λ r. ⌜ (r ≡ true → Beaten (now (work .entry)) (now (words .entry)) tall place side since low) ⌝ }
+    requires { ⌜ Comparable (now work) (now words) tall place side last ⌝ }
+    ensures { λ r. ⌜ (r ≡ true → Beaten (now (work .entry)) (now (words .entry)) tall place side since low last) ⌝ }
 {
     if low <= since {
         return false;
     }
-    if tall <= low + 1 {
+    if last <= low {
         return false;
     }
     let Entry::Least(x, _start) = places::entry_of(work, tall, place, side) else {

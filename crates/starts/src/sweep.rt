@@ -7,7 +7,7 @@ ghost use Prim.Native.Nat.{_+_, _≤_};
 ghost use Rattle.places.specs.Address.{Stands};
 ghost use Rattle.places.specs.Best.{Affordable};
 ghost use Rattle.candidates.specs.Read.{tableIn};
-ghost use Rattle.starts.specs.Sweep.{aloneOf, weighed, Ended, sweepEnd, Layable, floatsAlone, rowTop};
+ghost use Rattle.starts.specs.Sweep.{aloneOf, weighed, Ended, sweepEnd, Stoppable, Stopped, Layable, floatsAlone, rowTop};
 ghost use Rattle.candidates.specs.Cells.{Wide};
 ghost use Rattle.starts.specs.Swept.{ColumnSweep, ColumnSwept, RowSweep, RowSwept, Sweep, SweepDone, SideSweep, SideDone, LastLine, LineDone};
 use blocks::Counts;
@@ -18,7 +18,7 @@ use window::queue::Source;
 
 // One sweep: starts in column `from`, for pages that end in column `to` and are no lower than `least`. A page of the floats between
 // alone has these heights, the separation of figures and tables with them, and this white; beside lines they have one separation more.
-// No line of column `from` before `first` is reached.
+// No line of column `from` before `first` or after `last` is reached.
 pub struct Pass {
     pub from: usize,
     pub to: usize,
@@ -26,6 +26,7 @@ pub struct Pass {
     pub least: u32,
     pub white: u32,
     pub first: usize,
+    pub last: usize,
 }
 
 // The columns with so many figures, for pages that end in column `to`, where so much is placed: the figures between have these
@@ -64,7 +65,7 @@ fn improve(g: Galley, work: &mut [u32], lines: Entry, i: usize, c: usize, pass: 
     candidates::choice::offer(work, g.text.count + 1, end, c, found);
 }
 
-// The lines that a sweep takes: all, but for the last line of the last column, where a page may be short.
+// The lines that a sweep may take: all, but for the last line of the last column, where a page may be short.
 fn sweep_end(g: Galley, pass: Pass) -> usize
     requires { ⌜ Wide g (pass .to) ⌝ }
     ensures { λ r. ⌜ r ≡ sweepEnd g pass ⌝ }
@@ -75,9 +76,27 @@ fn sweep_end(g: Galley, pass: Pass) -> usize
     g.text.count + 1
 }
 
-// The starts of a pass weighed on side c for every line that the sweep takes. Before the first reached line of their column there are
-// none to weigh, of lines or of floats alone; and a line whose place holds less than all of them cost is passed over, so that the queues
-// hold the window of the last line that was not.
+// The line that a sweep stops at: the first one to which a page from the last reached line of the column is too tall. From there on so is
+// every page from a line that is reached, and a page of floats alone would start past the last.
+fn sweep_stop(g: Galley, sums: &[u32], pass: Pass) -> usize
+    requires { ⌜ Stoppable g (now sums) pass ⌝ }
+    ensures { λ r. ⌜ Stopped g (now (sums .entry)) pass r ⌝ }
+{
+    let load = candidates::read::load_of(g, 1, pass.heights, pass.least, pass.first);
+    let end = sweep_end(g, pass);
+    let mut i = pass.last + 1;
+    while i < end {
+        if window::slide::too_tall(sums, load, pass.last, i) {
+            return i;
+        }
+        i += 1;
+    }
+    end
+}
+
+// The starts of a pass weighed on side c for every line that the sweep takes. Before the first reached line of their column and from line
+// `stop` on there are none to weigh, of lines or of floats alone; and a line whose place holds less than all of them cost is passed over,
+// so that the queues hold the window of the last line that was not.
 fn sweep_side(
     s: &[u8],
     g: Galley,
@@ -86,37 +105,46 @@ fn sweep_side(
     words: &mut [u32],
     c: usize,
     pass: Pass,
+    stop: usize,
 )
-    requires { ⌜ SideSweep (now s) g (now work) (now sums) (now words) c pass ⌝ }
-    ensures { λ _. ⌜ SideDone (now (s .entry)) g (now (work .entry)) (now (work .exit)) (now (words .exit)) c pass ⌝ }
+    requires { ⌜ SideSweep (now s) g (now work) (now sums) (now words) c pass stop ⌝ }
+    ensures { λ _. ⌜ SideDone (now (s .entry)) g (now (work .entry)) (now (work .exit)) (now (words .exit)) c pass stop ⌝ }
 {
     let load = candidates::read::load_of(g, 1, pass.heights, pass.least, pass.first);
     let side = candidates::read::side_before(g, c);
-    let end = sweep_end(g, pass);
     let source = Source {
         tall: g.text.count + 1,
         column: pass.from,
         side,
     };
-    let several = window::slide::too_tall(sums, load, pass.first, g.text.count);
+    let several = window::slide::too_tall(sums, load, pass.first, pass.last);
     let since = crate::bound::bound_side(
         work,
         words,
         source,
         pass.to,
         pass.first,
-        g.text.count,
+        pass.last,
         several,
     );
     let mut parts = window::parts::no_parts();
     let mut starts = window::slide::shut(load);
     let mut fed = window::slide::shut(load);
     let mut i = pass.first;
-    while i < end {
+    while i < stop {
         let before = starts;
         starts = window::windows::window_of(sums, load, words, before, i, c);
         let place = places::place_of(i, pass.to);
-        if crate::bound::beaten(work, words, g.text.count + 1, place, c, since, starts.low) {
+        if crate::bound::beaten(
+            work,
+            words,
+            source.tall,
+            place,
+            c,
+            since,
+            starts.low,
+            pass.last,
+        ) {
             i += 1;
             continue;
         }
@@ -145,6 +173,7 @@ fn last_line(s: &[u8], g: Galley, work: &mut [u32], sums: &[u32], c: usize, pass
         least: rules::rules::floor_of(g, true),
         white: 0,
         first: pass.first,
+        last: pass.last,
     };
     let load = candidates::read::load_of(g, 1, heights, last.least, pass.first);
     let side = candidates::read::side_before(g, c);
@@ -161,9 +190,10 @@ fn sweep(s: &[u8], g: Galley, work: &mut [u32], sums: &[u32], words: &mut [u32],
     if g.text.count < pass.first {
         return;
     }
+    let stop = sweep_stop(g, sums, pass);
     let mut c = 0;
     while c < g.spec.sides as usize {
-        sweep_side(s, g, work, sums, words, c, pass);
+        sweep_side(s, g, work, sums, words, c, pass, stop);
         last_line(s, g, work, sums, c, pass);
         c += 1;
     }
@@ -213,13 +243,15 @@ fn sweep_row(s: &[u8], g: Galley, work: &mut [u32], sums: &[u32], words: &mut [u
             return;
         }
         let from = row_from + t;
+        let first = candidates::look::first_line(g, work, from, row.origin.lines);
         let pass = Pass {
             from,
             to: row.to,
             heights: floats,
             least: row.least,
             white: rules::counts::white_at(g, false, floats.loose),
-            first: candidates::look::first_line(g, work, from, row.origin.lines),
+            first,
+            last: candidates::look::last_line(g, work, from, first),
         };
         sweep(s, g, work, sums, words, pass);
     }

@@ -1,5 +1,6 @@
 -- What is not reached is no start: lines that were looked at, and all that stands before the origin.
 use Prim.Native.Nat.{ℕ, suc, _+_, _≤_, _<_}
+use native.Mathlib.Nat.{le-refl}
 use native.Mathlib.Decide.{decLt}
 use native.Mathlib.Omega.{arith}
 use mathlib.Core.Path.{_≡_, refl, sym, _∙_}
@@ -11,7 +12,7 @@ use Rattle.places.specs.declared.Entry.the-variants.{Unreached, Least}
 use Rattle.places.specs.laws.Best.{no-reach}
 use Rattle.candidates.specs.Choice.{Candidate, Between}
 use Rattle.candidates.specs.Read.{tableIn, sideOf, searchOf, countsAt}
-use Rattle.candidates.specs.Look.{Quiet, PastOrigin}
+use Rattle.candidates.specs.Look.{Quiet, LastFound, PastOrigin}
 use Rattle.starts.specs.Sweep.{Lent, Knows, Known, Swept}
 use Rattle.candidates.specs.Cells.{number, Scratched}
 use Rattle.candidates.specs.laws.Read.{side-occurs}
@@ -36,6 +37,11 @@ quiet-kept {g} {w} {v} {j} {b} kept two few before within quiet =
           scratched-others g j w v two kept a b c (omega arith) (omega arith) (λ e. omega arith) ∙ quiet .none a c l m occurs;
     }
 
+pub last-kept : {g : Galley} {w v : List ℕ} {j b n from r : ℕ} → Scratched g j w v → g .spec .sides ≤ 2 → n ≤ 2 → b < j
+    → LastFound g w b n from r → LastFound g v b n from r
+last-kept kept two few before found =
+    record { since = found .since; within = found .within; quiet = quiet-kept kept two few before (le-refl _) (found .quiet) }
+
 -- and leave what stands past the origin.
 pub past-kept : {g : Galley} {w v : List ℕ} {j : ℕ} {origin : Counts} → Scratched g j w v → g .spec .sides ≤ 2 → PastOrigin g w j origin
     → PastOrigin g v j origin
@@ -48,10 +54,10 @@ past-kept {g} {w} {v} {j} kept two past =
 
 module _ {bytes : List ℕ} {g : Galley} {w : List ℕ} {j : ℕ} (lent : Lent bytes g w j) where
   -- A line that is not reached is no start.
-  pub start-quiet : {b to : ℕ} → Quiet g w b (g .spec .sides) 0 to → (i a y c : ℕ) → c < g .spec .sides
-      → Candidate (searchOf bytes g w i j (sideOf g c)) a b y → a < to → ⊥
-  start-quiet quiet i a y c occurs start l =
-      no-reach (sym (quiet .none a (sideOf g c) (omega arith) l (side-occurs (lent .sound) c occurs)) ∙ start .reached .entry)
+  pub start-quiet : {b from to : ℕ} → Quiet g w b (g .spec .sides) from to → (i a y c : ℕ) → c < g .spec .sides
+      → Candidate (searchOf bytes g w i j (sideOf g c)) a b y → from ≤ a → a < to → ⊥
+  start-quiet quiet i a y c occurs start l m =
+      no-reach (sym (quiet .none a (sideOf g c) l m (side-occurs (lent .sound) c occurs)) ∙ start .reached .entry)
 
   module _ {origin : Counts} (past : PastOrigin g w j origin) where
     -- A start has the origin's counts or more.
@@ -87,24 +93,27 @@ module _ {bytes : List ℕ} {g : Galley} {w : List ℕ} {j : ℕ} (lent : Lent b
       knows-past bytes g w k j c b (suc b) (omega arith)
       (λ a x y p q r start.
       let e : x ≡ b = omega arith in
-      start-quiet quiet k a y c m (rw e at start) (omega (arith, start .line))) (known k c l m)
+      start-quiet quiet k a y c m (rw e at start) (omega arith) (omega (arith, start .line))) (known k c l m)
 
-  -- and so on the lines before the first one that is.
-  pub swept-skip : {b to : ℕ} (c : ℕ) → c < g .spec .sides → Quiet g w b (g .spec .sides) 0 to → to ≤ g .text .count
-      → Swept bytes g w j b (number c 0) → Swept bytes g w j b (number c to)
-  swept-skip {b} {to} c occurs quiet within swept =
+  -- and so on lines of a side that no page of the column ends at.
+  pub swept-skip : {b : ℕ} (c from to : ℕ) → from ≤ to → to ≤ g .text .count + 1
+      → ((k a y : ℕ) → from ≤ k → k < to → Candidate (searchOf bytes g w k j (sideOf g c)) a b y → ⊥)
+      → Swept bytes g w j b (number c from) → Swept bytes g w j b (number c to)
+  swept-skip {b} c from to order within none swept =
       record {
-        done = λ k d l m n. go k d l m n (decLt (number d k) (number c 0));
+        done = λ k d l m n. go k d l m n (decLt (number d k) (number c from));
         left = λ k d l m n. swept .left k d l m (omega arith);
       }
     where
-      go : (k d : ℕ) → k ≤ g .text .count → d < g .spec .sides → number d k < number c to → Dec (number d k < number c 0)
+      go : (k d : ℕ) → k ≤ g .text .count → d < g .spec .sides → number d k < number c to → Dec (number d k < number c from)
           → Knows bytes g w k j d (Between b j)
       go k d l m n (yes h) = swept .done k d l m h
       go k d l m n (no h) =
           let few = lent .sound .fewLines in
+          let side : d ≡ c = omega arith in
+          let since : from ≤ k = omega arith in
           let before : k < to = omega arith in
           knows-past bytes g w k j d b (suc b) (omega arith)
           (λ a x y p q r start.
           let e : x ≡ b = omega arith in
-          start-quiet quiet k a y d m (rw e at start) (omega (arith, start .line))) (swept .left k d l m (omega arith))
+          none k a y since before (rw (e, side) at start)) (swept .left k d l m (omega arith))

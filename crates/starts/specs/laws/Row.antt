@@ -23,7 +23,7 @@ use Rattle.starts.specs.declared.sweep.Row.{Row}
 use Rattle.candidates.specs.Choice.{Candidate}
 use Rattle.candidates.specs.Beside.{Under, alone}
 use Rattle.candidates.specs.Read.{sideOf, searchOf, countsAt, rowOf}
-use Rattle.candidates.specs.Look.{Found, PastOrigin}
+use Rattle.candidates.specs.Look.{Found, LastFound, PastOrigin}
 use Rattle.candidates.specs.Cells.{fresh, ColumnRoom}
 use Rattle.starts.specs.Sweep.{Layable, floatsAlone, rowTop}
 use Rattle.starts.specs.Swept.{RowSweep, RowRun, RowSwept, Sweep, SweepDone}
@@ -196,8 +196,9 @@ module _ {bytes : List ℕ} {g : Galley} {w₀ sums words₀ : List ℕ} {row : 
 
         module _ (both : Bool) (mixed : both ≡ (ltb (row .figures) (row .end .figures) && ltb (top - 1) (row .end .tables))) (floats : Heights)
             (laid : floats ≡ floatsAlone (g .spec) (row .heights) tables′ both) where
-          abbrev next : ℕ → ℕ → Pass
-          next white first = record { from = from; to = row .to; heights = floats; least = row .least; white = white; first = first }
+          abbrev next : ℕ → ℕ → ℕ → Pass
+          next white first last =
+              record { from = from; to = row .to; heights = floats; least = row .least; white = white; first = first; last = last }
 
           alone-from : (floats .tight ≡ alone (modelOf bytes g) (λ st. st .least) (g .spec .smin) from (row .to))
               × (floats .loose ≡ alone (modelOf bytes g) (λ st. st .most) (g .spec .smax) from (row .to))
@@ -208,12 +209,15 @@ module _ {bytes : List ℕ} {g : Galley} {w₀ sums words₀ : List ℕ} {row : 
 
           -- the next sweep may start,
           pub row-sweeps : floats .tight ≤ g .spec .htmax → (white : ℕ) → white ≡ whiteAt g false (floats .loose) → (first : ℕ)
-              → Found g w (rowOf g (row .figures) + (top - 1)) (row .origin .lines) first → Sweep bytes g w sums words (next white first)
-          row-sweeps short white e first found =
+              → Found g w (rowOf g (row .figures) + (top - 1)) (row .origin .lines) first → (last : ℕ)
+              → LastFound g w (rowOf g (row .figures) + (top - 1)) (g .spec .sides) first last
+              → Sweep bytes g w sums words (next white first last)
+          row-sweeps short white e first found last late =
               let after : suc from ≡ rowOf g (row .figures) + top = omega arith in
               record {
                 lent = run .lent;
                 early = quiet-then (past-quiet (run .lent) past-now from (from-before .0)) (found .quiet);
+                late = late;
                 summed = asked .summed;
                 scratch = run .scratch;
                 passing =
@@ -231,9 +235,9 @@ module _ {bytes : List ℕ} {g : Galley} {w₀ sums words₀ : List ℕ} {row : 
               }
 
           -- and brings in the starts of its column.
-          pub row-swept : (white first : ℕ) (v words′ : List ℕ) → length v ≡ length w → length words′ ≡ length words
-              → SweepDone bytes g w v (next white first) → RowRun bytes g w₀ v words₀ words′ row tables′ (top - 1)
-          row-swept white first v words′ p q done =
+          pub row-swept : (white first last : ℕ) (v words′ : List ℕ) → length v ≡ length w → length words′ ≡ length words
+              → SweepDone bytes g w v (next white first last) → RowRun bytes g w₀ v words₀ words′ row tables′ (top - 1)
+          row-swept white first last v words′ p q done =
               record {
                 lent = lent-kept (done .kept) (run .lent);
                 scratch = omega (arith, run .scratch);

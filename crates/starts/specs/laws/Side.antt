@@ -12,7 +12,10 @@ use lib.ListN.{length}
 use Rattle.model.specs.Galley.{Stream}
 use Rattle.galley.specs.declared.Galley.{Galley}
 use Rattle.galley.specs.Model.{textOf}
+use Rattle.places.specs.declared.Place.{Place}
 use Rattle.places.specs.declared.Entry.{Entry}
+use Rattle.places.specs.declared.Entry.the-variants.{Least}
+use Rattle.places.specs.laws.Best.{no-reach}
 use Rattle.window.specs.declared.slide.Window.{Window}
 use Rattle.window.specs.declared.queue.Source.{Source}
 use Rattle.window.specs.declared.parts.Parts.{Parts}
@@ -25,23 +28,24 @@ use Rattle.window.specs.laws.Parts.{both-same, both-beside}
 use Rattle.window.specs.laws.Windows.{window-beside, kept-beside, ends-rise}
 use Rattle.starts.specs.declared.sweep.Pass.{Pass}
 use Rattle.candidates.specs.Fronts.{bestFront, Fronted}
-use Rattle.candidates.specs.Read.{sideOf}
+use Rattle.candidates.specs.Choice.{Candidate}
+use Rattle.candidates.specs.Read.{sideOf, searchOf, lastPlace}
 use Rattle.starts.specs.Bound.{Bounded, Comparable, Beaten}
-use Rattle.starts.specs.Sweep.{Lent, passLoad, weighed, Ended, sweepEnd}
-use Rattle.candidates.specs.Cells.{fresh}
-use Rattle.starts.specs.Swept.{Windowed, Taken, Early, SideSweep, SideRun, SideDone}
-use Rattle.candidates.specs.laws.Read.{side-either}
+use Rattle.starts.specs.Sweep.{Lent, passLoad, weighed, Ended, Swept, sweepEnd}
+use Rattle.candidates.specs.Cells.{number}
+use Rattle.starts.specs.Swept.{Windowed, Taken, Early, Late, SideSweep, SideRun, SideDone}
+use Rattle.candidates.specs.laws.Read.{side-either, side-occurs}
 use Rattle.starts.specs.laws.Lending.{can-slide, can-move}
 use Rattle.starts.specs.laws.Fronts.{fronts-best, can-front}
 use Rattle.candidates.specs.laws.Cells.{scratched-then}
 use Rattle.starts.specs.laws.Cells.{lent-kept}
 use Rattle.starts.specs.laws.Bound.{bounded-beside, bounded-same}
-use Rattle.starts.specs.laws.Pass.{end-inner, pass-ended, pass-beaten, pass-changed, pass-swept}
-use Rattle.starts.specs.laws.Look.{quiet-kept}
-use Rattle.starts.specs.laws.Begin.{from-low, order}
+use Rattle.starts.specs.laws.Pass.{end-low, end-inner, pass-ended, pass-late, pass-beaten, pass-changed, pass-swept}
+use Rattle.starts.specs.laws.Look.{quiet-kept, last-kept, swept-skip}
+use Rattle.starts.specs.laws.Begin.{from-low, order, last-low}
 
-module _ {bytes : List ℕ} {g : Galley} {w₀ sums words₀ : List ℕ} {c : ℕ} {pass : Pass}
-    (asked : SideSweep bytes g w₀ sums words₀ c pass) where
+module _ {bytes : List ℕ} {g : Galley} {w₀ sums words₀ : List ℕ} {c : ℕ} {pass : Pass} {stop : ℕ}
+    (asked : SideSweep bytes g w₀ sums words₀ c pass stop) where
   abbrev text : Stream
   text = textOf bytes (g .text)
 
@@ -57,7 +61,7 @@ module _ {bytes : List ℕ} {g : Galley} {w₀ sums words₀ : List ℕ} {c : �
   source = record { tall = g .text .count + 1; column = pass .from; side = sideOf g c }
 
   module _ {words₁ w words : List ℕ} {since : ℕ} {parts : Parts} {fed window : Window} {i : ℕ}
-      (run : SideRun bytes g w₀ w sums words₁ words c pass since parts fed window i) where
+      (run : SideRun bytes g w₀ w sums words₁ words c pass stop since parts fed window i) where
     lent-now : Lent bytes g w (pass .to)
     lent-now = lent-kept (run .kept) (asked .lent)
 
@@ -67,28 +71,56 @@ module _ {bytes : List ℕ} {g : Galley} {w₀ sums words₀ : List ℕ} {c : �
     early-now : Early g w pass
     early-now = quiet-kept (run .kept) two two (asked .passing .before) (omega (arith, asked .first)) (asked .early)
 
-    -- It ends where the sweep does.
-    pub side-last : sweepEnd g pass ≤ i → SideDone bytes g w₀ w words c pass
-    side-last l =
-        let e : i ≡ sweepEnd g pass = omega (arith, run .within) in
-        record { windows = λ k m. run .windows k (m, inr (omega (arith, m .1))); swept = rw e at (run .swept); kept = run .kept }
+    late-now : Late g w pass
+    late-now = last-kept (run .kept) two two (asked .passing .before) (asked .late)
 
-    module _ (next : i < sweepEnd g pass) where
-      line : i ≤ g .text .count
-      line = end-inner g pass i next .0
+    -- What is reached is no later than the last line of the pass.
+    reached-low : (a y : ℕ) (t : Place) → a ≤ g .text .count → column w a ≡ Least y t → a ≤ pass .last
+    reached-low a y t l e = go (decLt (pass .last) a)
+      where
+        go : Dec (pass .last < a) → a ≤ pass .last
+        go (no h) = omega arith
+        go (yes h) =
+            absurd (no-reach (sym (late-now .quiet .none a (sideOf g c) (omega arith) (omega arith) (side-occurs (asked .lent .sound) c (asked .occurs))) ∙ e))
+
+    -- It ends where the sweep stops: from there on there is nothing to weigh.
+    pub side-last : stop ≤ i → SideDone bytes g w₀ w words c pass stop
+    side-last l =
+        let e : i ≡ stop = omega (arith, run .within) in
+        record {
+          windows = λ k m. run .windows k (m, inr (omega (arith, m .1)));
+          swept =
+              swept-skip lent-now c stop (sweepEnd g pass) (asked .stopped .within) (end-low g pass) none
+              (subst (λ n. Swept bytes g w (pass .to) (pass .from) (number c n)) e (run .swept));
+          kept = run .kept;
+        }
+      where
+        none : (k a y : ℕ) → stop ≤ k → k < sweepEnd g pass → Candidate (searchOf bytes g w k (pass .to) (sideOf g c)) a (pass .from) y → ⊥
+        none k a y l m =
+            let inner = end-inner g pass k m in
+            let after = asked .stopped .after (omega arith) in
+            pass-late lent-now (asked .passing) k c (inner .0) (asked .occurs) false (inner .1) (asked .least)
+            late-now (omega arith) (asked .stopped .tall text (asked .summed .rows) k l m) a y
+
+    module _ (next : i < stop) where
+      inner : (i ≤ g .text .count) × (lastPlace g i (pass .to) ≡ false)
+      inner = end-inner g pass i (omega (arith, asked .stopped .within))
+
+      pub side-line : i ≤ g .text .count
+      side-line = inner .0
 
       pub side-ended : Ended g w i c pass
-      side-ended = pass-ended lent-now (asked .passing) i c line (asked .occurs)
+      side-ended = pass-ended lent-now (asked .passing) i c side-line (asked .occurs)
 
       slides : (window : Window) → window .low ≤ i → window .split ≤ i → window .high ≤ i → Slidable sums (passLoad g pass) window i
       slides window =
-          can-slide lent-now (asked .summed) 1 (pass .heights) (le-refl 1) (asked .passing .low) (pass .least) (pass .first) (order asked) window i line
+          can-slide lent-now (asked .summed) 1 (pass .heights) (le-refl 1) (asked .passing .low) (pass .least) (pass .first) (order asked) window i side-line
 
       pub side-slides : Windowable sums (passLoad g pass) words window i
       side-slides =
           record {
             slides = slides window (run .ends .low) (run .ends .split) (run .ends .high);
-            few = omega (arith, line, asked .lent .sound .fewLines);
+            few = omega (arith, side-line, asked .lent .sound .fewLines);
             room = run .scratch;
           }
 
@@ -97,15 +129,15 @@ module _ {bytes : List ℕ} {g : Galley} {w₀ sums words₀ : List ℕ} {c : �
           (found : WindowFound sums (passLoad g pass) words window i c new words′) where
         opened : Open text (passLoad g pass) new i
         opened =
-            found .opens text (g .text .count) (asked .summed .rows) line (run .ends) (λ p. run .windows i ((run .from, next), inl p))
+            found .opens text (g .text .count) (asked .summed .rows) side-line (run .ends) (λ p. run .windows i ((run .from, next), inl p))
 
         held-found : Both (column w) sums words′ 0 parts fed
         held-found =
-            both-beside (omega (arith, run .rises .split, run .ends .split, line, asked .lent .sound .fewLines))
-            (omega (arith, run .rises .high, run .ends .high, line, asked .lent .sound .fewLines)) (found .beside) (inl (omega arith)) (run .held)
+            both-beside (omega (arith, run .rises .split, run .ends .split, side-line, asked .lent .sound .fewLines))
+            (omega (arith, run .rises .high, run .ends .high, side-line, asked .lent .sound .fewLines)) (found .beside) (inl (omega arith)) (run .held)
 
-        bounded-found : Bounded (column w) words′ (g .text .count) since
-        bounded-found = bounded-beside (found .beside) (omega (arith, line, asked .lent .sound .fewLines)) (run .bounded)
+        bounded-found : Bounded (column w) words′ (pass .last) since
+        bounded-found = bounded-beside (found .beside) (omega (arith, side-line, asked .lent .sound .fewLines)) (run .bounded)
 
         rises-found : Rises fed new
         rises-found =
@@ -116,7 +148,7 @@ module _ {bytes : List ℕ} {g : Galley} {w₀ sums words₀ : List ℕ} {c : �
               high = omega (arith, run .rises .high, on .high);
             }
 
-        windows-found : Windowed bytes g words′ pass (λ k. Taken g pass k × ((0 < c) ⊎ (k < i + 1)))
+        windows-found : Windowed bytes g words′ pass (λ k. Taken pass stop k × ((0 < c) ⊎ (k < i + 1)))
         windows-found k (l, p) = go (ℕ-discrete k i)
           where
             before : ¬ (k ≡ i) → (0 < c) ⊎ (k < i + 1) → (0 < c) ⊎ (k < i)
@@ -135,18 +167,17 @@ module _ {bytes : List ℕ} {g : Galley} {w₀ sums words₀ : List ℕ} {c : �
                 (sym (window-beside (found .beside) k (apart n (decLt k i)))) (run .windows k (l, before n p))
 
         -- The place can be compared with the bounds,
-        pub side-compares : Comparable w words′ (g .text .count + 1) (record { line = i; column = pass .to }) c (new .low)
+        pub side-compares : Comparable w words′ (g .text .count + 1) (record { line = i; column = pass .to }) c (pass .last)
         side-compares =
             record {
               stands = side-ended .end;
-              few = omega (arith, opened .ends .low, line, asked .lent .sound .fewLines);
-              short = omega (arith, asked .lent .sound .fewLines);
+              few = omega (arith, last-low asked, asked .lent .sound .fewLines);
               room = omega (arith, run .scratch, sized);
             }
 
         -- and where it holds less than all that the pass offers, the line is passed over.
-        pub side-beaten : Beaten w words′ (g .text .count + 1) (record { line = i; column = pass .to }) c since (new .low)
-            → SideRun bytes g w₀ w sums words₁ words′ c pass since parts fed new (i + 1)
+        pub side-beaten : Beaten w words′ (g .text .count + 1) (record { line = i; column = pass .to }) c since (new .low) (pass .last)
+            → SideRun bytes g w₀ w sums words₁ words′ c pass stop since parts fed new (i + 1)
         side-beaten beaten =
             record {
               from = omega (arith, run .from);
@@ -160,12 +191,12 @@ module _ {bytes : List ℕ} {g : Galley} {w₀ sums words₀ : List ℕ} {c : �
               bounded = bounded-found;
               held = held-found;
               swept =
-                  pass-beaten lent-now (asked .passing) i c line (asked .occurs) early-now false (end-inner g pass i next .1) (asked .least) (asked .white) new
+                  pass-beaten lent-now (asked .passing) i c side-line (asked .occurs) false (inner .1) (asked .least) early-now (asked .white) new
                   opened (beaten .cost) (beaten .start) (beaten .held) (λ a y t l m e.
                   omega (
                     arith,
                     beaten .less,
-                    bounded-found .low (new .low) a y t (beaten .after) (omega (arith, beaten .before)) l (omega (arith, line)) e,
+                    bounded-found .low (new .low) a y t (beaten .after) (beaten .before) l (reached-low a y t (omega (arith, side-line)) e) e,
                   )) (run .swept);
               kept = run .kept;
             }
@@ -173,7 +204,7 @@ module _ {bytes : List ℕ} {g : Galley} {w₀ sums words₀ : List ℕ} {c : �
         pub side-moves : Movable w sums words′ source parts fed new
         side-moves =
             can-move lent-now (asked .summed) (omega (arith, run .scratch, sized)) (pass .from) c (from-low asked) parts fed
-            new i line (costs-low lent-now i line) (opened .ends .split) (opened .ends .high) rises-found 0 (omega arith) held-found
+            new i side-line (costs-low lent-now i side-line) (opened .ends .split) (opened .ends .high) rises-found 0 (omega arith) held-found
 
         -- The queues have moved on.
         module _ (words″ : List ℕ) (sized″ : length words″ ≡ length words′) (moved : Parts)
@@ -184,20 +215,19 @@ module _ {bytes : List ℕ} {g : Galley} {w₀ sums words₀ : List ℕ} {c : �
           pub side-fronted : Fronted sums words″ moved (pass .from) (passLoad g pass) i
           side-fronted =
               can-front lent-now (asked .summed) (omega (arith, run .scratch, sized, sized″)) (passLoad g pass) (order asked) i
-              line new opened (column w) 0 (pass .from) moved held-next (done .fresh) (from-low asked) (omega arith) (costs-low lent-now i line)
+              side-line new opened (column w) 0 (pass .from) moved held-next (done .fresh) (from-low asked) (omega arith) (costs-low lent-now i side-line)
               (slides new (opened .ends .low) (opened .ends .split) (opened .ends .high))
 
           -- One line more is swept.
           pub side-next : (v : List ℕ) → v ≡ weighed g w (bestFront sums words″ moved (pass .from) (passLoad g pass) i) i c pass
-              → SideRun bytes g w₀ v sums words₁ words″ c pass since moved new new (i + 1)
+              → SideRun bytes g w₀ v sums words₁ words″ c pass stop since moved new new (i + 1)
           side-next v e =
               let lines = bestFront sums words″ moved (pass .from) (passLoad g pass) i in
-              let inner = end-inner g pass i next .1 in
               let best =
               fronts-best lent-now (asked .summed) (omega (arith, run .scratch, sized, sized″)) (passLoad g pass) (order asked) i
-              line new opened (column w) 0 (pass .from) moved held-next (done .fresh) in
+              side-line new opened (column w) 0 (pass .from) moved held-next (done .fresh) in
               let changed =
-              pass-changed lent-now (asked .passing) i c line (asked .occurs) early-now false inner (asked .least) (asked .white) new opened lines
+              pass-changed lent-now (asked .passing) i c side-line (asked .occurs) false (inner .1) (asked .least) early-now (asked .white) new opened lines
               best (run .swept) v e in
               let others : (a : ℕ) → a ≤ g .text .count → column v a ≡ column w a = λ a l.
               changed .others a (pass .from) (sideOf g c) l (side-either g c) (λ q. omega (arith, q .1, asked .passing .before)) in
@@ -211,11 +241,11 @@ module _ {bytes : List ℕ} {g : Galley} {w₀ sums words₀ : List ℕ} {c : �
                 windows = kept-beside (done .beside) (λ k p. inr (omega (arith, run .held .first))) windows-found;
                 rises = record { low = le-refl _; split = le-refl _; high = le-refl _ };
                 bounded =
-                    bounded-same others
+                    bounded-same (λ a l. others a (omega (arith, last-low asked)))
                     (bounded-beside (done .beside) (omega (arith, run .held .first)) bounded-found);
-                held = both-same i (opened .ends .split) (opened .ends .high) (λ a l. others a (omega (arith, line))) held-next;
+                held = both-same i (opened .ends .split) (opened .ends .high) (λ a l. others a (omega (arith, side-line))) held-next;
                 swept =
-                    pass-swept lent-now (asked .passing) i c line (asked .occurs) early-now false inner (asked .least) (asked .white) new opened lines
+                    pass-swept lent-now (asked .passing) i c side-line (asked .occurs) false (inner .1) (asked .least) early-now (asked .white) new opened lines
                     best (run .swept) v e;
                 kept = scratched-then g (pass .to) w₀ w v (run .kept) (changed .kept);
               }

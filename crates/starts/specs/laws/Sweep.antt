@@ -10,6 +10,7 @@ use lib.Dec.{ltb}
 use borrow.Author.Tests.{ltb-true, ltb-false}
 use Rattle.model.specs.Gather.{pick}
 use Rattle.model.specs.Height.{stacked}
+use Rattle.model.specs.laws.Height.{stacked-grows}
 use Rattle.model.specs.Rules.{floor}
 use Rattle.theorems.specs.pages.Graph.{full}
 use Rattle.places.specs.declared.Entry.{Entry}
@@ -20,7 +21,7 @@ use Rattle.places.specs.Best.{Paid, Best}
 use Rattle.places.specs.laws.Best.{no-reach, best-as, best-unique}
 use Rattle.window.specs.declared.slide.Load.{Load}
 use Rattle.window.specs.declared.slide.Window.{Window}
-use Rattle.window.specs.Slide.{Open}
+use Rattle.window.specs.Slide.{Tall, Open}
 use Rattle.window.specs.Queue.{Lines}
 use Rattle.candidates.specs.Better.{chosen, startAt}
 use Rattle.candidates.specs.Search.{Table, Search, goes, whiteFrom, startFrom, bestStart}
@@ -39,6 +40,17 @@ module _ (s : Search) (sought : Sought s) (b : ℕ) (left : b ≤ s .column) (un
       (stacked (s .galley .stream 0) (s .galley .stream 0 .most) a (s .line) + load .loose)
   page-lines load bears a l = rw (bears .tight, bears .loose) (goes-lines s sought a b l left under)
 
+  -- No page starts at or before a line from which it is too tall.
+  pub start-tall : (load : Load) → Bears s b load → (last : ℕ) → last < s .line → Tall (s .galley .stream 0) load last (s .line)
+      → (a x : ℕ) → Candidate s a b x → last < a
+  start-tall load bears last l tall a x start = go (decLt last a)
+    where
+      go : Dec (last < a) → last < a
+      go (yes h) = h
+      go (no h) =
+          let grows = stacked-grows (s .galley .stream 0) (s .galley .stream 0 .least) last (s .line) a (s .line) (omega arith) (omega arith) (le-refl (s .line)) in
+          absurd (omega (arith, page-lines load bears a (omega arith) .0 (start .page) .short, bears .htmax))
+
   -- No page starts before the window.
   pub window-low : (load : Load) → Bears s b load → ((a : ℕ) → a < load .first → a < s .line → s .table a b (s .side) ≡ Unreached)
       → (window : Window) → Open (s .galley .stream 0) load window (s .line) → (a x : ℕ) → Candidate s a b x → window .low ≤ a
@@ -50,7 +62,7 @@ module _ (s : Search) (sought : Sought s) (b : ℕ) (left : b ≤ s .column) (un
       go (yes l) (no f) (no h) = absurd (no-reach (sym (early a (omega arith) l) ∙ start .reached .entry))
       go (yes l) (yes f) (no h) =
           let tall = opened .ends .passed a (s .line) f (omega arith) (le-refl (s .line)) in
-          absurd (omega (arith, page-lines load bears a l .0 (start .page) .short, bears .htmax))
+          absurd (omega (arith, start-tall load bears a l tall a x start))
 
   -- The best line of the window is the best of the column's lines before this one: those before the first are not reached.
   pub window-best : (load : Load) → Bears s b load → ((a : ℕ) → a < load .first → a < s .line → s .table a b (s .side) ≡ Unreached)

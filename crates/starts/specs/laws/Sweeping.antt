@@ -3,7 +3,7 @@ use Prim.Native.Nat.{ℕ, _+_, _≤_, _<_}
 use native.Mathlib.Nat.{le-refl}
 use native.Mathlib.Omega.{arith}
 use mathlib.Core.Path.{_≡_, refl, _∙_}
-use mathlib.Core.Bool.{true}
+use mathlib.Core.Bool.{true, false}
 use mathlib.Core.List.{List}
 use lib.ListN.{length}
 use borrow.Author.Tests.{eq-eqb, ne-eqb}
@@ -15,16 +15,16 @@ use Rattle.places.specs.declared.Entry.{Entry}
 use Rattle.window.specs.Slide.{shutAt}
 use Rattle.starts.specs.declared.sweep.Pass.{Pass}
 use Rattle.candidates.specs.Read.{sideOf, columnsIn, lastPlace}
-use Rattle.starts.specs.Sweep.{passLoad, Passing, weighed, Ended, Swept}
+use Rattle.starts.specs.Sweep.{passLoad, Passing, weighed, Ended, Swept, Stoppable, Stopped}
 use Rattle.candidates.specs.Last.{LinesStand, LastBest}
 use Rattle.candidates.specs.Cells.{number, Scratched, fresh}
 use Rattle.starts.specs.Swept.{Sweep, SweepRun, SweepDone, SideSweep, SideDone, LastLine, LineDone}
 use Rattle.candidates.specs.laws.Read.{side-either}
-use Rattle.starts.specs.laws.Lending.{can-stand, can-slide}
+use Rattle.starts.specs.laws.Lending.{lent-wide, can-stand, floats-separable, can-slide}
 use Rattle.candidates.specs.laws.Cells.{scratched-then}
 use Rattle.starts.specs.laws.Cells.{lent-kept, swept-side}
 use Rattle.starts.specs.laws.Pass.{least-low, pass-ended, pass-changed, pass-swept}
-use Rattle.starts.specs.laws.Look.{quiet-kept, known-quiet}
+use Rattle.starts.specs.laws.Look.{quiet-kept, last-kept, known-quiet}
 
 -- The last line.
 module _ {bytes : List ℕ} {g : Galley} {w sums : List ℕ} {c : ℕ} {pass : Pass} (asked : LastLine bytes g w sums c pass) where
@@ -50,6 +50,7 @@ module _ {bytes : List ℕ} {g : Galley} {w sums : List ℕ} {c : ℕ} {pass : P
           least = floor (modelOf bytes g) true;
           white = 0;
           first = pass .first;
+          last = pass .last;
         }
 
     passing : Passing bytes g short
@@ -94,17 +95,17 @@ module _ {bytes : List ℕ} {g : Galley} {w sums : List ℕ} {c : ℕ} {pass : P
         record {
           swept =
               swept-side c (g .text .count + 1) (asked .lent .sound .fewLines) (omega arith) (omega arith)
-              (pass-swept (asked .lent) passing (g .text .count) c (le-refl _) (asked .occurs) (asked .early) true full refl refl (found .window) opened lines
+              (pass-swept (asked .lent) passing (g .text .count) c (le-refl _) (asked .occurs) true full refl (asked .early) refl (found .window) opened lines
               (found .best) swept v e);
           kept =
-              pass-changed (asked .lent) passing (g .text .count) c (le-refl _) (asked .occurs) (asked .early) true full refl refl (found .window) opened lines
+              pass-changed (asked .lent) passing (g .text .count) c (le-refl _) (asked .occurs) true full refl (asked .early) refl (found .window) opened lines
               (found .best) swept v e .kept;
         }
 
 -- The sides one after another.
 module _ {bytes : List ℕ} {g : Galley} {w₀ sums words₀ : List ℕ} {pass : Pass} (asked : Sweep bytes g w₀ sums words₀ pass) where
-  pub sweep-first : SweepRun bytes g w₀ w₀ words₀ words₀ pass 0
-  sweep-first =
+  pub sweep-first : (stop : ℕ) → SweepRun bytes g w₀ w₀ words₀ words₀ pass stop 0
+  sweep-first stop =
       record {
         within = omega arith;
         sized = refl;
@@ -127,18 +128,36 @@ module _ {bytes : List ℕ} {g : Galley} {w₀ sums words₀ : List ℕ} {pass :
         kept = fresh;
       }
 
-  module _ (some : pass .first ≤ g .text .count) {w words : List ℕ} {c : ℕ} (run : SweepRun bytes g w₀ w words₀ words pass c) where
+  -- Where it stops can be found.
+  pub sweep-stops : pass .first ≤ g .text .count → Stoppable g sums pass
+  sweep-stops some =
+      let line = asked .late .within some in
+      record {
+        wide = lent-wide (asked .lent);
+        separable = floats-separable (asked .lent) 1 (pass .heights) (le-refl 1) (asked .passing .low);
+        order = asked .late .since;
+        line = line;
+        reaches =
+            can-slide (asked .lent) (asked .summed) 1 (pass .heights) (le-refl 1) (asked .passing .low) (pass .least) (pass .first)
+            (rw (asked .least) (least-low bytes g (asked .lent .sound) false))
+            (record { low = pass .last; split = pass .last; high = pass .last }) (g .text .count) (le-refl _) line line line .low;
+      }
+
+  module _ (some : pass .first ≤ g .text .count) {stop : ℕ} (stopped : Stopped g sums pass stop) {w words : List ℕ} {c : ℕ}
+      (run : SweepRun bytes g w₀ w words₀ words pass stop c) where
     -- After the last side all places know the starts of the pass.
     pub sweep-last : g .spec .sides ≤ c → SweepDone bytes g w₀ w pass
     sweep-last l =
         record { known = λ k d h m. run .swept .done k d h m (omega (arith, asked .lent .sound .fewLines)); kept = run .kept }
 
     module _ (occurs : c < g .spec .sides) where
-      pub sweep-side : SideSweep bytes g w sums words c pass
+      pub sweep-side : SideSweep bytes g w sums words c pass stop
       sweep-side =
           record {
             lent = lent-kept (run .kept) (asked .lent);
             early = quiet-kept (run .kept) two two (asked .passing .before) (omega arith) (asked .early);
+            late = last-kept (run .kept) two two (asked .passing .before) (asked .late);
+            stopped = stopped;
             first = some;
             summed = asked .summed;
             scratch = omega (arith, asked .scratch, run .wordsSized);
@@ -150,7 +169,7 @@ module _ {bytes : List ℕ} {g : Galley} {w₀ sums words₀ : List ℕ} {pass :
             swept = run .swept;
           }
 
-      module _ (v words′ : List ℕ) (p : length v ≡ length w) (q : length words′ ≡ length words) (side : SideDone bytes g w v words′ c pass) where
+      module _ (v words′ : List ℕ) (p : length v ≡ length w) (q : length words′ ≡ length words) (side : SideDone bytes g w v words′ c pass stop) where
         kept-both : Scratched g (pass .to) w₀ v
         kept-both = scratched-then g (pass .to) w₀ w v (run .kept) (side .kept)
 
@@ -167,7 +186,7 @@ module _ {bytes : List ℕ} {g : Galley} {w₀ sums words₀ : List ℕ} {pass :
             }
 
         pub sweep-next : (u : List ℕ) → length u ≡ length v → LineDone bytes g v u c pass
-            → SweepRun bytes g w₀ u words₀ words′ pass (c + 1)
+            → SweepRun bytes g w₀ u words₀ words′ pass stop (c + 1)
         sweep-next u r line =
             record {
               within = omega arith;

@@ -4,13 +4,16 @@ use Prim.Native.Nat.{ℕ, suc, _+_, _*_, _≤_, _<_}
 use native.Mathlib.Nat.{le-refl}
 use native.Mathlib.Decide.{decLe}
 use native.Mathlib.Omega.{arith}
+use mathlib.Core.Path.{_≡_}
+use mathlib.Core.Bool.{true}
 use mathlib.Core.List.{List}
+use borrow.Author.Tests.{ltb-true}
 use Rattle.model.specs.Galley.{Stream}
 use Rattle.model.specs.laws.Height.{stacked-grows}
 use Rattle.window.specs.declared.slide.Load.{Load}
 use Rattle.window.specs.declared.slide.Window.{Window}
-use Rattle.window.specs.Sums.{Pair, Sums}
-use Rattle.window.specs.Slide.{shutAt, Readable, Reachable, FirstBelow, Reaches, Ends, Open}
+use Rattle.window.specs.Sums.{spacedAt, Pair, Sums}
+use Rattle.window.specs.Slide.{shutAt, reachedOf, tooTall, Readable, Reachable, FirstBelow, Reaches, Tall, Ends, Open}
 use Rattle.window.specs.laws.Sums.{reach-stacked, reach-grows}
 
 -- Where nothing is passed all ends are at the first line, whatever the line.
@@ -46,11 +49,26 @@ pub reaches-readable : {sums : List ℕ} {space beside limit from i : ℕ} → R
 reaches-readable {i = i} r =
     record { either = r .either; room = r .room; small = r .small i (le-refl i) .1; added = r .added }
 
+-- A page that reaches the limit by line i, as the sums tell, reaches it from there on, since a page that grows at its end only gets higher.
+reaches-on : (sums : List ℕ) (st : Stream) (gap : ℕ → ℕ) (space beside limit a i : ℕ) → Pair st gap sums (2 * a + space) a
+    → Pair st gap sums (2 * i + space) i → a < i → limit + spacedAt sums (2 * a + space) ≤ reachedOf sums space beside i → (e : ℕ) → i ≤ e
+    → Reaches st gap beside limit a e
+reaches-on sums st gap space beside limit a i start whole inside high e n =
+    let page = reach-stacked st gap a i inside in
+    let grows = stacked-grows st gap a i a e (le-refl a) (omega arith) n in
+    omega (arith, start .spaced, whole .bare)
+
+-- So a page that is too tall by line i stays too tall.
+pub tall-on : {sums : List ℕ} {st : Stream} {m : ℕ} → Sums st m sums → (load : Load) (a i : ℕ) → a < i → i ≤ m
+    → tooTall sums load a i ≡ true → (e : ℕ) → i ≤ e → Tall st load a e
+tall-on {sums} {st} rows load a i inside within tall e n =
+    let high = ltb-true (load .htmax + spacedAt sums (2 * a + 0)) (reachedOf sums 0 (load .tight) i) tall in
+    reaches-on sums st (st .least) 0 (load .tight) (load .htmax + 1) a i (rows a (omega arith) .tight) (rows i within .tight) inside (omega arith) e n
+
 -- One end of the window: from what was known of the old one, and the first line from there on whose page stays below the limit.
 module _ (sums : List ℕ) (st : Stream) (gap : ℕ → ℕ) (space beside limit old i new : ℕ)
     (pairs : (k : ℕ) → k ≤ i → Pair st gap sums (2 * k + space) k) (first : FirstBelow sums space beside limit old i new) where
-  -- Whatever starts before it reaches the limit by line i and from there on, since a page that grows at its end only gets higher.
-  -- Starts before a first line may be left out of it.
+  -- Whatever starts before it reaches the limit by line i and from there on. Starts before a first line may be left out of it.
   pub end-passes-from : (low : ℕ) → ((a e : ℕ) → low ≤ a → a < old → i ≤ e → Reaches st gap beside limit a e) → (a e : ℕ) → low ≤ a → a < new
       → i ≤ e → Reaches st gap beside limit a e
   end-passes-from low before a e from l n = go (decLe (suc a) old)
@@ -60,11 +78,7 @@ module _ (sums : List ℕ) (st : Stream) (gap : ℕ → ℕ) (space beside limit
       go (no p) =
           let inside : a < i = omega (arith, first .to) in
           let high = first .passed a (omega arith) l in
-          let start = pairs a (omega arith) .spaced in
-          let whole = pairs i (omega arith) .bare in
-          let page = reach-stacked st gap a i inside in
-          let grows = stacked-grows st gap a i a e (le-refl a) (omega arith) n in
-          omega arith
+          reaches-on sums st gap space beside limit a i (pairs a (omega arith)) (pairs i (le-refl i)) inside (omega arith) e n
 
   -- Whatever starts from there on does not: a page that starts later is lower.
   pub end-opens : (a : ℕ) → new ≤ a → a < i → Reaches st gap beside limit a i → ⊥

@@ -10,9 +10,6 @@ use Rattle.starts.proofs.bound.beaten.Tie as tie
 returns : tie.Need-returns
 returns c = λ e. absurd (true≢false (sym e))
 
-add-if2 : tie.Need-add-if2
-add-if2 c = omega (arith, c .before .before .before .pre .few)
-
 returns-2 : tie.Need-returns-2
 returns-2 c = λ e. absurd (true≢false (sym e))
 
@@ -22,12 +19,12 @@ returns-3 c = λ e. absurd (true≢false (sym e))
 shared-slice-read-joined : tie.Need-shared-slice-read-joined
 shared-slice-read-joined c =
     let start = c .before .before .before .before .before .before .before .before .before in
-    omega (arith, start .pre .short, start .pre .room, c .before .before .before .before .before .if2 .left)
+    omega (arith, start .pre .few, start .pre .room, c .before .before .before .before .before .if2 .left)
 
 shared-slice-read-joined-2 : tie.Need-shared-slice-read-joined-2
 shared-slice-read-joined-2 c =
     let start = c .before .before .before .before .before .before .before .before .before .before in
-    omega (arith, start .pre .short, start .pre .room, c .before .before .before .before .before .before .if2 .left)
+    omega (arith, start .pre .few, start .pre .room, c .before .before .before .before .before .before .if2 .left)
 
 returns-4 : tie.Need-returns-4
 returns-4 c = λ e.
@@ -45,6 +42,6 @@ pub beaten-spec : {M : Type 1} → statement M
 beaten-spec =
     tie.close
     (tie.spec
-    returns add-if2 returns-2 (λ c κs. search needs) (λ c. search needs) (λ c. search needs) returns-3 (λ c. search needs) (λ c. search needs)
+    returns returns-2 (λ c κs. search needs) (λ c. search needs) (λ c. search needs) returns-3 (λ c. search needs) (λ c. search needs)
     (λ c. search needs) (λ c. search needs) shared-slice-read-joined (λ c. search needs) (λ c. search needs) shared-slice-read-joined-2
     (λ c κs. search needs) (λ c κs. search needs) returns-4)

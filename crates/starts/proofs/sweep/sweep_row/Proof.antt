@@ -61,35 +61,44 @@ add-from c =
 first-line-requires : tie.Need-first-line-requires Inv-loop μ-loop
 unfolding rowOf
 first-line-requires c κs =
-    let put = c .before .before .before .before .before .before .before .before in
+    let put = c .before .before .before .before .before .before .before in
+    let st = put .before .before .before in
+    row-stands (st .before .before .before .before .before .before .before .before .pre) (st .loop .inv) (omega (arith, put .before .if1 .taken))
+
+last-line-requires : tie.Need-last-line-requires Inv-loop μ-loop
+unfolding rowOf
+last-line-requires c κs =
+    let put = c .before .before .before .before .before .before .before .before .before .before in
     let st = put .before .before .before in
     row-stands (st .before .before .before .before .before .before .before .before .pre) (st .loop .inv) (omega (arith, put .before .if1 .taken))
 
 sweep-requires : tie.Need-sweep-requires Inv-loop μ-loop
 unfolding rowOf
 sweep-requires c κs =
-    let looked = c .before .before in
-    let white = looked .before .before in
-    let laid = white .before .before .before .before in
+    let ended = c .before .before in
+    let white = ended .before .before in
+    let looked = white .before in
+    let laid = looked .before .before .before .before .before in
     let put = laid .before .before .before in
     let st = put .before .before .before in
     row-sweeps (st .before .before .before .before .before .before .before .before .pre) (st .loop .inv) (omega (arith, put .before .if1 .taken))
     (put .block-before .result) (put .block-before .ensures) _ refl (laid .floats-alone .result) (laid .floats-alone .ensures)
-    (omega (arith, white .before .if2 .left)) (white .white-at .result) (white .white-at .ensures .0) (looked .first-line .result)
-    (looked .first-line .ensures)
+    (omega (arith, looked .before .before .if2 .left)) (white .white-at .result) (white .white-at .ensures .0) (looked .first-line .result)
+    (looked .first-line .ensures) (ended .last-line .result) (ended .last-line .ensures)
 
 loop-again : tie.Need-loop-again Inv-loop μ-loop
 unfolding rowOf
 loop-again c =
     let swept = c .before .before .before .before in
-    let looked = swept .before .before .before in
-    let white = looked .before .before in
-    let laid = white .before .before .before .before in
+    let ended = swept .before .before .before in
+    let white = ended .before .before in
+    let looked = white .before in
+    let laid = looked .before .before .before .before .before in
     let put = laid .before .before .before in
     let st = put .before .before .before in
     row-swept (st .before .before .before .before .before .before .before .before .pre) (st .loop .inv) (omega (arith, put .before .if1 .taken))
     (put .block-before .result) (put .block-before .ensures) _ refl (laid .floats-alone .result) (laid .floats-alone .ensures)
-    (white .white-at .result) (looked .first-line .result) _ _
+    (white .white-at .result) (looked .first-line .result) (ended .last-line .result) _ _
     (search (needs, c .before .before .slice-known3 .given, c .before .before .before .work .given))
     (search (needs, c .slice-known4 .given, c .before .words .given)) (swept .sweep .ensures)
 
@@ -102,5 +111,5 @@ sweep-row-spec =
     tie.close
     (tie.spec
     Inv-loop μ-loop add-row-from mul-row-from row-top-requires loop-holds (λ c. search needs) block-before-requires floats-alone-requires
-    (λ c. search needs) (λ c. search needs) returns add-from (λ c κs. search needs) first-line-requires sweep-requires (λ c. search needs)
+    (λ c. search needs) (λ c. search needs) returns add-from first-line-requires (λ c κs. search needs) last-line-requires sweep-requires (λ c. search needs)
     loop-again (λ c. search needs) (λ c. search needs) returns-2)
