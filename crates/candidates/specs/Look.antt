@@ -6,18 +6,16 @@ use Rattle.galley.specs.declared.Galley.{Galley}
 use Rattle.blocks.specs.declared.Counts.{Counts}
 use Rattle.places.specs.declared.Place.{Place}
 use Rattle.places.specs.declared.Entry.the-variants.{Unreached, Least}
-use Rattle.window.specs.Queue.{linesOf}
+use Rattle.places.specs.Table.{tableOf}
 use Rattle.candidates.specs.Read.{tableIn, countsAt}
 
 -- No line of column j from `from` on and before `to` is reached on the first n sides.
 pub record Quiet (g : Galley) (w : List ℕ) (j n from to : ℕ) : Type 0 where
   pub none : (a c : ℕ) → from ≤ a → a < to → c < n → tableIn g w a j c ≡ Unreached
 
--- r is no later than `to` and no earlier than `from`, and no line from `from` on and before r is reached on the side.
-pub record FoundOn (w : List ℕ) (tall column side from to r : ℕ) : Type 0 where
-  pub since : from ≤ to → from ≤ r
-  pub within : r ≤ to
-  pub quiet : (a : ℕ) → from ≤ a → a < r → linesOf w tall column side a ≡ Unreached
+-- A place is not reached on its first n sides.
+abbrev pub Missed : List ℕ → ℕ → Place → ℕ → Type 0
+Missed w tall place n = (c : ℕ) → c < n → tableOf tall w (place .line) (place .column) c ≡ Unreached
 
 -- r is at most one past the last line and no earlier than `from`, and no line from `from` on and before r is reached on a side that
 -- occurs.
@@ -26,24 +24,11 @@ pub record Found (g : Galley) (w : List ℕ) (j from r : ℕ) : Type 0 where
   pub within : r ≤ g .text .count + 1
   pub quiet : Quiet g w j (g .spec .sides) from r
 
--- The same of the first c sides.
-pub record LookRun (g : Galley) (w : List ℕ) (j from first c : ℕ) : Type 0 where
-  pub order : c ≤ g .spec .sides
-  pub since : from ≤ g .text .count + 1 → from ≤ first
-  pub within : first ≤ g .text .count + 1
-  pub quiet : Quiet g w j c from first
-
--- r is no earlier than `from` and, where that is before `to`, before it too; and no line after r and before `to` is reached on the side.
-pub record LastOn (w : List ℕ) (tall column side from to r : ℕ) : Type 0 where
-  pub since : from ≤ r
-  pub within : from < to → r < to
-  pub quiet : (a : ℕ) → r < a → a < to → linesOf w tall column side a ≡ Unreached
-
--- r is no earlier than `from` and, where that is a line, a line too; and no line after r is reached on the first n sides.
-pub record LastFound (g : Galley) (w : List ℕ) (j n from r : ℕ) : Type 0 where
+-- r is no earlier than `from` and, where that is a line, a line too; and no line after r is reached on a side that occurs.
+pub record LastFound (g : Galley) (w : List ℕ) (j from r : ℕ) : Type 0 where
   pub since : from ≤ r
   pub within : from ≤ g .text .count → r ≤ g .text .count
-  pub quiet : Quiet g w j n (r + 1) (g .text .count + 1)
+  pub quiet : Quiet g w j (g .spec .sides) (r + 1) (g .text .count + 1)
 
 -- Whatever is reached in the columns before j has the origin's counts or more in every stream: nothing before the origin is a start.
 pub record PastOrigin (g : Galley) (w : List ℕ) (j : ℕ) (origin : Counts) : Type 0 where

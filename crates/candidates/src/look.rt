@@ -1,27 +1,29 @@
 // The first and the last line of a column that are reached. A place that was never reached offers no start, so that a sweep begins at the
 // first and ends a page after the last, and a column without one is passed over.
+ghost use mathlib.Core.Path.{_≡_};
+ghost use mathlib.Core.Bool.{false};
 ghost use Prim.Native.Nat.{ℕ, _<_};
 ghost use Rattle.places.specs.Address.{Stands};
 ghost use Rattle.candidates.specs.Cells.{ColumnRoom};
-ghost use Rattle.candidates.specs.Look.{FoundOn, Found, LastOn, LastFound};
+ghost use Rattle.candidates.specs.Look.{Missed, Found, LastFound};
 use galley::Galley;
 use places::Entry;
+use places::Place;
 
-// The first line from `from` on and before `to` that is reached in a column on a side; `to` where there is none.
-fn first_on(work: &[u32], tall: usize, column: usize, side: usize, from: usize, to: usize) -> usize
-    requires { ⌜ ((a : ℕ) → a < to → Stands (now work) tall (record { line = a; column = column }) side) ⌝ }
-    ensures { λ r. ⌜ FoundOn (now (work .entry)) tall column side from to r ⌝ }
+// Whether a place is reached on one of its first `sides` sides.
+fn reached(work: &[u32], tall: usize, place: Place, sides: usize) -> bool
+    requires { ⌜ ((c : ℕ) → c < sides → Stands (now work) tall place c) ⌝ }
+    ensures { λ r. ⌜ (r ≡ false → Missed (now (work .entry)) tall place sides) ⌝ }
 {
-    let mut a = from;
-    while a < to {
-        let place = places::place_of(a, column);
-        let entry = places::entry_of(work, tall, place, side);
+    let mut c = 0;
+    while c < sides {
+        let entry = places::entry_of(work, tall, place, c);
         let Entry::Unreached = entry else {
-            return a;
+            return true;
         };
-        a += 1;
+        c += 1;
     }
-    to
+    false
 }
 
 // The first line from `from` on that is reached in a column on any side that occurs; one past the last line where there is none.
@@ -29,42 +31,29 @@ pub fn first_line(g: Galley, work: &[u32], column: usize, from: usize) -> usize
     requires { ⌜ ColumnRoom g (now work) column ⌝ }
     ensures { λ r. ⌜ Found g (now (work .entry)) column from r ⌝ }
 {
-    let mut first = g.text.count + 1;
-    let mut c = 0;
-    while c < g.spec.sides as usize {
-        first = first_on(work, g.text.count + 1, column, c, from, first);
-        c += 1;
+    let mut a = from;
+    while a <= g.text.count {
+        let place = places::place_of(a, column);
+        if reached(work, g.text.count + 1, place, g.spec.sides as usize) {
+            return a;
+        }
+        a += 1;
     }
-    first
-}
-
-// The last line from `from` on and before `to` that is reached in a column on a side; `from` where there is none.
-fn last_on(work: &[u32], tall: usize, column: usize, side: usize, from: usize, to: usize) -> usize
-    requires { ⌜ ((a : ℕ) → a < to → Stands (now work) tall (record { line = a; column = column }) side) ⌝ }
-    ensures { λ r. ⌜ LastOn (now (work .entry)) tall column side from to r ⌝ }
-{
-    let mut last = to;
-    while from < last {
-        last -= 1;
-        let place = places::place_of(last, column);
-        let entry = places::entry_of(work, tall, place, side);
-        let Entry::Unreached = entry else {
-            return last;
-        };
-    }
-    from
+    g.text.count + 1
 }
 
 // The last line from `from` on that is reached in a column on any side that occurs; `from` where there is none.
 pub fn last_line(g: Galley, work: &[u32], column: usize, from: usize) -> usize
     requires { ⌜ ColumnRoom g (now work) column ⌝ }
-    ensures { λ r. ⌜ LastFound g (now (work .entry)) column (g .spec .sides) from r ⌝ }
+    ensures { λ r. ⌜ LastFound g (now (work .entry)) column from r ⌝ }
 {
-    let mut last = from;
-    let mut c = 0;
-    while c < g.spec.sides as usize {
-        last = last_on(work, g.text.count + 1, column, c, last, g.text.count + 1);
-        c += 1;
+    let mut last = g.text.count + 1;
+    while from < last {
+        last -= 1;
+        let place = places::place_of(last, column);
+        if reached(work, g.text.count + 1, place, g.spec.sides as usize) {
+            return last;
+        }
     }
-    last
+    from
 }

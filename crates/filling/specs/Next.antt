@@ -1,5 +1,5 @@
 -- What the functions of the filling ask for: what is filled, and what comes next; and what they leave.
-use Prim.Native.Nat.{ℕ, _+_, _*_, _≤_, _<_}
+use Prim.Native.Nat.{ℕ, suc, _+_, _*_, _≤_, _<_}
 use mathlib.Core.Path.{_≡_}
 use mathlib.Core.Bool.{false}
 use mathlib.Core.List.{List}
@@ -7,7 +7,9 @@ use lib.ListN.{length}
 use Rattle.galley.specs.declared.Galley.{Galley}
 use Rattle.galley.specs.Model.{textOf, modelOf}
 use Rattle.galley.specs.Sound.{Sound}
+use Rattle.blocks.specs.declared.Counts.{Counts}
 use Rattle.blocks.specs.Heights.{noHeights}
+use Rattle.rules.specs.declared.waiting.Waiting.{Waiting}
 use Rattle.places.specs.declared.Origin.{Origin}
 use Rattle.places.specs.declared.Entry.the-variants.{Unreached}
 use Rattle.places.specs.Address.{wordsNeeded}
@@ -20,10 +22,10 @@ use Rattle.window.specs.Slide.{Open}
 use Rattle.window.specs.Queue.{linesOf, Payable}
 use Rattle.window.specs.Parts.{partsOf, Both, Rises, Moved}
 use Rattle.candidates.specs.Fronts.{bestFront, Fronted}
-use Rattle.candidates.specs.Choice.{Starts, Above, Between}
+use Rattle.candidates.specs.Choice.{Candidate, Starts, Above, Between}
 use Rattle.rules.specs.Parts.{allPlaced}
 use Rattle.candidates.specs.Read.{tableIn, sideOf, searchOf, columnsIn, countsAt, loadOf}
-use Rattle.candidates.specs.Look.{Found}
+use Rattle.candidates.specs.Look.{Quiet, Found}
 use Rattle.starts.specs.Sweep.{Lent, Scratch, Summed, Knows, Known}
 use Rattle.candidates.specs.Cells.{Clean}
 use Rattle.filling.specs.declared.side.Task.{Task}
@@ -31,7 +33,8 @@ use Rattle.filling.specs.declared.side.End.{End}
 use Rattle.filling.specs.declared.side.Windows.{Windows}
 use Rattle.filling.specs.Fill.{fillSide, fillPlace}
 use Rattle.filling.specs.Filled.{Side, Filled}
-use Rattle.pricing.specs.Stop.{stopAt, turnsOn}
+use Rattle.pricing.specs.declared.Floats.{Floats}
+use Rattle.pricing.specs.Stop.{stopFrom, stopAt, turnsOn}
 use Rattle.pricing.specs.Price.{waitsAt}
 
 -- The entries before (i, j) are filled, from an origin of the galley at which little was paid, with a limit that no list passes.
@@ -49,6 +52,18 @@ pub record Ending (bytes : List ℕ) (g : Galley) (end : End) : Type 0 where
   pub counts : end .at ≡ countsAt g (end .at .lines) (end .column)
   pub found : end .waiting ≡ waitsAt bytes g (end .at)
   pub stop : end .stop ≡ stopAt bytes g (end .at)
+
+-- The end of a page on side 0 of a place, from what waits there and what the floats placed say: whether its leaf ends with it is not told.
+abbrev pub endFrom : List ℕ → Galley → Counts → ℕ → Floats → Waiting → End
+endFrom bytes g at column floats waiting =
+    record {
+      at = at;
+      column = column;
+      side = 0;
+      turns = false;
+      waiting = waiting .figures + waiting .tables;
+      stop = stopFrom bytes g (at .lines) floats;
+    }
 
 -- The load of a page of lines alone, which is no lower than `least`: nothing beside them, and no start before the origin's line.
 abbrev pub bare : Task → ℕ → Load
@@ -173,6 +188,23 @@ pub record LastNext (bytes : List ℕ) (task : Task) (w sums words : List ℕ) (
   pub gathered : Gathered bytes task w sums words j
   pub begun : Begun task w j first
   pub within : first ≤ task .galley .text .count
+
+-- No line of column j from `from` on and before `to` has a start in an earlier column, nor is it the origin's, and no page goes to one of
+-- them from a line before `from` in the column itself.
+pub record Still (bytes : List ℕ) (task : Task) (w : List ℕ) (j from to : ℕ) : Type 0 where
+  pub lent : Lent bytes (task .galley) w j
+  pub within : to ≤ suc (task .galley .text .count)
+  pub quiet : Quiet (task .galley) w j (task .galley .spec .sides) from to
+  pub waits : Waits bytes (task .galley) w j (2 * from)
+  pub clean : Clean (task .galley) w j
+  pub later : (i : ℕ) → from ≤ i → i < to → (i ≡ task .origin .place .line) × (j ≡ task .origin .place .column) → ⊥
+  pub above : (i a c x : ℕ) → from ≤ i → i < to → a < from → c < task .galley .spec .sides
+      → Candidate (searchOf bytes (task .galley) w i j (sideOf (task .galley) c)) a j x → ⊥
+
+-- r is no earlier than `last`; where it is past the last line, `last` is before line `low`, and no line from that on is reached.
+pub record Onward (g : Galley) (w : List ℕ) (j low last r : ℕ) : Type 0 where
+  pub since : last ≤ r
+  pub none : g .text .count < r → (last < low) × Quiet g w j (g .spec .sides) low (suc (g .text .count))
 
 -- A galley that was read, an origin at one of its lines and columns at which little was paid, and a work area as long as document 01 asks.
 pub record Fillable (bytes : List ℕ) (g : Galley) (from : Origin) (w : List ℕ) : Type 0 where

@@ -9,6 +9,7 @@ use Rattle.rules.specs.Waiting.{Walking}
 use Rattle.window.specs.declared.slide.Window.{Window}
 use Rattle.window.specs.Slide.{Ends}
 use Rattle.candidates.specs.Read.{tableIn, columnsIn, countsAt}
+use Rattle.candidates.specs.Cells.{Clean}
 use Rattle.filling.specs.declared.side.Task.{Task}
 use Rattle.filling.specs.declared.side.End.{End}
 use Rattle.filling.specs.declared.side.Windows.{Windows}
@@ -29,9 +30,9 @@ pub record SidesRun (bytes : List ℕ) (task : Task) (w₀ w sums words₀ words
   pub waits : Waits bytes (task .galley) w (end .column) (2 * end .at .lines + c)
 
 -- Column j is filled above line i, and the queues are those of the window of the line above: the words are now w, and what is left of
--- the column makes them what the whole makes of w₀.
+-- the column makes them what the whole makes of w₀. The search goes on to line `last` at least, which is not before the origin's.
 pub record LastRun (bytes : List ℕ) (task : Task) (w₀ w sums words₀ words : List ℕ) (j : ℕ) (waiting : Waiting) (window : Window)
-    (ends : List ℕ) (i : ℕ) : Type 0 where
+    (ends : List ℕ) (i last : ℕ) : Type 0 where
   pub within : i ≤ suc (task .galley .text .count)
   pub sized : length w ≡ length w₀
   pub wordsSized : length words ≡ length words₀
@@ -42,6 +43,9 @@ pub record LastRun (bytes : List ℕ) (task : Task) (w₀ w sums words₀ words 
   pub slid : Ends (textOf bytes (task .galley .text)) (plain task) window i
   pub queued : Queues (task .galley) w sums words ends j window window 0
   pub waits : Waits bytes (task .galley) w j (2 * i)
+  pub clean : Clean (task .galley) w j
+  pub begun : task .origin .place .line ≤ last
+  pub inside : last ≤ task .galley .text .count
 
 -- The columns before j are filled.
 pub record ColumnsRun (bytes : List ℕ) (task : Task) (w₀ w words₀ words : List ℕ) (j : ℕ) : Type 0 where

@@ -7,6 +7,7 @@ pub mod Costs
 pub mod Queues
 pub mod Own
 pub mod NewEntry
+pub mod Still
 pub mod First
 pub mod Side
 pub mod Sides

@@ -2,10 +2,11 @@
 ghost use mathlib.Core.Path.{_≡_};
 ghost use Prim.Native.Nat.{suc, _+_, _≤_};
 ghost use Rattle.galley.specs.Model.{modelOf};
+ghost use Rattle.galley.specs.Sound.{SoundStream};
 ghost use Rattle.candidates.specs.Cells.{ColumnRoom};
 ghost use Rattle.filling.specs.Fill.{fillColumn, filled};
 ghost use Rattle.filling.specs.Skip.{skipSides, skipColumn};
-ghost use Rattle.filling.specs.Next.{Begun, LastNext, ColumnNext, TableNext, Fillable};
+ghost use Rattle.filling.specs.Next.{endFrom, Begun, Onward, LastNext, ColumnNext, TableNext, Fillable};
 use crate::side::End;
 use crate::side::Task;
 use crate::side::Windows;
@@ -14,11 +15,42 @@ use blocks::heights::Heights;
 use galley::Galley;
 use places::Entry;
 use places::Origin;
+use pricing::Floats;
 use rules::waiting::Waiting;
 
-// The places of column j, from its first line that has a start to all lines, each of which holds its best start in an earlier column. A
-// start in the column itself has its entry there by the time that a queue takes it up, and no line before the first is one. All have the
-// figures and tables of the column's top.
+// Where a page ends, from what waits there and what the floats placed say of it. Its sides are told apart later.
+fn end_at(s: &[u8], g: Galley, at: Counts, column: usize, floats: Floats, waiting: Waiting) -> End
+    requires { ⌜ SoundStream (now s) (g .text) × (waiting .figures + waiting .tables ≤ 250) ⌝ }
+    ensures { λ r. ⌜ r ≡ endFrom (now (s .entry)) g at column floats waiting ⌝ }
+{
+    let stop = pricing::stop_at(s, g, at.lines, floats);
+    End {
+        at,
+        column,
+        side: 0,
+        turns: false,
+        waiting: waiting.figures + waiting.tables,
+        stop,
+    }
+}
+
+// The line that a column is filled to at least: `last`, until that is above `low`, from which on pages are not too tall, and then the
+// first from there on that is reached or has a start in an earlier column; one past the last line where there is none. A line is looked
+// at only once, since `low` never falls.
+fn next_start(g: Galley, work: &[u32], j: usize, low: usize, last: usize) -> usize
+    requires { ⌜ ColumnRoom g (now work) j × (low ≤ g .text .count) × (last ≤ g .text .count) ⌝ }
+    ensures { λ r. ⌜ Onward g (now (work .entry)) j low last r ⌝ }
+{
+    if low <= last {
+        return last;
+    }
+    candidates::look::first_line(g, work, j, low)
+}
+
+// The places of column j, from its first line that has a start to the last line that a page can reach, each of which holds its best
+// start in an earlier column. A start in the column itself has its entry there by the time that a queue takes it up, and no line before
+// the first is one. Where every start stands so far up that a page from there is too tall, nothing more is reached, and the lines below
+// are left as they are. All have the figures and tables of the column's top.
 fn last_sweep(
     s: &[u8],
     task: Task,
@@ -44,26 +76,23 @@ fn last_sweep(
     let shut = window::slide::shut(load);
     let mut span = window::slide::slide(sums, load, shut, first);
     let mut ends = [0, 0, 4000, 4000, 8000, 8000, 12000, 12000];
+    let mut last = first;
     let mut i = first;
     while i <= g.text.count {
+        let from = span;
+        span = window::slide::slide(sums, load, from, i);
+        last = next_start(g, work, j, span.low, last);
+        if g.text.count < last {
+            return;
+        }
         let at = Counts {
             lines: i,
             figures: top.figures,
             tables: top.tables,
         };
         waiting = rules::waiting::waiting_after(s, g, at, waiting);
-        let from = span;
-        span = window::slide::slide(sums, load, from, i);
         let windows = Windows { from, to: span };
-        let stop = pricing::stop_at(s, g, i, floats);
-        let end = End {
-            at,
-            column: j,
-            side: 0,
-            turns: false,
-            waiting: waiting.figures + waiting.tables,
-            stop,
-        };
+        let end = end_at(s, g, at, j, floats, waiting);
         crate::side::fill_place(s, task, work, sums, words, &mut ends, windows, end);
         i += 1;
     }

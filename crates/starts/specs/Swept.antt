@@ -86,7 +86,7 @@ Early g w pass = Quiet g w (pass .from) (g .spec .sides) 0 (pass .first)
 
 -- None after its last is, which is no earlier.
 abbrev pub Late : Galley → List ℕ → Pass → Type 0
-Late g w pass = LastFound g w (pass .from) (g .spec .sides) (pass .first) (pass .last)
+Late g w pass = LastFound g w (pass .from) (pass .first) (pass .last)
 
 -- A pass whose starts are to be known, those in later columns being known.
 pub record Sweep (bytes : List ℕ) (g : Galley) (w sums words : List ℕ) (pass : Pass) : Type 0 where

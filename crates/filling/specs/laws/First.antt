@@ -1,42 +1,30 @@
 -- The lines of a column before its first start: nothing in them is past the origin, or nothing was found to start there, so that they are
 -- left as they are.
-use Prim.Native.Nat.{ℕ, zero, suc, _+_, _-_, _≤_, _<_}
+use Prim.Native.Nat.{ℕ, suc, _-_, _≤_, _<_}
 use native.Mathlib.Omega.{arith}
-use mathlib.Core.Path.{_≡_, refl, sym, _∙_, ap}
+use mathlib.Core.Path.{_≡_, refl, sym, _∙_}
 use mathlib.Core.Logic.{inl, inr}
-use mathlib.Core.Bool.{Bool, true, false}
 use mathlib.Core.List.{List}
-use borrow.Author.Tests.{eqb-true}
-use lib.Dec.{eqb}
-use Rattle.model.specs.laws.Gather.{and-left, and-right}
 use Rattle.galley.specs.declared.Galley.{Galley}
 use Rattle.galley.specs.Model.{modelOf, sidesIn}
 use Rattle.places.specs.declared.Place.{Place}
 use Rattle.places.specs.declared.Entry.{Entry}
 use Rattle.places.specs.declared.Entry.the-variants.{Unreached, Least}
-use Rattle.places.specs.Address.{address}
-use Rattle.places.specs.Entry.{stored}
 use Rattle.places.specs.Order.{Earlier}
 use Rattle.places.specs.Columns.{placeAt}
-use Rattle.places.specs.Best.{Leads}
-use Rattle.places.specs.laws.Best.{no-reach, best-none, best-unique}
+use Rattle.places.specs.laws.Best.{no-reach}
 use Rattle.places.specs.laws.Columns.{inside-head, inside-tail}
-use Rattle.candidates.specs.Search.{bestStart, priced, mayStop, begins, newEntry}
-use Rattle.candidates.specs.Choice.{Starts, Any}
-use Rattle.candidates.specs.Read.{tableIn, sideOf, searchOf, countsAt}
+use Rattle.candidates.specs.Read.{tableIn, sideOf, countsAt}
 use Rattle.candidates.specs.Look.{Quiet, PastOrigin}
-use Rattle.candidates.specs.laws.Columns.{at-under, sought-in}
-use Rattle.candidates.specs.laws.Found.{best-start}
+use Rattle.candidates.specs.laws.Columns.{at-under}
 use Rattle.candidates.specs.laws.Read.{side-occurs}
-use Rattle.starts.specs.laws.Lending.{lent-placed}
 use Rattle.starts.specs.laws.Look.{quiet-then, known-before}
-use Rattle.candidates.specs.laws.Pages.{candidate-earlier}
 use Rattle.filling.specs.declared.side.Task.{Task}
-use Rattle.filling.specs.Fill.{tall, fillSide, fillSides, sideCount, fillPlace, fillColumn}
+use Rattle.filling.specs.Fill.{sideCount, fillColumn}
 use Rattle.filling.specs.Filled.{Side, Filled}
-use Rattle.filling.specs.Next.{Next, Before, Begun, Gathered}
+use Rattle.filling.specs.Next.{Next, Before, Begun, Gathered, Still}
 use Rattle.filling.specs.laws.Entered.{below-side, side-below, sides-count}
-use Rattle.filling.specs.laws.NewEntry.{entry-forbidden, entry-priced}
+use Rattle.filling.specs.laws.Still.{lines-still}
 
 -- What is filled before line i of column j is past the origin.
 module _ {bytes : List ℕ} {task : Task} {w : List ℕ} {i j : ℕ} (next : Next bytes task w i j) where
@@ -93,78 +81,25 @@ module _ {bytes : List ℕ} {task : Task} {w sums words : List ℕ} {j first : �
           absurd
           (no-reach (sym (lines-quiet .none a c (omega arith) l (rw (← sides next) (side-below (sidesIn (task .galley)) c k))) ∙ (rw p at e)))
 
-  -- none has a start,
-  start-none : (i c : ℕ) → i < first → c < task .galley .spec .sides
-      → bestStart (searchOf bytes (task .galley) w i j (sideOf (task .galley) c)) ≡ Unreached
-  unfolding Leads
-  start-none i c l occurs =
-      let s = searchOf bytes (task .galley) w i j (sideOf (task .galley) c) in
-      best-unique (bestStart s) Unreached (best-start s) (best-none none)
-    where
-      line : i ≤ task .galley .text .count
-      line = omega (arith, within)
-
-      none : (a b x : ℕ) → Starts (searchOf bytes (task .galley) w i j (sideOf (task .galley) c)) Any a b x → ⊥
-      none a b x (p, start) =
-          go (candidate-earlier (searchOf bytes (task .galley) w i j (sideOf (task .galley) c)) (sought-in bytes (task .galley) w i j (sideOf (task .galley) c) (lent-placed (next .lent) i line)) a b x start)
-        where
-          go : Earlier a b i j → ⊥
-          go (inl m) =
-              let known = rw (lines-quiet .none i c (omega arith) l occurs) at (last .known i c line occurs) in
-              known .leads a b x ((omega arith, m), start)
-          go (inr (e, m)) =
-              no-reach (sym (lines-quiet .none a (sideOf (task .galley) c) (omega arith) (omega arith) (side-occurs (next .lent .sound) c occurs))
-              ∙ (rw e at (start .reached .entry)))
-
-  -- and each is filled as unreached,
-  entry-none : (i c : ℕ) → i < first → c < task .galley .spec .sides
-      → newEntry (modelOf bytes (task .galley)) (task .origin) (tableIn (task .galley) w) i j c ≡ Unreached
-  unfolding begins priced
-  entry-none i c l occurs = go (begins (sidesIn (task .galley)) (task .origin) i j c) refl
-    where
-      go : (b : Bool) → begins (sidesIn (task .galley)) (task .origin) i j c ≡ b
-          → newEntry (modelOf bytes (task .galley)) (task .origin) (tableIn (task .galley) w) i j c ≡ Unreached
-      go true e =
-          absurd
-          (begun .later i l (
-            eqb-true i _ (and-left (eqb i (task .origin .place .line)) _ e),
-            eqb-true j _ (and-left (eqb j (task .origin .place .column)) _ (and-right (eqb i (task .origin .place .line)) _ e)),
-          ))
-      go false e = stop (mayStop (modelOf bytes (task .galley)) i j c) refl
-        where
-          stop : (b : Bool) → mayStop (modelOf bytes (task .galley)) i j c ≡ b
-              → newEntry (modelOf bytes (task .galley)) (task .origin) (tableIn (task .galley) w) i j c ≡ Unreached
-          stop true s =
-              entry-priced (modelOf bytes (task .galley)) (task .origin) (tableIn (task .galley) w) i j c e s Unreached (start-none i c l occurs)
-          stop false s = entry-forbidden (modelOf bytes (task .galley)) (task .origin) (tableIn (task .galley) w) i j c e s
-
-  -- which it is.
-  sides-same : (i n : ℕ) → i < first → n ≤ task .galley .spec .sides → fillSides (modelOf bytes (task .galley)) (task .origin) i j n w ≡ w
-  unfolding fillSides fillSide tall
-  sides-same i zero l m = refl
-  sides-same i (suc n) l m =
-      ap (fillSide (modelOf bytes (task .galley)) (task .origin) i j n) (sides-same i n l (omega arith))
-      ∙ ap (stored w (address (task .galley .text .count + 1) i j n)) (entry-none i n l m)
-      ∙ last .clean i n (omega (arith, within)) m (lines-quiet .none i n (omega arith) l m)
-
-  lines-same : (k i : ℕ) → k + i ≡ first
-      → fillColumn (modelOf bytes (task .galley)) (task .origin) j (suc (task .galley .text .count) - i) i w
-      ≡ fillColumn (modelOf bytes (task .galley)) (task .origin) j (suc (task .galley .text .count) - first) first w
-  unfolding fillColumn fillPlace
-  lines-same zero i e = let same : i ≡ first = omega arith in rw same
-  lines-same (suc k) i e =
-      let rest : suc (task .galley .text .count) - i ≡ suc (suc (task .galley .text .count) - suc i) = omega (arith, within) in
-      rw rest
-      (ap (fillColumn (modelOf bytes (task .galley)) (task .origin) j (suc (task .galley .text .count) - suc i) (suc i))
-      (sides-same i (sideCount (sidesIn (task .galley))) (omega arith) (omega (arith, sides next)))
-      ∙ lines-same k (suc i) (omega arith))
+  -- and nothing reaches one of them.
+  first-still : Still bytes task w j 0 first
+  first-still =
+      record {
+        lent = next .lent;
+        within = within;
+        quiet = lines-quiet;
+        waits = λ k c l m n. last .known k c l m;
+        clean = last .clean;
+        later = λ i l. begun .later i;
+        above = λ i a c x f l m. absurd (omega arith);
+      }
 
   -- The column is filled from its first start on.
   pub column-from : fillColumn (modelOf bytes (task .galley)) (task .origin) j (suc (task .galley .text .count) - first) first w
       ≡ fillColumn (modelOf bytes (task .galley)) (task .origin) j (suc (task .galley .text .count)) 0 w
   column-from =
       let all : suc (task .galley .text .count) - 0 ≡ suc (task .galley .text .count) = omega arith in
-      sym (rw all at (lines-same first 0 (omega arith)))
+      sym (rw all at (lines-still first-still (omega arith)))
 
   -- Where there is none it is filled.
   pub column-none : task .galley .text .count < first

@@ -2,7 +2,7 @@
 use Prim.Native.Nat.{ℕ, _+_, _≤_, _<_}
 use native.Mathlib.Nat.{le-refl}
 use native.Mathlib.Omega.{arith}
-use mathlib.Core.Path.{_≡_, sym, _∙_, ap}
+use mathlib.Core.Path.{_≡_, refl, sym, _∙_, ap}
 use mathlib.Core.Bool.{Bool}
 use mathlib.Core.List.{List}
 use Rattle.model.specs.Galley as model
@@ -10,7 +10,7 @@ use Rattle.model.specs.Rules.{floor}
 use Rattle.theorems.specs.turns.Waiting.{pageCost}
 use Rattle.theorems.specs.pages.Graph.{full}
 use Rattle.galley.specs.declared.Galley.{Galley}
-use Rattle.galley.specs.Model.{modelOf}
+use Rattle.galley.specs.Model.{textOf, modelOf}
 use Rattle.blocks.specs.Counts.{placeOf, Within, Proper}
 use Rattle.blocks.specs.Heights.{noHeights}
 use Rattle.rules.specs.declared.waiting.Waiting.{Waiting}
@@ -19,16 +19,18 @@ use Rattle.rules.specs.laws.Walked.{walked-on}
 use Rattle.places.specs.Columns.{floatsAt, floatSizes, placeAt}
 use Rattle.places.specs.laws.Columns.{inside-all}
 use Rattle.window.specs.declared.slide.Window.{Window}
-use Rattle.window.specs.Slide.{Slidable}
+use Rattle.window.specs.Slide.{Slidable, Tall}
 use Rattle.candidates.specs.Search.{mayStop}
+use Rattle.candidates.specs.Choice.{Candidate}
 use Rattle.candidates.specs.Beside.{Under, Bears}
 use Rattle.rules.specs.Parts.{allPlaced}
 use Rattle.candidates.specs.Read.{searchOf, columnsIn, countsAt, loadOf}
 use Rattle.starts.specs.Sweep.{Lent, Summed}
-use Rattle.candidates.specs.laws.Columns.{place-at, within-at}
+use Rattle.candidates.specs.laws.Columns.{place-at, within-at, sought-in}
+use Rattle.candidates.specs.laws.Pages.{goes-lines}
 use Rattle.rules.specs.laws.Page.{full-of}
 use Rattle.starts.specs.laws.Floats.{bears-own}
-use Rattle.starts.specs.laws.Lending.{can-slide}
+use Rattle.starts.specs.laws.Lending.{lent-placed, can-slide}
 use Rattle.filling.specs.declared.side.End.{End}
 use Rattle.pricing.specs.Stop.{stopsAt}
 
@@ -43,6 +45,15 @@ pub lines-slide : {bytes : List ℕ} {g : Galley} {w : List ℕ} {j : ℕ} {sums
     → Slidable sums (loadOf g 0 noHeights least first) window i
 lines-slide lent summed least first under window i h low split high =
     can-slide lent summed 0 noHeights (omega arith) (record { tight = omega arith; loose = omega arith }) least first under window i h low split high
+
+-- No page of lines alone goes from a line to one for which it is too tall.
+pub own-short : {bytes : List ℕ} {g : Galley} {w : List ℕ} {j : ℕ} → Lent bytes g w j → (i a side x least first : ℕ) → i ≤ g .text .count → a < i
+    → Candidate (searchOf bytes g w i j side) a j x → Tall (textOf bytes (g .text)) (loadOf g 0 noHeights least first) a i → ⊥
+own-short {bytes} {g} {w} {j} lent i a side x least first line l start tall =
+    let s = searchOf bytes g w i j side in
+    let bears = bears-own bytes g w i j side (floor (modelOf bytes g) (allPlaced g (countsAt g i j))) first refl in
+    let keeps = goes-lines s (sought-in bytes g w i j side (lent-placed lent i line)) a j l (le-refl j) (under-own (modelOf bytes g) j) .0 (start .page) in
+    omega (arith, keeps .short, bears .tight, tall)
 
 -- What waits at a line of a column waits one line further down.
 pub walking-down : {bytes : List ℕ} (g : Galley) (i j : ℕ) (known : Waiting) → Within g (countsAt g i j)

@@ -153,13 +153,13 @@ module _ (g : Galley) (from : Origin) (origin : Proper g (from .place)) (t : Tab
         let left = d .column in
         let side = before (g .spec .sides) c in (
           rw (shows .shows)
-          (record {
-            may = page-from (r .line) (r .column) (paid .own) d may;
-            cost = d .reached .own;
-            start = stop (at g (d .reached .start)) (before (g .spec .sides) side);
-            reached = shown-at g t (r .line) (r .column) side (omega arith) ∙ ap (shown g side) (d .reached .entry);
-            price = omega (arith, d .reached .whole, paid .whole);
-          }),
+              (record {
+                may = page-from (r .line) (r .column) (paid .own) d may;
+                cost = d .reached .own;
+                start = stop (at g (d .reached .start)) (before (g .spec .sides) side);
+                reached = shown-at g t (r .line) (r .column) side (omega arith) ∙ ap (shown g side) (d .reached .entry);
+                price = omega (arith, d .reached .whole, paid .whole);
+              }),
           paid .within,
         )
 

@@ -37,10 +37,10 @@ quiet-kept {g} {w} {v} {j} {b} kept two few before within quiet =
           scratched-others g j w v two kept a b c (omega arith) (omega arith) (λ e. omega arith) ∙ quiet .none a c l m occurs;
     }
 
-pub last-kept : {g : Galley} {w v : List ℕ} {j b n from r : ℕ} → Scratched g j w v → g .spec .sides ≤ 2 → n ≤ 2 → b < j
-    → LastFound g w b n from r → LastFound g v b n from r
-last-kept kept two few before found =
-    record { since = found .since; within = found .within; quiet = quiet-kept kept two few before (le-refl _) (found .quiet) }
+pub last-kept : {g : Galley} {w v : List ℕ} {j b from r : ℕ} → Scratched g j w v → g .spec .sides ≤ 2 → b < j
+    → LastFound g w b from r → LastFound g v b from r
+last-kept kept two before found =
+    record { since = found .since; within = found .within; quiet = quiet-kept kept two two before (le-refl _) (found .quiet) }
 
 -- and leave what stands past the origin.
 pub past-kept : {g : Galley} {w v : List ℕ} {j : ℕ} {origin : Counts} → Scratched g j w v → g .spec .sides ≤ 2 → PastOrigin g w j origin

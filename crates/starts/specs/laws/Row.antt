@@ -210,7 +210,7 @@ module _ {bytes : List ℕ} {g : Galley} {w₀ sums words₀ : List ℕ} {row : 
           -- the next sweep may start,
           pub row-sweeps : floats .tight ≤ g .spec .htmax → (white : ℕ) → white ≡ whiteAt g false (floats .loose) → (first : ℕ)
               → Found g w (rowOf g (row .figures) + (top - 1)) (row .origin .lines) first → (last : ℕ)
-              → LastFound g w (rowOf g (row .figures) + (top - 1)) (g .spec .sides) first last
+              → LastFound g w (rowOf g (row .figures) + (top - 1)) first last
               → Sweep bytes g w sums words (next white first last)
           row-sweeps short white e first found last late =
               let after : suc from ≡ rowOf g (row .figures) + top = omega arith in

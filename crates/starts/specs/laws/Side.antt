@@ -72,7 +72,7 @@ module _ {bytes : List ℕ} {g : Galley} {w₀ sums words₀ : List ℕ} {c : �
     early-now = quiet-kept (run .kept) two two (asked .passing .before) (omega (arith, asked .first)) (asked .early)
 
     late-now : Late g w pass
-    late-now = last-kept (run .kept) two two (asked .passing .before) (asked .late)
+    late-now = last-kept (run .kept) two (asked .passing .before) (asked .late)
 
     -- What is reached is no later than the last line of the pass.
     reached-low : (a y : ℕ) (t : Place) → a ≤ g .text .count → column w a ≡ Least y t → a ≤ pass .last

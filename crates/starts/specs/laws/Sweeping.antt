@@ -156,7 +156,7 @@ module _ {bytes : List ℕ} {g : Galley} {w₀ sums words₀ : List ℕ} {pass :
           record {
             lent = lent-kept (run .kept) (asked .lent);
             early = quiet-kept (run .kept) two two (asked .passing .before) (omega arith) (asked .early);
-            late = last-kept (run .kept) two two (asked .passing .before) (asked .late);
+            late = last-kept (run .kept) two (asked .passing .before) (asked .late);
             stopped = stopped;
             first = some;
             summed = asked .summed;

@@ -1,40 +1,64 @@
--- `first_line` meets its contract. The loop's invariant is `LookRun`: no line before the first one found is reached on the sides looked at.
-use Prim.Native.Nat.{_-_}
+-- `first_line` meets its contract. The loop's invariant: no line from `from` on and before a is reached.
+use Prim.Native.Nat.{_+_, _-_, _≤_}
 use native.Mathlib.Omega.{arith}
-use Rattle.candidates.specs.Look.{LookRun}
+use Rattle.candidates.specs.Look.{Quiet}
 use Rattle.candidates.specs.laws.Read.{stands-in}
-use Rattle.candidates.specs.laws.Look.{look-none, look-next, look-all}
+use Rattle.candidates.specs.laws.Look.{quiet-next}
 use borrow.Author.Needs.{needs}
 use Rattle.candidates.proofs.look.first_line.Statement.{statement}
 use Rattle.candidates.proofs.look.first_line.Tie as tie
 
 abbrev Inv-loop : tie.InvT-loop
-Inv-loop g work column from first₀ c₀ first c = LookRun g work column from first c
+Inv-loop g work column from a₀ a = (from ≤ a) × Quiet g work column (g .spec .sides) from a
 
 abbrev μ-loop : tie.MeasureT-loop
-μ-loop g work column from first₀ c₀ first c = g .spec .sides - c
+μ-loop g work column from a₀ a = g .text .count + 1 - a
 
 loop-holds : tie.Need-loop-holds Inv-loop μ-loop
-loop-holds c = let a = c .before .before .args in look-none (a .g) (a .work .now) (a .column) (a .from)
+loop-holds c = (omega arith, record { none = λ b d l m. absurd (omega arith) })
 
-first-on-requires : tie.Need-first-on-requires Inv-loop μ-loop
-first-on-requires c κs =
-    let st = c .before .before .before .loop in
-    let start = c .before .before .before .before .before .before in
-    let room = start .pre in
-    λ a l.
-    stands-in (start .args .g) (start .args .work .now) a (start .args .column) (st .c) (room .wide .few) (room .wide .floats)
-    (omega (arith, st .inv .within)) (room .wide .within) (omega (arith, c .before .if1 .taken, room .two)) (room .room)
+place-of-requires : tie.Need-place-of-requires Inv-loop μ-loop
+place-of-requires c κs =
+    let start = c .before .before .before .before in
+    let inside =
+    stands-in (start .args .g) (start .args .work .now) (c .before .before .loop .a) (start .args .column) 0 (start .pre .wide .few) (start .pre .wide .floats)
+    (omega (arith, c .if1 .taken)) (start .pre .wide .within) (omega arith) (start .pre .room) .inside in
+    record { line = omega (arith, inside .row, inside .high); column = inside .wide }
 
-loop-again : tie.Need-loop-again Inv-loop μ-loop
-loop-again c = look-next (c .before .before .before .before .loop .inv) (c .before .before .if1 .taken) (c .first-on .result) (c .first-on .ensures)
+reached-requires : tie.Need-reached-requires Inv-loop μ-loop
+reached-requires c κs =
+    let here = c .before .before in
+    let start = here .before .before .before .before .before in
+    rw (here .place-of .ensures)
+    (λ d l.
+    stands-in (start .args .g) (start .args .work .now) (here .before .before .before .loop .a) (start .args .column) d (start .pre .wide .few)
+    (start .pre .wide .floats) (omega (arith, here .before .if1 .taken)) (start .pre .wide .within) (omega (arith, start .pre .two)) (start .pre .room))
 
 returns : tie.Need-returns Inv-loop μ-loop
-returns c = look-all (c .before .before .loop .inv) (c .if1 .left)
+returns c =
+    let taken = c .before .before .before .before .before in
+    let inv = taken .before .before .loop .inv in
+    record { since = λ l. inv .0; within = omega (arith, taken .if1 .taken); quiet = inv .1 }
+
+loop-again : tie.Need-loop-again Inv-loop μ-loop
+loop-again c =
+    let looked = c .before in
+    let here = looked .before .before .before in
+    let inv = here .before .before .before .loop .inv in
+    (omega (arith, inv .0), quiet-next (inv .1) (rw (here .place-of .ensures) at (looked .reached .ensures (c .if2 .left))))
+
+returns-2 : tie.Need-returns-2 Inv-loop μ-loop
+returns-2 c =
+    let over = c .before in
+    record {
+      since = λ l. l;
+      within = omega arith;
+      quiet = record { none = λ b d l m. over .before .before .loop .inv .1 .none b d l (omega (arith, over .if1 .left)) };
+    }
 
 pub first-line-spec : {M : Type 1} → statement M
 first-line-spec =
     tie.close
     (tie.spec
-    Inv-loop μ-loop (λ c. search needs) loop-holds (λ c. search needs) (λ c. search needs) first-on-requires (λ c. search needs)
-    (λ c. search needs) loop-again returns)
+    Inv-loop μ-loop loop-holds place-of-requires (λ c. search needs) (λ c. search needs) reached-requires returns (λ c. search needs)
+    (λ c. search needs) loop-again (λ c. search needs) returns-2)

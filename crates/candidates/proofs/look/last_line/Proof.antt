@@ -1,40 +1,67 @@
--- `last_line` meets its contract. The loop's invariant is `LastFound`: no line after the last one found is reached on the sides looked at.
-use Prim.Native.Nat.{_-_}
+-- `last_line` meets its contract. The loop's invariant: no line from `last` on is reached.
+use Prim.Native.Nat.{_+_, _-_, _≤_}
 use native.Mathlib.Omega.{arith}
-use Rattle.candidates.specs.Look.{LastFound}
+use Rattle.candidates.specs.Look.{Quiet}
 use Rattle.candidates.specs.laws.Read.{stands-in}
-use Rattle.candidates.specs.laws.Look.{last-none, last-next, last-all}
+use Rattle.candidates.specs.laws.Look.{quiet-back}
 use borrow.Author.Needs.{needs}
 use Rattle.candidates.proofs.look.last_line.Statement.{statement}
 use Rattle.candidates.proofs.look.last_line.Tie as tie
 
 abbrev Inv-loop : tie.InvT-loop
-Inv-loop g work column from last₀ c₀ last c = LastFound g work column c from last
+Inv-loop g work column from last₀ last = (last ≤ g .text .count + 1) × Quiet g work column (g .spec .sides) last (g .text .count + 1)
 
 abbrev μ-loop : tie.MeasureT-loop
-μ-loop g work column from last₀ c₀ last c = g .spec .sides - c
+μ-loop g work column from last₀ last = last
 
 loop-holds : tie.Need-loop-holds Inv-loop μ-loop
-loop-holds c = let a = c .before .args in last-none (a .g) (a .work .now) (a .column) (a .from)
+loop-holds c = (omega arith, record { none = λ b d l m. absurd (omega arith) })
 
-last-on-requires : tie.Need-last-on-requires Inv-loop μ-loop
-last-on-requires c κs =
-    let st = c .before .before .before .before .loop in
-    let start = c .before .before .before .before .before .before in
-    let room = start .pre in
-    λ a l.
-    stands-in (start .args .g) (start .args .work .now) a (start .args .column) (st .c) (room .wide .few) (room .wide .floats)
-    (omega arith) (room .wide .within) (omega (arith, c .before .before .if1 .taken, room .two)) (room .room)
+place-of-requires : tie.Need-place-of-requires Inv-loop μ-loop
+place-of-requires c κs =
+    let start = c .before .before .before .before in
+    let inside =
+    stands-in (start .args .g) (start .args .work .now) (c .before .loop .last - 1) (start .args .column) 0 (start .pre .wide .few) (start .pre .wide .floats)
+    (omega (arith, c .before .loop .inv .0)) (start .pre .wide .within) (omega arith) (start .pre .room) .inside in
+    record { line = omega (arith, inside .row, inside .high); column = inside .wide }
 
-loop-again : tie.Need-loop-again Inv-loop μ-loop
-loop-again c = last-next (c .before .before .before .before .before .loop .inv) (c .last-on .result) (c .last-on .ensures)
+reached-requires : tie.Need-reached-requires Inv-loop μ-loop
+reached-requires c κs =
+    let here = c .before .before in
+    let start = here .before .before .before .before .before in
+    rw (here .place-of .ensures)
+    (λ d l.
+    stands-in (start .args .g) (start .args .work .now) (here .before .before .loop .last - 1) (start .args .column) d (start .pre .wide .few)
+    (start .pre .wide .floats) (omega (arith, here .before .before .loop .inv .0)) (start .pre .wide .within) (omega (arith, start .pre .two)) (start .pre .room))
 
 returns : tie.Need-returns Inv-loop μ-loop
-returns c = last-all (c .before .before .loop .inv) (c .if1 .left)
+returns c =
+    let test = c .before .before .before .before .before in
+    let inv = test .before .loop .inv in
+    record {
+      since = omega (arith, test .loop-test .taken);
+      within = λ l. omega (arith, test .loop-test .taken, inv .0);
+      quiet = record { none = λ b d l m. inv .1 .none b d (omega (arith, test .loop-test .taken)) m };
+    }
+
+loop-again : tie.Need-loop-again Inv-loop μ-loop
+loop-again c =
+    let looked = c .before in
+    let here = looked .before .before .before in
+    let inv = here .before .before .loop .inv in
+    (omega (arith, inv .0), quiet-back (inv .1) (rw (here .place-of .ensures) at (looked .reached .ensures (c .if1 .left))))
+
+returns-2 : tie.Need-returns-2 Inv-loop μ-loop
+returns-2 c =
+    record {
+      since = omega arith;
+      within = λ l. l;
+      quiet = record { none = λ b d l m. c .before .loop .inv .1 .none b d (omega (arith, c .loop-test .left)) m };
+    }
 
 pub last-line-spec : {M : Type 1} → statement M
 last-line-spec =
     tie.close
     (tie.spec
-    Inv-loop μ-loop loop-holds (λ c. search needs) (λ c. search needs) (λ c. search needs) last-on-requires (λ c. search needs)
-    (λ c. search needs) loop-again returns)
+    Inv-loop μ-loop (λ c. search needs) loop-holds (λ c. search needs) place-of-requires (λ c. search needs) (λ c. search needs)
+    reached-requires returns (λ c. search needs) loop-again returns-2)
