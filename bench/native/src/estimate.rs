@@ -1,8 +1,9 @@
 //! How dear the best list may be, guessed from pages that are set greedily.
 //!
-//! A block goes on the page as soon as it may and fits: a float that is cited before the next line, and where nothing fits the page is
-//! turned. That one list says how often the best one is turned and how long its floats wait. It looks at no height but the tightest and at
-//! no rule of where a page may end, so it is a guess, and a search that relies on it has to be made again where it was too low.
+//! A block goes on the page as soon as it may and fits: a float that is cited before the next line, and where nothing
+//! fits the page is turned. That one list says how often the best one is turned and how long its floats wait. It looks at
+//! no height but the tightest and at no rule of where a page may end, so it is a guess, and a search that relies on it
+//! has to be made again where it was too low.
 
 use crate::opening::Origin;
 use crate::page::Placed;
@@ -13,8 +14,9 @@ const LINES: usize = 0;
 const FIGURES: usize = 1;
 const TABLES: usize = 2;
 
-/// What a list after the origin may cost on the first try: what the greedy one costs, and for the rules that it leaves out a sixteenth
-/// more leaves, two turns and two floats that wait. Where it never turns a leaf the best one hardly does, and costs nothing.
+/// What a list after the origin may cost on the first try: what the greedy one costs, and for the rules that it leaves
+/// out a sixteenth more leaves, two turns and two floats that wait. Where it never turns a leaf the best one hardly does,
+/// and costs nothing.
 pub fn first_limit(galley: &Galley, origin: &Origin) -> Cost {
     let spec = &galley.spec;
     let mut pages = Greedy::new(galley, origin);
@@ -29,7 +31,8 @@ pub fn first_limit(galley: &Galley, origin: &Origin) -> Cost {
     pages.cost + turns(more) + (turns(1) - 1)
 }
 
-/// Pages set so far: what is placed, the side of the present page and the room left on it, the cost, and the leaves turned.
+/// Pages set so far: what is placed, the side of the present page and the room left on it, the cost, and the leaves
+/// turned.
 struct Greedy {
     placed: Placed,
     side: usize,
@@ -59,8 +62,8 @@ impl Greedy {
         self.turn(galley);
     }
 
-    /// The next block of a stream, if it may be set on the page now: a float from its citation on. A page with all its room left takes
-    /// every block, however high, so that the list goes on.
+    /// The next block of a stream, if it may be set on the page now: a float from its citation on. A page with all its
+    /// room left takes every block, however high, so that the list goes on.
     fn next(&self, galley: &Galley, stream: usize) -> Option<Block> {
         let [i, j, d] = self.placed;
         let block = match stream {

@@ -1,11 +1,12 @@
 //! The search within a limit: that by queues, without what is dearer than the best list may be.
 //!
-//! Costs never fall from page to page. So a place that is dearer than a limit is left unreached, and every place whose least cost is
-//! within it still gets its best start; if the full place is among them, the list to it is the best of all. The first limit is guessed.
-//! Where nothing within it is the whole, the search is made again without one, unless the limit had left out nothing.
+//! Costs never fall from page to page. So a place that is dearer than a limit is left unreached, and every place whose
+//! least cost is within it still gets its best start; if the full place is among them, the list to it is the best of all.
+//! The first limit is guessed. Where nothing within it is the whole, the search is made again without one, unless the
+//! limit had left out nothing.
 //!
-//! Of each column the first and the last reached line are kept: pages from it start between them, so a sweep begins with the one and
-//! ends where its window has passed the other, and a column that nothing reached costs nothing.
+//! Of each column the first and the last reached line are kept: pages from it start between them, so a sweep begins with
+//! the one and ends where its window has passed the other, and a column that nothing reached costs nothing.
 
 use crate::estimate::first_limit;
 use crate::opening::Origin;
