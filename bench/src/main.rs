@@ -24,8 +24,8 @@ const MAKING: [&str; 17] = [
     "engine / before",
     "native queue",
     "engine / queue",
-    "native reached",
-    "engine / reached",
+    "native limited",
+    "engine / limited",
     "native plain",
     "plain / engine",
     "growth of engine",
@@ -39,8 +39,8 @@ const AFTER: [&str; 9] = [
     "engine",
     "native queue",
     "engine / queue",
-    "native reached",
-    "engine / reached",
+    "native limited",
+    "engine / limited",
     "engine / whole",
 ];
 const BOOK: [&str; 9] =
@@ -108,8 +108,8 @@ fn after(shape: Shape, made: &After) -> [String; AFTER.len()] {
         shown(made.engine),
         shown(made.queue),
         format!("{:.2}", ratio(made.engine, made.queue)),
-        shown(made.reached),
-        format!("{:.2}", ratio(made.engine, made.reached)),
+        shown(made.limited),
+        format!("{:.2}", ratio(made.engine, made.limited)),
         format!("{:.2}", ratio(made.engine, made.whole)),
     ]
 }
@@ -147,8 +147,8 @@ fn cells(shape: Shape, made: &Making, half: Option<&(Shape, Making)>) -> [String
         made.before.map_or_else(none, |before| format!("{:.2}", ratio(made.engine, before))),
         shown(made.queue),
         format!("{:.2}", ratio(made.engine, made.queue)),
-        shown(made.reached),
-        format!("{:.2}", ratio(made.engine, made.reached)),
+        shown(made.limited),
+        format!("{:.2}", ratio(made.engine, made.limited)),
         made.plain.map_or_else(none, shown),
         made.plain.map_or_else(none, |plain| format!("{:.1}", ratio(plain, made.engine))),
         growth(|_, made| made.engine.as_secs_f64()),

@@ -20,9 +20,9 @@ pub struct Making {
     pub engine: Duration,
     /// The engine before a change, if one is named.
     pub before: Option<Duration>,
-    /// The queues of plain Rust, and its search of what can be reached.
+    /// The queues of plain Rust, and its search within a limit.
     pub queue: Duration,
-    pub reached: Duration,
+    pub limited: Duration,
     pub plain: Option<Duration>,
     /// The pages weighed, their ceiling, and the pass of plain Rust that counts them, which is part of its makings.
     pub weighed: u64,
@@ -36,7 +36,7 @@ pub struct After {
     pub pages: usize,
     pub engine: Duration,
     pub queue: Duration,
-    pub reached: Duration,
+    pub limited: Duration,
     /// The engine's making without an opening.
     pub whole: Duration,
 }
@@ -58,13 +58,13 @@ pub struct Marking {
 
 type Make<'a> = &'a dyn Fn(&[u8], &mut [u32], &mut [u32]) -> Made;
 
-/// Making by the engine, by the one before a change, by the queues of plain Rust, by its search of what can be reached, and by
+/// Making by the engine, by the one before a change, by the queues of plain Rust, by its search within a limit, and by
 /// its plain search where that ends in time.
 pub fn making(shape: Shape, runs: u32) -> Making {
     let makes: [Make; 4] = [
         &engine::make_in,
         &|bytes, work, list| made_of(native::make(bytes, work, list)),
-        &|bytes, work, list| made_of(native::make_reached(bytes, work, list)),
+        &|bytes, work, list| made_of(native::make_limited(bytes, work, list)),
         &|bytes, work, list| made_of(native::make_plain(bytes, work, list)),
     ];
     let makes = &makes[..if shape.plain { 4 } else { 3 }];
@@ -100,9 +100,9 @@ pub fn making(shape: Shape, runs: u32) -> Making {
     let turns = answer.map_or_else(|refusal| refusal.to_string(), |measure| measure.turns.to_string());
     let ceiling = engine::forecast(&galley.bytes).map_or(0, |told| told.ceiling);
     assert!(weighed <= ceiling, "{}: more is weighed than was told", shape.name);
-    let ([engine, queue, reached, plain], most_figures) = (times, galley.most_figures);
+    let ([engine, queue, limited, plain], most_figures) = (times, galley.most_figures);
     let (before, plain) = (earlier.map(|_| before), shape.plain.then_some(plain));
-    Making { turns, most_figures, engine, before, queue, reached, plain, weighed, ceiling, count }
+    Making { turns, most_figures, engine, before, queue, limited, plain, weighed, ceiling, count }
 }
 
 /// Making after the first half of the pages, and of the whole, which is the same list.
@@ -113,7 +113,7 @@ pub fn after_opening(shape: Shape, runs: u32) -> After {
     let pages = native::make(&bytes, &mut work, &mut list).p as usize;
     let (printed, whole_list) = (pages / 2, list.clone());
     let opening = &whole_list[..shape.page_words() * printed];
-    let [mut engine, mut queue, mut reached, mut whole] = [Duration::MAX; 4];
+    let [mut engine, mut queue, mut limited, mut whole] = [Duration::MAX; 4];
     for run in 0..runs {
         if run > 0 && whole > LONG {
             break;
@@ -122,11 +122,11 @@ pub fn after_opening(shape: Shape, runs: u32) -> After {
         assert!(list == whole_list, "{}: the engine's list after an opening is another", shape.name);
         let due = timed(&mut queue, || native::make_after(black_box(&bytes), opening, &mut work, &mut list));
         assert!(list == whole_list && made == made_of(due), "{}: not one answer after an opening", shape.name);
-        let due = timed(&mut reached, || native::make_reached_after(black_box(&bytes), opening, &mut work, &mut list));
+        let due = timed(&mut limited, || native::make_limited_after(black_box(&bytes), opening, &mut work, &mut list));
         assert!(list == whole_list && made == made_of(due), "{}: not one answer after an opening", shape.name);
         timed(&mut whole, || engine::make_in(black_box(&bytes), &mut work, &mut list));
     }
-    After { printed, pages, engine, queue, reached, whole }
+    After { printed, pages, engine, queue, limited, whole }
 }
 
 /// A book, and each of its chapters alone.

@@ -16,11 +16,11 @@ SEED = 20261118
 
 
 def build():
-    """The stand-in for the engine's archive, and its makings: by queues, by what can be reached, and by the plain search."""
+    """The stand-in for the engine's archive, and its makings: by queues, within a limit, and by the plain search."""
     command = ['cargo', 'build', '--release', '--offline', '--quiet', '--manifest-path', STANDIN / 'Cargo.toml']
     subprocess.run(command, check=True)
     library = engine.load(STANDIN / 'target' / 'release' / 'libbarleychime.a')
-    return [engine.Engine(library, name) for name in ('barleychime_make', 'reached_make', 'plain_make')]
+    return [engine.Engine(library, name) for name in ('barleychime_make', 'limited_make', 'plain_make')]
 
 
 def known():
@@ -44,7 +44,7 @@ def unknown():
 
 
 def main():
-    makings = by_queues, reached, plain = build()
+    makings = by_queues, limited, plain = build()
     rng = random.Random(SEED)
     tally = Tally()
 
@@ -72,7 +72,7 @@ def main():
     for number, g in enumerate(unknown()):
         compare(f'galley {number} of unknown best list', g)
     # The plain search would take minutes.
-    for native in (by_queues, reached):
+    for native in (by_queues, limited):
         tally.same('the largest galley of height 0', check.largest(native.make, cases.LONGEST), True)
         tally.same('a large galley of height 0 with tables', check.largest(native.make, cases.LARGE_TABLES), True)
     return tally.end()

@@ -6,7 +6,7 @@ use crate::opening::{origin_of, Origin};
 use crate::places::{floats_at, least, side_before, whole, Least, ENDS, OPENS};
 use crate::read::{read, Galley};
 use crate::weighed::weighed_of;
-use crate::{plain, reached, sweep, Answer};
+use crate::{limited, plain, sweep, Answer};
 
 /// Making with the search by queues, as the engine does it.
 pub fn make(bytes: &[u8], work: &mut [u32], list: &mut [u32]) -> Answer {
@@ -28,14 +28,14 @@ pub fn make_plain_after(bytes: &[u8], opening: &[u32], work: &mut [u32], list: &
     make_by(plain::fill, bytes, opening, work, list)
 }
 
-/// Making with the search of what can be reached.
-pub fn make_reached(bytes: &[u8], work: &mut [u32], list: &mut [u32]) -> Answer {
-    make_reached_after(bytes, &[], work, list)
+/// Making with the search within a limit.
+pub fn make_limited(bytes: &[u8], work: &mut [u32], list: &mut [u32]) -> Answer {
+    make_limited_after(bytes, &[], work, list)
 }
 
 /// The same of lists that begin with an opening.
-pub fn make_reached_after(bytes: &[u8], opening: &[u32], work: &mut [u32], list: &mut [u32]) -> Answer {
-    make_by(reached::fill, bytes, opening, work, list)
+pub fn make_limited_after(bytes: &[u8], opening: &[u32], work: &mut [u32], list: &mut [u32]) -> Answer {
+    make_by(limited::fill, bytes, opening, work, list)
 }
 
 type Fill = fn(&Galley, &Origin, &mut [u32]);

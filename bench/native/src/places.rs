@@ -138,13 +138,18 @@ impl Cited {
     pub fn covers(self, (j, d): (usize, usize)) -> bool {
         j <= self.figures && d <= self.tables
     }
+
+    /// How many of them wait with so many figures and tables placed. Some of those placed may be cited further on.
+    fn waiting(self, (j, d): (usize, usize)) -> u32 {
+        (self.figures.saturating_sub(j) + self.tables.saturating_sub(d)) as u32
+    }
 }
 
 /// What a page that ends its spread at a place costs, with these floats cited so far: those of them that wait, and the
 /// turn. The last page costs nothing.
-pub fn price(galley: &Galley, place: Place, (j, d): (usize, usize), cited: Cited) -> Cost {
+pub fn price(galley: &Galley, place: Place, floats: (usize, usize), cited: Cited) -> Cost {
     if place == whole(galley) {
         return 0;
     }
-    turns(galley.spec.alpha * (cited.figures + cited.tables - j - d) as u32 + galley.spec.beta)
+    turns(galley.spec.alpha * cited.waiting(floats) + galley.spec.beta)
 }

@@ -30,15 +30,43 @@ struct Parts {
 /// The parts of the window for each side of the page that ends at a place.
 type Queues = [Parts; 2];
 
+/// What of the places a search looks at.
+pub trait Bounds {
+    /// The first line that pages of some floats can start after.
+    fn first(&mut self, pages: &Pages) -> usize;
+
+    /// Whether none of them that ends after line i or later starts after line `low` or later.
+    fn ends(&self, pages: &Pages, i: usize, low: usize) -> bool;
+
+    /// Whether one that ends after line i at this cost is kept.
+    fn admits(&mut self, pages: &Pages, i: usize, cost: Cost) -> bool;
+}
+
+/// Every place from a line on.
+struct From(usize);
+
+impl Bounds for From {
+    fn first(&mut self, _: &Pages) -> usize {
+        self.0
+    }
+
+    fn ends(&self, _: &Pages, _: usize, _: usize) -> bool {
+        false
+    }
+
+    fn admits(&mut self, _: &Pages, _: usize, _: Cost) -> bool {
+        true
+    }
+}
+
 pub fn fill(galley: &Galley, origin: &Origin, work: &mut [u32]) {
-    let lines = line_sums(galley);
-    let mut queues = [0; 2].map(|_| Parts { full: Queue::new(), white: Queue::new() });
-    fill_by(galley, origin, work, |work, pages| sweep(galley, origin, work, &lines, &mut queues, pages));
+    fill_within(galley, origin, work, &mut From(origin.line()));
 }
 
 /// Every place from the origin on, by a sweep for each pair of columns that pages start and end in, and the last page.
-pub fn fill_by(galley: &Galley, origin: &Origin, work: &mut [u32], mut sweep: impl FnMut(&mut [u32], &Pages)) {
-    let (figures, tables) = float_sums(galley);
+pub fn fill_within(galley: &Galley, origin: &Origin, work: &mut [u32], bounds: &mut impl Bounds) {
+    let (lines, (figures, tables)) = (line_sums(galley), float_sums(galley));
+    let mut queues = [0; 2].map(|_| Parts { full: Queue::new(), white: Queue::new() });
     // The figure moves on to the earliest after which the others up to figure j fit a page.
     let [line, mut earliest, table] = origin.placed;
     for to in origin.column(galley)..columns(galley) {
@@ -61,7 +89,8 @@ pub fn fill_by(galley: &Galley, origin: &Origin, work: &mut [u32], mut sweep: im
             let some = Floats { height: figures.between(b, j), kinds: u32::from(b < j) };
             for c in earliest_table(&galley.spec, some, &tables, table, d)..=d {
                 let floats = some.with_tables(&galley.spec, tables.between(c, d), c < d);
-                sweep(work, &Pages { from: column_of(galley, (b, c)), to, floats });
+                let pages = Pages { from: column_of(galley, (b, c)), to, floats };
+                sweep(galley, origin, work, &lines, &mut queues, &pages, bounds);
             }
         }
     }
@@ -104,16 +133,28 @@ pub struct Pages {
 }
 
 /// The pages weighed for every place of the column that they end in from the origin's line on, but the full one.
-fn sweep(galley: &Galley, origin: &Origin, work: &mut [u32], lines: &LineSums, queues: &mut Queues, pages: &Pages) {
+fn sweep(
+    galley: &Galley,
+    origin: &Origin,
+    work: &mut [u32],
+    lines: &LineSums,
+    queues: &mut Queues,
+    pages: &Pages,
+    bounds: &mut impl Bounds,
+) {
     let (spec, &Pages { from, to, floats }) = (&galley.spec, pages);
+    let start = bounds.first(pages);
+    if start > galley.m {
+        return;
+    }
     let placed = floats_at(galley, to);
     let beside = floats.beside_lines(spec);
     // No spread ends before the line that cites the last figure or table, and single-sided no page does.
     let citation = citation(galley, placed);
     // No page ends at the origin itself.
     let after = origin.line() + usize::from(to == origin.column(galley));
-    let first = if spec.sides == 1 { citation.max(after) } else { after };
-    let mut window = Window { low: origin.line(), split: origin.line(), next: origin.line() };
+    let first = start.max(if spec.sides == 1 { citation.max(after) } else { after });
+    let mut window = Window { low: start, split: start, next: start };
     let mut cited = Cited::default();
     for parts in queues.iter_mut() {
         parts.full.clear();
@@ -124,6 +165,9 @@ fn sweep(galley: &Galley, origin: &Origin, work: &mut [u32], lines: &LineSums, q
             continue;
         }
         window.shut(lines, i, beside.tight, spec.ht_max);
+        if bounds.ends(pages, i, window.low) {
+            break;
+        }
         while window.opens(lines, i, beside.loose, spec.ht_min) {
             let taken = lines.left[window.next].loose;
             enter(galley, work, (window.next, from), |side, cost| {
@@ -153,7 +197,7 @@ fn sweep(galley: &Galley, origin: &Origin, work: &mut [u32], lines: &LineSums, q
                 let more = price(galley, (i, to), placed, cited);
                 best = best.map(|least| Least { cost: least.cost + more, ..least });
             }
-            store(galley, work, (i, to), side, best);
+            store(galley, work, (i, to), side, best.filter(|least| bounds.admits(pages, i, least.cost)));
         }
     }
 }

@@ -35,7 +35,7 @@ macro_rules! making {
 
 making!(barleychime_make, native::make);
 making!(plain_make, native::make_plain);
-making!(reached_make, native::make_reached);
+making!(limited_make, native::make_limited);
 
 /// The same after an opening, under the signature of `barleychime_make_after`.
 macro_rules! making_after {
@@ -64,7 +64,7 @@ macro_rules! making_after {
 
 making_after!(barleychime_make_after, native::make_after);
 making_after!(plain_make_after, native::make_plain_after);
-making_after!(reached_make_after, native::make_reached_after);
+making_after!(limited_make_after, native::make_limited_after);
 
 /// # Safety
 /// As `include/barleychime.h` says.
