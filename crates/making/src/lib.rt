@@ -39,7 +39,7 @@ fn make_from(
     requires { ⌜ Soluble (now s) g (now opening) origin needed (now work) (now pages) ⌝ }
     ensures { λ r. ⌜ MadeAfter (now (s .entry)) (now (opening .entry)) (now (work .entry)) (now (pages .entry)) (r .answer) (r .weighed) (now (work .exit)) (now (pages .exit)) ⌝ }
 {
-    let turns = 200;
+    let turns = estimate::first_limit(s, g, origin);
     let sought = limits::fill_far(s, g, origin, turns, work);
     let answer = solving::best_pages(s, g, opening, sought, work, pages);
     places::clear(work, needed);

@@ -23,7 +23,7 @@ use Rattle.galley.specs.laws.Sound.{sound}
 use Rattle.blocks.specs.Counts.{placeOf, Within}
 use Rattle.places.specs.declared.Origin.{Origin}
 use Rattle.places.specs.Entry.{boundless, cleared}
-use Rattle.candidates.specs.Read.{columnsIn, countsAt}
+use Rattle.candidates.specs.Read.{columnsIn, countsAt, Placed}
 use Rattle.candidates.specs.laws.Columns.{columns-in, within-at, place-at}
 use Rattle.filling.specs.Next.{Fillable}
 use Rattle.needs.specs.Needs.{workNeeded, listNeeded}
@@ -110,6 +110,12 @@ module _ {bytes : List ℕ} {g : Galley} {opening : List ℕ} {from : Origin} {n
         origin = omega (arith, asked .opened .proper .column, columns-in bytes g);
         room = omega (arith, asked .enough);
       }
+
+  -- The origin is a place of the galley.
+  pub soluble-placed : Placed bytes g (from .place .line) (from .place .column)
+  soluble-placed =
+      let fill = soluble-fillable in
+      record { sound = fill .sound; line = fill .line; column = fill .origin }
 
   -- What was sought from there is solved.
   pub soluble-solved : (work′ : List ℕ) (r : Origin) → Sought bytes g from work work′ r → Solved bytes g opening r work′ list
