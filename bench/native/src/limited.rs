@@ -30,16 +30,16 @@ pub fn fill(galley: &Galley, origin: &Origin, work: &mut [u32]) {
 /// The first and the last reached line of a column.
 #[derive(Clone, Copy)]
 struct Reached {
-    first: u32,
-    last: u32,
+    first: u16,
+    last: u16,
 }
 
 /// Of a column that nothing reached.
-const NONE: Reached = Reached { first: MOST_LINES as u32 + 1, last: 0 };
+const NONE: Reached = Reached { first: MOST_LINES as u16 + 1, last: 0 };
 
 impl Reached {
     fn with(self, i: usize) -> Reached {
-        Reached { first: self.first.min(i as u32), last: self.last.max(i as u32) }
+        Reached { first: self.first.min(i as u16), last: self.last.max(i as u16) }
     }
 }
 
@@ -68,12 +68,12 @@ impl Bounds for Within {
             (self.column, self.offered) = (pages.to, NONE);
         }
         let starts = if pages.from < pages.to { self.reached[pages.from] } else { self.offered };
-        starts.first as usize
+        usize::from(starts.first)
     }
 
     fn ends(&self, pages: &Pages, i: usize, low: usize) -> bool {
-        let offered = pages.from == pages.to && i <= self.offered.last as usize;
-        !offered && low > self.reached[pages.from].last as usize
+        let offered = pages.from == pages.to && i <= usize::from(self.offered.last);
+        !offered && low > usize::from(self.reached[pages.from].last)
     }
 
     fn admits(&mut self, pages: &Pages, i: usize, cost: Cost) -> bool {
