@@ -11,13 +11,14 @@ import sys
 
 sys.path.insert(0, str(pathlib.Path(__file__).resolve().parents[1]))
 import engine  # noqa: E402
+import guess  # noqa: E402
 import kinds  # noqa: E402
 import windows  # noqa: E402
 from reference import beforehand, cases, galley, marking, sample, search  # noqa: E402
 from tally import Tally  # noqa: E402
 
 GALLEYS, LEFT, LARGER, FINE, LONG, SEED = 2_400, 300, 60, 1_400, 100, 20261116
-TABLED, TABLED_LEFT, TABLED_FINE = 1_200, 400, 300
+TABLED, TABLED_LEFT, TABLED_FINE, DEAR = 1_200, 400, 300, 6_000
 MOST_LISTS, MOST_PAIRS = 2_000, 400
 
 
@@ -70,6 +71,14 @@ def long(count, tabled):
         yield f'long galley {number}', g, search.best_by_table(g)
 
 
+def dear(count, tabled):
+    """Small galleys whose best list is dearer than the engine's first limit, so that it searches twice."""
+    for number, g in enumerate([*sample.galleys(SEED + 12, count, 6, 4), *sample.galleys(SEED + 13, tabled, 4, 3, 2)]):
+        best = search.best_by_table(g)
+        if best and search.rank(g, best)[0] > guess.first_limit(g):
+            yield f'dear galley {number}', g, best
+
+
 def largest(make, g):
     """Whether a galley of height 0 is made: everything fits one page, so that every place is a start."""
     work, pages = ((1,) * length for length in engine.lengths(g))
@@ -81,7 +90,8 @@ def main():
     make, tally, refilled, rng = called.make, Tally(), 0, random.Random(SEED)
 
     def try_all(name, g, best):
-        tally.kind(*kinds.of_galley(g), *(kinds.of_list(g, best) if best else ()), *kinds.of_weighing(g, best, weighed(g)))
+        tally.kind(*kinds.of_galley(g), *((*kinds.of_list(g, best), *guess.of_limit(g, best)) if best else ()),
+                   *kinds.of_weighing(g, best, weighed(g)))
         forecast = called.forecast(galley.write(g))
         tally.same(f'forecast of {name}', forecast, beforehand.forecast(('galley', g)))
         tally.same(f'{name} weighs no more than was told', weighed(g) <= forecast[-1], True)
@@ -103,7 +113,7 @@ def main():
             try_all(f'galley {number} with lastMin 0', cases.respec(g, lastmin=0), best)
     for number, g in enumerate([*sample.galleys(SEED + 1, LARGER, 40, 8), *sample.galleys(SEED + 10, LARGER, 20, 5, 5)]):
         try_all(f'larger galley {number}', g, search.best_by_table(g))
-    for name, g, best in long(LONG, LONG // 4):
+    for name, g, best in (*long(LONG, LONG // 4), *dear(DEAR, DEAR // 2)):
         try_all(name, g, best)
     for name, g, best in fine(FINE, TABLED_FINE):
         try_all(name, g, best)
@@ -125,7 +135,7 @@ def main():
             tally.same(f'broken galley {number}', make(broken, work, pages), (read, 0, work, pages))
             tally.same(f'forecast of broken galley {number}', called.forecast(broken), beforehand.forecast(read))
     tally.enough((9, 10, 11, 'sides 1', 'sides 2', 'refused galley'), 20)
-    tally.enough((*kinds.OF_GALLEYS, *kinds.OF_LISTS, *kinds.OF_CHOICES, *kinds.OF_WEIGHING), 20)
+    tally.enough((*kinds.OF_GALLEYS, *kinds.OF_LISTS, *kinds.OF_CHOICES, *kinds.OF_WEIGHING, *guess.KINDS), 20)
     tally.same('windows that empty and refill', refilled >= 1_000, True)
     print('makings by answer:', dict(sorted(tally.kinds.items(), key=str)), f'and {refilled} windows that empty and refill')
     return tally.end()
