@@ -3,7 +3,7 @@ use Prim.Native.Nat.{ℕ, _+_, _≤_, _<_}
 use native.Mathlib.Decide.{decLt}
 use native.Mathlib.Nat.{le-refl}
 use native.Mathlib.Omega.{arith}
-use mathlib.Core.Path.{_≡_, refl, sym, _∙_, ap}
+use mathlib.Core.Path.{_≡_, refl, _∙_, ap}
 use mathlib.Core.Bool.{Bool, true, false}
 use mathlib.Core.List.{List}
 use lib.ListN.{length}
@@ -12,7 +12,7 @@ use Rattle.galley.specs.declared.Galley.{Galley}
 use Rattle.galley.specs.Model.{sidesIn, modelOf}
 use Rattle.places.specs.declared.Origin.{Origin}
 use Rattle.places.specs.declared.Entry.{Entry}
-use Rattle.places.specs.declared.Entry.the-variants.{Unreached, Least}
+use Rattle.places.specs.declared.Entry.the-variants.{Unreached}
 use Rattle.places.specs.Address.{area}
 use Rattle.places.specs.Entry.{boundless, cleared}
 use Rattle.places.specs.laws.Address.{area-needed}
@@ -21,7 +21,6 @@ use Rattle.candidates.specs.laws.Columns.{few-floats, columns-in}
 use Rattle.filling.specs.Fill.{tall, filled}
 use Rattle.filling.specs.Next.{Fillable}
 use Rattle.filling.specs.laws.Fill.{length-filled}
-use Rattle.walk.specs.Trace.{entryOf}
 use Rattle.walk.specs.Traceable.{isReached, WorkArea, fullPlace, lastStop, Visits}
 use Rattle.walk.specs.laws.Walk.{columns-in-some}
 use Rattle.needs.specs.Needs.{workNeeded}
