@@ -7,10 +7,11 @@
 // is the same, since a search that finds nothing within its limit is made again without one.
 ghost use mathlib.Core.Bool.{true};
 ghost use mathlib.Core.Path.{_≡_};
-ghost use Prim.Native.Nat.{_≤_, _<_};
+ghost use Prim.Native.Nat.{_-_, _≤_, _<_};
 ghost use Rattle.galley.specs.Block.{Has};
 ghost use Rattle.galley.specs.Range.{SpecRanged};
 ghost use Rattle.galley.specs.Sound.{SoundStream};
+ghost use Rattle.rules.specs.Parts.{allPlaced};
 ghost use Rattle.candidates.specs.Read.{Placed};
 ghost use Rattle.estimate.specs.Greedy.{Setting, Goes, Begins, Counted};
 use blocks::Counts;
@@ -37,7 +38,9 @@ pub struct Greedy {
 }
 
 // What is left of the room once so much is taken; nothing where that is more than there is.
-fn left_of(room: u32, taken: u32) -> u32 {
+fn left_of(room: u32, taken: u32) -> u32
+    ensures { λ r. ⌜ r ≡ room - taken ⌝ }
+{
     if taken < room {
         return room - taken;
     }
@@ -47,6 +50,7 @@ fn left_of(room: u32, taken: u32) -> u32 {
 // The room left after block k, with the space after it, or what floats are set apart by where that is more.
 fn room_after(s: &[u8], stream: Stream, k: usize, room: u32, apart: u32) -> u32
     requires { ⌜ Has (now s) stream k 14 ⌝ }
+    ensures { λ r. ⌜ r ≤ room ⌝ }
 {
     let least = blocks::field(s, stream, k, galley::LEAST);
     let room = left_of(room, blocks::field(s, stream, k, galley::HEIGHT));
@@ -56,25 +60,27 @@ fn room_after(s: &[u8], stream: Stream, k: usize, room: u32, apart: u32) -> u32
     left_of(room, least)
 }
 
-// Whether there is a next block of a stream that fits the room. A page with all its room left takes every block, however high, so that
-// the list goes on.
-fn block_fits(s: &[u8], stream: Stream, placed: usize, room: u32, htmax: u32) -> bool
+// Whether there is a next block of a stream that fits the present page. A page with all its room left takes every block, however high, so
+// that the list goes on.
+fn block_fits(s: &[u8], g: Galley, stream: Stream, placed: usize, pages: Greedy) -> bool
     requires { ⌜ SoundStream (now s) stream ⌝ }
     ensures { λ r. ⌜ (r ≡ true → placed < stream .count) ⌝ }
 {
     if stream.count <= placed {
         return false;
     }
-    (blocks::field(s, stream, placed + 1, galley::HEIGHT) <= room) | (room == htmax)
+    let height = blocks::field(s, stream, placed + 1, galley::HEIGHT);
+    (height <= pages.room) | (pages.room == g.spec.htmax)
 }
 
 // Whether the next float of a stream is cited by one of the lines placed, and fits.
-fn float_fits(s: &[u8], floats: Stream, placed: usize, lines: usize, room: u32, htmax: u32) -> bool
+fn float_fits(s: &[u8], g: Galley, floats: Stream, placed: usize, pages: Greedy) -> bool
     requires { ⌜ SoundStream (now s) floats ⌝ }
     ensures { λ r. ⌜ (r ≡ true → placed < floats .count) ⌝ }
 {
-    if block_fits(s, floats, placed, room, htmax) {
-        return galley::word::size(blocks::field(s, floats, placed + 1, galley::CITE)) <= lines;
+    if block_fits(s, g, floats, placed, pages) {
+        let line = blocks::field(s, floats, placed + 1, galley::CITE);
+        return galley::word::size(line) <= pages.lines;
     }
     false
 }
@@ -118,31 +124,17 @@ fn step(s: &[u8], g: Galley, mut pages: Greedy) -> Greedy
     requires { ⌜ Setting (now s) g pages ⌝ }
     ensures { λ r. ⌜ Goes g pages r ⌝ }
 {
-    if float_fits(
-        s,
-        g.figures,
-        pages.figures,
-        pages.lines,
-        pages.room,
-        g.spec.htmax,
-    ) {
+    if float_fits(s, g, g.figures, pages.figures, pages) {
         pages.figures += 1;
         pages.room = room_after(s, g.figures, pages.figures, pages.room, g.spec.smin);
         return pages;
     }
-    if float_fits(
-        s,
-        g.tables,
-        pages.tables,
-        pages.lines,
-        pages.room,
-        g.spec.htmax,
-    ) {
+    if float_fits(s, g, g.tables, pages.tables, pages) {
         pages.tables += 1;
         pages.room = room_after(s, g.tables, pages.tables, pages.room, g.spec.smin);
         return pages;
     }
-    if block_fits(s, g.text, pages.lines, pages.room, g.spec.htmax) {
+    if block_fits(s, g, g.text, pages.lines, pages) {
         pages.lines += 1;
         pages.room = room_after(s, g.text, pages.lines, pages.room, 0);
         return pages;
@@ -151,7 +143,9 @@ fn step(s: &[u8], g: Galley, mut pages: Greedy) -> Greedy
 }
 
 // Whether nothing is left to place.
-fn is_whole(g: Galley, pages: Greedy) -> bool {
+fn is_whole(g: Galley, pages: Greedy) -> bool
+    ensures { λ r. ⌜ r ≡ allPlaced g (record { lines = pages .lines; figures = pages .figures; tables = pages .tables }) ⌝ }
+{
     (pages.lines == g.text.count)
         & ((pages.figures == g.figures.count) & (pages.tables == g.tables.count))
 }

@@ -19,7 +19,7 @@ field-requires c κs =
     record { within = c .before .before .before .pre .within; low = omega arith; high = omega (arith, next c); field = omega arith }
 
 returns : tie.Need-returns
-returns c = λ e. next (c .before .before)
+returns c = λ e. next (c .before .before .before)
 
 returns-2 : tie.Need-returns-2
 returns-2 c = λ e. absurd (true≢false (sym e))
