@@ -8,7 +8,11 @@ use Rattle.galley.specs.declared.Galley.{Galley}
 use Rattle.places.specs.declared.Place.{Place}
 use Rattle.places.specs.declared.Entry.the-variants.{Unreached}
 use Rattle.places.specs.Table.{tableOf}
+use Rattle.places.specs.Address.{Small, Stands}
+use Rattle.candidates.specs.Cells.{ColumnRoom}
 use Rattle.candidates.specs.Read.{tableIn}
+use Rattle.candidates.specs.laws.Columns.{columns-few}
+use Rattle.candidates.specs.laws.Read.{stands-in}
 use Rattle.candidates.specs.Look.{Quiet, Missed}
 
 -- One side more is not reached.
@@ -37,3 +41,13 @@ quiet-back {g} {w} {j} {n} {a} {to} quiet missed = record { none = λ b c l m oc
     go : (b c : ℕ) → a - 1 ≤ b → b < to → c < n → Dec (b < a) → tableIn g w b j c ≡ Unreached
     go b c l m occurs (yes h) = let e : b ≡ a - 1 = omega arith in rw e (missed c occurs)
     go b c l m occurs (no h) = quiet .none b c (omega arith) m occurs
+
+-- A line of a column that has room is one of its places, and stands there on every side that occurs.
+module _ {g : Galley} {w : List ℕ} {j : ℕ} (room : ColumnRoom g w j) (a : ℕ) (line : a ≤ g .text .count) where
+  pub room-stands : (c : ℕ) → c < g .spec .sides → Stands w (g .text .count + 1) (record { line = a; column = j }) c
+  room-stands c occurs =
+      stands-in g w a j c (room .wide .few) (room .wide .floats) line (room .wide .within) (omega (arith, room .two)) (room .room)
+
+  pub room-small : Small a j
+  room-small =
+      record { line = omega (arith, room .wide .few); column = omega (arith, room .wide .within, columns-few g (room .wide .floats)) }

@@ -2,8 +2,7 @@
 use Prim.Native.Nat.{_+_, _-_, _≤_}
 use native.Mathlib.Omega.{arith}
 use Rattle.candidates.specs.Look.{Quiet}
-use Rattle.candidates.specs.laws.Read.{stands-in}
-use Rattle.candidates.specs.laws.Look.{quiet-next}
+use Rattle.candidates.specs.laws.Look.{quiet-next, room-small, room-stands}
 use borrow.Author.Needs.{needs}
 use Rattle.candidates.proofs.look.first_line.Statement.{statement}
 use Rattle.candidates.proofs.look.first_line.Tie as tie
@@ -18,21 +17,13 @@ loop-holds : tie.Need-loop-holds Inv-loop μ-loop
 loop-holds c = (omega arith, record { none = λ b d l m. absurd (omega arith) })
 
 place-of-requires : tie.Need-place-of-requires Inv-loop μ-loop
-place-of-requires c κs =
-    let start = c .before .before .before .before in
-    let inside =
-    stands-in (start .args .g) (start .args .work .now) (c .before .before .loop .a) (start .args .column) 0 (start .pre .wide .few) (start .pre .wide .floats)
-    (omega (arith, c .if1 .taken)) (start .pre .wide .within) (omega arith) (start .pre .room) .inside in
-    record { line = omega (arith, inside .row, inside .high); column = inside .wide }
+place-of-requires c κs = room-small (c .before .before .before .before .pre) _ (omega (arith, c .if1 .taken))
 
 reached-requires : tie.Need-reached-requires Inv-loop μ-loop
 reached-requires c κs =
     let here = c .before .before in
-    let start = here .before .before .before .before .before in
     rw (here .place-of .ensures)
-    (λ d l.
-    stands-in (start .args .g) (start .args .work .now) (here .before .before .before .loop .a) (start .args .column) d (start .pre .wide .few)
-    (start .pre .wide .floats) (omega (arith, here .before .if1 .taken)) (start .pre .wide .within) (omega (arith, start .pre .two)) (start .pre .room))
+    (room-stands (here .before .before .before .before .before .pre) _ (omega (arith, here .before .if1 .taken)))
 
 returns : tie.Need-returns Inv-loop μ-loop
 returns c =
