@@ -1,5 +1,6 @@
 -- Which of two starts of a page is better: the less dear, then the later line, then the later column (document 01, "Making").
-use Prim.Native.Nat.{ℕ, _+_}
+use Prim.Native.Nat.{ℕ, _+_, _<_}
+use mathlib.Core.Path.{_≡_}
 use mathlib.Core.Bool.{Bool, true, not, _&&_, _||_}
 use mathlib.Core.List.{List}
 use lib.Dec.{eqb, leb, ltb}
@@ -26,6 +27,10 @@ wins y r (Least x s) = beats y r x s
 unfoldable pub chosen : Entry → Entry → Entry
 chosen e Unreached = e
 chosen e (Least y r) = pick (wins y r e) (Least y r) e
+
+-- Where both entries are reached, the second starts after a later line.
+abbrev pub Later : Entry → Entry → Type 0
+Later e f = (x y : ℕ) (s r : Place) → e ≡ Least x s → f ≡ Least y r → s .line < r .line
 
 -- The entry of place (a, b) as a start there, with the white of the page in its cost.
 unfoldable pub startAt : Entry → ℕ → ℕ → ℕ → Entry

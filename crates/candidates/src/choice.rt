@@ -2,7 +2,7 @@
 ghost use mathlib.Core.Path.{_≡_};
 ghost use Rattle.places.specs.Address.{address, Stands};
 ghost use Rattle.places.specs.Best.{Affordable};
-ghost use Rattle.candidates.specs.Better.{noLater, beats, wins, chosen, startAt, taken};
+ghost use Rattle.candidates.specs.Better.{noLater, beats, wins, chosen, Later, startAt, taken};
 use places::Entry;
 use places::Place;
 
@@ -41,6 +41,23 @@ pub fn choose(held: Entry, other: Entry) -> Entry
         return Entry::Least(y, r);
     }
     held
+}
+
+// The same where the second start, if there are two, is after a later line: of equal costs it is the better, and cost alone decides.
+pub fn choose_later(held: Entry, other: Entry) -> Entry
+    requires { ⌜ Later held other ⌝ }
+    ensures { λ r. ⌜ r ≡ chosen held other ⌝ }
+{
+    let Entry::Least(y, r) = other else {
+        return held;
+    };
+    let Entry::Least(x, s) = held else {
+        return Entry::Least(y, r);
+    };
+    if places::less(x, y) {
+        return Entry::Least(x, s);
+    }
+    Entry::Least(y, r)
 }
 
 // The entry of a place as a start there, with the white of the page in its cost. A place that was never reached offers no start for

@@ -22,5 +22,5 @@ pub fn best_front(
     let full = window::queue::front(words, parts.full, column);
     let rest = window::queue::front(words, parts.rest, column);
     let reached = window::slide::reached(sums, LOOSE, load.loose, i);
-    crate::choice::choose(full, window::parts::whitened(rest, load.htmax, reached))
+    crate::choice::choose_later(full, window::parts::whitened(rest, load.htmax, reached))
 }

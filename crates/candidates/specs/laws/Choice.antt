@@ -1,11 +1,11 @@
 -- The better of the best of each part is the best of the whole.
-use Prim.Native.Nat.{ℕ}
+use Prim.Native.Nat.{ℕ, _<_}
 use native.Mathlib.Omega.{arith}
 use mathlib.Core.Path.{_≡_, refl, sym}
 use mathlib.Core.Logic.{_⊎_, inl, inr, ⊎-swap}
 use mathlib.Core.Bool.{Bool, true, false, not, _&&_, _||_}
 use lib.Dec.{ltb, leb, eqb}
-use borrow.Author.Tests.{eqb-true, eqb-false, ltb-true, ltb-false, leb-true, leb-false}
+use borrow.Author.Tests.{eqb-true, eqb-false, ltb-true, ltb-false, leb-true, leb-false, lt-ltb, le-ltb}
 use Rattle.model.specs.Gather.{pick}
 use Rattle.model.specs.laws.Gather.{and-left, and-right, or-cases}
 use Rattle.places.specs.declared.Place.{Place}
@@ -48,6 +48,20 @@ no-later-false r s t =
         let l = ltb-false (s .line) (r .line) p in
         let n = eqb-false (s .line) (r .line) q in
         inl (omega arith)
+
+-- After a later line the second start is the better unless it is dearer.
+module _ (x y : ℕ) (s r : Place) (later : s .line < r .line) where
+  pub later-left-behind : ltb x y ≡ true → chosen (Least x s) (Least y r) ≡ Least x s
+  unfolding chosen wins
+  later-left-behind t = rw (t, le-ltb y x (omega (arith, ltb-true x y t))) refl
+
+  pub later-taken : ltb x y ≡ false → chosen (Least x s) (Least y r) ≡ Least y r
+  unfolding chosen wins
+  later-taken t = rw (t, lt-ltb (s .line) (r .line) later) (go (ltb y x))
+    where
+      go : (b : Bool) → pick (b || true) (Least y r) (Least x s) ≡ Least y r
+      go true = refl
+      go false = refl
 
 module _ {C D E : ℕ → ℕ → ℕ → Type 0} (left : (a b x : ℕ) → C a b x → E a b x) (right : (a b x : ℕ) → D a b x → E a b x)
     (split : (a b x : ℕ) → E a b x → C a b x ⊎ D a b x) where

@@ -13,12 +13,12 @@ use Rattle.places.specs.Best.{Best}
 use Rattle.window.specs.declared.slide.Load.{Load}
 use Rattle.window.specs.declared.slide.Window.{Window}
 use Rattle.window.specs.declared.parts.Parts.{Parts}
-use Rattle.window.specs.Slide.{whiteOf, Slidable, Open}
-use Rattle.window.specs.Queue.{addedOf, Lines, Payable}
-use Rattle.window.specs.Parts.{restFrom, Both, Fresh}
+use Rattle.window.specs.Slide.{reachedOf, whiteOf, Slidable, Open}
+use Rattle.window.specs.Queue.{addedOf, frontOf, Lines, Payable}
+use Rattle.window.specs.Parts.{restFrom, whitenedOf, Both, Fresh}
 use Rattle.window.specs.laws.Sums.{sums-small}
 use Rattle.window.specs.laws.Slide.{reaches-readable}
-use Rattle.window.specs.laws.Parts.{later-left, later-least}
+use Rattle.window.specs.laws.Parts.{later-left, later-right, later-least}
 use Rattle.window.specs.laws.White.{split-within, full-best, rest-best, rest-whitenable}
 use Rattle.candidates.specs.Fronts.{bestFront, Fronted}
 use Rattle.candidates.specs.Read.{columnsIn}
@@ -30,16 +30,23 @@ module _ {bytes : List ℕ} {g : Galley} {w : List ℕ} {j : ℕ} (lent : Lent b
     (scratch : Scratch words) (load : Load) (order : load .htmin ≤ load .htmax) (i : ℕ) (line : i ≤ g .text .count) (window : Window)
     (opened : Open (textOf bytes (g .text)) load window i) (col : ℕ → Entry) (base b : ℕ) (parts : Parts)
     (held : Both col sums words base parts window) (fresh : Fresh words parts window) where
-  -- The better of the two fronts is the best line of the window.
+  -- The front of the full pages is the best line before the split,
+  front-full : Best (Lines col (whiteOf (textOf bytes (g .text)) load i) (window .low) (window .split) b) (frontOf words (parts .full) b)
+  front-full =
+      full-best (textOf bytes (g .text)) load window i opened order (g .text .count) sums (summed .rows) line col words base b parts held fresh
+
+  -- that of the others, with its white, the best from there on,
+  front-rest : Best (Lines col (whiteOf (textOf bytes (g .text)) load i) (restFrom window) (window .high) b)
+      (whitenedOf (frontOf words (parts .rest) b) (load .htmax) (reachedOf sums 1 (load .loose) i))
+  front-rest =
+      rest-best (textOf bytes (g .text)) load window i opened order (g .text .count) sums (summed .rows) line col words base b parts held fresh
+
+  -- and the better of the two the best line of the window.
   pub fronts-best :
       Best (Lines col (whiteOf (textOf bytes (g .text)) load i) (window .low) (window .high) b) (bestFront sums words parts b load i)
   fronts-best =
       best-chosen (λ a b′ x c. (c .0, omega (arith, c .1, within), c .2, c .3))
-      (λ a b′ x c. (omega (arith, c .0, later-left (window .low) (window .split)), c .1, c .2, c .3)) part _ _
-      (full-best (textOf bytes (g .text)) load window i opened order (g .text .count) sums (summed .rows) line col words base b parts held
-      fresh)
-      (rest-best (textOf bytes (g .text)) load window i opened order (g .text .count) sums (summed .rows) line col words base b parts held
-      fresh)
+      (λ a b′ x c. (omega (arith, c .0, later-left (window .low) (window .split)), c .1, c .2, c .3)) part _ _ front-full front-rest
     where
       within : window .split ≤ window .high
       within = split-within (textOf bytes (g .text)) load window i opened order (g .text .count) sums (summed .rows) line
@@ -78,6 +85,10 @@ module _ {bytes : List ℕ} {g : Galley} {w : List ℕ} {j : ℕ} (lent : Lent b
             rest-whitenable (textOf bytes (g .text)) load window i opened order (g .text .count) sums (summed .rows) line col words base b
             parts held fresh (λ a l. costs a (omega (arith, opened .ends .high)))
             (λ a l. small a (omega (arith, opened .ends .high)));
+        order = λ x y s r e f.
+            let first = front-full .may x s e in
+            let second = front-rest .may y r f in
+            omega (arith, first .1, second .0, later-right (window .low) (window .split));
       }
     where
       small : (a : ℕ) → a < i → addedOf sums true a ≤ 1000000000
