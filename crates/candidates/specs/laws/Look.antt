@@ -4,6 +4,7 @@ use native.Mathlib.Decide.{decLt}
 use native.Mathlib.Omega.{arith}
 use mathlib.Core.Path.{_≡_}
 use mathlib.Core.List.{List}
+use lib.ListN.{getD}
 use Rattle.galley.specs.declared.Galley.{Galley}
 use Rattle.places.specs.declared.Place.{Place}
 use Rattle.places.specs.declared.Entry.the-variants.{Unreached}
@@ -37,3 +38,12 @@ quiet-back {g} {w} {j} {n} {a} {to} quiet missed = record { none = λ b c l m oc
     go : (b c : ℕ) → a - 1 ≤ b → b < to → c < n → Dec (b < a) → tableIn g w b j c ≡ Unreached
     go b c l m occurs (yes h) = let e : b ≡ a - 1 = omega arith in rw e (missed c occurs)
     go b c l m occurs (no h) = quiet .none b c (omega arith) m occurs
+
+-- One word more is not the column.
+pub absent-next : (seen : List ℕ) (j at : ℕ) → ((k : ℕ) → k < at → getD seen k 0 ≡ j → ⊥) → (getD seen at 0 ≡ j → ⊥)
+    → (k : ℕ) → k < at + 1 → getD seen k 0 ≡ j → ⊥
+absent-next seen j at none here k l same = go (decLt k at)
+  where
+    go : Dec (k < at) → ⊥
+    go (yes h) = none k h same
+    go (no h) = let e : k ≡ at = omega arith in here (rw e at same)
