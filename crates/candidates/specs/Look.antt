@@ -2,6 +2,7 @@
 use Prim.Native.Nat.{ℕ, _+_, _≤_, _<_}
 use mathlib.Core.Path.{_≡_}
 use mathlib.Core.List.{List}
+use lib.ListN.{length, getD}
 use Rattle.galley.specs.declared.Galley.{Galley}
 use Rattle.blocks.specs.declared.Counts.{Counts}
 use Rattle.places.specs.declared.Place.{Place}
@@ -23,6 +24,18 @@ pub record Found (g : Galley) (w : List ℕ) (j from r : ℕ) : Type 0 where
   pub since : from ≤ g .text .count + 1 → from ≤ r
   pub within : r ≤ g .text .count + 1
   pub quiet : Quiet g w j (g .spec .sides) from r
+
+-- No word of `seen` is the number of column j.
+abbrev pub Absent : List ℕ → ℕ → Type 0
+Absent seen j = (k : ℕ) → k < length seen → getD seen k 0 ≡ j → ⊥
+
+-- Where column j is not among `seen`, none of its lines from `from` on is reached on a side that occurs.
+abbrev pub Unseen : Galley → List ℕ → List ℕ → ℕ → ℕ → Type 0
+Unseen g w seen j from = Absent seen j → Quiet g w j (g .spec .sides) from (g .text .count + 1)
+
+-- So it is with every column from `since` on and before j, for the lines from `line` on.
+pub record Recalled (g : Galley) (w seen : List ℕ) (line since j : ℕ) : Type 0 where
+  pub none : (b : ℕ) → since ≤ b → b < j → Unseen g w seen b line
 
 -- r is no earlier than `from` and, where that is a line, a line too; and no line after r is reached on a side that occurs.
 pub record LastFound (g : Galley) (w : List ℕ) (j from r : ℕ) : Type 0 where

@@ -6,5 +6,6 @@ pub mod Skip
 -- What is known of the work area on the way, and what the functions ask for.
 pub mod Filled
 pub mod Next
+pub mod Recall
 pub mod Run
 pub mod laws

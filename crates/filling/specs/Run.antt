@@ -1,5 +1,5 @@
 -- What holds at each turn of the filling loops.
-use Prim.Native.Nat.{ℕ, suc, _+_, _-_, _*_, _≤_}
+use Prim.Native.Nat.{ℕ, suc, _+_, _-_, _*_, _≤_, _<_}
 use mathlib.Core.Path.{_≡_}
 use mathlib.Core.List.{List}
 use lib.ListN.{length}
@@ -9,8 +9,10 @@ use Rattle.rules.specs.Waiting.{Walking}
 use Rattle.window.specs.declared.slide.Window.{Window}
 use Rattle.window.specs.Slide.{Ends}
 use Rattle.candidates.specs.Read.{tableIn, columnsIn, countsAt}
+use Rattle.candidates.specs.Look.{Recalled}
 use Rattle.candidates.specs.Cells.{Clean}
 use Rattle.filling.specs.declared.side.Task.{Task}
+use Rattle.filling.specs.declared.recall.Recall.{Recall}
 use Rattle.filling.specs.declared.side.End.{End}
 use Rattle.filling.specs.declared.side.Windows.{Windows}
 use Rattle.filling.specs.Fill.{fillSides, fillColumn, fillColumns, filled}
@@ -47,11 +49,14 @@ pub record LastRun (bytes : List ℕ) (task : Task) (w₀ w sums words₀ words 
   pub begun : task .origin .place .line ≤ last
   pub inside : last ≤ task .galley .text .count
 
--- The columns before j are filled.
-pub record ColumnsRun (bytes : List ℕ) (task : Task) (w₀ w words₀ words : List ℕ) (j : ℕ) : Type 0 where
+-- The columns before j are filled, and those that are reached are in the ring, from some column on.
+pub record ColumnsRun (bytes : List ℕ) (task : Task) (w₀ w words₀ words seen : List ℕ) (recall : Recall) (j : ℕ) : Type 0 where
   pub within : j ≤ columnsIn (task .galley)
   pub sized : length w ≡ length w₀
   pub wordsSized : length words ≡ length words₀
+  pub ring : length seen ≡ 48
   pub entries : Filled (modelOf bytes (task .galley)) (task .origin) (tableIn (task .galley) w) 0 j
   pub run : fillColumns (modelOf bytes (task .galley)) (task .origin) (columnsIn (task .galley) - j) j w
       ≡ filled (modelOf bytes (task .galley)) (task .origin) w₀
+  pub recalled : Recalled (task .galley) w seen (task .origin .place .line) (recall .since) j
+  pub head : recall .head < length seen

@@ -13,4 +13,5 @@ pub mod Side
 pub mod Sides
 pub mod Skip
 pub mod Column
+pub mod Recall
 pub mod Columns

@@ -6,7 +6,9 @@ ghost use Rattle.galley.specs.Sound.{SoundStream};
 ghost use Rattle.candidates.specs.Cells.{ColumnRoom};
 ghost use Rattle.filling.specs.Fill.{fillColumn, filled};
 ghost use Rattle.filling.specs.Skip.{skipSides, skipColumn};
-ghost use Rattle.filling.specs.Next.{endFrom, Begun, Onward, LastNext, ColumnNext, TableNext, Fillable};
+ghost use Rattle.filling.specs.Next.{endFrom, Begun, Onward, LastNext, TableNext, Fillable};
+ghost use Rattle.filling.specs.Recall.{ColumnTurn, ColumnFilled};
+use crate::recall::Recall;
 use crate::side::End;
 use crate::side::Task;
 use crate::side::Windows;
@@ -17,6 +19,7 @@ use places::Entry;
 use places::Origin;
 use pricing::Floats;
 use rules::waiting::Waiting;
+use starts::sweep::Begin;
 
 // Where a page ends, from what waits there and what the floats placed say of it. Its sides are told apart later.
 fn end_at(s: &[u8], g: Galley, at: Counts, column: usize, floats: Floats, waiting: Waiting) -> End
@@ -137,22 +140,40 @@ fn first_start(task: Task, work: &[u32], j: usize) -> usize
 }
 
 // Column j: first the starts in the columns before it, then those in the column itself. Where there is neither it is left unreached.
-fn fill_column(s: &[u8], task: Task, work: &mut [u32], sums: &[u32], words: &mut [u32], j: usize)
-    requires { ⌜ ColumnNext (now s) task (now work) (now sums) (now words) j ⌝ }
-    ensures { λ _. ⌜ now (work .exit) ≡ fillColumn (modelOf (now (s .entry)) (task .galley)) (task .origin) j (suc (task .galley .text .count)) 0 (now (work .entry)) ⌝ }
+// The columns that are reached are kept in the ring `seen`; those before the origin's are never asked for, so that none of them is.
+fn fill_column(
+    s: &[u8],
+    task: Task,
+    work: &mut [u32],
+    sums: &[u32],
+    words: &mut [u32],
+    j: usize,
+    seen: &mut [u32],
+    recall: Recall,
+) -> Recall
+    requires { ⌜ ColumnTurn (now s) task (now work) (now sums) (now words) (now seen) j recall ⌝ }
+    ensures { λ r. ⌜ ColumnFilled (now (s .entry)) task (now (work .entry)) (now (work .exit)) (now (seen .exit)) j r ⌝ }
 {
     if j < task.origin.place.column as usize {
         skip_column(task.galley, work, j);
-        return;
+        return Recall {
+            since: j + 1,
+            head: recall.head,
+        };
     }
     let line = task.origin.place.line as usize;
     let origin = candidates::read::counts_at(task.galley, line, task.origin.place.column as usize);
-    starts::sweep::sweep_column(s, task.galley, work, sums, words, j, origin);
+    let begin = Begin {
+        origin,
+        since: recall.since,
+    };
+    starts::sweep::sweep_column(s, task.galley, work, sums, words, seen, j, begin);
     let first = first_start(task, work, j);
     if task.galley.text.count < first {
-        return;
+        return recall;
     }
     last_sweep(s, task, work, sums, words, j, first);
+    crate::recall::note(task.galley, work, seen, recall, j, line)
 }
 
 // All columns.
@@ -161,9 +182,12 @@ fn fill_columns(s: &[u8], task: Task, work: &mut [u32], sums: &[u32], words: &mu
     ensures { λ _. ⌜ now (work .exit) ≡ filled (modelOf (now (s .entry)) (task .galley)) (task .origin) (now (work .entry)) ⌝ }
 {
     let columns = candidates::read::columns_of(task.galley);
+    // The last columns that are reached. Where more are, those before them are looked at each time.
+    let mut seen = [0u32; 48];
+    let mut recall = Recall { since: 0, head: 0 };
     let mut j = 0;
     while j < columns {
-        fill_column(s, task, work, sums, words, j);
+        recall = fill_column(s, task, work, sums, words, j, &mut seen, recall);
         j += 1;
     }
 }

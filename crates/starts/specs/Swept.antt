@@ -9,7 +9,6 @@ use Rattle.model.specs.Rules.{floor}
 use Rattle.galley.specs.declared.Galley.{Galley}
 use Rattle.galley.specs.Model.{textOf, floatsOf, modelOf}
 use Rattle.rules.specs.Sums.{whiteAt}
-use Rattle.blocks.specs.declared.Counts.{Counts}
 use Rattle.blocks.specs.declared.heights.Heights.{Heights}
 use Rattle.blocks.specs.Heights.{Stacked}
 use Rattle.window.specs.declared.slide.Window.{Window}
@@ -19,25 +18,28 @@ use Rattle.window.specs.Queue.{linesOf}
 use Rattle.window.specs.Parts.{Both, Rises}
 use Rattle.window.specs.Windows.{Kept}
 use Rattle.starts.specs.declared.sweep.Pass.{Pass}
+use Rattle.starts.specs.declared.sweep.Begin.{Begin}
 use Rattle.starts.specs.declared.sweep.Row.{Row}
 use Rattle.candidates.specs.Read.{sideOf, countsAt, rowOf}
-use Rattle.candidates.specs.Look.{Quiet, LastFound, PastOrigin}
+use Rattle.candidates.specs.Look.{Quiet, LastFound, PastOrigin, Recalled}
 use Rattle.starts.specs.Bound.{Bounded}
 use Rattle.starts.specs.Sweep.{Lent, Scratch, Summed, passLoad, Passing, Known, Swept, sweepEnd, Stopped, rowTop}
 use Rattle.candidates.specs.Cells.{number, Scratched, Clean}
 
 -- A column that no start is known of: the starts in the columns before it are to be known.
-pub record ColumnSweep (bytes : List ℕ) (g : Galley) (w sums words : List ℕ) (j : ℕ) (origin : Counts) : Type 0 where
+pub record ColumnSweep (bytes : List ℕ) (g : Galley) (w sums words seen : List ℕ) (j : ℕ) (begin : Begin) : Type 0 where
   pub lent : Lent bytes g w j
-  pub past : PastOrigin g w j origin
+  pub past : PastOrigin g w j (begin .origin)
+  pub recalled : Recalled g w seen (begin .origin .lines) (begin .since) j
   pub summed : Summed bytes g sums
   pub scratch : Scratch words
 
 -- The starts in rows from that of b figures on are known.
-pub record ColumnSweepRun (bytes : List ℕ) (g : Galley) (w₀ w words₀ words : List ℕ) (j : ℕ) (origin : Counts) (heights : Heights) (b : ℕ)
+pub record ColumnSweepRun (bytes : List ℕ) (g : Galley) (w₀ w words₀ words seen : List ℕ) (j : ℕ) (begin : Begin) (heights : Heights) (b : ℕ)
     : Type 0 where
   pub lent : Lent bytes g w j
-  pub past : PastOrigin g w j origin
+  pub past : PastOrigin g w j (begin .origin)
+  pub recalled : Recalled g w seen (begin .origin .lines) (begin .since) j
   pub scratch : Scratch words
   pub within : b ≤ suc (countsAt g 0 j .figures)
   pub sized : length w ≡ length w₀
@@ -53,9 +55,10 @@ pub record ColumnSwept (bytes : List ℕ) (g : Galley) (w v : List ℕ) (j : ℕ
   pub kept : Scratched g j w v
 
 -- A row whose starts are to be known, those in later rows being known.
-pub record RowSweep (bytes : List ℕ) (g : Galley) (w sums words : List ℕ) (row : Row) : Type 0 where
+pub record RowSweep (bytes : List ℕ) (g : Galley) (w sums words seen : List ℕ) (row : Row) : Type 0 where
   pub lent : Lent bytes g w (row .to)
-  pub past : PastOrigin g w (row .to) (row .origin)
+  pub past : PastOrigin g w (row .to) (row .begin .origin)
+  pub recalled : Recalled g w seen (row .begin .origin .lines) (row .begin .since) (row .to)
   pub summed : Summed bytes g sums
   pub scratch : Scratch words
   pub end : row .end ≡ countsAt g 0 (row .to)

@@ -29,10 +29,16 @@ pub struct Pass {
     pub last: usize,
 }
 
-// The columns with so many figures, for pages that end in column `to`, where so much is placed: the figures between have these
-// heights. The search begins where `origin` is placed.
-pub struct Row {
+// What is placed where the search begins, and the column from which on all that are reached were seen.
+pub struct Begin {
     pub origin: Counts,
+    pub since: usize,
+}
+
+// The columns with so many figures, for pages that end in column `to`, where so much is placed: the figures between have these
+// heights.
+pub struct Row {
+    pub begin: Begin,
     pub figures: usize,
     pub heights: Heights,
     pub end: Counts,
@@ -226,15 +232,24 @@ fn row_top(row: Row) -> usize
 }
 
 // The best starts in the columns of a row, for every place of the column where the pages end: back to the first whose floats to that
-// column are too tall alone, or to the tables of the origin.
-fn sweep_row(s: &[u8], g: Galley, work: &mut [u32], sums: &[u32], words: &mut [u32], row: Row)
-    requires { ⌜ RowSweep (now s) g (now work) (now sums) (now words) row ⌝ }
+// column are too tall alone, or to the tables of the origin. One that is known not to be reached, since it is not among
+// those `seen`, is not looked at.
+fn sweep_row(
+    s: &[u8],
+    g: Galley,
+    work: &mut [u32],
+    sums: &[u32],
+    words: &mut [u32],
+    seen: &[u32],
+    row: Row,
+)
+    requires { ⌜ RowSweep (now s) g (now work) (now sums) (now words) (now seen) row ⌝ }
     ensures { λ _. ⌜ RowSwept (now (s .entry)) g (now (work .entry)) (now (work .exit)) row ⌝ }
 {
     let row_from = row.figures * (g.tables.count + 1);
     let mut tables = Heights { tight: 0, loose: 0 };
     let mut t = row_top(row);
-    while row.origin.tables < t {
+    while row.begin.origin.tables < t {
         t -= 1;
         tables = blocks::heights::block_before(s, g.tables, tables, t, row.end.tables);
         let both = (row.figures < row.end.figures) & (t < row.end.tables);
@@ -243,7 +258,8 @@ fn sweep_row(s: &[u8], g: Galley, work: &mut [u32], sums: &[u32], words: &mut [u
             return;
         }
         let from = row_from + t;
-        let first = candidates::look::first_line(g, work, from, row.origin.lines);
+        let line = row.begin.origin.lines;
+        let first = candidates::look::first_in(g, work, seen, from, row.begin.since, line);
         let pass = Pass {
             from,
             to: row.to,
@@ -258,17 +274,19 @@ fn sweep_row(s: &[u8], g: Galley, work: &mut [u32], sums: &[u32], words: &mut [u
 }
 
 // The best starts in the columns before j, for every place of column j: row by row, back to the first whose figures to column j are
-// too tall alone, or to the figures of the origin. The search begins where `origin` is placed, and nothing before it is a start.
+// too tall alone, or to the figures of the origin. The search begins where the origin is placed, and nothing before it is a start; nor
+// is anything in a column from `begin.since` on that is not among those `seen`.
 pub fn sweep_column(
     s: &[u8],
     g: Galley,
     work: &mut [u32],
     sums: &[u32],
     words: &mut [u32],
+    seen: &[u32],
     j: usize,
-    origin: Counts,
+    begin: Begin,
 )
-    requires { ⌜ ColumnSweep (now s) g (now work) (now sums) (now words) j origin ⌝ }
+    requires { ⌜ ColumnSweep (now s) g (now work) (now sums) (now words) (now seen) j begin ⌝ }
     ensures { λ _. ⌜ ColumnSwept (now (s .entry)) g (now (work .entry)) (now (work .exit)) j ⌝ }
 {
     candidates::clear::clear_column(g, work, j);
@@ -276,20 +294,20 @@ pub fn sweep_column(
     let least = rules::rules::floor_of(g, false);
     let mut heights = Heights { tight: 0, loose: 0 };
     let mut b = end.figures + 1;
-    while origin.figures < b {
+    while begin.origin.figures < b {
         b -= 1;
         heights = blocks::heights::block_before(s, g.figures, heights, b, end.figures);
         if g.spec.htmax < heights.tight {
             return;
         }
         let row = Row {
-            origin,
+            begin,
             figures: b,
             heights,
             end,
             to: j,
             least,
         };
-        sweep_row(s, g, work, sums, words, row);
+        sweep_row(s, g, work, sums, words, seen, row);
     }
 }

@@ -55,8 +55,8 @@ pub fn no_parts() -> Parts
     Parts { full, rest }
 }
 
-// The later of two lines.
-fn later(a: usize, b: usize) -> usize
+// The later of two lines, or of two columns.
+pub fn later(a: usize, b: usize) -> usize
     ensures { λ r. ⌜ r ≡ later a b ⌝ }
 {
     if a < b {

@@ -4,6 +4,7 @@ use native.Mathlib.Decide.{decLt}
 use native.Mathlib.Omega.{arith}
 use mathlib.Core.Path.{_≡_}
 use mathlib.Core.List.{List}
+use lib.ListN.{getD}
 use Rattle.galley.specs.declared.Galley.{Galley}
 use Rattle.places.specs.declared.Place.{Place}
 use Rattle.places.specs.declared.Entry.the-variants.{Unreached}
@@ -51,3 +52,12 @@ module _ {g : Galley} {w : List ℕ} {j : ℕ} (room : ColumnRoom g w j) (a : �
   pub room-small : Small a j
   room-small =
       record { line = omega (arith, room .wide .few); column = omega (arith, room .wide .within, columns-few g (room .wide .floats)) }
+
+-- One word more is not the column.
+pub absent-next : (seen : List ℕ) (j at : ℕ) → ((k : ℕ) → k < at → getD seen k 0 ≡ j → ⊥) → (getD seen at 0 ≡ j → ⊥)
+    → (k : ℕ) → k < at + 1 → getD seen k 0 ≡ j → ⊥
+absent-next seen j at none here k l same = go (decLt k at)
+  where
+    go : Dec (k < at) → ⊥
+    go (yes h) = none k h same
+    go (no h) = let e : k ≡ at = omega arith in here (rw e at same)

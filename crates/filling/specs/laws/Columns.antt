@@ -9,8 +9,10 @@ use Rattle.places.specs.Columns.{columns, floatSizes}
 use Rattle.candidates.specs.Read.{tableIn, columnsIn}
 use Rattle.candidates.specs.laws.Columns.{columns-in}
 use Rattle.filling.specs.declared.side.Task.{Task}
+use Rattle.filling.specs.declared.recall.Recall.{Recall}
 use Rattle.filling.specs.Fill.{tall, fillColumn, fillColumns, filled}
 use Rattle.filling.specs.Next.{ColumnNext, TableNext}
+use Rattle.filling.specs.Recall.{ColumnTurn, ColumnFilled}
 use Rattle.filling.specs.Run.{ColumnsRun}
 use Rattle.filling.specs.laws.Costs.{lent-filled}
 use Rattle.filling.specs.laws.Fill.{length-column, filled-start, filled-next, filled-to}
@@ -20,20 +22,23 @@ use Rattle.filling.specs.laws.Side.{lent-roomy, lent-wide}
 -- One column after another.
 module _ {bytes : List ℕ} {task : Task} {w₀ sums words₀ : List ℕ} (table : TableNext bytes task w₀ sums words₀) where
   -- At first no column is filled.
-  pub columns-first : ColumnsRun bytes task w₀ w₀ words₀ words₀ 0
+  pub columns-first : (seen : List ℕ) → length seen ≡ 48 → ColumnsRun bytes task w₀ w₀ words₀ words₀ seen (record { since = 0; head = 0 }) 0
   unfolding filled
-  columns-first =
+  columns-first seen ring =
       let g = task .galley in
       let e : columnsIn g - 0 ≡ columns (floatSizes (modelOf bytes g)) = omega (arith, columns-in bytes g) in
       record {
         within = omega arith;
         sized = refl;
         wordsSized = refl;
+        ring = ring;
         entries = filled-start (modelOf bytes g) (dearest-light bytes g (table .fillable .sound)) (task .origin) (tableIn g w₀);
         run = rw e;
+        recalled = record { none = λ b l before absent. absurd (omega arith) };
+        head = omega arith;
       }
 
-  module _ {w words : List ℕ} {j : ℕ} (run : ColumnsRun bytes task w₀ w words₀ words j) where
+  module _ {w words seen : List ℕ} {recall : Recall} {j : ℕ} (run : ColumnsRun bytes task w₀ w words₀ words seen recall j) where
     -- After the last column the table is filled.
     pub columns-done : columnsIn (task .galley) ≤ j → w ≡ filled (modelOf bytes (task .galley)) (task .origin) w₀
     unfolding fillColumns
@@ -43,7 +48,7 @@ module _ {bytes : List ℕ} {task : Task} {w₀ sums words₀ : List ℕ} (table
 
     module _ (some : j < columnsIn (task .galley)) where
       -- The next column can be filled,
-      pub columns-column : ColumnNext bytes task w sums words j
+      columns-column : ColumnNext bytes task w sums words j
       columns-column =
           record {
             next =
@@ -61,12 +66,16 @@ module _ {bytes : List ℕ} {task : Task} {w₀ sums words₀ : List ℕ} (table
             scratch = omega (arith, table .scratch, run .wordsSized);
           }
 
+      pub columns-turn : ColumnTurn bytes task w sums words seen j recall
+      columns-turn = record { column = columns-column; recalled = run .recalled; head = run .head }
+
       -- and is.
-      pub columns-next : (v words′ : List ℕ) → length words′ ≡ length words
-          → v ≡ fillColumn (modelOf bytes (task .galley)) (task .origin) j (suc (task .galley .text .count)) 0 w
-          → ColumnsRun bytes task w₀ v words₀ words′ (j + 1)
+      pub columns-next : (v words′ seen′ : List ℕ) (r : Recall) → length words′ ≡ length words → length seen′ ≡ length seen
+          → ColumnFilled bytes task w v seen′ j r
+          → ColumnsRun bytes task w₀ v words₀ words′ seen′ r (j + 1)
       unfolding fillColumns tall
-      columns-next v words′ sized e =
+      columns-next v words′ seen′ r sized turned done =
+          let e = done .filled in
           let g = task .galley in
           let m = modelOf bytes g in
           let lent = columns-column .next .lent in
@@ -79,6 +88,9 @@ module _ {bytes : List ℕ} {task : Task} {w₀ sums words₀ : List ℕ} (table
             within = omega arith;
             sized = ap length e ∙ length-column m (task .origin) j (suc (g .text .count)) 0 w ∙ run .sized;
             wordsSized = sized ∙ run .wordsSized;
+            ring = turned ∙ run .ring;
             entries = rw (s, e) next;
             run = rw (s, e) (rw rest at (run .run));
+            recalled = done .recalled;
+            head = done .head;
           }

@@ -74,6 +74,28 @@ module _ (g : Galley) (from : Origin) (i q c : ℕ) (w : Words) (room : Roomy g 
   side-other a b d h k differ =
       table-other (g .stream 0 .size + 1) i q c a b d w (newEntry g from (held g w) i q c) (omega arith) (omega arith) side k differ
 
+-- Filling a place leaves the other columns as they were,
+module _ (g : Galley) (from : Origin) (q : ℕ) (wide : q < columns (floatSizes g)) (a b d : ℕ) (line : a ≤ g .stream 0 .size) (side : d ≤ 1)
+    (differ : q ≡ b → ⊥) where
+  sides-other : (i : ℕ) → i ≤ g .stream 0 .size → (n : ℕ) → n ≤ 2 → (w : Words) → Roomy g w
+      → held g (fillSides g from i q n w) a b d ≡ held g w a b d
+  unfolding fillSides
+  sides-other i high zero few w room = refl
+  sides-other i high (suc n) few w room =
+      side-other g from i q n (fillSides g from i q n w) (room-kept (length-sides g from i q n w) room) high wide (omega arith) a b d line side
+      (λ e. differ (e .1))
+      ∙ sides-other i high n (omega arith) w room
+
+  -- and so does filling a column.
+  pub column-other : (k i : ℕ) (w : Words) → k + i ≡ suc (g .stream 0 .size) → Roomy g w
+      → held g (fillColumn g from q k i w) a b d ≡ held g w a b d
+  unfolding fillColumn fillPlace
+  column-other zero i w e room = refl
+  column-other (suc k) i w e room =
+      column-other k (suc i) (fillSides g from i q (sideCount (g .spec .sides)) w) (omega arith)
+      (room-kept (length-sides g from i q (sideCount (g .spec .sides)) w) room)
+      ∙ sides-other i (omega arith) (sideCount (g .spec .sides)) (count-low (g .spec .sides)) w room
+
 -- An earlier place is another place.
 earlier-other : (a b i q : ℕ) → Earlier a b i q → (i ≡ a) × (q ≡ b) → ⊥
 earlier-other a b i q (inl l) (p, r) = omega arith

@@ -12,7 +12,7 @@ use Rattle.places.specs.declared.Entry.the-variants.{Unreached, Least}
 use Rattle.places.specs.laws.Best.{no-reach}
 use Rattle.candidates.specs.Choice.{Candidate, Between}
 use Rattle.candidates.specs.Read.{tableIn, sideOf, searchOf, countsAt}
-use Rattle.candidates.specs.Look.{Quiet, LastFound, PastOrigin}
+use Rattle.candidates.specs.Look.{Quiet, LastFound, PastOrigin, Recalled}
 use Rattle.starts.specs.Sweep.{Lent, Knows, Known, Swept}
 use Rattle.candidates.specs.Cells.{number, Scratched}
 use Rattle.candidates.specs.laws.Read.{side-occurs}
@@ -41,6 +41,12 @@ pub last-kept : {g : Galley} {w v : List ℕ} {j b from r : ℕ} → Scratched g
     → LastFound g w b from r → LastFound g v b from r
 last-kept kept two before found =
     record { since = found .since; within = found .within; quiet = quiet-kept kept two two before (le-refl _) (found .quiet) }
+
+-- leave what was seen of other columns,
+pub recalled-kept : {g : Galley} {w v seen : List ℕ} {j line since : ℕ} → Scratched g j w v → g .spec .sides ≤ 2
+    → Recalled g w seen line since j → Recalled g v seen line since j
+recalled-kept kept two recalled =
+    record { none = λ b after before absent. quiet-kept kept two two before (le-refl _) (recalled .none b after before absent) }
 
 -- and leave what stands past the origin.
 pub past-kept : {g : Galley} {w v : List ℕ} {j : ℕ} {origin : Counts} → Scratched g j w v → g .spec .sides ≤ 2 → PastOrigin g w j origin

@@ -23,7 +23,7 @@ use Rattle.starts.specs.declared.sweep.Row.{Row}
 use Rattle.candidates.specs.Choice.{Candidate}
 use Rattle.candidates.specs.Beside.{Under, alone}
 use Rattle.candidates.specs.Read.{sideOf, searchOf, countsAt, rowOf}
-use Rattle.candidates.specs.Look.{Found, LastFound, PastOrigin}
+use Rattle.candidates.specs.Look.{Found, LastFound, PastOrigin, Unseen}
 use Rattle.candidates.specs.Cells.{fresh, ColumnRoom}
 use Rattle.starts.specs.Sweep.{Layable, floatsAlone, rowTop}
 use Rattle.starts.specs.Swept.{RowSweep, RowRun, RowSwept, Sweep, SweepDone}
@@ -33,7 +33,7 @@ use Rattle.starts.specs.laws.Lending.{lent-room}
 use Rattle.candidates.specs.laws.Cells.{scratched-then}
 use Rattle.starts.specs.laws.Cells.{lent-kept}
 use Rattle.starts.specs.laws.Past.{known-past, start-under, start-short}
-use Rattle.starts.specs.laws.Look.{quiet-then, past-kept, start-past, past-quiet}
+use Rattle.starts.specs.laws.Look.{quiet-then, past-kept, recalled-kept, start-past, past-quiet}
 
 -- A row offers columns with no more tables than the end, and the end's own row one less.
 abbrev Offered : Row → ℕ → Type 0
@@ -49,7 +49,7 @@ offered row = go (ltb (row .figures) (row .end .figures)) refl
     go false e = inr (omega (arith, ltb-false (row .figures) (row .end .figures) e), refl)
 
 -- A row: its sweeps one after another.
-module _ {bytes : List ℕ} {g : Galley} {w₀ sums words₀ : List ℕ} {row : Row} (asked : RowSweep bytes g w₀ sums words₀ row) where
+module _ {bytes : List ℕ} {g : Galley} {w₀ sums words₀ seen : List ℕ} {row : Row} (asked : RowSweep bytes g w₀ sums words₀ seen row) where
   end-figures : row .end .figures ≡ countsAt g 0 (row .to) .figures
   end-figures = ap (λ (c : Counts). c .figures) (asked .end)
 
@@ -114,7 +114,7 @@ module _ {bytes : List ℕ} {g : Galley} {w₀ sums words₀ : List ℕ} {row : 
           omega (arith, ap (rowOf g) same, end-stands)
 
   module _ {w words : List ℕ} {tables : Heights} {top : ℕ} (run : RowRun bytes g w₀ w words₀ words row tables top) where
-    past-now : PastOrigin g w (row .to) (row .origin)
+    past-now : PastOrigin g w (row .to) (row .begin .origin)
     past-now = past-kept (run .kept) (asked .lent .sound .specRanged .sidesTwo) (asked .past)
 
     top-low : top ≤ g .tables .count + 1
@@ -125,7 +125,7 @@ module _ {bytes : List ℕ} {g : Galley} {w₀ sums words₀ : List ℕ} {row : 
         go (inr (l, e)) = omega (arith, tables-few, run .within)
 
     -- Back at the tables of the origin the row is swept: columns with fewer are before it.
-    pub row-last : top ≤ row .origin .tables → RowSwept bytes g w₀ w row
+    pub row-last : top ≤ row .begin .origin .tables → RowSwept bytes g w₀ w row
     row-last e =
         record {
           known = known-past bytes g w (row .to) (rowOf g (row .figures)) (rowOf g (row .figures) + top) (omega arith) none (run .known);
@@ -170,6 +170,12 @@ module _ {bytes : List ℕ} {g : Galley} {w₀ sums words₀ : List ℕ} {row : 
       pub from-small : rowOf g (row .figures) + (top - 1) ≤ 10250
       from-small = omega (arith, from-before .0, asked .lent .column, columns-few g (few-floats (asked .lent .sound)))
 
+      -- It is known whether it was seen.
+      pub row-unseen : row .begin .since ≤ rowOf g (row .figures) + (top - 1)
+          → Unseen g w seen (rowOf g (row .figures) + (top - 1)) (row .begin .origin .lines)
+      row-unseen after =
+          recalled-kept (run .kept) (asked .lent .sound .specRanged .sidesTwo) (asked .recalled) .none from after (from-before .0)
+
       pub row-stands : ColumnRoom g w (rowOf g (row .figures) + (top - 1))
       row-stands =
           let room = lent-room (run .lent) in
@@ -209,7 +215,7 @@ module _ {bytes : List ℕ} {g : Galley} {w₀ sums words₀ : List ℕ} {row : 
 
           -- the next sweep may start,
           pub row-sweeps : floats .tight ≤ g .spec .htmax → (white : ℕ) → white ≡ whiteAt g false (floats .loose) → (first : ℕ)
-              → Found g w (rowOf g (row .figures) + (top - 1)) (row .origin .lines) first → (last : ℕ)
+              → Found g w (rowOf g (row .figures) + (top - 1)) (row .begin .origin .lines) first → (last : ℕ)
               → LastFound g w (rowOf g (row .figures) + (top - 1)) first last
               → Sweep bytes g w sums words (next white first last)
           row-sweeps short white e first found last late =

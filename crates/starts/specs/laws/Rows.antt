@@ -12,6 +12,7 @@ use Rattle.blocks.specs.declared.Counts.{Counts}
 use Rattle.blocks.specs.declared.heights.Heights.{Heights}
 use Rattle.blocks.specs.Heights.{noHeights, Room, Stacked, blockBefore}
 use Rattle.blocks.specs.laws.Heights.{stacked-nothing, stacked-room, back-stacked}
+use Rattle.starts.specs.declared.sweep.Begin.{Begin}
 use Rattle.starts.specs.declared.sweep.Row.{Row}
 use Rattle.candidates.specs.Choice.{Candidate}
 use Rattle.candidates.specs.Read.{sideOf, searchOf, countsAt, rowOf}
@@ -25,18 +26,19 @@ use Rattle.candidates.specs.laws.Cells.{scratched-then}
 use Rattle.starts.specs.laws.Cells.{lent-kept, blank-known}
 use Rattle.candidates.specs.laws.Clean.{clean-kept, clear-sized}
 use Rattle.starts.specs.laws.Past.{known-past, start-under, start-short}
-use Rattle.starts.specs.laws.Look.{past-kept, start-past}
+use Rattle.starts.specs.laws.Look.{past-kept, recalled-kept, start-past}
 
 -- Before the first row no start is known, and every place is unreached. The loop starts with the cleared column.
-pub column-first : {bytes : List ℕ} {g : Galley} {w₀ sums words : List ℕ} {j : ℕ} {origin : Counts}
-    → ColumnSweep bytes g w₀ sums words j origin → (w : List ℕ) → Cleared g w₀ w j 0 (number 2 0)
-    → ColumnSweepRun bytes g w w words words j origin noHeights (countsAt g 0 j .figures + 1)
+pub column-first : {bytes : List ℕ} {g : Galley} {w₀ sums words seen : List ℕ} {j : ℕ} {begin : Begin}
+    → ColumnSweep bytes g w₀ sums words seen j begin → (w : List ℕ) → Cleared g w₀ w j 0 (number 2 0)
+    → ColumnSweepRun bytes g w w words words seen j begin noHeights (countsAt g 0 j .figures + 1)
 column-first {bytes} {g} {j = j} asked w cleared =
     let end = countsAt g 0 j in
     let next : end .figures + 1 ≡ suc (end .figures) = omega arith in
     record {
       lent = lent-kept (cleared .kept) (asked .lent);
       past = past-kept (cleared .kept) (asked .lent .sound .specRanged .sidesTwo) (asked .past);
+      recalled = recalled-kept (cleared .kept) (asked .lent .sound .specRanged .sidesTwo) (asked .recalled);
       scratch = asked .scratch;
       within = omega arith;
       sized = refl;
@@ -64,8 +66,8 @@ column-since {g = g} {w₀} {w} {v} {j} lent cleared known kept =
     }
 
 -- The rows one after another.
-module _ {bytes : List ℕ} {g : Galley} {w₀ w words₀ words : List ℕ} {j : ℕ} {origin : Counts} {heights : Heights} {top : ℕ}
-    (run : ColumnSweepRun bytes g w₀ w words₀ words j origin heights top) where
+module _ {bytes : List ℕ} {g : Galley} {w₀ w words₀ words seen : List ℕ} {j : ℕ} {begin : Begin} {heights : Heights} {top : ℕ}
+    (run : ColumnSweepRun bytes g w₀ w words₀ words seen j begin heights top) where
   abbrev end : Counts
   end = countsAt g 0 j
 
@@ -73,7 +75,7 @@ module _ {bytes : List ℕ} {g : Galley} {w₀ w words₀ words : List ℕ} {j :
   figures-few = within-at g 0 j (omega arith) (run .lent .column) .figures
 
   -- Back at the figures of the origin all starts are known: columns with fewer are before it.
-  pub column-last : top ≤ origin .figures → Known bytes g w j 0
+  pub column-last : top ≤ begin .origin .figures → Known bytes g w j 0
   column-last e = known-past bytes g w j 0 (rowOf g top) (omega arith) none (run .known)
     where
       none : (i a x y c : ℕ) → i ≤ g .text .count → c < g .spec .sides → 0 ≤ x → x < rowOf g top → x < j
@@ -97,15 +99,16 @@ module _ {bytes : List ℕ} {g : Galley} {w₀ w words₀ words : List ℕ} {j :
 
       abbrev next-row : ℕ → Row
       next-row least =
-          record { origin = origin; figures = top - 1; heights = heights′; end = countsAt g 0 j; to = j; least = least }
+          record { begin = begin; figures = top - 1; heights = heights′; end = countsAt g 0 j; to = j; least = least }
 
       -- The next row may be swept,
       pub column-sweeps : {sums : List ℕ} → Summed bytes g sums → (least : ℕ) → least ≡ floor (modelOf bytes g) false
-          → RowSweep bytes g w sums words (next-row least)
+          → RowSweep bytes g w sums words seen (next-row least)
       column-sweeps summed least e =
           record {
             lent = run .lent;
             past = run .past;
+            recalled = run .recalled;
             summed = summed;
             scratch = run .scratch;
             end = refl;
@@ -117,11 +120,12 @@ module _ {bytes : List ℕ} {g : Galley} {w₀ w words₀ words : List ℕ} {j :
 
       -- which brings in its starts.
       pub column-next : (least : ℕ) (v words′ : List ℕ) → length v ≡ length w → length words′ ≡ length words
-          → RowSwept bytes g w v (next-row least) → ColumnSweepRun bytes g w₀ v words₀ words′ j origin heights′ (top - 1)
+          → RowSwept bytes g w v (next-row least) → ColumnSweepRun bytes g w₀ v words₀ words′ seen j begin heights′ (top - 1)
       column-next least v words′ p q done =
           record {
             lent = lent-kept (done .kept) (run .lent);
             past = past-kept (done .kept) (run .lent .sound .specRanged .sidesTwo) (run .past);
+            recalled = recalled-kept (done .kept) (run .lent .sound .specRanged .sidesTwo) (run .recalled);
             scratch = omega (arith, run .scratch);
             within = omega (arith, run .within);
             sized = p ∙ run .sized;

@@ -11,19 +11,19 @@ use Rattle.starts.proofs.sweep.sweep_column.Statement.{statement}
 use Rattle.starts.proofs.sweep.sweep_column.Tie as tie
 
 abbrev Inv-loop : tie.InvT-loop
-Inv-loop s g work₀ sums words₀ j origin end least heights₀ b₀ work words heights b =
-    ColumnSweepRun s g work₀ work words₀ words j origin heights b
+Inv-loop s g work₀ sums words₀ seen j begin end least heights₀ b₀ work words heights b =
+    ColumnSweepRun s g work₀ work words₀ words seen j begin heights b
 
 abbrev μ-loop : tie.MeasureT-loop
-μ-loop s g work₀ sums words₀ j origin end least heights₀ b₀ work words heights b = b
+μ-loop s g work₀ sums words₀ seen j begin end least heights₀ b₀ work words heights b = b
 
 clear-column-requires : tie.Need-clear-column-requires Inv-loop μ-loop
 clear-column-requires c κs =
-    lent-room (c .before .before .before .before .before .pre .lent)
+    lent-room (c .before .before .before .before .before .before .pre .lent)
 
 add-b : tie.Need-add-b Inv-loop μ-loop
 add-b c =
-    let start = c .before .before .before .before .before .before .before .before .before .before .before in
+    let start = c .before .before .before .before .before .before .before .before .before .before .before .before in
     let few = start .pre .lent .sound .figures .few in
     let within = within-at (start .args .g) 0 (start .args .j) (omega arith) (start .pre .lent .column) in
     rw (c .before .before .counts-at .ensures) (omega (arith, within .figures))
@@ -32,7 +32,7 @@ loop-holds : tie.Need-loop-holds Inv-loop μ-loop
 loop-holds c =
     let cleared = c .before .before .before .before .before in
     rw (c .before .before .counts-at .ensures)
-    (column-first (cleared .before .before .before .before .before .before .pre) _ (cleared .clear-column .ensures))
+    (column-first (cleared .before .before .before .before .before .before .before .pre) _ (cleared .clear-column .ensures))
 
 block-before-requires : tie.Need-block-before-requires Inv-loop μ-loop
 block-before-requires c κs = rw (c .before .before .before .before .before .counts-at .ensures) (column-room (c .before .before .loop .inv))
@@ -43,7 +43,7 @@ returns c =
     let st = put .before .before .before in
     let counted = st .before .before .before in
     let cleared = counted .before .before .before in
-    column-since (cleared .before .before .before .before .before .before .pre .lent) (cleared .clear-column .ensures)
+    column-since (cleared .before .before .before .before .before .before .before .pre .lent) (cleared .clear-column .ensures)
     (column-tall (st .loop .inv) (omega (arith, put .before .if1 .taken)) (put .block-before .result)
     (rw (counted .counts-at .ensures) at (put .block-before .ensures)) (c .if2 .taken)) (st .loop .inv .kept)
 
@@ -53,7 +53,7 @@ sweep-row-requires c κs =
     let st = put .before .before .before in
     let least = st .before .before in
     let counted = least .before in
-    let start = counted .before .before .before .before .before .before .before .before .before in
+    let start = counted .before .before .before .before .before .before .before .before .before .before in
     rw (counted .counts-at .ensures)
     (column-sweeps (st .loop .inv) (omega (arith, put .before .if1 .taken)) (put .block-before .result)
     (rw (counted .counts-at .ensures) at (put .block-before .ensures)) (start .pre .summed) (least .floor-of .result)
@@ -75,7 +75,7 @@ returns-2 : tie.Need-returns-2 Inv-loop μ-loop
 returns-2 c =
     let st = c .before .before .loop in
     let cleared = c .before .before .before .before .before .before .before .before in
-    column-since (cleared .before .before .before .before .before .before .pre .lent) (cleared .clear-column .ensures)
+    column-since (cleared .before .before .before .before .before .before .before .pre .lent) (cleared .clear-column .ensures)
     (column-last (st .inv) (omega (arith, c .if1 .left))) (st .inv .kept)
 
 pub sweep-column-spec : {M : Type 1} → statement M
@@ -83,6 +83,6 @@ sweep-column-spec =
     tie.close
     (tie.spec
     Inv-loop μ-loop clear-column-requires
-    (λ c κs. few-floats (c .before .before .before .before .before .before .before .before .pre .lent .sound))
+    (λ c κs. few-floats (c .before .before .before .before .before .before .before .before .before .pre .lent .sound))
     (λ c κs. search needs) add-b loop-holds (λ c. search needs) block-before-requires (λ c. search needs) (λ c. search needs) returns
     sweep-row-requires (λ c. search needs) loop-again (λ c. search needs) (λ c. search needs) returns-2)

@@ -5,39 +5,39 @@ use native.Mathlib.Omega.{arith}
 use Rattle.candidates.specs.Read.{rowOf}
 use Rattle.starts.specs.Swept.{RowRun}
 use Rattle.candidates.specs.laws.Columns.{few-floats}
-use Rattle.starts.specs.laws.Row.{end-few, row-small, from-small, row-first, row-last, row-room, row-stands, row-lays, row-sweeps, row-swept, row-tall}
+use Rattle.starts.specs.laws.Row.{end-few, row-small, from-small, row-first, row-last, row-room, row-unseen, row-stands, row-lays, row-sweeps, row-swept, row-tall}
 use borrow.Author.Needs.{needs}
 use Rattle.starts.proofs.sweep.sweep_row.Statement.{statement}
 use Rattle.starts.proofs.sweep.sweep_row.Tie as tie
 
 abbrev Inv-loop : tie.InvT-loop
-Inv-loop s g work₀ sums words₀ row row-from tables₀ t₀ work words tables t = RowRun s g work₀ work words₀ words row tables t
+Inv-loop s g work₀ sums words₀ seen row row-from tables₀ t₀ work words tables t = RowRun s g work₀ work words₀ words row tables t
 
 abbrev μ-loop : tie.MeasureT-loop
-μ-loop s g work₀ sums words₀ row row-from tables₀ t₀ work words tables t = t
+μ-loop s g work₀ sums words₀ seen row row-from tables₀ t₀ work words tables t = t
 
 add-row-from : tie.Need-add-row-from Inv-loop μ-loop
-add-row-from c = omega (arith, few-floats (c .before .before .before .before .before .pre .lent .sound) .tables)
+add-row-from c = omega (arith, few-floats (c .before .before .before .before .before .before .pre .lent .sound) .tables)
 
 mul-row-from : tie.Need-mul-row-from Inv-loop μ-loop
 unfolding rowOf
-mul-row-from c = omega (arith, row-small (c .before .before .before .before .before .before .pre))
+mul-row-from c = omega (arith, row-small (c .before .before .before .before .before .before .before .pre))
 
 row-top-requires : tie.Need-row-top-requires Inv-loop μ-loop
-row-top-requires c κs = end-few (c .before .before .before .before .before .before .pre)
+row-top-requires c κs = end-few (c .before .before .before .before .before .before .before .pre)
 
 loop-holds : tie.Need-loop-holds Inv-loop μ-loop
-loop-holds c = rw (c .row-top .ensures) (row-first (c .before .before .before .before .before .before .before .pre))
+loop-holds c = rw (c .row-top .ensures) (row-first (c .before .before .before .before .before .before .before .before .pre))
 
 block-before-requires : tie.Need-block-before-requires Inv-loop μ-loop
 block-before-requires c κs =
-    row-room (c .before .before .before .before .before .before .before .before .before .before .pre) (c .before .before .loop .inv)
+    row-room (c .before .before .before .before .before .before .before .before .before .before .before .pre) (c .before .before .loop .inv)
 
 floats-alone-requires : tie.Need-floats-alone-requires Inv-loop μ-loop
 floats-alone-requires c κs =
     let put = c .before .before in
     let st = put .before .before .before in
-    row-lays (st .before .before .before .before .before .before .before .before .pre) (st .loop .inv) (omega (arith, put .before .if1 .taken))
+    row-lays (st .before .before .before .before .before .before .before .before .before .pre) (st .loop .inv) (omega (arith, put .before .if1 .taken))
     (put .block-before .result) (put .block-before .ensures)
 
 returns : tie.Need-returns Inv-loop μ-loop
@@ -45,7 +45,7 @@ returns c =
     let laid = c .before .before .before in
     let put = laid .before .before .before in
     let st = put .before .before .before in
-    row-tall (st .before .before .before .before .before .before .before .before .pre) (st .loop .inv) (omega (arith, put .before .if1 .taken))
+    row-tall (st .before .before .before .before .before .before .before .before .before .pre) (st .loop .inv) (omega (arith, put .before .if1 .taken))
     (put .block-before .result) (put .block-before .ensures) _ refl (laid .floats-alone .result) (laid .floats-alone .ensures) (c .if2 .taken)
 
 add-from : tie.Need-add-from Inv-loop μ-loop
@@ -55,22 +55,24 @@ add-from c =
     let st = put .before .before .before in
     omega (
       arith,
-      from-small (st .before .before .before .before .before .before .before .before .pre) (st .loop .inv) (omega (arith, put .before .if1 .taken)),
+      from-small (st .before .before .before .before .before .before .before .before .before .pre) (st .loop .inv) (omega (arith, put .before .if1 .taken)),
     )
 
-first-line-requires : tie.Need-first-line-requires Inv-loop μ-loop
+first-in-requires : tie.Need-first-in-requires Inv-loop μ-loop
 unfolding rowOf
-first-line-requires c κs =
+first-in-requires c κs =
     let put = c .before .before .before .before .before .before .before in
     let st = put .before .before .before in
-    row-stands (st .before .before .before .before .before .before .before .before .pre) (st .loop .inv) (omega (arith, put .before .if1 .taken))
+    let asked = st .before .before .before .before .before .before .before .before .before .pre in
+    let some = put .before .if1 .taken in
+    (row-stands asked (st .loop .inv) (omega arith), row-unseen asked (st .loop .inv) (omega arith))
 
 last-line-requires : tie.Need-last-line-requires Inv-loop μ-loop
 unfolding rowOf
 last-line-requires c κs =
     let put = c .before .before .before .before .before .before .before .before .before .before in
     let st = put .before .before .before in
-    row-stands (st .before .before .before .before .before .before .before .before .pre) (st .loop .inv) (omega (arith, put .before .if1 .taken))
+    row-stands (st .before .before .before .before .before .before .before .before .before .pre) (st .loop .inv) (omega (arith, put .before .if1 .taken))
 
 sweep-requires : tie.Need-sweep-requires Inv-loop μ-loop
 unfolding rowOf
@@ -81,10 +83,10 @@ sweep-requires c κs =
     let laid = looked .before .before .before .before .before in
     let put = laid .before .before .before in
     let st = put .before .before .before in
-    row-sweeps (st .before .before .before .before .before .before .before .before .pre) (st .loop .inv) (omega (arith, put .before .if1 .taken))
+    row-sweeps (st .before .before .before .before .before .before .before .before .before .pre) (st .loop .inv) (omega (arith, put .before .if1 .taken))
     (put .block-before .result) (put .block-before .ensures) _ refl (laid .floats-alone .result) (laid .floats-alone .ensures)
-    (omega (arith, looked .before .before .if2 .left)) (white .white-at .result) (white .white-at .ensures .0) (looked .first-line .result)
-    (looked .first-line .ensures) (ended .last-line .result) (ended .last-line .ensures)
+    (omega (arith, looked .before .before .if2 .left)) (white .white-at .result) (white .white-at .ensures .0) (looked .first-in .result)
+    (looked .first-in .ensures) (ended .last-line .result) (ended .last-line .ensures)
 
 loop-again : tie.Need-loop-again Inv-loop μ-loop
 unfolding rowOf
@@ -96,20 +98,20 @@ loop-again c =
     let laid = looked .before .before .before .before .before in
     let put = laid .before .before .before in
     let st = put .before .before .before in
-    row-swept (st .before .before .before .before .before .before .before .before .pre) (st .loop .inv) (omega (arith, put .before .if1 .taken))
+    row-swept (st .before .before .before .before .before .before .before .before .before .pre) (st .loop .inv) (omega (arith, put .before .if1 .taken))
     (put .block-before .result) (put .block-before .ensures) _ refl (laid .floats-alone .result) (laid .floats-alone .ensures)
-    (white .white-at .result) (looked .first-line .result) (ended .last-line .result) _ _
+    (white .white-at .result) (looked .first-in .result) (ended .last-line .result) _ _
     (search (needs, c .before .before .slice-known3 .given, c .before .before .before .work .given))
     (search (needs, c .slice-known4 .given, c .before .words .given)) (swept .sweep .ensures)
 
 returns-2 : tie.Need-returns-2 Inv-loop μ-loop
 returns-2 c =
-    row-last (c .before .before .before .before .before .before .before .before .before .before .pre) (c .before .before .loop .inv) (omega (arith, c .if1 .left))
+    row-last (c .before .before .before .before .before .before .before .before .before .before .before .pre) (c .before .before .loop .inv) (omega (arith, c .if1 .left))
 
 pub sweep-row-spec : {M : Type 1} → statement M
 sweep-row-spec =
     tie.close
     (tie.spec
     Inv-loop μ-loop add-row-from mul-row-from row-top-requires loop-holds (λ c. search needs) block-before-requires floats-alone-requires
-    (λ c. search needs) (λ c. search needs) returns add-from first-line-requires (λ c κs. search needs) last-line-requires sweep-requires (λ c. search needs)
+    (λ c. search needs) (λ c. search needs) returns add-from first-in-requires (λ c κs. search needs) last-line-requires sweep-requires (λ c. search needs)
     loop-again (λ c. search needs) (λ c. search needs) returns-2)
