@@ -114,7 +114,7 @@
  * bytes more where the dynamic linker binds memcpy or memset at its first call, as in a program that is linked without -z now.
  * Signal handlers are not counted.
  */
-#define BARLEYCHIME_BOOK_STACK_BYTES ((size_t)260096)
+#define BARLEYCHIME_BOOK_STACK_BYTES ((size_t)260352)
 #define BARLEYCHIME_STACK_BYTES ((size_t)258048)
 #define BARLEYCHIME_MARK_STACK_BYTES ((size_t)1024)
 

@@ -54,7 +54,7 @@ pub record ColumnsRun (bytes : List ℕ) (task : Task) (w₀ w words₀ words se
   pub within : j ≤ columnsIn (task .galley)
   pub sized : length w ≡ length w₀
   pub wordsSized : length words ≡ length words₀
-  pub ring : length seen ≡ 48
+  pub ring : length seen ≡ 76
   pub entries : Filled (modelOf bytes (task .galley)) (task .origin) (tableIn (task .galley) w) 0 j
   pub run : fillColumns (modelOf bytes (task .galley)) (task .origin) (columnsIn (task .galley) - j) j w
       ≡ filled (modelOf bytes (task .galley)) (task .origin) w₀

@@ -22,7 +22,7 @@ use Rattle.filling.specs.laws.Side.{lent-roomy, lent-wide}
 -- One column after another.
 module _ {bytes : List ℕ} {task : Task} {w₀ sums words₀ : List ℕ} (table : TableNext bytes task w₀ sums words₀) where
   -- At first no column is filled.
-  pub columns-first : (seen : List ℕ) → length seen ≡ 48 → ColumnsRun bytes task w₀ w₀ words₀ words₀ seen (record { since = 0; head = 0 }) 0
+  pub columns-first : (seen : List ℕ) → length seen ≡ 76 → ColumnsRun bytes task w₀ w₀ words₀ words₀ seen (record { since = 0; head = 0 }) 0
   unfolding filled
   columns-first seen ring =
       let g = task .galley in
