@@ -1,4 +1,4 @@
--- The places of a column in the work area: numbered, stored in and cleared.
+-- The places of a column in the work area: numbered, stored in and empty.
 use Prim.Native.Nat.{ℕ, _+_, _*_, _≤_, _<_}
 use mathlib.Core.Path.{_≡_}
 use mathlib.Core.List.{List}
@@ -44,16 +44,10 @@ pub record ColumnRoom (g : Galley) (w : List ℕ) (j : ℕ) : Type 0 where
 abbrev pub Empty : Galley → List ℕ → ℕ → ℕ → ℕ → Type 0
 Empty g w k j c = stored w (address (g .text .count + 1) k j c) Unreached ≡ w
 
--- The places of column j before number n are empty.
-abbrev pub Blank : Galley → List ℕ → ℕ → ℕ → Type 0
-Blank g w j n = (k c : ℕ) → k ≤ g .text .count → c < g .spec .sides → number c k < n → Empty g w k j c
+-- Every place of column j is empty.
+abbrev pub Blank : Galley → List ℕ → ℕ → Type 0
+Blank g w j = (k c : ℕ) → k ≤ g .text .count → c < g .spec .sides → Empty g w k j c
 
 -- Every unreached place of column j is empty.
 abbrev pub Clean : Galley → List ℕ → ℕ → Type 0
 Clean g w j = (k c : ℕ) → k ≤ g .text .count → c < g .spec .sides → tableIn g w k j c ≡ Unreached → Empty g w k j c
-
--- The places of column j from number n on and before m are empty too, and nothing else has changed.
-pub record Cleared (g : Galley) (w v : List ℕ) (j n m : ℕ) : Type 0 where
-  pub sized : length v ≡ length w
-  pub blank : Blank g w j n → Blank g v j m
-  pub kept : Scratched g j w v

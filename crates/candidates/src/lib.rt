@@ -1,7 +1,6 @@
 // The places that a page may start from: what a search asks of a galley and its work area, which lines of a column are reached, and the
 // better of two starts. Document 01, "Making".
 pub mod choice; // choice.rt: the better of two starts
-pub mod clear; // clear.rt: a column made unreached
 pub mod fronts; // fronts.rt: the best start of a window
 pub mod last; // last.rt: the best line of a column for the last page
 pub mod look; // look.rt: the first line of a column that is reached

@@ -3,8 +3,8 @@ use Prim.Native.Nat.{ℕ, zero, suc, _+_}
 use mathlib.Core.List.{List}
 use Rattle.model.specs.Galley.{Sides, single, double, Galley}
 use Rattle.places.specs.declared.Origin.{Origin}
-use Rattle.places.specs.Entry.{stored}
-use Rattle.places.specs.Address.{address}
+use Rattle.places.specs.Entry.{stored, cleared}
+use Rattle.places.specs.Address.{address, area}
 use Rattle.places.specs.Table.{tableOf}
 use Rattle.places.specs.Columns.{columns, floatSizes}
 use Rattle.candidates.specs.Search.{Table, newEntry}
@@ -49,6 +49,10 @@ unfoldable pub fillColumns : Galley → Origin → ℕ → ℕ → Words → Wor
 fillColumns g from zero q w = w
 fillColumns g from (suc k) q w = fillColumns g from k (suc q) (fillColumn g from q (suc (g .stream 0 .size)) 0 w)
 
--- The whole table.
+-- The words of all places.
+abbrev pub tableWords : Galley → ℕ
+tableWords g = area (tall g) (columns (floatSizes g))
+
+-- The whole table, in words that are cleared first.
 unfoldable pub filled : Galley → Origin → Words → Words
-filled g from w = fillColumns g from (columns (floatSizes g)) 0 w
+filled g from w = fillColumns g from (columns (floatSizes g)) 0 (cleared (tableWords g) w)

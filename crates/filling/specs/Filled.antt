@@ -10,15 +10,14 @@ use Rattle.model.specs.laws.Lists.{Inside}
 use Rattle.places.specs.declared.Place.{Place}
 use Rattle.places.specs.declared.Origin.{Origin}
 use Rattle.places.specs.declared.Entry.the-variants.{Least}
-use Rattle.places.specs.Address.{area}
 use Rattle.places.specs.Order.{Earlier}
-use Rattle.places.specs.Columns.{columns, floatSizes, placeAt}
+use Rattle.places.specs.Columns.{placeAt}
 use Rattle.candidates.specs.Search.{Table}
-use Rattle.filling.specs.Fill.{Words, tall}
+use Rattle.filling.specs.Fill.{Words, tableWords}
 
 -- The work area has the words of every place.
 pub record Roomy (g : Galley) (w : Words) : Type 0 where
-  pub words : area (tall g) (columns (floatSizes g)) ≤ length w
+  pub words : tableWords g ≤ length w
 
 -- c is a side that occurs: 0, or 0 and 1 in double-sided work.
 abbrev pub Side : Sides → ℕ → Type 0

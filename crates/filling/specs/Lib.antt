@@ -2,7 +2,6 @@
 
 -- What is computed.
 pub mod Fill
-pub mod Skip
 -- What is known of the work area on the way, and what the functions ask for.
 pub mod Filled
 pub mod Next

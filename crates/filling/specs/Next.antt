@@ -27,7 +27,7 @@ use Rattle.rules.specs.Parts.{allPlaced}
 use Rattle.candidates.specs.Read.{tableIn, sideOf, searchOf, columnsIn, countsAt, loadOf}
 use Rattle.candidates.specs.Look.{Quiet, Found}
 use Rattle.starts.specs.Sweep.{Lent, Scratch, Summed, Knows, Known}
-use Rattle.candidates.specs.Cells.{Clean}
+use Rattle.candidates.specs.Cells.{Blank, Clean}
 use Rattle.filling.specs.declared.side.Task.{Task}
 use Rattle.filling.specs.declared.side.End.{End}
 use Rattle.filling.specs.declared.side.Windows.{Windows}
@@ -215,8 +215,9 @@ pub record Fillable (bytes : List ℕ) (g : Galley) (from : Origin) (w : List �
   pub origin : from .place .column < columnsIn g
   pub room : wordsNeeded (g .text .count) (columnsIn g) ≤ length w
 
--- The table comes next: with the sums of the lines, and room for four queues.
+-- The table comes next: every column is empty, the sums of the lines are known, and there is room for four queues.
 pub record TableNext (bytes : List ℕ) (task : Task) (w sums words : List ℕ) : Type 0 where
   pub fillable : Fillable bytes (task .galley) (task .origin) w
+  pub blank : (b : ℕ) → b < columnsIn (task .galley) → Blank (task .galley) w b
   pub summed : Summed bytes (task .galley) sums
   pub scratch : Scratch words

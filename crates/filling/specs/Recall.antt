@@ -5,6 +5,7 @@ use mathlib.Core.List.{List}
 use lib.ListN.{length}
 use Rattle.galley.specs.declared.Galley.{Galley}
 use Rattle.galley.specs.Model.{modelOf}
+use Rattle.candidates.specs.Cells.{Blank}
 use Rattle.candidates.specs.Look.{Quiet, Absent, Recalled}
 use Rattle.filling.specs.declared.side.Task.{Task}
 use Rattle.filling.specs.declared.recall.Recall.{Recall}
@@ -22,9 +23,10 @@ pub record Noted (g : Galley) (w old new : List ℕ) (recall : Recall) (j line :
   pub kept : (b : ℕ) → r .since ≤ b → Absent new b
       → (recall .since ≤ b) × Absent old b × (b ≡ j → Quiet g w j (g .spec .sides) line (g .text .count + 1))
 
--- Column j comes next, and those before it that are reached are in the ring, from some column on.
+-- Column j comes next, which is empty, and those before it that are reached are in the ring, from some column on.
 pub record ColumnTurn (bytes : List ℕ) (task : Task) (w sums words seen : List ℕ) (j : ℕ) (recall : Recall) : Type 0 where
   pub column : ColumnNext bytes task w sums words j
+  pub blank : Blank (task .galley) w j
   pub recalled : Recalled (task .galley) w seen (task .origin .place .line) (recall .since) j
   pub head : recall .head < length seen
 

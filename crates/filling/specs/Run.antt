@@ -10,12 +10,12 @@ use Rattle.window.specs.declared.slide.Window.{Window}
 use Rattle.window.specs.Slide.{Ends}
 use Rattle.candidates.specs.Read.{tableIn, columnsIn, countsAt}
 use Rattle.candidates.specs.Look.{Recalled}
-use Rattle.candidates.specs.Cells.{Clean}
+use Rattle.candidates.specs.Cells.{Blank, Clean}
 use Rattle.filling.specs.declared.side.Task.{Task}
 use Rattle.filling.specs.declared.recall.Recall.{Recall}
 use Rattle.filling.specs.declared.side.End.{End}
 use Rattle.filling.specs.declared.side.Windows.{Windows}
-use Rattle.filling.specs.Fill.{fillSides, fillColumn, fillColumns, filled}
+use Rattle.filling.specs.Fill.{fillSides, fillColumn, fillColumns}
 use Rattle.filling.specs.Filled.{Filled}
 use Rattle.filling.specs.Next.{plain, Queues, Waits}
 
@@ -49,7 +49,7 @@ pub record LastRun (bytes : List ℕ) (task : Task) (w₀ w sums words₀ words 
   pub begun : task .origin .place .line ≤ last
   pub inside : last ≤ task .galley .text .count
 
--- The columns before j are filled, and those that are reached are in the ring, from some column on.
+-- The columns before j are filled, those that are reached are in the ring, from some column on, and the columns from j on are empty.
 pub record ColumnsRun (bytes : List ℕ) (task : Task) (w₀ w words₀ words seen : List ℕ) (recall : Recall) (j : ℕ) : Type 0 where
   pub within : j ≤ columnsIn (task .galley)
   pub sized : length w ≡ length w₀
@@ -57,6 +57,7 @@ pub record ColumnsRun (bytes : List ℕ) (task : Task) (w₀ w words₀ words se
   pub ring : length seen ≡ 76
   pub entries : Filled (modelOf bytes (task .galley)) (task .origin) (tableIn (task .galley) w) 0 j
   pub run : fillColumns (modelOf bytes (task .galley)) (task .origin) (columnsIn (task .galley) - j) j w
-      ≡ filled (modelOf bytes (task .galley)) (task .origin) w₀
+      ≡ fillColumns (modelOf bytes (task .galley)) (task .origin) (columnsIn (task .galley)) 0 w₀
+  pub blank : (b : ℕ) → j ≤ b → b < columnsIn (task .galley) → Blank (task .galley) w b
   pub recalled : Recalled (task .galley) w seen (task .origin .place .line) (recall .since) j
   pub head : recall .head < length seen

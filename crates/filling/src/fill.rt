@@ -4,8 +4,8 @@ ghost use Prim.Native.Nat.{suc, _+_, _≤_};
 ghost use Rattle.galley.specs.Model.{modelOf};
 ghost use Rattle.galley.specs.Sound.{SoundStream};
 ghost use Rattle.candidates.specs.Cells.{ColumnRoom};
-ghost use Rattle.filling.specs.Fill.{fillColumn, filled};
-ghost use Rattle.filling.specs.Skip.{skipSides, skipColumn};
+ghost use Rattle.candidates.specs.Read.{columnsIn};
+ghost use Rattle.filling.specs.Fill.{fillColumn, fillColumns, filled};
 ghost use Rattle.filling.specs.Next.{endFrom, Begun, Onward, LastNext, TableNext, Fillable};
 ghost use Rattle.filling.specs.Recall.{ColumnTurn, ColumnFilled};
 use crate::recall::Recall;
@@ -101,31 +101,6 @@ fn last_sweep(
     }
 }
 
-// The sides of a place that no page reaches.
-fn skip_place(g: Galley, work: &mut [u32], i: usize, j: usize)
-    requires { ⌜ ColumnRoom g (now work) j × (i ≤ g .text .count) ⌝ }
-    ensures { λ _. ⌜ now (work .exit) ≡ skipSides (g .text .count + 1) i j (g .spec .sides) (now (work .entry)) ⌝ }
-{
-    let mut c = 0;
-    while c < g.spec.sides as usize {
-        let place = places::place_of(i, j);
-        places::store(work, g.text.count + 1, place, c, Entry::Unreached);
-        c += 1;
-    }
-}
-
-// A column before that where the search begins: nothing in it is past the origin, so that no page reaches it.
-fn skip_column(g: Galley, work: &mut [u32], j: usize)
-    requires { ⌜ ColumnRoom g (now work) j ⌝ }
-    ensures { λ _. ⌜ now (work .exit) ≡ skipColumn g j (now (work .entry)) ⌝ }
-{
-    let mut i = 0;
-    while i <= g.text.count {
-        skip_place(g, work, i, j);
-        i += 1;
-    }
-}
-
 // The first line of column j that a page may reach: in the origin's column that of the origin, else the first from there on that has a
 // start in an earlier column; one past the last line where none has.
 fn first_start(task: Task, work: &[u32], j: usize) -> usize
@@ -140,7 +115,7 @@ fn first_start(task: Task, work: &[u32], j: usize) -> usize
 }
 
 // Column j: first the starts in the columns before it, then those in the column itself. Where there is neither it is left unreached.
-// The columns that are reached are kept in the ring `seen`; those before the origin's are never asked for, so that none of them is.
+// The columns that are reached are kept in the ring `seen`.
 fn fill_column(
     s: &[u8],
     task: Task,
@@ -154,13 +129,6 @@ fn fill_column(
     requires { ⌜ ColumnTurn (now s) task (now work) (now sums) (now words) (now seen) j recall ⌝ }
     ensures { λ r. ⌜ ColumnFilled (now (s .entry)) task (now (work .entry)) (now (work .exit)) (now (seen .exit)) j r ⌝ }
 {
-    if j < task.origin.place.column as usize {
-        skip_column(task.galley, work, j);
-        return Recall {
-            since: j + 1,
-            head: recall.head,
-        };
-    }
     let line = task.origin.place.line as usize;
     let origin = candidates::read::counts_at(task.galley, line, task.origin.place.column as usize);
     let begin = Begin {
@@ -176,23 +144,23 @@ fn fill_column(
     crate::recall::note(task.galley, work, seen, recall, j, line)
 }
 
-// All columns.
+// All columns from that of the origin on: nothing in an earlier one is past the origin, so that no page reaches it.
 fn fill_columns(s: &[u8], task: Task, work: &mut [u32], sums: &[u32], words: &mut [u32])
     requires { ⌜ TableNext (now s) task (now work) (now sums) (now words) ⌝ }
-    ensures { λ _. ⌜ now (work .exit) ≡ filled (modelOf (now (s .entry)) (task .galley)) (task .origin) (now (work .entry)) ⌝ }
+    ensures { λ _. ⌜ now (work .exit) ≡ fillColumns (modelOf (now (s .entry)) (task .galley)) (task .origin) (columnsIn (task .galley)) 0 (now (work .entry)) ⌝ }
 {
     let columns = candidates::read::columns_of(task.galley);
     // The last columns that are reached. Where more are, those before them are looked at each time.
     let mut seen = [0u32; 76];
-    let mut recall = Recall { since: 0, head: 0 };
-    let mut j = 0;
+    let mut j = task.origin.place.column as usize;
+    let mut recall = Recall { since: j, head: 0 };
     while j < columns {
         recall = fill_column(s, task, work, sums, words, j, &mut seen, recall);
         j += 1;
     }
 }
 
-// The whole table from an origin on, whatever the work area held before.
+// The whole table from an origin on, whatever the work area held before: that is cleared at once, which is faster than column by column.
 pub fn fill(s: &[u8], g: Galley, origin: Origin, work: &mut [u32])
     requires { ⌜ Fillable (now s) g origin (now work) ⌝ }
     ensures { λ _. ⌜ now (work .exit) ≡ filled (modelOf (now (s .entry)) g) origin (now (work .entry)) ⌝ }
@@ -201,5 +169,7 @@ pub fn fill(s: &[u8], g: Galley, origin: Origin, work: &mut [u32])
     let mut sums = [0u32; 16004];
     let mut words = [0u32; 48000];
     window::sums::gather(s, g.text, &mut sums);
+    let columns = candidates::read::columns_of(g);
+    places::clear(work, places::words_needed(g.text.count, columns));
     fill_columns(s, Task { galley: g, origin }, work, &sums, &mut words);
 }

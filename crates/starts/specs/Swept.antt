@@ -24,11 +24,12 @@ use Rattle.candidates.specs.Read.{sideOf, countsAt, rowOf}
 use Rattle.candidates.specs.Look.{Quiet, LastFound, PastOrigin, Recalled}
 use Rattle.starts.specs.Bound.{Bounded}
 use Rattle.starts.specs.Sweep.{Lent, Scratch, Summed, passLoad, Passing, Known, Swept, sweepEnd, Stopped, rowTop}
-use Rattle.candidates.specs.Cells.{number, Scratched, Clean}
+use Rattle.candidates.specs.Cells.{number, Scratched, Blank, Clean}
 
--- A column that no start is known of: the starts in the columns before it are to be known.
+-- A column that is empty: the starts in the columns before it are to be known.
 pub record ColumnSweep (bytes : List ℕ) (g : Galley) (w sums words seen : List ℕ) (j : ℕ) (begin : Begin) : Type 0 where
   pub lent : Lent bytes g w j
+  pub blank : Blank g w j
   pub past : PastOrigin g w j (begin .origin)
   pub recalled : Recalled g w seen (begin .origin .lines) (begin .since) j
   pub summed : Summed bytes g sums

@@ -289,7 +289,6 @@ pub fn sweep_column(
     requires { ⌜ ColumnSweep (now s) g (now work) (now sums) (now words) (now seen) j begin ⌝ }
     ensures { λ _. ⌜ ColumnSwept (now (s .entry)) g (now (work .entry)) (now (work .exit)) j ⌝ }
 {
-    candidates::clear::clear_column(g, work, j);
     let end = candidates::read::counts_at(g, 0, j);
     let least = rules::rules::floor_of(g, false);
     let mut heights = Heights { tight: 0, loose: 0 };

@@ -29,6 +29,7 @@ use Rattle.places.specs.declared.Entry.the-variants.{Unreached, Least}
 use Rattle.candidates.specs.Read.{tableIn, columnsIn}
 use Rattle.filling.specs.Fill.{filled}
 use Rattle.filling.specs.laws.Fill.{length-filled}
+use Rattle.filling.specs.laws.Side.{needed-roomy}
 use Rattle.walk.specs.Trace.{entryOf, writeBack}
 use Rattle.walk.specs.Traceable.{Walkable, Writable, pagesBack}
 use Rattle.needs.specs.laws.Needs.{page-few}
@@ -99,7 +100,8 @@ module _ {bytes : List ℕ} {g : Galley} {c : ℕ} {work list : List ℕ} (p : M
     tabled = record { sound = p .sound; before = work; enough = p .enough; is = is }
 
     pub make-lent : length work₁ ≡ length work
-    make-lent = ap length is ∙ length-filled (modelOf bytes g) nothingYet work
+    unfolding columnsIn
+    make-lent = ap length is ∙ length-filled (modelOf bytes g) nothingYet work (needed-roomy bytes g (p .enough))
 
     pub make-walkable : Walkable g work₁ (closingStop g c)
     make-walkable = closing-walkable tabled c (p .occurs)

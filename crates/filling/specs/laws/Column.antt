@@ -101,7 +101,7 @@ column-last {task = task} {w} {j = j} column v words′ sized done =
     before a b (inr (e, l)) = absurd (omega arith)
 
 -- To fill sides of a place is to store in the column.
-filled-scratched : (bytes : List ℕ) (task : Task) (w : List ℕ) (i j n : ℕ) → i ≤ task .galley .text .count → n ≤ task .galley .spec .sides
+pub filled-scratched : (bytes : List ℕ) (task : Task) (w : List ℕ) (i j n : ℕ) → i ≤ task .galley .text .count → n ≤ task .galley .spec .sides
     → Scratched (task .galley) j w (fillSides (modelOf bytes (task .galley)) (task .origin) i j n w)
 unfolding fillSides fillSide tall
 filled-scratched bytes task w i j zero l m = fresh

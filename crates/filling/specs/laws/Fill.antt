@@ -13,10 +13,12 @@ use Rattle.places.specs.Address.{address}
 use Rattle.places.specs.Order.{Earlier}
 use Rattle.places.specs.Columns.{columns, floatSizes}
 use Rattle.places.specs.laws.Address.{address-in}
+use Rattle.places.specs.Entry.{cleared}
+use Rattle.places.specs.laws.Cleared.{cleared-length}
 use Rattle.places.specs.laws.Stored.{stored-length}
 use Rattle.places.specs.laws.Table.{table-same, table-other}
 use Rattle.candidates.specs.Search.{Table, newEntry}
-use Rattle.filling.specs.Fill.{Words, tall, held, fillSide, fillSides, sideCount, fillPlace, fillColumn, fillColumns, filled}
+use Rattle.filling.specs.Fill.{Words, tall, held, fillSide, fillSides, sideCount, fillPlace, fillColumn, fillColumns, tableWords, filled}
 use Rattle.filling.specs.Filled.{Light, Roomy, Side, Entered, Filled}
 use Rattle.filling.specs.laws.Entered.{side-low, side-below, below-side, count-low, entry-entered}
 
@@ -46,9 +48,10 @@ length-columns g from (suc k) q w =
     length-columns g from k (suc q) (fillColumn g from q (suc (g .stream 0 .size)) 0 w)
     ∙ length-column g from q (suc (g .stream 0 .size)) 0 w
 
-pub length-filled : (g : Galley) (from : Origin) (w : Words) → length (filled g from w) ≡ length w
+pub length-filled : (g : Galley) (from : Origin) (w : Words) → Roomy g w → length (filled g from w) ≡ length w
 unfolding filled
-length-filled g from w = length-columns g from (columns (floatSizes g)) 0 w
+length-filled g from w room =
+    length-columns g from (columns (floatSizes g)) 0 (cleared (tableWords g) w) ∙ cleared-length (tableWords g) w (room .words)
 
 pub room-kept : {g : Galley} {v w : Words} → length v ≡ length w → Roomy g w → Roomy g v
 room-kept e room = record { words = omega (arith, room .words) }
@@ -212,4 +215,6 @@ module _ (g : Galley) (light : Light g) (from : Origin) where
   -- After filling, every entry's start lies before it and its cost is small.
   pub filled-all : (w : Words) → Roomy g w → Filled g from (held g (filled g from w)) 0 (columns (floatSizes g))
   unfolding filled
-  filled-all w room = filled-across (columns (floatSizes g)) 0 w (omega arith) room (filled-start (held g w))
+  filled-all w room =
+      filled-across (columns (floatSizes g)) 0 (cleared (tableWords g) w) (omega arith)
+      (room-kept (cleared-length (tableWords g) w (room .words)) room) (filled-start (held g (cleared (tableWords g) w)))

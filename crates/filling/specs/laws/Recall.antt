@@ -84,7 +84,7 @@ module _ {bytes : List ℕ} {task : Task} {w sums words seen : List ℕ} {j : �
             ∙ quiet .none a c l m occurs);
       }
 
-  -- so that what was known of them is, and of the column itself what was noted;
+  -- so that what was known of them is, and of the column itself what was noted.
   pub column-noted : {new : List ℕ} {r : Recall} → Noted (task .galley) v seen new recall j (task .origin .place .line) r
       → ColumnFilled bytes task w v new j r
   column-noted {new} {r} noted =
@@ -97,8 +97,3 @@ module _ {bytes : List ℕ} {task : Task} {w sums words seen : List ℕ} {j : �
       go : (b : ℕ) → b < j + 1 → (recall .since ≤ b) × Absent seen b × (b ≡ j → Silent v j) → Dec (b < j) → Silent v b
       go b before (since, absent, own) (yes h) = quiet-filled b h (turn .recalled .none b since h absent)
       go b before (since, absent, own) (no h) = let e : b ≡ j = omega arith in rw e (own e)
-
-  -- and of columns after it there is nothing to know.
-  pub column-skipped : ColumnFilled bytes task w v seen j (record { since = j + 1; head = recall .head })
-  column-skipped =
-      record { filled = filled; recalled = record { none = λ b l before absent. absurd (omega arith) }; head = turn .head }

@@ -10,6 +10,7 @@ use Rattle.galley.specs.declared.Galley.{Galley}
 use Rattle.galley.specs.Model.{textOf, modelOf, sidesIn}
 use Rattle.blocks.specs.Counts.{Proper}
 use Rattle.blocks.specs.laws.Counts.{within-proper}
+use Rattle.places.specs.Address.{wordsNeeded}
 use Rattle.places.specs.Columns.{columns, floatSizes}
 use Rattle.places.specs.laws.Address.{area-needed}
 use Rattle.rules.specs.Parts.{allPlaced}
@@ -38,11 +39,14 @@ use Rattle.filling.specs.laws.Costs.{own-costs}
 use Rattle.filling.specs.laws.First.{lines-before}
 use Rattle.filling.specs.laws.Own.{under-own, lines-slide, end-within, end-full, end-bears}
 
--- What is lent for a column has the words of every place.
-pub lent-roomy : {bytes : List ℕ} {g : Galley} {w : List ℕ} {j : ℕ} → Lent bytes g w j → Roomy (modelOf bytes g) w
+-- A work area as long as document 01 asks has the words of every place,
+pub needed-roomy : (bytes : List ℕ) (g : Galley) {w : List ℕ} → wordsNeeded (g .text .count) (columnsIn g) ≤ length w → Roomy (modelOf bytes g) w
 unfolding tall
-lent-roomy {bytes} {g} lent =
-    record { words = rw (columns-in bytes g, area-needed (g .text .count) (columnsIn g)) (lent .room) }
+needed-roomy bytes g room = record { words = rw (columns-in bytes g, area-needed (g .text .count) (columnsIn g)) room }
+
+-- and so has what is lent for a column.
+pub lent-roomy : {bytes : List ℕ} {g : Galley} {w : List ℕ} {j : ℕ} → Lent bytes g w j → Roomy (modelOf bytes g) w
+lent-roomy {bytes} {g} lent = needed-roomy bytes g (lent .room)
 
 -- A column that is lent is one of the galley's.
 pub lent-wide : {bytes : List ℕ} {g : Galley} {w : List ℕ} {j : ℕ} → Lent bytes g w j → j < columns (floatSizes (modelOf bytes g))

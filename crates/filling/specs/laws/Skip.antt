@@ -1,115 +1,82 @@
--- A column before that of the origin is filled with unreached entries: nothing in it is past the origin.
+-- The columns before that of the origin: nothing in them is past it, so that filling leaves them empty where they are.
 use Prim.Native.Nat.{ℕ, zero, suc, _+_, _-_, _≤_, _<_}
 use native.Mathlib.Omega.{arith}
 use mathlib.Core.Path.{_≡_, refl, sym, _∙_, ap}
-use mathlib.Core.List.{List}
-use lib.ListN.{length}
-use Rattle.model.specs.Galley as model
-use Rattle.galley.specs.declared.Galley.{Galley}
-use Rattle.galley.specs.Model.{modelOf}
+use mathlib.Core.Logic.{_⊎_, inl, inr}
+use Rattle.model.specs.Galley.{Galley}
+use Rattle.places.specs.declared.Place.{Place}
 use Rattle.places.specs.declared.Origin.{Origin}
 use Rattle.places.specs.declared.Entry.{Entry}
 use Rattle.places.specs.declared.Entry.the-variants.{Unreached, Least}
 use Rattle.places.specs.Address.{address}
 use Rattle.places.specs.Entry.{stored}
+use Rattle.places.specs.Order.{Earlier}
 use Rattle.places.specs.Columns.{columns, floatSizes, placeAt}
+use Rattle.places.specs.laws.Best.{no-reach}
 use Rattle.places.specs.laws.Places.{column-at, inside-columns}
-use Rattle.places.specs.laws.Stored.{stored-length}
-use Rattle.candidates.specs.Search.{Table, newEntry}
-use Rattle.candidates.specs.laws.Columns.{columns-in}
-use Rattle.filling.specs.declared.side.Task.{Task}
-use Rattle.filling.specs.Fill.{Words, tall, held, fillSide, fillSides, sideCount, fillPlace, fillColumn}
+use Rattle.places.specs.laws.Table.{table-same}
+use Rattle.candidates.specs.Search.{newEntry}
+use Rattle.filling.specs.Fill.{Words, tall, held, fillSide, fillSides, sideCount, fillPlace, fillColumn, fillColumns}
 use Rattle.filling.specs.Filled.{Roomy, Side, Light, Filled}
-use Rattle.filling.specs.Next.{Next}
-use Rattle.filling.specs.Skip.{skipSides, skipLines, skipColumn, SkipSides, SkipRun}
-use Rattle.filling.specs.laws.Entered.{side-low, below-side, sides-count, entry-entered}
-use Rattle.filling.specs.laws.Fill.{length-sides, length-place, room-kept, filled-keeps, filled-place}
-use Rattle.filling.specs.laws.Price.{dearest-light}
-use Rattle.filling.specs.laws.Side.{lent-roomy, lent-wide}
+use Rattle.filling.specs.laws.Entered.{side-low, side-below, below-side, entry-entered}
+use Rattle.filling.specs.laws.Fill.{in-room}
 
-module _ (g : model.Galley) (light : Light g) (from : Origin) (origin : from .place .column < columns (floatSizes g)) (q : ℕ)
-    (wide : q < columns (floatSizes g)) (early : q < from .place .column) where
-  -- No entry there is reached.
-  unreached : (t : Table) (i c : ℕ) → i ≤ g .stream 0 .size → Filled g from t i q → Side (g .spec .sides) c → newEntry g from t i q c ≡ Unreached
-  unreached t i c high f occurs = go (newEntry g from t i q c) refl
-    where
-      go : (e : Entry) → newEntry g from t i q c ≡ e → newEntry g from t i q c ≡ Unreached
-      go Unreached e = e
-      go (Least x r) e =
-          let entered = entry-entered g light from t i q c high wide f occurs x r e in
-          let low = inside-columns g (placeAt g (from .place .line) (from .place .column)) (placeAt g i q) (entered .past) in
-          absurd (omega (arith, column-at g (from .place .line) (from .place .column) origin, column-at g i q wide))
+module _ (g : Galley) (light : Light g) (from : Origin) (origin : from .place .column < columns (floatSizes g)) (w : Words) (room : Roomy g w)
+    (empty : (a b c : ℕ) → a ≤ g .stream 0 .size → b < columns (floatSizes g) → c < sideCount (g .spec .sides)
+    → stored w (address (tall g) a b c) Unreached ≡ w) where
+  -- In an empty table nothing is reached,
+  none : (a b c : ℕ) → a ≤ g .stream 0 .size → b < columns (floatSizes g) → Side (g .spec .sides) c → held g w a b c ≡ Unreached
+  none a b c h wide occurs =
+      ap (λ v. held g v a b c) (sym (empty a b c h wide (side-below (g .spec .sides) c occurs)))
+      ∙ table-same (tall g) a b c w Unreached (in-room room a b c h wide (side-low (g .spec .sides) c occurs))
 
-  -- So the sides of a place are filled so,
-  sides-same : (i : ℕ) → i ≤ g .stream 0 .size → (w : Words) → Roomy g w → Filled g from (held g w) i q → (n : ℕ) → n ≤ sideCount (g .spec .sides)
-      → (skipSides (tall g) i q n w ≡ fillSides g from i q n w) × Filled g from (held g (fillSides g from i q n w)) i q
-  unfolding skipSides fillSides fillSide
-  sides-same i high w room f zero l = (refl, f)
-  sides-same i high w room f (suc n) l =
-      let (e, h) = sides-same i high w room f n (omega arith) in
-      let occurs = below-side (g .spec .sides) n l in
-      let at = address (tall g) i q n in (
-        ap (λ v. stored v at Unreached) e ∙ ap (stored (fillSides g from i q n w) at) (sym (unreached (held g (fillSides g from i q n w)) i n high h occurs)),
-        filled-keeps g light from i q high wide n (fillSides g from i q n w) (room-kept (length-sides g from i q n w) room) (side-low (g .spec .sides) n occurs) h,
-      )
+  earlier-wide : (a b i q : ℕ) → q < columns (floatSizes g) → Earlier a b i q → b < columns (floatSizes g)
+  earlier-wide a b i q wide (inl l) = omega arith
+  earlier-wide a b i q wide (inr (e, l)) = omega arith
 
-  -- and so is the column.
-  lines-same : (k i : ℕ) (w : Words) → k + i ≡ suc (g .stream 0 .size) → Roomy g w → Filled g from (held g w) i q
-      → skipLines (sideCount (g .spec .sides)) (tall g) q k i w ≡ fillColumn g from q k i w
-  unfolding skipLines fillColumn fillPlace
-  lines-same zero i w e room f = refl
-  lines-same (suc k) i w e room f =
-      let high : i ≤ g .stream 0 .size = omega arith in
-      ap (skipLines (sideCount (g .spec .sides)) (tall g) q k (suc i)) (sides-same i high w room f (sideCount (g .spec .sides)) (omega arith) .0)
-      ∙ lines-same k (suc i) (fillPlace g from i q w) (omega arith) (room-kept (length-place g from i q w) room)
-      (unfold fillPlace in filled-place g light from i q high wide w room f)
+  -- so that whatever is said of what is reached holds;
+  pub filled-none : (i q : ℕ) → q < columns (floatSizes g) → Filled g from (held g w) i q
+  filled-none i q wide =
+      record { entered = λ a b c x s l h k e. absurd (no-reach (sym (none a b c h (earlier-wide a b i q wide l) k) ∙ e)) }
 
--- The column of a galley that was read.
-module _ {bytes : List ℕ} {task : Task} {w : List ℕ} {j : ℕ} (next : Next bytes task w 0 j) where
-  pub skip-filled : j < task .origin .place .column
-      → skipColumn (task .galley) j w
-      ≡ fillColumn (modelOf bytes (task .galley)) (task .origin) j (suc (task .galley .text .count)) 0 w
-  unfolding tall
-  skip-filled early =
-      let g = task .galley in
-      let spec = next .lent .sound .specRanged in
-      let sides = sides-count (g .spec .sides) (g .folio) (spec .sidesSome) (spec .sidesTwo) in
-      ap (λ n. skipLines n (g .text .count + 1) j (suc (g .text .count)) 0 w) (sym sides)
-      ∙ lines-same (modelOf bytes g) (dearest-light bytes g (next .lent .sound)) (task .origin) (omega (arith, next .origin, columns-in bytes g)) j
-      (lent-wide (next .lent)) early (suc (g .text .count)) 0 w (omega arith) (lent-roomy (next .lent)) (next .filled)
+  module _ (q : ℕ) (early : q < from .place .column) where
+    wide : q < columns (floatSizes g)
+    wide = omega (arith, origin)
 
--- The sides one after another, and the lines.
-module _ {g : Galley} {w₀ w : Words} {i q c : ℕ} (run : SkipSides g w₀ w i q c) where
-  pub skip-side : c < g .spec .sides → (v : Words) → v ≡ stored w (address (g .text .count + 1) i q c) Unreached → SkipSides g w₀ v i q (c + 1)
-  unfolding skipSides
-  skip-side l v e =
-      let s : c + 1 ≡ suc c = omega arith in
-      record {
-        within = omega arith;
-        sized = ap length e ∙ stored-length w (address (g .text .count + 1) i q c) Unreached ∙ run .sized;
-        same = rw s (e ∙ ap (λ u. stored u (address (g .text .count + 1) i q c) Unreached) (run .same));
-      }
+    -- no page reaches a place before the origin's column,
+    unreached : (i c : ℕ) → i ≤ g .stream 0 .size → Side (g .spec .sides) c → newEntry g from (held g w) i q c ≡ Unreached
+    unreached i c high occurs = go (newEntry g from (held g w) i q c) refl
+      where
+        go : (e : Entry) → newEntry g from (held g w) i q c ≡ e → newEntry g from (held g w) i q c ≡ Unreached
+        go Unreached e = e
+        go (Least x r) e =
+            let entered = entry-entered g light from (held g w) i q c high wide (filled-none i q wide) occurs x r e in
+            let low = inside-columns g (placeAt g (from .place .line) (from .place .column)) (placeAt g i q) (entered .past) in
+            absurd (omega (arith, column-at g (from .place .line) (from .place .column) origin, column-at g i q wide))
 
-  pub skip-place : g .spec .sides ≤ c → w ≡ skipSides (g .text .count + 1) i q (g .spec .sides) w₀
-  skip-place l = let e : c ≡ g .spec .sides = omega (arith, run .within) in rw e at (run .same)
+    -- and the column stays as it is, side by side,
+    sides-left : (i : ℕ) → i ≤ g .stream 0 .size → (n : ℕ) → n ≤ sideCount (g .spec .sides) → fillSides g from i q n w ≡ w
+    unfolding fillSides fillSide
+    sides-left i high zero l = refl
+    sides-left i high (suc n) l =
+        ap (fillSide g from i q n) (sides-left i high n (omega arith))
+        ∙ ap (stored w (address (tall g) i q n)) (unreached i n high (below-side (g .spec .sides) n l))
+        ∙ empty i q n high wide l
 
-pub skip-first : (g : Galley) (w : Words) (i q : ℕ) → SkipSides g w w i q 0
-unfolding skipSides
-skip-first g w i q = record { within = omega arith; sized = refl; same = refl }
+    -- and line by line.
+    column-left : (k i : ℕ) → k + i ≡ suc (g .stream 0 .size) → fillColumn g from q k i w ≡ w
+    unfolding fillColumn fillPlace
+    column-left zero i e = refl
+    column-left (suc k) i e =
+        ap (fillColumn g from q k (suc i)) (sides-left i (omega arith) (sideCount (g .spec .sides)) (omega arith)) ∙ column-left k (suc i) (omega arith)
 
-pub skip-start : (g : Galley) (w : Words) (q : ℕ) → SkipRun g w w q 0
-skip-start g w q =
-    let e : suc (g .text .count) - 0 ≡ suc (g .text .count) = omega arith in
-    record { within = omega arith; sized = refl; run = rw e }
-
-module _ {g : Galley} {w₀ w : Words} {q i : ℕ} (run : SkipRun g w₀ w q i) where
-  pub skip-next : i ≤ g .text .count → (v : Words) → length v ≡ length w → v ≡ skipSides (g .text .count + 1) i q (g .spec .sides) w → SkipRun g w₀ v q (i + 1)
-  unfolding skipLines
-  skip-next l v sized e =
-      let s : i + 1 ≡ suc i = omega arith in
-      let rest : suc (g .text .count) - i ≡ suc (suc (g .text .count) - suc i) = omega arith in
-      record { within = omega arith; sized = sized ∙ run .sized; run = rw (s, e) (rw rest at (run .run)) }
-
-  pub skip-end : g .text .count < i → w ≡ skipColumn g q w₀
-  unfolding skipLines
-  skip-end l = let n : suc (g .text .count) - i ≡ 0 = omega (arith, run .within) in rw n at (run .run)
+  -- So filling may begin with the origin's column.
+  pub columns-left : (k q n : ℕ) → k + q ≡ from .place .column → fillColumns g from (k + n) q w ≡ fillColumns g from n (from .place .column) w
+  unfolding fillColumns
+  columns-left zero q n e =
+      let here : q ≡ from .place .column = omega arith in
+      let rest : 0 + n ≡ n = omega arith in
+      rw (here, rest) refl
+  columns-left (suc k) q n e =
+      let rest : suc k + n ≡ suc (k + n) = omega arith in
+      rw rest (ap (fillColumns g from (k + n) (suc q)) (column-left q (omega arith) (suc (g .stream 0 .size)) 0 (omega arith)) ∙ columns-left k (suc q) n (omega arith))

@@ -22,21 +22,21 @@ returns : tie.Need-returns
 returns c =
     let made = c .before .before .before in
     rw (made .before .before .limited .ensures, made .before .before .before .limit-of .ensures)
-    (sought-reached (made .before .before .before .before .before .before .args .origin) _ (limit-low _) _ (tried made) (c .if1 .taken))
+    (sought-reached (made .before .before .before .before .before .before .pre) _ (limit-low _) _ (tried made) (c .if1 .taken))
 
 fill-requires : tie.Need-fill-requires
 fill-requires c κs =
     let made = c .before .before .before .before .before in
     let start = made .before .before .before .before .before .before in
     rw (c .before .limited2 .ensures)
-    (fillable-within (start .pre) _ (omega arith) _ (tried-long (start .args .origin) _ _ (tried made)))
+    (fillable-within (start .pre) _ (omega arith) _ (tried-long (start .pre) _ _ (tried made)))
 
 returns-2 : tie.Need-returns-2
 returns-2 c =
     let made = c .before .before .before .before .before .before .before .before in
     let start = made .before .before .before .before .before .before in
     rw (c .before .before .before .before .limited2 .ensures)
-    (sought-all (start .args .origin) _ _ (tried made) _
+    (sought-all (start .pre) _ _ (tried made) _
     (rw (c .before .before .before .before .limited2 .ensures) at (c .before .before .fill .ensures)))
 
 pub fill-far-spec : {M : Type 1} → statement M

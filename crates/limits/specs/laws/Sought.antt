@@ -21,6 +21,7 @@ use Rattle.candidates.specs.laws.Columns.{few-floats, columns-in}
 use Rattle.filling.specs.Fill.{tall, filled}
 use Rattle.filling.specs.Next.{Fillable}
 use Rattle.filling.specs.laws.Fill.{length-filled}
+use Rattle.filling.specs.laws.Side.{needed-roomy}
 use Rattle.walk.specs.Traceable.{isReached, WorkArea, fullPlace, lastStop, Visits}
 use Rattle.walk.specs.laws.Walk.{columns-in-some}
 use Rattle.needs.specs.Needs.{workNeeded}
@@ -61,7 +62,7 @@ module _ {bytes : List ℕ} {g : Galley} {from : Origin} {work : List ℕ} (fill
   -- The filled words are a work area to walk over,
   pub filled-area : (w : List ℕ) → w ≡ filled (modelOf bytes g) from work → WorkArea g w
   filled-area w e =
-      let long = ap length e ∙ length-filled (modelOf bytes g) from work in
+      let long = ap length e ∙ length-filled (modelOf bytes g) from work (needed-roomy bytes g (fill .room)) in
       record { lines = fill .sound .fewLines; floats = few-floats (fill .sound); words = omega (arith, fill .room) }
 
 -- and the last stop is one of the galley's.
@@ -73,7 +74,7 @@ last-visits g w =
 unreached-told : {r : Bool} {e : Entry} → r ≡ isReached e → e ≡ Unreached → r ≡ false
 unreached-told p q = p ∙ ap isReached q
 
-module _ {bytes : List ℕ} {g : Galley} (from : Origin) {work work′ : List ℕ} where
+module _ {bytes : List ℕ} {g : Galley} {from : Origin} {work work′ : List ℕ} (fill : Fillable bytes g from work) where
   -- Where the full place is reached, the search has found enough.
   pub sought-reached : (limit : ℕ) → limit ≤ boundless → (r : Bool) → Tried bytes g (within limit from) work work′ r → r ≡ true
       → Sought bytes g from work work′ (within limit from)
@@ -93,7 +94,7 @@ module _ {bytes : List ℕ} {g : Galley} (from : Origin) {work work′ : List �
 
   -- What was tried leaves words that can be filled again,
   pub tried-long : (limit : ℕ) (r : Bool) → Tried bytes g (within limit from) work work′ r → length work′ ≡ length work
-  tried-long limit r tried = ap length (tried .is) ∙ length-filled (modelOf bytes g) (within limit from) work
+  tried-long limit r tried = ap length (tried .is) ∙ length-filled (modelOf bytes g) (within limit from) work (needed-roomy bytes g (fill .room))
 
   -- and without a limit the search has found enough in any case.
   pub sought-all : (limit : ℕ) (r : Bool) → Tried bytes g (within limit from) work work′ r → (work″ : List ℕ)

@@ -151,3 +151,12 @@ stored-swap w at to e f apart h h′ =
         let here = stored-in w at e d l h ∙ sym (stored-in (stored w to f) at e d l (omega (arith, stored-length w to f))) in
         stored-out (stored w at e) to f k o ∙ rw (← p) at here
     go k (inr (d, p, l)) (inr (c, q, m)) = absurd (never d c apart (sym p ∙ q) l m)
+
+-- Where the words of an entry are there already, to store it changes nothing.
+pub stored-there : (w : List ℕ) (at : ℕ) (e : Entry) → at + 5 ≤ length w → ((d : ℕ) → d < 5 → getD w (at + d) 0 ≡ getD (wordsOf e) d 0)
+    → stored w at e ≡ w
+stored-there w at e h there = ext-getD 0 (stored w at e) w (stored-length w at e) (λ k l. go k (where-is k at))
+  where
+    go : (k : ℕ) → Out k at 5 ⊎ ((d : ℕ) × (k ≡ at + d) × (d < 5)) → getD (stored w at e) k 0 ≡ getD w k 0
+    go k (inl o) = stored-out w at e k o
+    go k (inr (d, p, l)) = rw p (stored-in w at e d l h ∙ sym (there d l))

@@ -13,6 +13,7 @@ use Rattle.candidates.specs.Read.{columnsIn}
 use Rattle.candidates.specs.laws.Columns.{few-floats}
 use Rattle.filling.specs.Fill.{filled}
 use Rattle.filling.specs.laws.Fill.{length-filled}
+use Rattle.filling.specs.laws.Side.{needed-roomy}
 use Rattle.closings.specs.Chapter.{onFolio, nothingYet, ChapterRoom, Tabled}
 use Rattle.routes.specs.declared.Route.{Route}
 use Rattle.routes.specs.declared.Routes.{Routes}
@@ -55,7 +56,7 @@ filled-from {bytes} {g} {g′} {w} {w′} route o asked eg e =
     let room = room-on o asked in
     let is : w′ ≡ filled (modelOf bytes (onFolio o g)) nothingYet w = e ∙ ap (λ d. filled (modelOf bytes d) nothingYet w) eg in
     record {
-      long = ap length is ∙ length-filled (modelOf bytes (onFolio o g)) nothingYet w;
+      long = ap length is ∙ length-filled (modelOf bytes (onFolio o g)) nothingYet w (needed-roomy bytes (onFolio o g) (room .room));
       tabled = λ reached. record { sound = room .sound; before = w; enough = room .room; is = is };
     }
 

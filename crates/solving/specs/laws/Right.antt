@@ -15,8 +15,10 @@ use Rattle.theorems.specs.pages.Graph.{State, stop, end, Within, Step}
 use Rattle.places.specs.declared.Origin.{Origin}
 use Rattle.places.specs.Order.{Earlier}
 use Rattle.places.specs.Columns.{columns, floatSizes, placeAt, columnIn}
+use Rattle.places.specs.Entry.{cleared}
+use Rattle.places.specs.laws.Cleared.{cleared-length}
 use Rattle.places.specs.laws.Places.{place-inside, line-at, column-at, place-of, forward-earlier}
-use Rattle.filling.specs.Fill.{Words, held, fillSide, fillSides, sideCount, fillPlace, fillColumn, fillColumns, filled}
+use Rattle.filling.specs.Fill.{Words, held, fillSide, fillSides, sideCount, fillPlace, fillColumn, fillColumns, tableWords, filled}
 use Rattle.filling.specs.Filled.{Roomy, Side, Light, Filled}
 use Rattle.filling.specs.laws.Entered.{side-low, side-below, below-side}
 use Rattle.filling.specs.laws.Fill.{length-sides, length-place, length-column, room-kept, side-same, side-other, earlier-next, earlier-column, filled-start, filled-next, filled-keeps, filled-place}
@@ -205,7 +207,8 @@ module _ (g : Galley) (from : Origin) (origin : Proper g (from .place)) (light :
       → Cell (graphOf g from) (mostFrom from) (tableAt g (held g (filled g from w))) (stop v c) (tableAt g (held g (filled g from w)) (stop v c))
   unfolding filled Done
   places-right w room v c h =
-      right-across (columns (floatSizes g)) 0 w (omega arith) room (nothing-done w) .right (stop v c)
+      right-across (columns (floatSizes g)) 0 (cleared (tableWords g) w) (omega arith)
+      (room-kept (cleared-length (tableWords g) w (room .words)) room) (nothing-done (cleared (tableWords g) w)) .right (stop v c)
       (h, inl (inl (place-of g v (inside-of g from v c h) .column)))
 
   -- and with the end the whole of it, whatever the work area held before.

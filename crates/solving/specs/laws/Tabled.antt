@@ -10,12 +10,12 @@ use Rattle.galley.specs.declared.Galley.{Galley}
 use Rattle.galley.specs.Model.{modelOf}
 use Rattle.places.specs.declared.Origin.{Origin}
 use Rattle.places.specs.Columns.{columns, floatSizes}
-use Rattle.places.specs.laws.Address.{area-needed}
 use Rattle.candidates.specs.Read.{tableIn, columnsIn}
 use Rattle.candidates.specs.laws.Columns.{few-floats, columns-in}
 use Rattle.filling.specs.Fill.{tall}
 use Rattle.filling.specs.Filled.{Roomy, Light, Filled}
 use Rattle.filling.specs.laws.Fill.{length-filled, filled-all}
+use Rattle.filling.specs.laws.Side.{needed-roomy}
 use Rattle.filling.specs.laws.Price.{sound-limits, dearest-light}
 use Rattle.walk.specs.Traceable.{WorkArea, fullPlace, Traceable}
 use Rattle.solving.specs.Shown.{lastPlace, AllRight, Proper}
@@ -31,8 +31,7 @@ module _ {bytes : List ℕ} {g : Galley} {from : Origin} {work : List ℕ} (tabl
   light = dearest-light bytes g (tabled .sound)
 
   room : Roomy (modelOf bytes g) (tabled .before)
-  unfolding tall columnsIn
-  room = record { words = rw (columns-in bytes g, area-needed (g .text .count) (columnsIn g)) (tabled .enough) }
+  room = needed-roomy bytes g (tabled .enough)
 
   pub tabled-narrow : Narrow (modelOf bytes g)
   tabled-narrow = narrow-limit (modelOf bytes g) (sound-limits bytes g (tabled .sound))
@@ -56,7 +55,7 @@ module _ {bytes : List ℕ} {g : Galley} {from : Origin} {work : List ℕ} (tabl
   unfolding columnsIn
   tabled-lent =
       let so = tabled .sound in
-      let e = length-filled (modelOf bytes g) from (tabled .before) in
+      let e = length-filled (modelOf bytes g) from (tabled .before) room in
       let q = ap length (tabled .is) in
       record { lines = so .fewLines; floats = few-floats so; words = omega (arith, tabled .enough) }
 

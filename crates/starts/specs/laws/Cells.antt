@@ -77,9 +77,8 @@ swept-side c i few l m s =
     }
 
 -- In an empty column no start is known, and there is none from a column b on and before it that is no earlier.
-pub blank-known : (bytes : List ℕ) (g : Galley) (w : List ℕ) (j b : ℕ) → j ≤ b → ColumnRoom g w j → Blank g w j (number 2 0)
+pub blank-known : (bytes : List ℕ) (g : Galley) (w : List ℕ) (j b : ℕ) → j ≤ b → ColumnRoom g w j → Blank g w j
     → Known bytes g w j b
 blank-known bytes g w j b past asked blank k c l m =
-    let empty = blank k c l m (omega (arith, asked .wide .few, asked .two)) in
-    rw (empty-unreached g j (asked .wide .within) (asked .two) w k c (asked .room) l m empty)
+    rw (empty-unreached g j (asked .wide .within) (asked .two) w k c (asked .room) l m (blank k c l m))
     (best-none (λ a b x p. omega (arith, p .0 .0, p .0 .1)))

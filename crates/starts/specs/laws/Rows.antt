@@ -17,28 +17,28 @@ use Rattle.starts.specs.declared.sweep.Row.{Row}
 use Rattle.candidates.specs.Choice.{Candidate}
 use Rattle.candidates.specs.Read.{sideOf, searchOf, countsAt, rowOf}
 use Rattle.starts.specs.Sweep.{Lent, Summed, Known}
-use Rattle.candidates.specs.Cells.{number, Scratched, fresh, Cleared}
+use Rattle.candidates.specs.Cells.{Scratched, fresh, Blank}
 use Rattle.starts.specs.Swept.{ColumnSweep, ColumnSweepRun, ColumnSwept, RowSweep, RowSwept}
 use Rattle.candidates.specs.laws.Columns.{row-next, row-grows, row-of, row-figures, row-tables, row-before, row-under, tables-low, within-at, under-at}
 use Rattle.starts.specs.laws.Floats.{figures-alone}
 use Rattle.starts.specs.laws.Lending.{lent-room}
 use Rattle.candidates.specs.laws.Cells.{scratched-then}
 use Rattle.starts.specs.laws.Cells.{lent-kept, blank-known}
-use Rattle.candidates.specs.laws.Clean.{clean-kept, clear-sized}
+use Rattle.candidates.specs.laws.Clean.{clean-kept}
 use Rattle.starts.specs.laws.Past.{known-past, start-under, start-short}
 use Rattle.starts.specs.laws.Look.{past-kept, recalled-kept, start-past}
 
--- Before the first row no start is known, and every place is unreached. The loop starts with the cleared column.
-pub column-first : {bytes : List ℕ} {g : Galley} {w₀ sums words seen : List ℕ} {j : ℕ} {begin : Begin}
-    → ColumnSweep bytes g w₀ sums words seen j begin → (w : List ℕ) → Cleared g w₀ w j 0 (number 2 0)
+-- Before the first row no start is known, and every place is unreached.
+pub column-first : {bytes : List ℕ} {g : Galley} {w sums words seen : List ℕ} {j : ℕ} {begin : Begin}
+    → ColumnSweep bytes g w sums words seen j begin
     → ColumnSweepRun bytes g w w words words seen j begin noHeights (countsAt g 0 j .figures + 1)
-column-first {bytes} {g} {j = j} asked w cleared =
+column-first {bytes} {g} {w} {j = j} asked =
     let end = countsAt g 0 j in
     let next : end .figures + 1 ≡ suc (end .figures) = omega arith in
     record {
-      lent = lent-kept (cleared .kept) (asked .lent);
-      past = past-kept (cleared .kept) (asked .lent .sound .specRanged .sidesTwo) (asked .past);
-      recalled = recalled-kept (cleared .kept) (asked .lent .sound .specRanged .sidesTwo) (asked .recalled);
+      lent = asked .lent;
+      past = asked .past;
+      recalled = asked .recalled;
       scratch = asked .scratch;
       within = omega arith;
       sized = refl;
@@ -46,23 +46,18 @@ column-first {bytes} {g} {j = j} asked w cleared =
       floats = stacked-nothing (floatsOf bytes (g .figures)) (end .figures + 1) (end .figures) (omega arith);
       known =
           blank-known bytes g w j (rowOf g (end .figures + 1))
-          (rw next (omega (arith, row-next g (end .figures), row-of g 0 j, tables-low g 0 j)))
-          (clear-sized cleared (lent-room (asked .lent))) (cleared .blank (λ k c l m n. absurd (omega arith)));
+          (rw next (omega (arith, row-next g (end .figures), row-of g 0 j, tables-low g 0 j))) (lent-room (asked .lent)) (asked .blank);
       kept = fresh;
     }
 
--- After the sweeps of a cleared column all starts are known.
-pub column-since : {bytes : List ℕ} {g : Galley} {w₀ w v : List ℕ} {j : ℕ} → Lent bytes g w₀ j → Cleared g w₀ w j 0 (number 2 0)
-    → Known bytes g v j 0 → Scratched g j w v → ColumnSwept bytes g w₀ v j
-column-since {g = g} {w₀} {w} {v} {j} lent cleared known kept =
-    let room = clear-sized cleared (lent-room lent) in
-    let blank = cleared .blank (λ k c l m n. absurd (omega arith)) in
+-- After the sweeps all starts are known, and where there is none the place is as empty as it was.
+pub column-since : {bytes : List ℕ} {g : Galley} {w v : List ℕ} {j : ℕ} → Lent bytes g w j → Blank g w j → Known bytes g v j 0
+    → Scratched g j w v → ColumnSwept bytes g w v j
+column-since {g = g} {w} {v} {j} lent blank known kept =
     record {
       known = known;
-      clean =
-          clean-kept g j (lent .column) (room .two) w v (room .room) kept
-          (λ k c l m e. blank k c l m (omega (arith, room .wide .few, room .two)));
-      kept = scratched-then g j w₀ w v (cleared .kept) kept;
+      clean = clean-kept g j (lent .column) (lent .sound .specRanged .sidesTwo) w v (lent .room) kept (λ k c l m e. blank k c l m);
+      kept = kept;
     }
 
 -- The rows one after another.

@@ -1,37 +1,28 @@
--- `fill_column` meets its contract: a column before the origin's is unreached throughout; of another, what the sweeps leave is what the
--- last one asks for, and it fills the column as if they had left nothing. Where the column has no start they leave it filled. Whatever is
--- known of the columns before it stays known.
+-- `fill_column` meets its contract: what the sweeps leave is what the last one asks for, and it fills the column as if they had left
+-- nothing. Where the column has no start they leave it filled. Whatever is known of the columns before it stays known.
 use mathlib.Core.Path.{refl, _∙_}
 use native.Mathlib.Omega.{arith}
 use Rattle.candidates.specs.laws.Columns.{few-floats}
 use Rattle.starts.specs.laws.Lending.{lent-room}
 use Rattle.starts.specs.laws.Cells.{lent-kept}
 use Rattle.filling.specs.laws.First.{columns-past, column-none}
-use Rattle.filling.specs.laws.Skip.{skip-filled}
 use Rattle.filling.specs.laws.Column.{column-last, scratched-same}
-use Rattle.filling.specs.laws.Recall.{found-none, noted-none, filled-room, column-noted, column-skipped}
+use Rattle.filling.specs.laws.Recall.{found-none, noted-none, filled-room, column-noted}
 use borrow.Author.Needs.{needs}
 use Rattle.filling.proofs.fill.fill_column.Statement.{statement}
 use Rattle.filling.proofs.fill.fill_column.Tie as tie
 
-skip-column-requires : tie.Need-skip-column-requires
-skip-column-requires c κs = lent-room (c .before .before .before .before .before .before .before .before .pre .column .next .lent)
-
-returns : tie.Need-returns
-returns c =
-    let start = c .before .before .before .before .before .before .before .before .before .before .before in
-    column-skipped (start .pre) _ (c .before .before .skip-column .ensures ∙ skip-filled (start .pre .column .next) (c .before .before .before .before .if1 .taken))
-
 counts-at-requires : tie.Need-counts-at-requires
-counts-at-requires c κs = few-floats (c .before .before .before .before .before .before .before .before .before .pre .column .next .lent .sound)
+counts-at-requires c κs = few-floats (c .before .before .before .before .before .before .before .pre .column .next .lent .sound)
 
 sweep-column-requires : tie.Need-sweep-column-requires
 sweep-column-requires c κs =
     let counted = c .before .before .before in
-    let asked = counted .before .before .before .before .before .before .before .before .before .before .pre in
+    let asked = counted .before .before .before .before .before .before .before .before .pre in
     rw (counted .counts-at .ensures)
     (record {
       lent = asked .column .next .lent;
+      blank = asked .blank;
       past = columns-past (asked .column .next);
       recalled = asked .recalled;
       summed = asked .column .summed;
@@ -41,19 +32,19 @@ sweep-column-requires c κs =
 first-start-requires : tie.Need-first-start-requires
 first-start-requires c κs =
     let swept = c .before .before .before .before .before in
-    let next = swept .before .before .before .before .before .before .before .before .before .before .before .before .before .before .pre .column .next in
+    let next = swept .before .before .before .before .before .before .before .before .before .before .before .before .pre .column .next in
     (lent-room (lent-kept (swept .sweep-column .ensures .kept) (next .lent)), next .line)
 
-returns-2 : tie.Need-returns-2
-returns-2 c =
+returns : tie.Need-returns
+returns c =
     let found = c .before .before in
     let swept = found .before .before .before .before .before .before in
-    let start = swept .before .before .before .before .before .before .before .before .before .before .before .before .before .before in
+    let start = swept .before .before .before .before .before .before .before .before .before .before .before .before in
     column-noted (start .pre) _
     (column-none (column-last (start .pre .column) _ (start .args .words .now) refl (swept .sweep-column .ensures)) (found .first-start .ensures)
-    (c .if2 .taken)
+    (c .if1 .taken)
     ∙ scratched-same (start .pre .column .next) _ (swept .sweep-column .ensures .kept))
-    (noted-none (start .args .recall) (start .pre .head) (found-none (found .first-start .ensures .found) (c .if2 .taken)))
+    (noted-none (start .args .recall) (start .pre .head) (found-none (found .first-start .ensures .found) (c .if1 .taken)))
 
 last-sweep-requires : tie.Need-last-sweep-requires
 last-sweep-requires c κs =
@@ -61,25 +52,25 @@ last-sweep-requires c κs =
     let swept = found .before .before .before .before .before .before in
     record {
       gathered =
-          column-last (swept .before .before .before .before .before .before .before .before .before .before .before .before .before .before .pre .column) _ _ (search (needs, found .before .before .slice-known6 .given, found .before .before .before .words .given))
+          column-last (swept .before .before .before .before .before .before .before .before .before .before .before .before .pre .column) _ _ (search (needs, found .before .before .slice-known5 .given, found .before .before .before .words .given))
           (swept .sweep-column .ensures);
       begun = found .first-start .ensures;
-      within = omega (arith, c .before .before .if2 .left);
+      within = omega (arith, c .before .before .if1 .left);
     }
 
 note-requires : tie.Need-note-requires
 note-requires c κs =
     let filled = c .before .before .before .before .before .before in
     let swept = filled .before .before .before .before .before .before .before .before .before .before .before in
-    let start = swept .before .before .before .before .before .before .before .before .before .before .before .before .before .before in
+    let start = swept .before .before .before .before .before .before .before .before .before .before .before .before in
     (filled-room (start .args .task) (lent-kept (swept .sweep-column .ensures .kept) (start .pre .column .next .lent)) (filled .last-sweep .ensures), start .pre .head)
 
-returns-3 : tie.Need-returns-3
-returns-3 c =
+returns-2 : tie.Need-returns-2
+returns-2 c =
     let noted = c .before .before in
     let filled = noted .before .before .before .before .before .before .before in
     let swept = filled .before .before .before .before .before .before .before .before .before .before .before in
-    let start = swept .before .before .before .before .before .before .before .before .before .before .before .before .before .before in
+    let start = swept .before .before .before .before .before .before .before .before .before .before .before .before in
     column-noted (start .pre) _
     (filled .last-sweep .ensures ∙ scratched-same (start .pre .column .next) _ (swept .sweep-column .ensures .kept)) (noted .note .ensures)
 
@@ -87,6 +78,6 @@ pub fill-column-spec : {M : Type 1} → statement M
 fill-column-spec =
     tie.close
     (tie.spec
-    (λ c. search needs) skip-column-requires (λ c. search needs) (λ c. search needs) returns (λ c. search needs) (λ c. search needs) counts-at-requires
-    sweep-column-requires first-start-requires (λ c. search needs) (λ c. search needs) (λ c. search needs) returns-2 last-sweep-requires
-    note-requires (λ c. search needs) (λ c. search needs) (λ c. search needs) returns-3)
+    (λ c. search needs) (λ c. search needs) counts-at-requires
+    sweep-column-requires first-start-requires (λ c. search needs) (λ c. search needs) (λ c. search needs) returns last-sweep-requires
+    note-requires (λ c. search needs) (λ c. search needs) (λ c. search needs) returns-2)

@@ -3,7 +3,6 @@
 use native.Mathlib.Omega.{arith}
 use Rattle.starts.specs.Swept.{ColumnSweepRun}
 use Rattle.candidates.specs.laws.Columns.{few-floats, within-at}
-use Rattle.starts.specs.laws.Lending.{lent-room}
 use Rattle.starts.specs.laws.Rows.{column-first, column-since, column-last, column-room, column-sweeps, column-next, column-tall}
 use denote.Ref.{now}
 use borrow.Author.Needs.{needs}
@@ -17,22 +16,17 @@ Inv-loop s g work₀ sums words₀ seen j begin end least heights₀ b₀ work w
 abbrev μ-loop : tie.MeasureT-loop
 μ-loop s g work₀ sums words₀ seen j begin end least heights₀ b₀ work words heights b = b
 
-clear-column-requires : tie.Need-clear-column-requires Inv-loop μ-loop
-clear-column-requires c κs =
-    lent-room (c .before .before .before .before .before .before .pre .lent)
-
 add-b : tie.Need-add-b Inv-loop μ-loop
 add-b c =
-    let start = c .before .before .before .before .before .before .before .before .before .before .before .before in
+    let start = c .before .before .before .before .before .before .before .before in
     let few = start .pre .lent .sound .figures .few in
     let within = within-at (start .args .g) 0 (start .args .j) (omega arith) (start .pre .lent .column) in
     rw (c .before .before .counts-at .ensures) (omega (arith, within .figures))
 
 loop-holds : tie.Need-loop-holds Inv-loop μ-loop
 loop-holds c =
-    let cleared = c .before .before .before .before .before in
-    rw (c .before .before .counts-at .ensures)
-    (column-first (cleared .before .before .before .before .before .before .before .pre) _ (cleared .clear-column .ensures))
+    let counted = c .before .before in
+    rw (counted .counts-at .ensures) (column-first (counted .before .before .before .before .before .before .pre))
 
 block-before-requires : tie.Need-block-before-requires Inv-loop μ-loop
 block-before-requires c κs = rw (c .before .before .before .before .before .counts-at .ensures) (column-room (c .before .before .loop .inv))
@@ -42,8 +36,8 @@ returns c =
     let put = c .before .before .before in
     let st = put .before .before .before in
     let counted = st .before .before .before in
-    let cleared = counted .before .before .before in
-    column-since (cleared .before .before .before .before .before .before .before .pre .lent) (cleared .clear-column .ensures)
+    let asked = counted .before .before .before .before .before .before .pre in
+    column-since (asked .lent) (asked .blank)
     (column-tall (st .loop .inv) (omega (arith, put .before .if1 .taken)) (put .block-before .result)
     (rw (counted .counts-at .ensures) at (put .block-before .ensures)) (c .if2 .taken)) (st .loop .inv .kept)
 
@@ -53,7 +47,7 @@ sweep-row-requires c κs =
     let st = put .before .before .before in
     let least = st .before .before in
     let counted = least .before in
-    let start = counted .before .before .before .before .before .before .before .before .before .before in
+    let start = counted .before .before .before .before .before .before in
     rw (counted .counts-at .ensures)
     (column-sweeps (st .loop .inv) (omega (arith, put .before .if1 .taken)) (put .block-before .result)
     (rw (counted .counts-at .ensures) at (put .block-before .ensures)) (start .pre .summed) (least .floor-of .result)
@@ -68,21 +62,20 @@ loop-again c =
     let counted = least .before in
     column-next (st .loop .inv) (omega (arith, put .before .if1 .taken)) (put .block-before .result)
     (rw (counted .counts-at .ensures) at (put .block-before .ensures)) (least .floor-of .result) _ _
-    (search (needs, c .before .before .slice-known4 .given, c .before .before .before .work2 .given))
-    (search (needs, c .slice-known5 .given, c .before .words .given)) (rw (counted .counts-at .ensures) at (swept .sweep-row .ensures))
+    (search (needs, c .before .before .slice-known3 .given, c .before .before .before .work .given))
+    (search (needs, c .slice-known4 .given, c .before .words .given)) (rw (counted .counts-at .ensures) at (swept .sweep-row .ensures))
 
 returns-2 : tie.Need-returns-2 Inv-loop μ-loop
 returns-2 c =
-    let st = c .before .before .loop in
-    let cleared = c .before .before .before .before .before .before .before .before in
-    column-since (cleared .before .before .before .before .before .before .before .pre .lent) (cleared .clear-column .ensures)
-    (column-last (st .inv) (omega (arith, c .if1 .left))) (st .inv .kept)
+    let st = c .before .before in
+    let asked = st .before .before .before .before .before .before .before .before .before .pre in
+    column-since (asked .lent) (asked .blank) (column-last (st .loop .inv) (omega (arith, c .if1 .left))) (st .loop .inv .kept)
 
 pub sweep-column-spec : {M : Type 1} → statement M
 sweep-column-spec =
     tie.close
     (tie.spec
-    Inv-loop μ-loop clear-column-requires
-    (λ c κs. few-floats (c .before .before .before .before .before .before .before .before .before .pre .lent .sound))
+    Inv-loop μ-loop
+    (λ c κs. few-floats (c .before .before .before .before .before .pre .lent .sound))
     (λ c κs. search needs) add-b loop-holds (λ c. search needs) block-before-requires (λ c. search needs) (λ c. search needs) returns
     sweep-row-requires (λ c. search needs) loop-again (λ c. search needs) (λ c. search needs) returns-2)
