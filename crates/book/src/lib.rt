@@ -141,7 +141,7 @@ fn make_read(
         return refused(10, book.list as u32, 0);
     }
     let made = bind(galleys, lengths, book, &mut work[..needed], pages);
-    places::clear(work, needed);
+    places::clear(work, 0, needed);
     made
 }
 

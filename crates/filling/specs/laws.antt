@@ -12,6 +12,7 @@ pub mod First
 pub mod Side
 pub mod Sides
 pub mod Skip
+pub mod Kept
 pub mod Column
 pub mod Recall
 pub mod Columns

@@ -170,6 +170,6 @@ pub fn fill(s: &[u8], g: Galley, origin: Origin, work: &mut [u32])
     let mut words = [0u32; 48000];
     window::sums::gather(s, g.text, &mut sums);
     let columns = candidates::read::columns_of(g);
-    places::clear(work, places::words_needed(g.text.count, columns));
+    places::clear(work, 0, places::words_needed(g.text.count, columns));
     fill_columns(s, Task { galley: g, origin }, work, &sums, &mut words);
 }

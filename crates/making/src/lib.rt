@@ -42,7 +42,9 @@ fn make_from(
     let turns = estimate::first_limit(s, g, origin);
     let sought = limits::fill_far(s, g, origin, turns, work);
     let answer = solving::best_pages(s, g, opening, sought, work, pages);
-    places::clear(work, needed);
+    // What stands before the origin's column is zeros as it is.
+    let begun = places::words_needed(g.text.count, origin.place.column as usize);
+    places::clear(work, begun, needed);
     let line = origin.place.line as usize;
     let first = candidates::read::counts_at(g, line, origin.place.column as usize);
     let weighed = weighing::weighed(s, g, first);

@@ -5,7 +5,7 @@
 ghost use mathlib.Core.Path.{_≡_};
 ghost use Prim.Native.Nat.{_+_, _≤_};
 ghost use mathlib.Core.List.{[], _∷_};
-ghost use lib.ListN.{length};
+ghost use lib.ListN.{length, take, replicate};
 ghost use lib.Seq.{sets};
 ghost use Rattle.places.specs.Entry.{less, lowOf, highOf, joined, entryAt, stored, cleared};
 ghost use Rattle.places.specs.Address.{address, wordsNeeded, Inside, Small, Limited, Stands};
@@ -132,12 +132,12 @@ pub fn store(work: &mut [u32], tall: usize, place: Place, side: usize, entry: En
     }
 }
 
-// The first `n` words made zeros.
-pub fn clear(work: &mut [u32], n: usize)
-    requires { ⌜ n ≤ length (now work) ⌝ }
+// The first `n` words made zeros, where those before word `from` are zeros already.
+pub fn clear(work: &mut [u32], from: usize, n: usize)
+    requires { ⌜ (from ≤ n) × (n ≤ length (now work)) × (take from (now work) ≡ replicate from 0) ⌝ }
     ensures { λ _. ⌜ now (work .exit) ≡ cleared n (now (work .entry)) ⌝ }
 {
-    let mut i = 0;
+    let mut i = from;
     while i < n {
         work[i] = 0;
         i += 1;

@@ -2,7 +2,7 @@
 use borrow.Author.Needs.{needs}
 use native.Mathlib.Omega.{arith}
 use lib.Seq.{length-take-le}
-use mathlib.Core.Path.{sym}
+use mathlib.Core.Path.{refl, sym}
 use Rattle.book.specs.laws.Bound.{book-small, bound-work, bound-list, bound-lent, bound-best}
 use Rattle.book.proofs.make_read.Statement.{statement}
 use Rattle.book.proofs.make_read.Tie as tie
@@ -37,5 +37,5 @@ make-read-spec =
     (λ c. omega (arith, book-small (c .before .before .before .before .before .before .pre) .0))
     (λ c κs. search needs) returns
     (λ c. omega (arith, book-small (c .before .before .before .before .before .before .before .before .before .pre) .1))
-    (λ c κs. search needs) returns-2 (λ c. search needs) aggregate bind-requires (λ c κs. search needs) (λ c. search needs)
+    (λ c κs. search needs) returns-2 (λ c. search needs) aggregate bind-requires (λ c κs. (omega arith, search needs, refl)) (λ c. search needs)
     (λ c. search needs) returns-3)

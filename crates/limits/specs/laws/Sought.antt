@@ -16,18 +16,19 @@ use Rattle.places.specs.declared.Entry.the-variants.{Unreached}
 use Rattle.places.specs.Address.{area}
 use Rattle.places.specs.Entry.{boundless, cleared}
 use Rattle.places.specs.laws.Address.{area-needed}
+use Rattle.places.specs.laws.Cleared.{cleared-forgets}
 use Rattle.candidates.specs.Read.{tableIn, columnsIn}
 use Rattle.candidates.specs.laws.Columns.{few-floats, columns-in}
-use Rattle.filling.specs.Fill.{tall, filled}
+use Rattle.filling.specs.Fill.{tall, tableWords, filled}
 use Rattle.filling.specs.Next.{Fillable}
 use Rattle.filling.specs.laws.Fill.{length-filled}
+use Rattle.filling.specs.laws.Kept.{filled-beyond}
 use Rattle.filling.specs.laws.Side.{needed-roomy}
 use Rattle.walk.specs.Traceable.{isReached, WorkArea, fullPlace, lastStop, Visits}
 use Rattle.walk.specs.laws.Walk.{columns-in-some}
 use Rattle.needs.specs.Needs.{workNeeded}
 use Rattle.solving.specs.laws.Last.{last-side}
 use Rattle.limits.specs.Sought.{within, limitOf, Tried, Sought}
-use Rattle.limits.specs.laws.Beyond.{cleared-filled}
 
 -- A limit is one that the search takes.
 pub limit-low : (turns : ℕ) → limitOf turns ≤ boundless
@@ -44,7 +45,7 @@ pub forgets : (bytes : List ℕ) (g : Galley) (from : Origin) (w : List ℕ)
 unfolding tall columnsIn
 forgets bytes g from w =
     let e = ap (area (g .text .count + 1)) (columns-in bytes g) ∙ area-needed (g .text .count) (columnsIn g) in
-    rw e at (cleared-filled (modelOf bytes g) from w)
+    rw e at (cleared-forgets (tableWords (modelOf bytes g)) (filled (modelOf bytes g) from w) w (filled-beyond (modelOf bytes g) from w))
 
 module _ {bytes : List ℕ} {g : Galley} {from : Origin} {work : List ℕ} (fill : Fillable bytes g from work) where
   -- The same words can be filled again, within another limit.

@@ -1,11 +1,11 @@
 -- What each way out of making leaves: its answer and every word of the lent memory.
-use Prim.Native.Nat.{ℕ, _≤_, _<_}
+use Prim.Native.Nat.{ℕ, _+_, _≤_, _<_}
 use native.Mathlib.Omega.{arith}
 use mathlib.Core.Path.{_≡_, refl, sym, _∙_, ap, subst}
 use mathlib.Core.Bool.{Bool, true, false}
 use mathlib.Core.List.{List}
 use mathlib.Core.Option.{Option, none, some}
-use lib.ListN.{length}
+use lib.ListN.{length, take, replicate}
 use borrow.Author.Tests.{lt-ltb, le-ltb}
 use Rattle.model.specs.declared.answer.Answer.{Answer}
 use Rattle.model.specs.declared.answer.Answer.the-variants.{Refused}
@@ -22,10 +22,16 @@ use Rattle.galley.specs.Model.{modelOf}
 use Rattle.galley.specs.laws.Sound.{sound}
 use Rattle.blocks.specs.Counts.{placeOf, Within}
 use Rattle.places.specs.declared.Origin.{Origin}
+use Rattle.places.specs.Address.{area, wordsNeeded}
 use Rattle.places.specs.Entry.{boundless, cleared}
+use Rattle.places.specs.laws.Address.{area-grows, area-needed}
 use Rattle.candidates.specs.Read.{columnsIn, countsAt, Placed}
 use Rattle.candidates.specs.laws.Columns.{columns-in, within-at, place-at}
+use Rattle.filling.specs.Fill.{tall, filled}
 use Rattle.filling.specs.Next.{Fillable}
+use Rattle.filling.specs.laws.Kept.{filled-early}
+use Rattle.filling.specs.laws.Price.{dearest-light}
+use Rattle.filling.specs.laws.Side.{needed-roomy}
 use Rattle.needs.specs.Needs.{workNeeded, listNeeded}
 use Rattle.making.specs.After.{stands, makeAfterRead, makeAfterOf, workMadeRead, workMadeAfter, listMadeRead, listMadeAfter, weighedAfterRead, weighedAfterOf, MadeAfter}
 use Rattle.solving.specs.Begun.{Opened}
@@ -129,6 +135,32 @@ module _ {bytes : List ℕ} {g : Galley} {opening : List ℕ} {from : Origin} {n
         sought = sought .sought;
         room = asked .room;
       }
+
+  -- The words of the columns before the origin's are among those needed.
+  pub soluble-early : wordsNeeded (g .text .count) (from .place .column) ≤ n
+  unfolding columnsIn
+  soluble-early =
+      let fill = soluble-fillable in
+      omega (
+        arith,
+        area-grows (g .text .count + 1) (from .place .column) (columnsIn g) (omega (arith, fill .origin)),
+        area-needed (g .text .count) (from .place .column),
+        area-needed (g .text .count) (columnsIn g),
+        asked .is,
+      )
+
+  -- They are zeros after the search.
+  pub sought-early : (work′ : List ℕ) (r : Origin) → Sought bytes g from work work′ r
+      → take (wordsNeeded (g .text .count) (from .place .column)) work′ ≡ replicate (wordsNeeded (g .text .count) (from .place .column)) 0
+  unfolding tall columnsIn
+  sought-early work′ r sought =
+      let fill = soluble-fillable in
+      let m = modelOf bytes g in
+      let here : r .place .column ≡ from .place .column = ap (λ (o : Origin). o .place .column) (sought .same) in
+      let words = ap (area (g .text .count + 1)) here ∙ area-needed (g .text .count) (from .place .column) in
+      let room = needed-roomy bytes g {w = sought .before} (omega (arith, asked .enough, sought .long)) in
+      let early = filled-early m r (sought .before) (dearest-light bytes g (fill .sound)) (omega (arith, fill .origin, columns-in bytes g)) room in
+      rw (sought .is) (ap (λ (k : ℕ). take k (filled m r (sought .before))) (sym words) ∙ early ∙ ap (λ (k : ℕ). replicate k 0) words)
 
   -- The place of the origin lies within the galley.
   pub soluble-first : Within g (countsAt g (from .place .line) (from .place .column))

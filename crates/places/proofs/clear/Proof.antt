@@ -6,20 +6,20 @@ use Prim.Native.Nat.{ℕ, _≤_, _-_}
 use native.Mathlib.Omega.{arith}
 use lib.ListN.{length, set}
 use Rattle.places.specs.Entry.{cleared}
-use Rattle.places.specs.laws.Cleared.{cleared-none, cleared-next}
+use Rattle.places.specs.laws.Cleared.{cleared-already, cleared-next}
 use borrow.Author.Needs.{needs}
 use ghost.Mode.{_$_}
 use Rattle.places.proofs.clear.Statement.{statement}
 use Rattle.places.proofs.clear.Tie as tie
 
 abbrev Inv-loop : tie.InvT-loop
-Inv-loop work₀ n i₀ work i = (i ≤ n) × (work ≡ cleared i work₀) × (length work ≡ length work₀)
+Inv-loop work₀ from n i₀ work i = (i ≤ n) × (work ≡ cleared i work₀) × (length work ≡ length work₀)
 
 abbrev μ-loop : tie.MeasureT-loop
-μ-loop work₀ n i₀ work i = n - i
+μ-loop work₀ from n i₀ work i = n - i
 
 loop-holds : tie.Need-loop-holds Inv-loop μ-loop
-loop-holds c = (search needs, sym (cleared-none _), refl)
+loop-holds c = (c .pre .0, sym (cleared-already _ _ (c .pre .2)), refl)
 
 loop-again : tie.Need-loop-again Inv-loop μ-loop
 loop-again c =

@@ -84,6 +84,16 @@ pub address-in : (tall i j side wide : ℕ) → i < tall → j < wide → side �
 unfolding address area
 address-in tall i j side wide h l s = omega (arith, column-first tall j wide l, mul-comm tall wide)
 
+-- Fewer columns have fewer words.
+pub area-grows : (tall some wide : ℕ) → some ≤ wide → area tall some ≤ area tall wide
+unfolding area
+area-grows tall some wide l = omega (arith, mul-le-mul-right tall l, mul-comm tall some, mul-comm tall wide)
+
+-- Those of a column and of all later ones lie past those of the columns before it.
+pub address-past : (tall i j side first : ℕ) → first ≤ j → area tall first ≤ address tall i j side
+unfolding address area
+address-past tall i j side first l = omega (arith, mul-le-mul-right tall l, mul-comm tall first)
+
 -- With a row more than there are lines these are the words needed.
 pub area-needed : (m wide : ℕ) → area (m + 1) wide ≡ wordsNeeded m wide
 unfolding area wordsNeeded

@@ -6,9 +6,9 @@ use Prim.Native.Nat.{ℕ, zero, suc, _+_, _-_, _<_, _≤_}
 use native.Mathlib.Nat.{add-zero}
 use native.Mathlib.Decide.{decLt, decLe}
 use native.Mathlib.Omega.{arith}
-use lib.ListN.{length, getD, set, drop, length-set}
+use lib.ListN.{length, getD, set, take, drop, length-set}
 use lib.Dec.{eqb}
-use lib.Seq.{getD-set-same, getD-set-other, drop-set-lt, sets, length-sets, ext-getD}
+use lib.Seq.{getD-set-same, getD-set-other, take-set-le, drop-set-lt, sets, length-sets, ext-getD}
 use Rattle.places.specs.declared.Entry.{Entry}
 use Rattle.places.specs.declared.Entry.the-variants.{Unreached, Least}
 use Rattle.places.specs.Entry.{lowOf, highOf, joined, tagged, entryAt, wordsOf, stored}
@@ -46,6 +46,11 @@ pub sets-drop : (vs w : List ℕ) (at n : ℕ) → at + length vs ≤ n → drop
 sets-drop [] w at n l = refl
 sets-drop (v ∷ vs) w at n l = sets-drop vs (set w at v) (suc at) n (omega arith) ∙ drop-set-lt n w at v (omega arith)
 
+-- So are those before it.
+sets-take : (vs w : List ℕ) (at n : ℕ) → n ≤ at → take n (sets w at vs) ≡ take n w
+sets-take [] w at n l = refl
+sets-take (v ∷ vs) w at n l = sets-take vs (set w at v) (suc at) n (omega arith) ∙ take-set-le n w at v l
+
 -- An entry has five words.
 pub words-five : (e : Entry) → length (wordsOf e) ≡ 5
 words-five Unreached = refl
@@ -60,6 +65,11 @@ stored-length w at e = length-sets w at (wordsOf e)
 pub stored-beyond : (w : List ℕ) (at n : ℕ) (e : Entry) → at + 5 ≤ n → drop n (stored w at e) ≡ drop n w
 unfolding stored
 stored-beyond w at n e h = sets-drop (wordsOf e) w at n (omega (arith, words-five e))
+
+-- A store past the first n words leaves these.
+pub stored-past : (w : List ℕ) (at n : ℕ) (e : Entry) → n ≤ at → take n (stored w at e) ≡ take n w
+unfolding stored
+stored-past w at n e h = sets-take (wordsOf e) w at n h
 
 module _ (w : List ℕ) (at : ℕ) (e : Entry) where
   stored-out : (k : ℕ) → Out k at 5 → getD (stored w at e) k 0 ≡ getD w k 0

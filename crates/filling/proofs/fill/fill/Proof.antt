@@ -1,5 +1,6 @@
 -- `fill` meets its contract: what is cleared is an empty table, and the local arrays are as long as 4,000 lines ask for.
 use native.Mathlib.Omega.{arith}
+use mathlib.Core.Path.{refl}
 use Rattle.candidates.specs.laws.Columns.{few-floats, columns-few}
 use Rattle.filling.specs.laws.Columns.{cleared-fillable, cleared-blank, cleared-whole}
 use borrow.Author.Needs.{needs}
@@ -16,7 +17,7 @@ words-needed-requires c κs =
 
 clear-requires : tie.Need-clear-requires
 clear-requires c κs =
-    rw (c .words-needed .ensures, c .before .before .columns-of .ensures) (c .before .before .before .before .before .before .before .before .pre .room)
+    (omega arith, rw (c .words-needed .ensures, c .before .before .columns-of .ensures) (c .before .before .before .before .before .before .before .before .pre .room), refl)
 
 fill-columns-requires : tie.Need-fill-columns-requires
 fill-columns-requires c κs =
