@@ -2,13 +2,14 @@
 use Prim.Native.Nat.{ℕ, _+_, _≤_, _<_}
 use mathlib.Core.Path.{_≡_}
 use mathlib.Core.List.{List}
-use lib.ListN.{length, getD}
 use Rattle.galley.specs.declared.Galley.{Galley}
 use Rattle.blocks.specs.declared.Counts.{Counts}
 use Rattle.places.specs.declared.Place.{Place}
 use Rattle.places.specs.declared.Entry.the-variants.{Unreached, Least}
 use Rattle.places.specs.Table.{tableOf}
+use Rattle.candidates.specs.declared.look.Reach.{Reach}
 use Rattle.candidates.specs.Read.{tableIn, countsAt}
+use Rattle.candidates.specs.Ring.{hintFirst, hintLast, Present, Absent, Named}
 
 -- No line of column j from `from` on and before `to` is reached on the first n sides.
 pub record Quiet (g : Galley) (w : List ℕ) (j n from to : ℕ) : Type 0 where
@@ -25,23 +26,36 @@ pub record Found (g : Galley) (w : List ℕ) (j from r : ℕ) : Type 0 where
   pub within : r ≤ g .text .count + 1
   pub quiet : Quiet g w j (g .spec .sides) from r
 
--- No word of `seen` is the number of column j.
-abbrev pub Absent : List ℕ → ℕ → Type 0
-Absent seen j = (k : ℕ) → k < length seen → getD seen k 0 ≡ j → ⊥
+-- Word x holds of column j: none of its lines from `from` on that are before the hint's first or after its last is reached.
+pub record Hinted (g : Galley) (w : List ℕ) (j from x : ℕ) : Type 0 where
+  pub within : hintFirst x ≤ g .text .count
+  pub early : Quiet g w j (g .spec .sides) from (hintFirst x)
+  pub late : Quiet g w j (g .spec .sides) (hintLast x + 1) (g .text .count + 1)
 
--- Where column j is not among `seen`, none of its lines from `from` on is reached on a side that occurs.
-abbrev pub Unseen : Galley → List ℕ → List ℕ → ℕ → ℕ → Type 0
-Unseen g w seen j from = Absent seen j → Quiet g w j (g .spec .sides) from (g .text .count + 1)
+-- What `seen` says of column j holds: where no word names it, none of its lines from `from` on is reached on a side that occurs.
+pub record Told (g : Galley) (w seen : List ℕ) (j from : ℕ) : Type 0 where
+  pub none : Absent seen j → Quiet g w j (g .spec .sides) from (g .text .count + 1)
+  pub hinted : (x : ℕ) → Present seen j x → Hinted g w j from x
 
--- So it is with every column from `since` on and before j, for the lines from `line` on.
+-- So it is with every column from `since` on and before j, for the lines from `line` on, and no later one is named.
 pub record Recalled (g : Galley) (w seen : List ℕ) (line since j : ℕ) : Type 0 where
-  pub none : (b : ℕ) → since ≤ b → b < j → Unseen g w seen b line
+  pub told : (b : ℕ) → since ≤ b → b < j → Told g w seen b line
+  pub named : Named seen j
 
 -- r is no earlier than `from` and, where that is a line, a line too; and no line after r is reached on a side that occurs.
 pub record LastFound (g : Galley) (w : List ℕ) (j from r : ℕ) : Type 0 where
   pub since : from ≤ r
   pub within : from ≤ g .text .count → r ≤ g .text .count
   pub quiet : Quiet g w j (g .spec .sides) (r + 1) (g .text .count + 1)
+
+-- `to` is at most one past the last line, and no line from it on is reached on a side that occurs.
+abbrev pub Over : Galley → List ℕ → ℕ → ℕ → Type 0
+Over g w j to = (to ≤ g .text .count + 1) × Quiet g w j (g .spec .sides) to (g .text .count + 1)
+
+-- r has both: the first line from `from` on that is reached, and the last.
+pub record Reached (g : Galley) (w : List ℕ) (j from : ℕ) (r : Reach) : Type 0 where
+  pub first : Found g w j from (r .first)
+  pub last : LastFound g w j (r .first) (r .last)
 
 -- Whatever is reached in the columns before j has the origin's counts or more in every stream: nothing before the origin is a start.
 pub record PastOrigin (g : Galley) (w : List ℕ) (j : ℕ) (origin : Counts) : Type 0 where

@@ -8,6 +8,7 @@ pub mod White
 pub mod Columns
 pub mod Read
 pub mod Lines
+pub mod Ring
 pub mod Look
 pub mod Cells
 pub mod Clean

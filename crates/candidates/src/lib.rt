@@ -3,5 +3,6 @@
 pub mod choice; // choice.rt: the better of two starts
 pub mod fronts; // fronts.rt: the best start of a window
 pub mod last; // last.rt: the best line of a column for the last page
-pub mod look; // look.rt: the first line of a column that is reached
+pub mod look; // look.rt: the first and the last line of a column that are reached
 pub mod read; // read.rt: sides, the full place, and what a page must keep to
+pub mod ring; // ring.rt: what is known of the columns last found to be reached

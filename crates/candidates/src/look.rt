@@ -1,11 +1,13 @@
 // The first and the last line of a column that are reached. A place that was never reached offers no start, so that a sweep begins at the
 // first and ends a page after the last, and a column without one is passed over.
 ghost use mathlib.Core.Path.{_≡_};
-ghost use mathlib.Core.Bool.{true, false};
-ghost use Prim.Native.Nat.{ℕ, _≤_, _<_};
+ghost use mathlib.Core.Bool.{false};
+ghost use Prim.Native.Nat.{ℕ, _+_, _≤_, _<_};
 ghost use Rattle.places.specs.Address.{Stands};
 ghost use Rattle.candidates.specs.Cells.{ColumnRoom};
-ghost use Rattle.candidates.specs.Look.{Missed, Found, LastFound, Absent, Unseen};
+ghost use Rattle.candidates.specs.Look.{Missed, Found, LastFound, Over, Told, Reached};
+ghost use Rattle.candidates.specs.Ring.{hintLast};
+use crate::ring;
 use galley::Galley;
 use places::Entry;
 use places::Place;
@@ -42,47 +44,13 @@ pub fn first_line(g: Galley, work: &[u32], column: usize, from: usize) -> usize
     g.text.count + 1
 }
 
-// Whether none of the columns seen is this one.
-fn absent(seen: &[u32], column: usize) -> bool
-    ensures { λ r. ⌜ (r ≡ true → Absent (now (seen .entry)) column) ⌝ }
-{
-    let mut at = 0;
-    while at < seen.len() {
-        if seen[at] as usize == column {
-            return false;
-        }
-        at += 1;
-    }
-    true
-}
-
-// The same first line. From column `since` on those that are reached are among the columns seen, so that the lines of any other need no
-// look.
-pub fn first_in(
-    g: Galley,
-    work: &[u32],
-    seen: &[u32],
-    column: usize,
-    since: usize,
-    from: usize,
-) -> usize
-    requires { ⌜ ColumnRoom g (now work) column × (since ≤ column → Unseen g (now work) (now seen) column from) ⌝ }
-    ensures { λ r. ⌜ Found g (now (work .entry)) column from r ⌝ }
-{
-    if since <= column {
-        if absent(seen, column) {
-            return g.text.count + 1;
-        }
-    }
-    first_line(g, work, column, from)
-}
-
-// The last line from `from` on that is reached in a column on any side that occurs; `from` where there is none.
-pub fn last_line(g: Galley, work: &[u32], column: usize, from: usize) -> usize
-    requires { ⌜ ColumnRoom g (now work) column ⌝ }
+// The last line from `from` on and before `to` that is reached in a column on any side that occurs, where none from `to` on is; `from` where
+// there is none.
+pub fn last_line(g: Galley, work: &[u32], column: usize, from: usize, to: usize) -> usize
+    requires { ⌜ ColumnRoom g (now work) column × Over g (now work) column to ⌝ }
     ensures { λ r. ⌜ LastFound g (now (work .entry)) column from r ⌝ }
 {
-    let mut last = g.text.count + 1;
+    let mut last = to;
     while from < last {
         last -= 1;
         let place = places::place_of(last, column);
@@ -91,4 +59,58 @@ pub fn last_line(g: Galley, work: &[u32], column: usize, from: usize) -> usize
         }
     }
     from
+}
+
+// The first and the last line of a column that are reached: one past the last line where there is none.
+pub struct Reach {
+    pub first: usize,
+    pub last: usize,
+}
+
+// Both, from line `from` on and before `to`, where none from `to` on is reached.
+pub fn reach_of(g: Galley, work: &[u32], column: usize, from: usize, to: usize) -> Reach
+    requires { ⌜ ColumnRoom g (now work) column × Over g (now work) column to ⌝ }
+    ensures { λ r. ⌜ Reached g (now (work .entry)) column from r ⌝ }
+{
+    let first = first_line(g, work, column, from);
+    Reach {
+        first,
+        last: last_line(g, work, column, first, to),
+    }
+}
+
+// One past the last line that a hint leaves to look at.
+fn hint_end(g: Galley, hint: u32) -> usize
+    requires { ⌜ g .text .count ≤ 4000 ⌝ }
+    ensures { λ r. ⌜ (r ≤ g .text .count + 1) × ((a : ℕ) → r ≤ a → a < g .text .count + 1 → hintLast hint + 1 ≤ a) ⌝ }
+{
+    let last = ring::last_of(hint);
+    if last < g.text.count {
+        return last + 1;
+    }
+    g.text.count + 1
+}
+
+// The same first and last line. From column `since` on those that are reached are among the columns seen, so that the lines of any other
+// need no look, and of those only the lines that their hint leaves.
+pub fn reach_in(
+    g: Galley,
+    work: &[u32],
+    seen: &[u32],
+    column: usize,
+    since: usize,
+    from: usize,
+) -> Reach
+    requires { ⌜ ColumnRoom g (now work) column × (since ≤ column → Told g (now work) (now seen) column from) ⌝ }
+    ensures { λ r. ⌜ Reached g (now (work .entry)) column from r ⌝ }
+{
+    let hint = ring::hint_for(seen, column, since);
+    if hint == 0 {
+        return Reach {
+            first: g.text.count + 1,
+            last: g.text.count + 1,
+        };
+    }
+    let first = window::parts::later(from, ring::first_of(hint));
+    reach_of(g, work, column, first, hint_end(g, hint))
 }

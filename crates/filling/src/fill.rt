@@ -141,7 +141,7 @@ fn fill_column(
         return recall;
     }
     last_sweep(s, task, work, sums, words, j, first);
-    crate::recall::note(task.galley, work, seen, recall, j, line)
+    crate::recall::note(task.galley, work, seen, recall, j, first)
 }
 
 // All columns from that of the origin on: nothing in an earlier one is past the origin, so that no page reaches it.

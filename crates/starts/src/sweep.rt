@@ -259,15 +259,15 @@ fn sweep_row(
         }
         let from = row_from + t;
         let line = row.begin.origin.lines;
-        let first = candidates::look::first_in(g, work, seen, from, row.begin.since, line);
+        let reach = candidates::look::reach_in(g, work, seen, from, row.begin.since, line);
         let pass = Pass {
             from,
             to: row.to,
             heights: floats,
             least: row.least,
             white: rules::counts::white_at(g, false, floats.loose),
-            first,
-            last: candidates::look::last_line(g, work, from, first),
+            first: reach.first,
+            last: reach.last,
         };
         sweep(s, g, work, sums, words, pass);
     }

@@ -3,18 +3,21 @@ use Prim.Native.Nat.{ℕ, _+_, _-_, _≤_, _<_}
 use native.Mathlib.Decide.{decLt}
 use native.Mathlib.Omega.{arith}
 use mathlib.Core.Path.{_≡_}
+use mathlib.Core.Logic.{_⊎_, inl, inr}
 use mathlib.Core.List.{List}
-use lib.ListN.{getD}
 use Rattle.galley.specs.declared.Galley.{Galley}
 use Rattle.places.specs.declared.Place.{Place}
 use Rattle.places.specs.declared.Entry.the-variants.{Unreached}
 use Rattle.places.specs.Table.{tableOf}
 use Rattle.places.specs.Address.{Small, Stands}
+use Rattle.window.specs.Parts.{later}
+use Rattle.window.specs.laws.Parts.{later-left, later-least}
 use Rattle.candidates.specs.Cells.{ColumnRoom}
 use Rattle.candidates.specs.Read.{tableIn}
 use Rattle.candidates.specs.laws.Columns.{columns-few}
 use Rattle.candidates.specs.laws.Read.{stands-in}
-use Rattle.candidates.specs.Look.{Quiet, Missed}
+use Rattle.candidates.specs.Ring.{Present, HintFor}
+use Rattle.candidates.specs.Look.{Quiet, Missed, Found, Hinted, Told}
 
 -- One side more is not reached.
 pub missed-next : (w : List ℕ) (tall : ℕ) (place : Place) (c : ℕ) → Missed w tall place c
@@ -53,11 +56,30 @@ module _ {g : Galley} {w : List ℕ} {j : ℕ} (room : ColumnRoom g w j) (a : �
   room-small =
       record { line = omega (arith, room .wide .few); column = omega (arith, room .wide .within, columns-few g (room .wide .floats)) }
 
--- One word more is not the column.
-pub absent-next : (seen : List ℕ) (j at : ℕ) → ((k : ℕ) → k < at → getD seen k 0 ≡ j → ⊥) → (getD seen at 0 ≡ j → ⊥)
-    → (k : ℕ) → k < at + 1 → getD seen k 0 ≡ j → ⊥
-absent-next seen j at none here k l same = go (decLt k at)
+-- The lines after those that are known not to be reached need a look alone.
+pub found-after : {g : Galley} {w : List ℕ} {j from mid r : ℕ} → Quiet g w j (g .spec .sides) from mid → mid ≤ g .text .count
+    → Found g w j (later from mid) r → Found g w j from r
+found-after {g} {w} {j} {from} {mid} {r} early inside found =
+    record {
+      since = λ l. omega (arith, later-left from mid, found .since (later-least from mid (g .text .count + 1) l (omega arith)));
+      within = found .within;
+      quiet = record { none = λ a c l m occurs. go a c l m occurs (decLt a mid) };
+    }
   where
-    go : Dec (k < at) → ⊥
-    go (yes h) = none k h same
-    go (no h) = let e : k ≡ at = omega arith in here (rw e at same)
+    go : (a c : ℕ) → from ≤ a → a < r → c < g .spec .sides → Dec (a < mid) → tableIn g w a j c ≡ Unreached
+    go a c l m occurs (yes h) = early .none a c l h occurs
+    go a c l m occurs (no h) = found .quiet .none a c (later-least from mid a l (omega arith)) m occurs
+
+-- What is known of a column holds, whether the ring covers it or not.
+pub hint-holds : {g : Galley} {w seen : List ℕ} {since j from r : ℕ} → g .text .count ≤ 4000 → (since ≤ j → Told g w seen j from)
+    → HintFor seen since j r → (r ≡ 0 → ⊥) → Hinted g w j from r
+hint-holds {g} {w} {seen} {since} {j} {from} {r} few told known some = go (known .some some)
+  where
+    go : (r ≡ 511) ⊎ ((since ≤ j) × Present seen j r) → Hinted g w j from r
+    go (inl e) =
+        record {
+          within = omega arith;
+          early = record { none = λ a c l m. absurd (omega arith) };
+          late = record { none = λ a c l m. absurd (omega arith) };
+        }
+    go (inr (after, here)) = told after .hinted r here

@@ -17,6 +17,7 @@ use Rattle.candidates.specs.Cells.{Scratched, fresh, Blank}
 use Rattle.candidates.specs.Read.{tableIn, columnsIn}
 use Rattle.candidates.specs.laws.Cells.{scratched-then}
 use Rattle.candidates.specs.laws.Clean.{blank-kept}
+use Rattle.candidates.specs.Ring.{Named}
 use Rattle.candidates.specs.laws.Columns.{columns-in}
 use Rattle.filling.specs.declared.side.Task.{Task}
 use Rattle.filling.specs.declared.recall.Recall.{Recall}
@@ -79,10 +80,10 @@ column-scratched bytes task j some two (suc k) i w e =
 -- One column after another.
 module _ {bytes : List ℕ} {task : Task} {w₀ sums words₀ : List ℕ} (table : TableNext bytes task w₀ sums words₀) where
   -- At first no column is filled, and none before the origin's need be.
-  pub columns-first : (seen : List ℕ) → length seen ≡ 76
+  pub columns-first : (seen : List ℕ) → length seen ≡ 76 → Named seen 0
       → ColumnsRun bytes task w₀ w₀ words₀ words₀ seen (record { since = task .origin .place .column; head = 0 }) (task .origin .place .column)
   unfolding tall
-  columns-first seen ring =
+  columns-first seen ring named =
       let g = task .galley in
       let m = modelOf bytes g in
       let from = task .origin in
@@ -104,7 +105,7 @@ module _ {bytes : List ℕ} {task : Task} {w₀ sums words₀ : List ℕ} (table
         entries = filled-none m light from wide w₀ room empty 0 (from .place .column) wide;
         run = sym (rw rest at (columns-left m light from wide w₀ room empty (from .place .column) 0 (columnsIn g - from .place .column) (omega arith)));
         blank = λ b l h. table .blank b h;
-        recalled = record { none = λ b l before absent. absurd (omega arith) };
+        recalled = record { told = λ b l before. absurd (omega arith); named = λ b x here. omega (arith, named b x here) };
         head = omega arith;
       }
 

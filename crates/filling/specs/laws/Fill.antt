@@ -99,6 +99,26 @@ module _ (g : Galley) (from : Origin) (q : ℕ) (wide : q < columns (floatSizes 
       (room-kept (length-sides g from i q (sideCount (g .spec .sides)) w) room)
       ∙ sides-other i (omega arith) (sideCount (g .spec .sides)) (count-low (g .spec .sides)) w room
 
+-- Filling a column from a line on leaves the lines above as they were.
+module _ (g : Galley) (from : Origin) (q : ℕ) (wide : q < columns (floatSizes g)) (a d : ℕ) (side : d ≤ 1) where
+  sides-above : (i : ℕ) → a < i → i ≤ g .stream 0 .size → (n : ℕ) → n ≤ 2 → (w : Words) → Roomy g w
+      → held g (fillSides g from i q n w) a q d ≡ held g w a q d
+  unfolding fillSides
+  sides-above i above high zero few w room = refl
+  sides-above i above high (suc n) few w room =
+      side-other g from i q n (fillSides g from i q n w) (room-kept (length-sides g from i q n w) room) high wide (omega arith) a q d (omega arith)
+      side (λ e. omega (arith, e .0))
+      ∙ sides-above i above high n (omega arith) w room
+
+  pub column-above : (k i : ℕ) (w : Words) → a < i → k + i ≡ suc (g .stream 0 .size) → Roomy g w
+      → held g (fillColumn g from q k i w) a q d ≡ held g w a q d
+  unfolding fillColumn fillPlace
+  column-above zero i w above e room = refl
+  column-above (suc k) i w above e room =
+      column-above k (suc i) (fillSides g from i q (sideCount (g .spec .sides)) w) (omega arith) (omega arith)
+      (room-kept (length-sides g from i q (sideCount (g .spec .sides)) w) room)
+      ∙ sides-above i above (omega arith) (sideCount (g .spec .sides)) (count-low (g .spec .sides)) w room
+
 -- An earlier place is another place.
 earlier-other : (a b i q : ℕ) → Earlier a b i q → (i ≡ a) × (q ≡ b) → ⊥
 earlier-other a b i q (inl l) (p, r) = omega arith

@@ -12,7 +12,7 @@ use Rattle.places.specs.declared.Entry.the-variants.{Unreached, Least}
 use Rattle.places.specs.laws.Best.{no-reach}
 use Rattle.candidates.specs.Choice.{Candidate, Between}
 use Rattle.candidates.specs.Read.{tableIn, sideOf, searchOf, countsAt}
-use Rattle.candidates.specs.Look.{Quiet, LastFound, PastOrigin, Recalled}
+use Rattle.candidates.specs.Look.{Quiet, LastFound, PastOrigin, Hinted, Told, Recalled}
 use Rattle.starts.specs.Sweep.{Lent, Knows, Known, Swept}
 use Rattle.candidates.specs.Cells.{number, Scratched}
 use Rattle.candidates.specs.laws.Read.{side-occurs}
@@ -43,10 +43,26 @@ last-kept kept two before found =
     record { since = found .since; within = found .within; quiet = quiet-kept kept two two before (le-refl _) (found .quiet) }
 
 -- leave what was seen of other columns,
+told-kept : {g : Galley} {w v seen : List ℕ} {j b line : ℕ} → Scratched g j w v → g .spec .sides ≤ 2 → b < j → Told g w seen b line
+    → Told g v seen b line
+told-kept {g} {w} {v} {b = b} {line} kept two before told =
+    record {
+      none = λ absent. quiet-kept kept two two before (le-refl _) (told .none absent);
+      hinted = λ x here. go (told .hinted x here);
+    }
+  where
+    go : {x : ℕ} → Hinted g w b line x → Hinted g v b line x
+    go hinted =
+        record {
+          within = hinted .within;
+          early = quiet-kept kept two two before (omega (arith, hinted .within)) (hinted .early);
+          late = quiet-kept kept two two before (le-refl _) (hinted .late);
+        }
+
 pub recalled-kept : {g : Galley} {w v seen : List ℕ} {j line since : ℕ} → Scratched g j w v → g .spec .sides ≤ 2
     → Recalled g w seen line since j → Recalled g v seen line since j
 recalled-kept kept two recalled =
-    record { none = λ b after before absent. quiet-kept kept two two before (le-refl _) (recalled .none b after before absent) }
+    record { told = λ b after before. told-kept kept two before (recalled .told b after before); named = recalled .named }
 
 -- and leave what stands past the origin.
 pub past-kept : {g : Galley} {w v : List ℕ} {j : ℕ} {origin : Counts} → Scratched g j w v → g .spec .sides ≤ 2 → PastOrigin g w j origin

@@ -23,7 +23,8 @@ use Rattle.starts.specs.declared.sweep.Row.{Row}
 use Rattle.candidates.specs.Choice.{Candidate}
 use Rattle.candidates.specs.Beside.{Under, alone}
 use Rattle.candidates.specs.Read.{sideOf, searchOf, countsAt, rowOf}
-use Rattle.candidates.specs.Look.{Found, LastFound, PastOrigin, Unseen}
+use Rattle.candidates.specs.Look.{PastOrigin, Told, Reached}
+use Rattle.candidates.specs.declared.look.Reach.{Reach}
 use Rattle.candidates.specs.Cells.{fresh, ColumnRoom}
 use Rattle.starts.specs.Sweep.{Layable, floatsAlone, rowTop}
 use Rattle.starts.specs.Swept.{RowSweep, RowRun, RowSwept, Sweep, SweepDone}
@@ -170,11 +171,11 @@ module _ {bytes : List ℕ} {g : Galley} {w₀ sums words₀ seen : List ℕ} {r
       pub from-small : rowOf g (row .figures) + (top - 1) ≤ 10250
       from-small = omega (arith, from-before .0, asked .lent .column, columns-few g (few-floats (asked .lent .sound)))
 
-      -- It is known whether it was seen.
-      pub row-unseen : row .begin .since ≤ rowOf g (row .figures) + (top - 1)
-          → Unseen g w seen (rowOf g (row .figures) + (top - 1)) (row .begin .origin .lines)
-      row-unseen after =
-          recalled-kept (run .kept) (asked .lent .sound .specRanged .sidesTwo) (asked .recalled) .none from after (from-before .0)
+      -- It is known whether it was seen, and where.
+      pub row-told : row .begin .since ≤ rowOf g (row .figures) + (top - 1)
+          → Told g w seen (rowOf g (row .figures) + (top - 1)) (row .begin .origin .lines)
+      row-told after =
+          recalled-kept (run .kept) (asked .lent .sound .specRanged .sidesTwo) (asked .recalled) .told from after (from-before .0)
 
       pub row-stands : ColumnRoom g w (rowOf g (row .figures) + (top - 1))
       row-stands =
@@ -214,16 +215,15 @@ module _ {bytes : List ℕ} {g : Galley} {w₀ sums words₀ seen : List ℕ} {r
               (rw (from-tables, ← end-tables) floats′) (rw (from-figures, ← end-figures, from-tables, ← end-tables) mixed))
 
           -- the next sweep may start,
-          pub row-sweeps : floats .tight ≤ g .spec .htmax → (white : ℕ) → white ≡ whiteAt g false (floats .loose) → (first : ℕ)
-              → Found g w (rowOf g (row .figures) + (top - 1)) (row .begin .origin .lines) first → (last : ℕ)
-              → LastFound g w (rowOf g (row .figures) + (top - 1)) first last
-              → Sweep bytes g w sums words (next white first last)
-          row-sweeps short white e first found last late =
+          pub row-sweeps : floats .tight ≤ g .spec .htmax → (white : ℕ) → white ≡ whiteAt g false (floats .loose) → (reach : Reach)
+              → Reached g w (rowOf g (row .figures) + (top - 1)) (row .begin .origin .lines) reach
+              → Sweep bytes g w sums words (next white (reach .first) (reach .last))
+          row-sweeps short white e reach found =
               let after : suc from ≡ rowOf g (row .figures) + top = omega arith in
               record {
                 lent = run .lent;
-                early = quiet-then (past-quiet (run .lent) past-now from (from-before .0)) (found .quiet);
-                late = late;
+                early = quiet-then (past-quiet (run .lent) past-now from (from-before .0)) (found .first .quiet);
+                late = found .last;
                 summed = asked .summed;
                 scratch = run .scratch;
                 passing =

@@ -8,22 +8,19 @@ use Rattle.candidates.proofs.look.last_line.Statement.{statement}
 use Rattle.candidates.proofs.look.last_line.Tie as tie
 
 abbrev Inv-loop : tie.InvT-loop
-Inv-loop g work column from last₀ last = (last ≤ g .text .count + 1) × Quiet g work column (g .spec .sides) last (g .text .count + 1)
+Inv-loop g work column from to last₀ last = (last ≤ g .text .count + 1) × Quiet g work column (g .spec .sides) last (g .text .count + 1)
 
 abbrev μ-loop : tie.MeasureT-loop
-μ-loop g work column from last₀ last = last
-
-loop-holds : tie.Need-loop-holds Inv-loop μ-loop
-loop-holds c = (omega arith, record { none = λ b d l m. absurd (omega arith) })
+μ-loop g work column from to last₀ last = last
 
 place-of-requires : tie.Need-place-of-requires Inv-loop μ-loop
-place-of-requires c κs = room-small (c .before .before .before .before .pre) _ (omega (arith, c .before .loop .inv .0))
+place-of-requires c κs = room-small (c .before .before .before .pre .0) _ (omega (arith, c .before .loop .inv .0))
 
 reached-requires : tie.Need-reached-requires Inv-loop μ-loop
 reached-requires c κs =
     let here = c .before .before in
     rw (here .place-of .ensures)
-    (room-stands (here .before .before .before .before .before .pre) _ (omega (arith, here .before .before .loop .inv .0)))
+    (room-stands (here .before .before .before .before .pre .0) _ (omega (arith, here .before .before .loop .inv .0)))
 
 returns : tie.Need-returns Inv-loop μ-loop
 returns c =
@@ -54,5 +51,5 @@ pub last-line-spec : {M : Type 1} → statement M
 last-line-spec =
     tie.close
     (tie.spec
-    Inv-loop μ-loop (λ c. search needs) loop-holds (λ c. search needs) place-of-requires (λ c. search needs) (λ c. search needs)
+    Inv-loop μ-loop (λ c. search needs) (λ c. search needs) place-of-requires (λ c. search needs) (λ c. search needs)
     reached-requires returns (λ c. search needs) loop-again returns-2)

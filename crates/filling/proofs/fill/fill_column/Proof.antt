@@ -7,7 +7,7 @@ use Rattle.starts.specs.laws.Lending.{lent-room}
 use Rattle.starts.specs.laws.Cells.{lent-kept}
 use Rattle.filling.specs.laws.First.{columns-past, column-none}
 use Rattle.filling.specs.laws.Column.{column-last, scratched-same}
-use Rattle.filling.specs.laws.Recall.{found-none, noted-none, filled-room, column-noted}
+use Rattle.filling.specs.laws.Recall.{noted-none, filled-room, filled-quiet, column-noted}
 use borrow.Author.Needs.{needs}
 use Rattle.filling.proofs.fill.fill_column.Statement.{statement}
 use Rattle.filling.proofs.fill.fill_column.Tie as tie
@@ -44,7 +44,8 @@ returns c =
     (column-none (column-last (start .pre .column) _ (start .args .words .now) refl (swept .sweep-column .ensures)) (found .first-start .ensures)
     (c .if1 .taken)
     ∙ scratched-same (start .pre .column .next) _ (swept .sweep-column .ensures .kept))
-    (noted-none (start .args .recall) (start .pre .head) (found-none (found .first-start .ensures .found) (c .if1 .taken)))
+    (found .first-start .ensures .found .quiet)
+    (noted-none (start .args .recall) (start .pre .head) (start .pre .recalled .named) (record { none = λ a d l m. absurd (omega (arith, c .if1 .taken)) }))
 
 last-sweep-requires : tie.Need-last-sweep-requires
 last-sweep-requires c κs =
@@ -63,16 +64,19 @@ note-requires c κs =
     let filled = c .before .before .before .before .before .before in
     let swept = filled .before .before .before .before .before .before .before .before .before .before .before in
     let start = swept .before .before .before .before .before .before .before .before .before .before .before .before in
-    (filled-room (start .args .task) (lent-kept (swept .sweep-column .ensures .kept) (start .pre .column .next .lent)) (filled .last-sweep .ensures), start .pre .head)
+    (filled-room (start .args .task) (lent-kept (swept .sweep-column .ensures .kept) (start .pre .column .next .lent)) (filled .last-sweep .ensures), start .pre .head, start .pre .recalled .named)
 
 returns-2 : tie.Need-returns-2
 returns-2 c =
     let noted = c .before .before in
     let filled = noted .before .before .before .before .before .before .before in
-    let swept = filled .before .before .before .before .before .before .before .before .before .before .before in
+    let found = filled .before .before .before .before .before in
+    let swept = found .before .before .before .before .before .before in
     let start = swept .before .before .before .before .before .before .before .before .before .before .before .before in
     column-noted (start .pre) _
-    (filled .last-sweep .ensures ∙ scratched-same (start .pre .column .next) _ (swept .sweep-column .ensures .kept)) (noted .note .ensures)
+    (filled .last-sweep .ensures ∙ scratched-same (start .pre .column .next) _ (swept .sweep-column .ensures .kept))
+    (filled-quiet (column-last (start .pre .column) _ (start .args .words .now) refl (swept .sweep-column .ensures)) (found .first-start .ensures) (filled .last-sweep .ensures))
+    (noted .note .ensures)
 
 pub fill-column-spec : {M : Type 1} → statement M
 fill-column-spec =

@@ -3,6 +3,7 @@
 use Prim.Native.Nat.{_-_}
 use native.Mathlib.Omega.{arith}
 use Rattle.candidates.specs.laws.Columns.{few-floats}
+use Rattle.candidates.specs.laws.Ring.{fresh-named}
 use Rattle.filling.specs.Run.{ColumnsRun}
 use Rattle.filling.specs.laws.Columns.{columns-first, columns-done, columns-turn, columns-next}
 use borrow.Author.Needs.{needs}
@@ -19,7 +20,7 @@ columns-of-requires : tie.Need-columns-of-requires Inv-loop μ-loop
 columns-of-requires c κs = few-floats (c .before .before .before .before .pre .fillable .sound)
 
 loop-holds : tie.Need-loop-holds Inv-loop μ-loop
-loop-holds c = columns-first (c .before .before .before .before .before .before .pre) _ (search needs)
+loop-holds c = columns-first (c .before .before .before .before .before .before .pre) _ (search needs) (fresh-named 76)
 
 slice-aggregate-fill-column : tie.Need-slice-aggregate-fill-column Inv-loop μ-loop
 slice-aggregate-fill-column c = search (needs, c .before .before .before .before .loop .inv .ring)

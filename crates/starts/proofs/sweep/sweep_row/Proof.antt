@@ -5,7 +5,7 @@ use native.Mathlib.Omega.{arith}
 use Rattle.candidates.specs.Read.{rowOf}
 use Rattle.starts.specs.Swept.{RowRun}
 use Rattle.candidates.specs.laws.Columns.{few-floats}
-use Rattle.starts.specs.laws.Row.{end-few, row-small, from-small, row-first, row-last, row-room, row-unseen, row-stands, row-lays, row-sweeps, row-swept, row-tall}
+use Rattle.starts.specs.laws.Row.{end-few, row-small, from-small, row-first, row-last, row-room, row-told, row-stands, row-lays, row-sweeps, row-swept, row-tall}
 use borrow.Author.Needs.{needs}
 use Rattle.starts.proofs.sweep.sweep_row.Statement.{statement}
 use Rattle.starts.proofs.sweep.sweep_row.Tie as tie
@@ -58,49 +58,40 @@ add-from c =
       from-small (st .before .before .before .before .before .before .before .before .before .pre) (st .loop .inv) (omega (arith, put .before .if1 .taken)),
     )
 
-first-in-requires : tie.Need-first-in-requires Inv-loop μ-loop
+reach-in-requires : tie.Need-reach-in-requires Inv-loop μ-loop
 unfolding rowOf
-first-in-requires c κs =
+reach-in-requires c κs =
     let put = c .before .before .before .before .before .before .before in
     let st = put .before .before .before in
     let asked = st .before .before .before .before .before .before .before .before .before .pre in
     let some = put .before .if1 .taken in
-    (row-stands asked (st .loop .inv) (omega arith), row-unseen asked (st .loop .inv) (omega arith))
-
-last-line-requires : tie.Need-last-line-requires Inv-loop μ-loop
-unfolding rowOf
-last-line-requires c κs =
-    let put = c .before .before .before .before .before .before .before .before .before .before in
-    let st = put .before .before .before in
-    row-stands (st .before .before .before .before .before .before .before .before .before .pre) (st .loop .inv) (omega (arith, put .before .if1 .taken))
+    (row-stands asked (st .loop .inv) (omega arith), row-told asked (st .loop .inv) (omega arith))
 
 sweep-requires : tie.Need-sweep-requires Inv-loop μ-loop
 unfolding rowOf
 sweep-requires c κs =
-    let ended = c .before .before in
-    let white = ended .before .before in
+    let white = c .before .before in
     let looked = white .before in
     let laid = looked .before .before .before .before .before in
     let put = laid .before .before .before in
     let st = put .before .before .before in
     row-sweeps (st .before .before .before .before .before .before .before .before .before .pre) (st .loop .inv) (omega (arith, put .before .if1 .taken))
     (put .block-before .result) (put .block-before .ensures) _ refl (laid .floats-alone .result) (laid .floats-alone .ensures)
-    (omega (arith, looked .before .before .if2 .left)) (white .white-at .result) (white .white-at .ensures .0) (looked .first-in .result)
-    (looked .first-in .ensures) (ended .last-line .result) (ended .last-line .ensures)
+    (omega (arith, looked .before .before .if2 .left)) (white .white-at .result) (white .white-at .ensures .0) (looked .reach-in .result)
+    (looked .reach-in .ensures)
 
 loop-again : tie.Need-loop-again Inv-loop μ-loop
 unfolding rowOf
 loop-again c =
     let swept = c .before .before .before .before in
-    let ended = swept .before .before .before in
-    let white = ended .before .before in
+    let white = swept .before .before .before in
     let looked = white .before in
     let laid = looked .before .before .before .before .before in
     let put = laid .before .before .before in
     let st = put .before .before .before in
     row-swept (st .before .before .before .before .before .before .before .before .before .pre) (st .loop .inv) (omega (arith, put .before .if1 .taken))
     (put .block-before .result) (put .block-before .ensures) _ refl (laid .floats-alone .result) (laid .floats-alone .ensures)
-    (white .white-at .result) (looked .first-in .result) (ended .last-line .result) _ _
+    (white .white-at .result) (looked .reach-in .result .first) (looked .reach-in .result .last) _ _
     (search (needs, c .before .before .slice-known3 .given, c .before .before .before .work .given))
     (search (needs, c .slice-known4 .given, c .before .words .given)) (swept .sweep .ensures)
 
@@ -113,5 +104,5 @@ sweep-row-spec =
     tie.close
     (tie.spec
     Inv-loop μ-loop add-row-from mul-row-from row-top-requires loop-holds (λ c. search needs) block-before-requires floats-alone-requires
-    (λ c. search needs) (λ c. search needs) returns add-from first-in-requires (λ c κs. search needs) last-line-requires sweep-requires (λ c. search needs)
+    (λ c. search needs) (λ c. search needs) returns add-from reach-in-requires (λ c κs. search needs) sweep-requires (λ c. search needs)
     loop-again (λ c. search needs) (λ c. search needs) returns-2)
