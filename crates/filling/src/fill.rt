@@ -1,9 +1,10 @@
 // The work area filled with the entry of every place, column by column: document 01, "Making".
 ghost use mathlib.Core.Path.{_≡_};
+ghost use mathlib.Core.Bool.{false};
 ghost use Prim.Native.Nat.{suc, _+_, _≤_};
 ghost use Rattle.galley.specs.Model.{modelOf};
 ghost use Rattle.galley.specs.Sound.{SoundStream};
-ghost use Rattle.candidates.specs.Cells.{ColumnRoom};
+ghost use Rattle.candidates.specs.Cells.{ColumnRoom, Blank};
 ghost use Rattle.candidates.specs.Read.{columnsIn};
 ghost use Rattle.filling.specs.Fill.{fillColumn, fillColumns, filled};
 ghost use Rattle.filling.specs.Next.{endFrom, Begun, Onward, LastNext, TableNext, Fillable};
@@ -102,14 +103,17 @@ fn last_sweep(
 }
 
 // The first line of column j that a page may reach: in the origin's column that of the origin, else the first from there on that has a
-// start in an earlier column; one past the last line where none has.
-fn first_start(task: Task, work: &[u32], j: usize) -> usize
-    requires { ⌜ ColumnRoom (task .galley) (now work) j × (task .origin .place .line ≤ task .galley .text .count) ⌝ }
+// start in an earlier column; one past the last line where none has. Where no such column is reached there is nothing to look for.
+fn first_start(task: Task, work: &[u32], j: usize, any: bool) -> usize
+    requires { ⌜ ColumnRoom (task .galley) (now work) j × (task .origin .place .line ≤ task .galley .text .count) × (any ≡ false → Blank (task .galley) (now work) j) ⌝ }
     ensures { λ r. ⌜ Begun task (now (work .entry)) j r ⌝ }
 {
     let line = task.origin.place.line as usize;
     if j == task.origin.place.column as usize {
         return line;
+    }
+    if !any {
+        return task.galley.text.count + 1;
     }
     candidates::look::first_line(task.galley, work, j, line)
 }
@@ -135,8 +139,8 @@ fn fill_column(
         origin,
         since: recall.since,
     };
-    starts::sweep::sweep_column(s, task.galley, work, sums, words, seen, j, begin);
-    let first = first_start(task, work, j);
+    let any = starts::sweep::sweep_column(s, task.galley, work, sums, words, seen, j, begin);
+    let first = first_start(task, work, j, any);
     if task.galley.text.count < first {
         return recall;
     }

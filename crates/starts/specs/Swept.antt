@@ -2,7 +2,7 @@
 use Prim.Native.Nat.{ℕ, suc, _+_, _≤_, _<_}
 use mathlib.Core.Path.{_≡_}
 use mathlib.Core.Logic.{_⊎_}
-use mathlib.Core.Bool.{false}
+use mathlib.Core.Bool.{Bool, false}
 use mathlib.Core.List.{List}
 use lib.ListN.{length}
 use Rattle.model.specs.Rules.{floor}
@@ -37,7 +37,8 @@ pub record ColumnSweep (bytes : List ℕ) (g : Galley) (w sums words seen : List
 
 -- The starts in rows from that of b figures on are known.
 pub record ColumnSweepRun (bytes : List ℕ) (g : Galley) (w₀ w words₀ words seen : List ℕ) (j : ℕ) (begin : Begin) (heights : Heights) (b : ℕ)
-    : Type 0 where
+    (any : Bool) : Type 0 where
+  pub still : any ≡ false → w ≡ w₀
   pub lent : Lent bytes g w j
   pub past : PastOrigin g w j (begin .origin)
   pub recalled : Recalled g w seen (begin .origin .lines) (begin .since) j
@@ -49,8 +50,10 @@ pub record ColumnSweepRun (bytes : List ℕ) (g : Galley) (w₀ w words₀ words
   pub known : Known bytes g w j (rowOf g b)
   pub kept : Scratched g j w₀ w
 
--- The starts in all columns before are known, a place without one is empty, and nothing else has changed.
-pub record ColumnSwept (bytes : List ℕ) (g : Galley) (w v : List ℕ) (j : ℕ) : Type 0 where
+-- The starts in all columns before are known, a place without one is empty, and nothing else has changed; where no column that was swept
+-- is reached nothing has.
+pub record ColumnSwept (bytes : List ℕ) (g : Galley) (w v : List ℕ) (j : ℕ) (r : Bool) : Type 0 where
+  pub still : r ≡ false → v ≡ w
   pub known : Known bytes g v j 0
   pub clean : Clean g v j
   pub kept : Scratched g j w v
@@ -69,7 +72,8 @@ pub record RowSweep (bytes : List ℕ) (g : Galley) (w sums words seen : List �
   pub known : Known bytes g w (row .to) (rowOf g (suc (row .figures)))
 
 -- The starts in the columns of the row with t tables and more are known.
-pub record RowRun (bytes : List ℕ) (g : Galley) (w₀ w words₀ words : List ℕ) (row : Row) (tables : Heights) (t : ℕ) : Type 0 where
+pub record RowRun (bytes : List ℕ) (g : Galley) (w₀ w words₀ words : List ℕ) (row : Row) (tables : Heights) (t : ℕ) (any : Bool) : Type 0 where
+  pub still : any ≡ false → w ≡ w₀
   pub lent : Lent bytes g w (row .to)
   pub scratch : Scratch words
   pub within : t ≤ rowTop row
@@ -79,8 +83,9 @@ pub record RowRun (bytes : List ℕ) (g : Galley) (w₀ w words₀ words : List 
   pub known : Known bytes g w (row .to) (rowOf g (row .figures) + t)
   pub kept : Scratched g (row .to) w₀ w
 
--- The starts of the row are known.
-pub record RowSwept (bytes : List ℕ) (g : Galley) (w v : List ℕ) (row : Row) : Type 0 where
+-- The starts of the row are known; where none of its columns is reached nothing is stored.
+pub record RowSwept (bytes : List ℕ) (g : Galley) (w v : List ℕ) (row : Row) (r : Bool) : Type 0 where
+  pub still : r ≡ false → v ≡ w
   pub known : Known bytes g v (row .to) (rowOf g (row .figures))
   pub kept : Scratched g (row .to) w v
 
@@ -121,9 +126,10 @@ pub record SweepRun (bytes : List ℕ) (g : Galley) (w₀ w words₀ words : Lis
   pub swept : Swept bytes g w (pass .to) (pass .from) (number c 0)
   pub kept : Scratched g (pass .to) w₀ w
 
--- The starts of the pass are known.
+-- The starts of the pass are known; where there is none nothing is stored.
 pub record SweepDone (bytes : List ℕ) (g : Galley) (w v : List ℕ) (pass : Pass) : Type 0 where
   pub known : Known bytes g v (pass .to) (pass .from)
+  pub still : g .text .count < pass .first → v ≡ w
   pub kept : Scratched g (pass .to) w v
 
 -- Side c of a pass, the sides before it being swept.

@@ -233,7 +233,7 @@ fn row_top(row: Row) -> usize
 
 // The best starts in the columns of a row, for every place of the column where the pages end: back to the first whose floats to that
 // column are too tall alone, or to the tables of the origin. One that is known not to be reached, since it is not among
-// those `seen`, is not looked at.
+// those `seen`, is not looked at. Whether any of them is reached: where none is, no place has a start among them.
 fn sweep_row(
     s: &[u8],
     g: Galley,
@@ -242,20 +242,21 @@ fn sweep_row(
     words: &mut [u32],
     seen: &[u32],
     row: Row,
-)
+) -> bool
     requires { ⌜ RowSweep (now s) g (now work) (now sums) (now words) (now seen) row ⌝ }
-    ensures { λ _. ⌜ RowSwept (now (s .entry)) g (now (work .entry)) (now (work .exit)) row ⌝ }
+    ensures { λ r. ⌜ RowSwept (now (s .entry)) g (now (work .entry)) (now (work .exit)) row r ⌝ }
 {
     let row_from = row.figures * (g.tables.count + 1);
     let mut tables = Heights { tight: 0, loose: 0 };
     let mut t = row_top(row);
+    let mut any = false;
     while row.begin.origin.tables < t {
         t -= 1;
         tables = blocks::heights::block_before(s, g.tables, tables, t, row.end.tables);
         let both = (row.figures < row.end.figures) & (t < row.end.tables);
         let floats = floats_alone(g, row.heights, tables, both);
         if g.spec.htmax < floats.tight {
-            return;
+            return any;
         }
         let from = row_from + t;
         let line = row.begin.origin.lines;
@@ -270,12 +271,14 @@ fn sweep_row(
             last: reach.last,
         };
         sweep(s, g, work, sums, words, pass);
+        any = any | (reach.first <= g.text.count);
     }
+    any
 }
 
 // The best starts in the columns before j, for every place of column j: row by row, back to the first whose figures to column j are
 // too tall alone, or to the figures of the origin. The search begins where the origin is placed, and nothing before it is a start; nor
-// is anything in a column from `begin.since` on that is not among those `seen`.
+// is anything in a column from `begin.since` on that is not among those `seen`. Whether any column is reached that was swept.
 pub fn sweep_column(
     s: &[u8],
     g: Galley,
@@ -285,19 +288,20 @@ pub fn sweep_column(
     seen: &[u32],
     j: usize,
     begin: Begin,
-)
+) -> bool
     requires { ⌜ ColumnSweep (now s) g (now work) (now sums) (now words) (now seen) j begin ⌝ }
-    ensures { λ _. ⌜ ColumnSwept (now (s .entry)) g (now (work .entry)) (now (work .exit)) j ⌝ }
+    ensures { λ r. ⌜ ColumnSwept (now (s .entry)) g (now (work .entry)) (now (work .exit)) j r ⌝ }
 {
     let end = candidates::read::counts_at(g, 0, j);
     let least = rules::rules::floor_of(g, false);
     let mut heights = Heights { tight: 0, loose: 0 };
     let mut b = end.figures + 1;
+    let mut any = false;
     while begin.origin.figures < b {
         b -= 1;
         heights = blocks::heights::block_before(s, g.figures, heights, b, end.figures);
         if g.spec.htmax < heights.tight {
-            return;
+            return any;
         }
         let row = Row {
             begin,
@@ -307,6 +311,8 @@ pub fn sweep_column(
             to: j,
             least,
         };
-        sweep_row(s, g, work, sums, words, seen, row);
+        let some = sweep_row(s, g, work, sums, words, seen, row);
+        any = any | some;
     }
+    any
 }

@@ -86,6 +86,6 @@ module _ (g : Galley) (j : ℕ) (column : j < columnsIn g) (two : g .spec .sides
   blank-kept w v b room wide differ fresh blank = blank
   blank-kept w v b room wide differ (more x y i c e s l m p) blank =
       λ k d h o.
-          rw p
-          (empty-other x i c e (omega (arith, room, scratched-length g j w x s)) l m k b d h wide o (λ r. differ (r .1))
-          (blank-kept w x b room wide differ s blank k d h o))
+      rw p
+      (empty-other x i c e (omega (arith, room, scratched-length g j w x s)) l m k b d h wide o (λ r. differ (r .1))
+      (blank-kept w x b room wide differ s blank k d h o))

@@ -5,7 +5,7 @@ use native.Mathlib.Numerals.{add-one}
 use native.Mathlib.Omega.{arith}
 use mathlib.Core.Path.{_≡_, refl, sym, _∙_, ap}
 use mathlib.Core.Logic.{_⊎_, inl, inr}
-use mathlib.Core.Bool.{false}
+use mathlib.Core.Bool.{Bool, false}
 use mathlib.Core.List.{List}
 use lib.ListN.{length}
 use Rattle.model.specs.Rules.{floor}
@@ -66,7 +66,7 @@ scratched-same {bytes} {task} {w} {j} next v (more x y i c e s l m p) =
 
 -- So with the starts in earlier columns known the column can be filled.
 pub column-last : {bytes : List ℕ} {task : Task} {w sums words : List ℕ} {j : ℕ} → ColumnNext bytes task w sums words j
-    → (v words′ : List ℕ) → length words′ ≡ length words → ColumnSwept bytes (task .galley) w v j
+    → (v words′ : List ℕ) → length words′ ≡ length words → {any : Bool} → ColumnSwept bytes (task .galley) w v j any
     → Gathered bytes task v sums words′ j
 column-last {task = task} {w} {j = j} column v words′ sized done =
     record {

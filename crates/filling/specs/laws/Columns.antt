@@ -94,8 +94,8 @@ module _ {bytes : List ℕ} {task : Task} {w₀ sums words₀ : List ℕ} (table
       let room = needed-roomy bytes g (table .fillable .room) in
       let sides = sides-count (g .spec .sides) (g .folio) (spec .sidesSome) (spec .sidesTwo) in
       let empty : (a b c : ℕ) → a ≤ g .text .count → b < columns (floatSizes m) → c < sideCount (sidesIn g)
-          → stored w₀ (address (g .text .count + 1) a b c) Unreached ≡ w₀ =
-          λ a b c h l k. table .blank b (omega (arith, columns-in bytes g)) a c h (omega (arith, sides)) in
+      → stored w₀ (address (g .text .count + 1) a b c) Unreached ≡ w₀ =
+      λ a b c h l k. table .blank b (omega (arith, columns-in bytes g)) a c h (omega (arith, sides)) in
       let rest : from .place .column + (columnsIn g - from .place .column) ≡ columnsIn g = omega (arith, table .fillable .origin) in
       record {
         within = omega (arith, table .fillable .origin);

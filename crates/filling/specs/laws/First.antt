@@ -1,6 +1,7 @@
 -- The lines of a column before its first start: nothing in them is past the origin, or nothing was found to start there, so that they are
 -- left as they are.
-use Prim.Native.Nat.{ℕ, suc, _-_, _≤_, _<_}
+use Prim.Native.Nat.{ℕ, suc, _+_, _-_, _≤_, _<_}
+use native.Mathlib.Nat.{le-refl}
 use native.Mathlib.Omega.{arith}
 use mathlib.Core.Path.{_≡_, refl, sym, _∙_}
 use mathlib.Core.Logic.{inl, inr}
@@ -14,8 +15,10 @@ use Rattle.places.specs.Order.{Earlier}
 use Rattle.places.specs.Columns.{placeAt}
 use Rattle.places.specs.laws.Best.{no-reach}
 use Rattle.places.specs.laws.Columns.{inside-head, inside-tail}
+use Rattle.candidates.specs.Cells.{ColumnRoom, Blank}
 use Rattle.candidates.specs.Read.{tableIn, sideOf, countsAt}
-use Rattle.candidates.specs.Look.{Quiet, PastOrigin}
+use Rattle.candidates.specs.Look.{Quiet, Found, PastOrigin}
+use Rattle.candidates.specs.laws.Clean.{empty-unreached}
 use Rattle.candidates.specs.laws.Columns.{at-under}
 use Rattle.candidates.specs.laws.Read.{side-occurs}
 use Rattle.starts.specs.laws.Look.{quiet-then, known-before}
@@ -25,6 +28,18 @@ use Rattle.filling.specs.Filled.{Side, Filled}
 use Rattle.filling.specs.Next.{Next, Before, Begun, Gathered, Still}
 use Rattle.filling.specs.laws.Entered.{below-side, side-below, sides-count}
 use Rattle.filling.specs.laws.Still.{lines-still}
+
+-- No line of an empty column is reached.
+pub blank-found : {g : Galley} {w : List ℕ} {j : ℕ} → ColumnRoom g w j → Blank g w j → (from : ℕ) → Found g w j from (g .text .count + 1)
+blank-found {g} {w} {j} asked blank from =
+    record {
+      since = λ l. l;
+      within = le-refl _;
+      quiet = record {
+        none = λ a c l m occurs.
+            empty-unreached g j (asked .wide .within) (asked .two) w a c (asked .room) (omega arith) occurs (blank a c (omega arith) occurs);
+      };
+    }
 
 -- What is filled before line i of column j is past the origin.
 module _ {bytes : List ℕ} {task : Task} {w : List ℕ} {i j : ℕ} (next : Next bytes task w i j) where

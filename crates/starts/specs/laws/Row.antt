@@ -4,11 +4,11 @@ use native.Mathlib.Nat.{le-refl}
 use native.Mathlib.Omega.{arith}
 use mathlib.Core.Path.{_≡_, refl, ap, _∙_}
 use mathlib.Core.Logic.{_⊎_, inl, inr}
-use mathlib.Core.Bool.{Bool, true, false, _&&_}
+use mathlib.Core.Bool.{Bool, true, false, _&&_, _||_}
 use mathlib.Core.List.{List}
 use lib.ListN.{length}
-use lib.Dec.{ltb}
-use borrow.Author.Tests.{ltb-true, ltb-false}
+use lib.Dec.{ltb, leb}
+use borrow.Author.Tests.{ltb-true, ltb-false, leb-false}
 use Rattle.model.specs.Gather.{pick}
 use Rattle.rules.specs.Sums.{whiteAt}
 use Rattle.galley.specs.declared.Galley.{Galley}
@@ -35,6 +35,11 @@ use Rattle.candidates.specs.laws.Cells.{scratched-then}
 use Rattle.starts.specs.laws.Cells.{lent-kept}
 use Rattle.starts.specs.laws.Past.{known-past, start-under, start-short}
 use Rattle.starts.specs.laws.Look.{quiet-then, past-kept, recalled-kept, start-past, past-quiet}
+
+-- Where neither of two holds, each does not.
+pub or-false : (t u : Bool) → t || u ≡ false → (t ≡ false) × (u ≡ false)
+or-false false u e = (refl, e)
+or-false true u e = let z : _≡_ {A = ℕ} 0 1 = cc in absurd (omega arith)
 
 -- A row offers columns with no more tables than the end, and the end's own row one less.
 abbrev Offered : Row → ℕ → Type 0
@@ -82,9 +87,10 @@ module _ {bytes : List ℕ} {g : Galley} {w₀ sums words₀ seen : List ℕ} {r
       )
 
   -- Before the first sweep no more is known than in the row after it: the columns past the top are not under the end.
-  pub row-first : RowRun bytes g w₀ w₀ words₀ words₀ row noHeights (rowTop row)
+  pub row-first : RowRun bytes g w₀ w₀ words₀ words₀ row noHeights (rowTop row) false
   row-first =
       record {
+        still = λ _. refl;
         lent = asked .lent;
         scratch = asked .scratch;
         within = le-refl _;
@@ -114,7 +120,7 @@ module _ {bytes : List ℕ} {g : Galley} {w₀ sums words₀ seen : List ℕ} {r
           let same : row .figures ≡ row .end .figures = omega (arith, asked .within) in
           omega (arith, ap (rowOf g) same, end-stands)
 
-  module _ {w words : List ℕ} {tables : Heights} {top : ℕ} (run : RowRun bytes g w₀ w words₀ words row tables top) where
+  module _ {w words : List ℕ} {tables : Heights} {top : ℕ} {any : Bool} (run : RowRun bytes g w₀ w words₀ words row tables top any) where
     past-now : PastOrigin g w (row .to) (row .begin .origin)
     past-now = past-kept (run .kept) (asked .lent .sound .specRanged .sidesTwo) (asked .past)
 
@@ -126,9 +132,10 @@ module _ {bytes : List ℕ} {g : Galley} {w₀ sums words₀ seen : List ℕ} {r
         go (inr (l, e)) = omega (arith, tables-few, run .within)
 
     -- Back at the tables of the origin the row is swept: columns with fewer are before it.
-    pub row-last : top ≤ row .begin .origin .tables → RowSwept bytes g w₀ w row
+    pub row-last : top ≤ row .begin .origin .tables → RowSwept bytes g w₀ w row any
     row-last e =
         record {
+          still = run .still;
           known = known-past bytes g w (row .to) (rowOf g (row .figures)) (rowOf g (row .figures) + top) (omega arith) none (run .known);
           kept = run .kept;
         }
@@ -242,9 +249,13 @@ module _ {bytes : List ℕ} {g : Galley} {w₀ sums words₀ seen : List ℕ} {r
 
           -- and brings in the starts of its column.
           pub row-swept : (white first last : ℕ) (v words′ : List ℕ) → length v ≡ length w → length words′ ≡ length words
-              → SweepDone bytes g w v (next white first last) → RowRun bytes g w₀ v words₀ words′ row tables′ (top - 1)
+              → SweepDone bytes g w v (next white first last)
+              → RowRun bytes g w₀ v words₀ words′ row tables′ (top - 1) (any || leb first (g .text .count))
           row-swept white first last v words′ p q done =
               record {
+                still = λ e.
+                    let (before, here) = or-false any (leb first (g .text .count)) e in
+                    done .still (leb-false first (g .text .count) here) ∙ run .still before;
                 lent = lent-kept (done .kept) (run .lent);
                 scratch = omega (arith, run .scratch);
                 within = omega (arith, run .within);
@@ -256,9 +267,10 @@ module _ {bytes : List ℕ} {g : Galley} {w₀ sums words₀ seen : List ℕ} {r
               }
 
           -- Where the floats alone are too tall, no page starts in that column or before it in the row.
-          pub row-tall : g .spec .htmax < floats .tight → RowSwept bytes g w₀ w row
+          pub row-tall : g .spec .htmax < floats .tight → RowSwept bytes g w₀ w row any
           row-tall tall =
               record {
+                still = run .still;
                 known =
                     known-past bytes g w (row .to) (rowOf g (row .figures)) (rowOf g (row .figures) + top) (omega arith) none (run .known);
                 kept = run .kept;

@@ -2,7 +2,7 @@
 use Prim.Native.Nat.{ℕ, suc, _+_, _-_, _≤_, _<_}
 use native.Mathlib.Omega.{arith}
 use mathlib.Core.Path.{_≡_, refl, _∙_}
-use mathlib.Core.Bool.{false}
+use mathlib.Core.Bool.{Bool, false, _||_}
 use mathlib.Core.List.{List}
 use lib.ListN.{length}
 use Rattle.model.specs.Rules.{floor}
@@ -21,6 +21,7 @@ use Rattle.candidates.specs.Cells.{Scratched, fresh, Blank}
 use Rattle.starts.specs.Swept.{ColumnSweep, ColumnSweepRun, ColumnSwept, RowSweep, RowSwept}
 use Rattle.candidates.specs.laws.Columns.{row-next, row-grows, row-of, row-figures, row-tables, row-before, row-under, tables-low, within-at, under-at}
 use Rattle.starts.specs.laws.Floats.{figures-alone}
+use Rattle.starts.specs.laws.Row.{or-false}
 use Rattle.starts.specs.laws.Lending.{lent-room}
 use Rattle.candidates.specs.laws.Cells.{scratched-then}
 use Rattle.starts.specs.laws.Cells.{lent-kept, blank-known}
@@ -31,11 +32,12 @@ use Rattle.starts.specs.laws.Look.{past-kept, recalled-kept, start-past}
 -- Before the first row no start is known, and every place is unreached.
 pub column-first : {bytes : List ℕ} {g : Galley} {w sums words seen : List ℕ} {j : ℕ} {begin : Begin}
     → ColumnSweep bytes g w sums words seen j begin
-    → ColumnSweepRun bytes g w w words words seen j begin noHeights (countsAt g 0 j .figures + 1)
+    → ColumnSweepRun bytes g w w words words seen j begin noHeights (countsAt g 0 j .figures + 1) false
 column-first {bytes} {g} {w} {j = j} asked =
     let end = countsAt g 0 j in
     let next : end .figures + 1 ≡ suc (end .figures) = omega arith in
     record {
+      still = λ _. refl;
       lent = asked .lent;
       past = asked .past;
       recalled = asked .recalled;
@@ -52,9 +54,10 @@ column-first {bytes} {g} {w} {j = j} asked =
 
 -- After the sweeps all starts are known, and where there is none the place is as empty as it was.
 pub column-since : {bytes : List ℕ} {g : Galley} {w v : List ℕ} {j : ℕ} → Lent bytes g w j → Blank g w j → Known bytes g v j 0
-    → Scratched g j w v → ColumnSwept bytes g w v j
-column-since {g = g} {w} {v} {j} lent blank known kept =
+    → Scratched g j w v → {r : Bool} → (r ≡ false → v ≡ w) → ColumnSwept bytes g w v j r
+column-since {g = g} {w} {v} {j} lent blank known kept still =
     record {
+      still = still;
       known = known;
       clean = clean-kept g j (lent .column) (lent .sound .specRanged .sidesTwo) w v (lent .room) kept (λ k c l m e. blank k c l m);
       kept = kept;
@@ -62,7 +65,7 @@ column-since {g = g} {w} {v} {j} lent blank known kept =
 
 -- The rows one after another.
 module _ {bytes : List ℕ} {g : Galley} {w₀ w words₀ words seen : List ℕ} {j : ℕ} {begin : Begin} {heights : Heights} {top : ℕ}
-    (run : ColumnSweepRun bytes g w₀ w words₀ words seen j begin heights top) where
+    {any : Bool} (run : ColumnSweepRun bytes g w₀ w words₀ words seen j begin heights top any) where
   abbrev end : Counts
   end = countsAt g 0 j
 
@@ -114,10 +117,11 @@ module _ {bytes : List ℕ} {g : Galley} {w₀ w words₀ words seen : List ℕ}
           }
 
       -- which brings in its starts.
-      pub column-next : (least : ℕ) (v words′ : List ℕ) → length v ≡ length w → length words′ ≡ length words
-          → RowSwept bytes g w v (next-row least) → ColumnSweepRun bytes g w₀ v words₀ words′ seen j begin heights′ (top - 1)
-      column-next least v words′ p q done =
+      pub column-next : (least : ℕ) (v words′ : List ℕ) → length v ≡ length w → length words′ ≡ length words → {some : Bool}
+          → RowSwept bytes g w v (next-row least) some → ColumnSweepRun bytes g w₀ v words₀ words′ seen j begin heights′ (top - 1) (any || some)
+      column-next least v words′ p q {some} done =
           record {
+            still = λ e. let (before, here) = or-false any some e in done .still here ∙ run .still before;
             lent = lent-kept (done .kept) (run .lent);
             past = past-kept (done .kept) (run .lent .sound .specRanged .sidesTwo) (run .past);
             recalled = recalled-kept (done .kept) (run .lent .sound .specRanged .sidesTwo) (run .recalled);

@@ -125,6 +125,7 @@ module _ {bytes : List ℕ} {g : Galley} {w₀ sums words₀ : List ℕ} {pass :
         known =
             known-quiet (asked .lent)
             (record { none = λ a c h m occurs. asked .early .none a c h (omega arith) occurs }) (asked .known);
+        still = λ _. refl;
         kept = fresh;
       }
 
@@ -148,7 +149,11 @@ module _ {bytes : List ℕ} {g : Galley} {w₀ sums words₀ : List ℕ} {pass :
     -- After the last side all places know the starts of the pass.
     pub sweep-last : g .spec .sides ≤ c → SweepDone bytes g w₀ w pass
     sweep-last l =
-        record { known = λ k d h m. run .swept .done k d h m (omega (arith, asked .lent .sound .fewLines)); kept = run .kept }
+        record {
+          known = λ k d h m. run .swept .done k d h m (omega (arith, asked .lent .sound .fewLines));
+          still = λ none. absurd (omega arith);
+          kept = run .kept;
+        }
 
     module _ (occurs : c < g .spec .sides) where
       pub sweep-side : SideSweep bytes g w sums words c pass stop

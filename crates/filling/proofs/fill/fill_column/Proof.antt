@@ -32,8 +32,9 @@ sweep-column-requires c κs =
 first-start-requires : tie.Need-first-start-requires
 first-start-requires c κs =
     let swept = c .before .before .before .before .before in
-    let next = swept .before .before .before .before .before .before .before .before .before .before .before .before .pre .column .next in
-    (lent-room (lent-kept (swept .sweep-column .ensures .kept) (next .lent)), next .line)
+    let asked = swept .before .before .before .before .before .before .before .before .before .before .before .before .pre in
+    let done = swept .sweep-column .ensures in
+    (lent-room (lent-kept (done .kept) (asked .column .next .lent)), asked .column .next .line, λ none. rw (done .still none) (asked .blank))
 
 returns : tie.Need-returns
 returns c =

@@ -10,11 +10,11 @@ use Rattle.starts.proofs.sweep.sweep_column.Statement.{statement}
 use Rattle.starts.proofs.sweep.sweep_column.Tie as tie
 
 abbrev Inv-loop : tie.InvT-loop
-Inv-loop s g work₀ sums words₀ seen j begin end least heights₀ b₀ work words heights b =
-    ColumnSweepRun s g work₀ work words₀ words seen j begin heights b
+Inv-loop s g work₀ sums words₀ seen j begin end least heights₀ b₀ any₀ work words heights b any =
+    ColumnSweepRun s g work₀ work words₀ words seen j begin heights b any
 
 abbrev μ-loop : tie.MeasureT-loop
-μ-loop s g work₀ sums words₀ seen j begin end least heights₀ b₀ work words heights b = b
+μ-loop s g work₀ sums words₀ seen j begin end least heights₀ b₀ any₀ work words heights b any = b
 
 add-b : tie.Need-add-b Inv-loop μ-loop
 add-b c =
@@ -39,7 +39,7 @@ returns c =
     let asked = counted .before .before .before .before .before .before .pre in
     column-since (asked .lent) (asked .blank)
     (column-tall (st .loop .inv) (omega (arith, put .before .if1 .taken)) (put .block-before .result)
-    (rw (counted .counts-at .ensures) at (put .block-before .ensures)) (c .if2 .taken)) (st .loop .inv .kept)
+    (rw (counted .counts-at .ensures) at (put .block-before .ensures)) (c .if2 .taken)) (st .loop .inv .kept) (st .loop .inv .still)
 
 sweep-row-requires : tie.Need-sweep-row-requires Inv-loop μ-loop
 sweep-row-requires c κs =
@@ -69,7 +69,7 @@ returns-2 : tie.Need-returns-2 Inv-loop μ-loop
 returns-2 c =
     let st = c .before .before in
     let asked = st .before .before .before .before .before .before .before .before .before .pre in
-    column-since (asked .lent) (asked .blank) (column-last (st .loop .inv) (omega (arith, c .if1 .left))) (st .loop .inv .kept)
+    column-since (asked .lent) (asked .blank) (column-last (st .loop .inv) (omega (arith, c .if1 .left))) (st .loop .inv .kept) (st .loop .inv .still)
 
 pub sweep-column-spec : {M : Type 1} → statement M
 sweep-column-spec =

@@ -11,10 +11,10 @@ use Rattle.starts.proofs.sweep.sweep_row.Statement.{statement}
 use Rattle.starts.proofs.sweep.sweep_row.Tie as tie
 
 abbrev Inv-loop : tie.InvT-loop
-Inv-loop s g work₀ sums words₀ seen row row-from tables₀ t₀ work words tables t = RowRun s g work₀ work words₀ words row tables t
+Inv-loop s g work₀ sums words₀ seen row row-from tables₀ t₀ any₀ work words tables t any = RowRun s g work₀ work words₀ words row tables t any
 
 abbrev μ-loop : tie.MeasureT-loop
-μ-loop s g work₀ sums words₀ seen row row-from tables₀ t₀ work words tables t = t
+μ-loop s g work₀ sums words₀ seen row row-from tables₀ t₀ any₀ work words tables t any = t
 
 add-row-from : tie.Need-add-row-from Inv-loop μ-loop
 add-row-from c = omega (arith, few-floats (c .before .before .before .before .before .before .pre .lent .sound) .tables)
@@ -83,7 +83,7 @@ sweep-requires c κs =
 loop-again : tie.Need-loop-again Inv-loop μ-loop
 unfolding rowOf
 loop-again c =
-    let swept = c .before .before .before .before in
+    let swept = c .before .before .before .before .before .before in
     let white = swept .before .before .before in
     let looked = white .before in
     let laid = looked .before .before .before .before .before in
@@ -92,8 +92,8 @@ loop-again c =
     row-swept (st .before .before .before .before .before .before .before .before .before .pre) (st .loop .inv) (omega (arith, put .before .if1 .taken))
     (put .block-before .result) (put .block-before .ensures) _ refl (laid .floats-alone .result) (laid .floats-alone .ensures)
     (white .white-at .result) (looked .reach-in .result .first) (looked .reach-in .result .last) _ _
-    (search (needs, c .before .before .slice-known3 .given, c .before .before .before .work .given))
-    (search (needs, c .slice-known4 .given, c .before .words .given)) (swept .sweep .ensures)
+    (search (needs, c .before .before .before .before .slice-known3 .given, c .before .before .before .before .before .work .given))
+    (search (needs, c .before .before .slice-known4 .given, c .before .before .before .words .given)) (swept .sweep .ensures)
 
 returns-2 : tie.Need-returns-2 Inv-loop μ-loop
 returns-2 c =
@@ -104,5 +104,5 @@ sweep-row-spec =
     tie.close
     (tie.spec
     Inv-loop μ-loop add-row-from mul-row-from row-top-requires loop-holds (λ c. search needs) block-before-requires floats-alone-requires
-    (λ c. search needs) (λ c. search needs) returns add-from reach-in-requires (λ c κs. search needs) sweep-requires (λ c. search needs)
-    loop-again (λ c. search needs) (λ c. search needs) returns-2)
+    (λ c. search needs) (λ c. search needs) returns add-from reach-in-requires (λ c κs. search needs) sweep-requires
+    (λ c. search (needs, c .before .before .before .before .before .before .before .before .before .before .before .before .before .before .before .before .before .before .before .if1 .taken)) loop-again (λ c. search needs) (λ c. search needs) returns-2)
