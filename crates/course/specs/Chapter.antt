@@ -12,7 +12,7 @@ use Rattle.galley.specs.declared.Galley.{Galley}
 use Rattle.galley.specs.Model.{sidesIn, modelOf}
 use Rattle.galley.specs.Sound.{Sound}
 use Rattle.needs.specs.Needs.{workNeeded, listNeeded}
-use Rattle.filling.specs.Filled.{Side}
+use Rattle.entries.specs.Filled.{Side}
 
 -- The pages of a list, if there is one.
 abbrev pub orNone : Option (List Place) → List Place

@@ -3,7 +3,6 @@
 -- What is computed.
 pub mod Fill
 -- What is known of the work area on the way, and what the functions ask for.
-pub mod Filled
 pub mod Next
 pub mod Recall
 pub mod Run

@@ -8,7 +8,7 @@ use Rattle.galley.specs.Model.{modelOf}
 use Rattle.candidates.specs.Cells.{Blank}
 use Rattle.candidates.specs.Ring.{hintName, Present, Named}
 use Rattle.candidates.specs.Look.{Told, Recalled}
-use Rattle.filling.specs.declared.side.Task.{Task}
+use Rattle.entries.specs.declared.side.Task.{Task}
 use Rattle.filling.specs.declared.recall.Recall.{Recall}
 use Rattle.filling.specs.Fill.{fillColumn}
 use Rattle.filling.specs.Next.{ColumnNext}

@@ -1,5 +1,5 @@
 -- What holds at each turn of the filling loops.
-use Prim.Native.Nat.{ℕ, suc, _+_, _-_, _*_, _≤_, _<_}
+use Prim.Native.Nat.{ℕ, suc, _-_, _*_, _≤_, _<_}
 use mathlib.Core.Path.{_≡_}
 use mathlib.Core.List.{List}
 use lib.ListN.{length}
@@ -11,25 +11,11 @@ use Rattle.window.specs.Slide.{Ends}
 use Rattle.candidates.specs.Read.{tableIn, columnsIn, countsAt}
 use Rattle.candidates.specs.Look.{Recalled}
 use Rattle.candidates.specs.Cells.{Blank, Clean}
-use Rattle.filling.specs.declared.side.Task.{Task}
+use Rattle.entries.specs.declared.side.Task.{Task}
 use Rattle.filling.specs.declared.recall.Recall.{Recall}
-use Rattle.filling.specs.declared.side.End.{End}
-use Rattle.filling.specs.declared.side.Windows.{Windows}
-use Rattle.filling.specs.Fill.{fillSides, fillColumn, fillColumns}
-use Rattle.filling.specs.Filled.{Filled}
-use Rattle.filling.specs.Next.{plain, Queues, Waits}
-
--- The sides before c of a place are filled.
-pub record SidesRun (bytes : List ℕ) (task : Task) (w₀ w sums words₀ words ends₀ ends : List ℕ) (windows : Windows) (end : End) (c : ℕ)
-    : Type 0 where
-  pub within : c ≤ task .galley .spec .sides
-  pub sized : length w ≡ length w₀
-  pub wordsSized : length words ≡ length words₀
-  pub endsSized : length ends ≡ length ends₀
-  pub filled : w ≡ fillSides (modelOf bytes (task .galley)) (task .origin) (end .at .lines) (end .column) c w₀
-  pub entries : Filled (modelOf bytes (task .galley)) (task .origin) (tableIn (task .galley) w) (end .at .lines) (end .column)
-  pub queued : Queues (task .galley) w sums words ends (end .column) (windows .from) (windows .to) c
-  pub waits : Waits bytes (task .galley) w (end .column) (2 * end .at .lines + c)
+use Rattle.filling.specs.Fill.{fillColumn, fillColumns}
+use Rattle.entries.specs.Filled.{Filled}
+use Rattle.entries.specs.Next.{plain, Queues, Waits}
 
 -- Column j is filled above line i, and the queues are those of the window of the line above: the words are now w, and what is left of
 -- the column makes them what the whole makes of w₀. The search goes on to line `last` at least, which is not before the origin's.

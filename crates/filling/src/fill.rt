@@ -10,11 +10,11 @@ ghost use Rattle.filling.specs.Fill.{fillColumn, fillColumns, filled};
 ghost use Rattle.filling.specs.Next.{endFrom, Begun, Onward, LastNext, TableNext, Fillable};
 ghost use Rattle.filling.specs.Recall.{ColumnTurn, ColumnFilled};
 use crate::recall::Recall;
-use crate::side::End;
-use crate::side::Task;
-use crate::side::Windows;
 use blocks::Counts;
 use blocks::heights::Heights;
+use entries::side::End;
+use entries::side::Task;
+use entries::side::Windows;
 use galley::Galley;
 use places::Entry;
 use places::Origin;
@@ -97,7 +97,7 @@ fn last_sweep(
         waiting = rules::waiting::waiting_after(s, g, at, waiting);
         let windows = Windows { from, to: span };
         let end = end_at(s, g, at, j, floats, waiting);
-        crate::side::fill_place(s, task, work, sums, words, &mut ends, windows, end);
+        entries::side::fill_place(s, task, work, sums, words, &mut ends, windows, end);
         i += 1;
     }
 }

@@ -13,7 +13,7 @@ use Rattle.places.specs.declared.Entry.{Entry}
 use Rattle.places.specs.declared.Entry.the-variants.{Unreached, Least}
 use Rattle.places.specs.Address.{wordsNeeded}
 use Rattle.candidates.specs.Read.{tableIn, columnsIn, FewFloats}
-use Rattle.filling.specs.Filled.{Side}
+use Rattle.entries.specs.Filled.{Side}
 use Rattle.walk.specs.declared.Stop.{Stop}
 use Rattle.walk.specs.Trace.{lastSide, countBack, writeBack}
 

@@ -35,8 +35,8 @@ use Rattle.places.specs.Columns.{columns, floatSizes}
 use Rattle.places.specs.laws.Columns.{columns-some}
 use Rattle.candidates.specs.Search.{mostFrom}
 use Rattle.candidates.specs.Read.{tableIn, columnsIn}
-use Rattle.filling.specs.Filled.{Side, Filled}
-use Rattle.filling.specs.laws.Price.{sound-limits}
+use Rattle.entries.specs.Filled.{Side, Filled}
+use Rattle.entries.specs.laws.Price.{sound-limits}
 use Rattle.walk.specs.Trace.{entryOf, writeBack}
 use Rattle.walk.specs.Traceable.{blocksIn, fullPlace, Visits, Walkable, pagesBack}
 use Rattle.walk.specs.laws.Walk.{columns-in-some}

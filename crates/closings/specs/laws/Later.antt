@@ -22,7 +22,7 @@ use Rattle.places.specs.declared.Place.{Place as Start}
 use Rattle.places.specs.Columns.{columns, floatSizes}
 use Rattle.places.specs.laws.Places.{place-tie}
 use Rattle.candidates.specs.Search.{Table, mostFrom}
-use Rattle.filling.specs.Filled.{Filled}
+use Rattle.entries.specs.Filled.{Filled}
 use Rattle.walk.specs.declared.Stop.{Stop}
 use Rattle.walk.specs.Trace.{back}
 use Rattle.solving.specs.Shown.{at, originOf, graphOf, tableAt, AllRight, Proper}

@@ -29,7 +29,7 @@ use Rattle.places.specs.declared.Entry.the-variants.{Unreached, Least}
 use Rattle.candidates.specs.Read.{tableIn, columnsIn}
 use Rattle.filling.specs.Fill.{filled}
 use Rattle.filling.specs.laws.Fill.{length-filled}
-use Rattle.filling.specs.laws.Side.{needed-roomy}
+use Rattle.entries.specs.laws.Side.{needed-roomy}
 use Rattle.walk.specs.Trace.{entryOf, writeBack}
 use Rattle.walk.specs.Traceable.{Walkable, Writable, pagesBack}
 use Rattle.needs.specs.laws.Needs.{page-few}

@@ -21,32 +21,35 @@ use Rattle.window.specs.Slide.{shutAt, Slidable, Open, Slid}
 use Rattle.window.specs.laws.Slide.{ends-first, ends-next}
 use Rattle.candidates.specs.Choice.{Candidate}
 use Rattle.candidates.specs.Read.{tableIn, sideOf, searchOf, countsAt}
-use Rattle.starts.specs.Sweep.{Lent}
+use Rattle.passes.specs.Sweep.{Lent}
 use Rattle.candidates.specs.Cells.{Scratched, fresh, more, ColumnRoom}
 use Rattle.starts.specs.Swept.{ColumnSwept}
 use Rattle.candidates.specs.laws.Columns.{within-at}
-use Rattle.starts.specs.laws.Pass.{least-low}
+use Rattle.passes.specs.laws.Pass.{least-low}
 use Rattle.candidates.specs.laws.Read.{side-occurs}
 use Rattle.candidates.specs.laws.Cells.{scratched-length, scratched-others}
 use Rattle.candidates.specs.laws.Clean.{clean-kept}
-use Rattle.starts.specs.laws.Cells.{lent-kept}
-use Rattle.starts.specs.laws.Lending.{lent-room}
+use Rattle.passes.specs.laws.Cells.{lent-kept}
+use Rattle.passes.specs.laws.Lending.{lent-room}
 use Rattle.pricing.specs.declared.Floats.{Floats}
-use Rattle.filling.specs.declared.side.Task.{Task}
-use Rattle.filling.specs.Fill.{tall, fillSide, fillSides, sideCount, fillPlace, fillColumn, filled}
+use Rattle.entries.specs.declared.side.Task.{Task}
+use Rattle.entries.specs.Fill.{tall, fillSide, fillSides, sideCount, fillPlace}
+use Rattle.filling.specs.Fill.{fillColumn, filled}
 use Rattle.pricing.specs.Stop.{floatsSay, stopFrom}
-use Rattle.filling.specs.Next.{Next, endFrom, plain, PlaceNext, PlaceFilled, ColumnNext, Gathered, LastNext, Still, Onward}
+use Rattle.entries.specs.Next.{Next, plain, PlaceNext, PlaceFilled}
+use Rattle.filling.specs.Next.{endFrom, ColumnNext, Gathered, LastNext, Still, Onward}
 use Rattle.filling.specs.Run.{LastRun}
-use Rattle.filling.specs.laws.Entered.{side-low, sides-count}
-use Rattle.filling.specs.laws.Costs.{lent-filled}
-use Rattle.filling.specs.laws.Fill.{length-place, room-kept, filled-place}
+use Rattle.entries.specs.laws.Entered.{side-low, sides-count}
+use Rattle.entries.specs.laws.Costs.{lent-filled}
+use Rattle.entries.specs.laws.Fill.{length-place, room-kept, filled-place}
 use Rattle.filling.specs.laws.Over.{column-over}
-use Rattle.filling.specs.laws.Price.{dearest-light}
+use Rattle.entries.specs.laws.Price.{dearest-light}
 use Rattle.filling.specs.laws.Still.{lines-still}
-use Rattle.filling.specs.laws.First.{lines-before, lines-quiet, first-filled, column-from}
-use Rattle.filling.specs.laws.Own.{lines-slide, own-short, walking-down}
-use Rattle.filling.specs.laws.Queues.{noEnds, queues-none}
-use Rattle.filling.specs.laws.Side.{lent-roomy, lent-wide}
+use Rattle.entries.specs.laws.Before.{lines-before}
+use Rattle.filling.specs.laws.First.{lines-quiet, first-filled, column-from}
+use Rattle.entries.specs.laws.Own.{lines-slide, own-short, walking-down}
+use Rattle.entries.specs.laws.Queues.{noEnds, queues-none}
+use Rattle.entries.specs.laws.Side.{lent-roomy, lent-wide}
 
 -- Stores in a column before it is filled change nothing of it,
 pub scratched-same : {bytes : List ℕ} {task : Task} {w : List ℕ} {j : ℕ} → Next bytes task w 0 j → (v : List ℕ)

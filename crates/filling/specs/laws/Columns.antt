@@ -19,18 +19,19 @@ use Rattle.candidates.specs.laws.Cells.{scratched-then}
 use Rattle.candidates.specs.laws.Clean.{blank-kept}
 use Rattle.candidates.specs.Ring.{Named}
 use Rattle.candidates.specs.laws.Columns.{columns-in}
-use Rattle.filling.specs.declared.side.Task.{Task}
+use Rattle.entries.specs.declared.side.Task.{Task}
 use Rattle.filling.specs.declared.recall.Recall.{Recall}
-use Rattle.filling.specs.Fill.{tall, sideCount, fillPlace, fillColumn, fillColumns, filled}
+use Rattle.entries.specs.Fill.{tall, sideCount, fillPlace}
+use Rattle.filling.specs.Fill.{fillColumn, fillColumns, filled}
 use Rattle.filling.specs.Next.{ColumnNext, Fillable, TableNext}
 use Rattle.filling.specs.Recall.{ColumnTurn, ColumnFilled}
 use Rattle.filling.specs.Run.{ColumnsRun}
-use Rattle.filling.specs.laws.Costs.{lent-filled}
+use Rattle.entries.specs.laws.Costs.{lent-filled}
 use Rattle.filling.specs.laws.Column.{filled-scratched}
-use Rattle.filling.specs.laws.Entered.{sides-count}
+use Rattle.entries.specs.laws.Entered.{sides-count}
 use Rattle.filling.specs.laws.Fill.{length-column, filled-next, filled-to}
-use Rattle.filling.specs.laws.Price.{dearest-light}
-use Rattle.filling.specs.laws.Side.{needed-roomy, lent-roomy, lent-wide}
+use Rattle.entries.specs.laws.Price.{dearest-light}
+use Rattle.entries.specs.laws.Side.{needed-roomy, lent-roomy, lent-wide}
 use Rattle.filling.specs.laws.Skip.{filled-none, columns-left}
 
 -- A table in words that were cleared.

@@ -14,10 +14,11 @@ use Rattle.places.specs.laws.Address.{area-grows, address-in, address-past}
 use Rattle.places.specs.laws.Cleared.{cleared-length, cleared-beyond, cleared-first, cleared-empty}
 use Rattle.places.specs.laws.Stored.{stored-beyond, stored-past}
 use Rattle.candidates.specs.Search.{newEntry}
-use Rattle.filling.specs.Fill.{Words, tall, held, fillSide, fillSides, sideCount, fillPlace, fillColumn, fillColumns, tableWords, filled}
-use Rattle.filling.specs.Filled.{Roomy, Light}
-use Rattle.filling.specs.laws.Entered.{count-low}
-use Rattle.filling.specs.laws.Fill.{room-kept}
+use Rattle.entries.specs.Fill.{Words, tall, held, fillSide, fillSides, sideCount, fillPlace, tableWords}
+use Rattle.filling.specs.Fill.{fillColumn, fillColumns, filled}
+use Rattle.entries.specs.Filled.{Roomy, Light}
+use Rattle.entries.specs.laws.Entered.{count-low}
+use Rattle.entries.specs.laws.Fill.{room-kept}
 use Rattle.filling.specs.laws.Skip.{columns-left}
 
 module _ (g : Galley) (from : Origin) (first : ℕ) (P : Words → Type 0)

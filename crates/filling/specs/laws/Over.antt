@@ -20,11 +20,12 @@ use Rattle.candidates.specs.Search.{Table, before, Search, bestStart, newEntry}
 use Rattle.candidates.specs.Beside.{Sought}
 use Rattle.candidates.specs.laws.Found.{best-start}
 use Rattle.candidates.specs.laws.Pages.{candidate-earlier}
-use Rattle.starts.specs.laws.Sweep.{searchIn, best-same}
-use Rattle.filling.specs.Fill.{Words, tall, held, fillSide, fillSides, sideCount, fillPlace, fillColumn}
-use Rattle.filling.specs.Filled.{Roomy}
-use Rattle.filling.specs.laws.Entered.{count-low, before-low}
-use Rattle.filling.specs.laws.Fill.{length-sides, length-place, room-kept, in-room}
+use Rattle.passes.specs.laws.Sweep.{searchIn, best-same}
+use Rattle.entries.specs.Fill.{Words, tall, held, fillSide, fillSides, sideCount, fillPlace}
+use Rattle.filling.specs.Fill.{fillColumn}
+use Rattle.entries.specs.Filled.{Roomy}
+use Rattle.entries.specs.laws.Entered.{count-low, before-low}
+use Rattle.entries.specs.laws.Fill.{length-sides, length-place, room-kept, in-room}
 
 -- The best start looks only at the entries of earlier places,
 start-same : (s : Search) (t : Table) → Sought s

@@ -14,17 +14,18 @@ use Rattle.candidates.specs.Ring.{hintOf, hintName, Present, Named}
 use Rattle.candidates.specs.Look.{Quiet, Found, Hinted, Told, Reached}
 use Rattle.candidates.specs.laws.Ring.{hint-name, hint-first, hint-last}
 use Rattle.candidates.specs.Cells.{ColumnRoom}
-use Rattle.starts.specs.Sweep.{Lent}
-use Rattle.starts.specs.laws.Lending.{lent-room}
-use Rattle.starts.specs.laws.Look.{quiet-then}
-use Rattle.filling.specs.declared.side.Task.{Task}
+use Rattle.passes.specs.Sweep.{Lent}
+use Rattle.passes.specs.laws.Lending.{lent-room}
+use Rattle.passes.specs.laws.Look.{quiet-then}
+use Rattle.entries.specs.declared.side.Task.{Task}
 use Rattle.filling.specs.declared.recall.Recall.{Recall}
-use Rattle.filling.specs.Fill.{tall, fillColumn}
+use Rattle.entries.specs.Fill.{tall}
+use Rattle.filling.specs.Fill.{fillColumn}
 use Rattle.filling.specs.Next.{Begun, Gathered}
 use Rattle.filling.specs.Recall.{Remembered, Agrees, Noted, ColumnTurn, ColumnFilled}
 use Rattle.filling.specs.laws.Fill.{length-column, column-other, column-above}
 use Rattle.filling.specs.laws.First.{lines-quiet, column-from}
-use Rattle.filling.specs.laws.Side.{lent-roomy, lent-wide}
+use Rattle.entries.specs.laws.Side.{lent-roomy, lent-wide}
 
 -- A word put in the ring.
 module _ (old : List ℕ) (h x : ℕ) (room : h < length old) where

@@ -16,10 +16,11 @@ use Rattle.places.specs.laws.Best.{no-reach}
 use Rattle.places.specs.laws.Places.{column-at, inside-columns}
 use Rattle.places.specs.laws.Table.{table-same}
 use Rattle.candidates.specs.Search.{newEntry}
-use Rattle.filling.specs.Fill.{Words, tall, held, fillSide, fillSides, sideCount, fillPlace, fillColumn, fillColumns}
-use Rattle.filling.specs.Filled.{Roomy, Side, Light, Filled}
-use Rattle.filling.specs.laws.Entered.{side-low, side-below, below-side, entry-entered}
-use Rattle.filling.specs.laws.Fill.{in-room}
+use Rattle.entries.specs.Fill.{Words, tall, held, fillSide, fillSides, sideCount, fillPlace}
+use Rattle.filling.specs.Fill.{fillColumn, fillColumns}
+use Rattle.entries.specs.Filled.{Roomy, Side, Light, Filled}
+use Rattle.entries.specs.laws.Entered.{side-low, side-below, below-side, entry-entered}
+use Rattle.entries.specs.laws.Fill.{in-room}
 
 module _ (g : Galley) (light : Light g) (from : Origin) (origin : from .place .column < columns (floatSizes g)) (w : Words) (room : Roomy g w)
     (empty : (a b c : ℕ) → a ≤ g .stream 0 .size → b < columns (floatSizes g) → c < sideCount (g .spec .sides)

@@ -23,12 +23,13 @@ use Rattle.candidates.specs.laws.Columns.{sought-in}
 use Rattle.candidates.specs.laws.Found.{best-start}
 use Rattle.candidates.specs.laws.Read.{side-occurs}
 use Rattle.candidates.specs.laws.Pages.{candidate-earlier}
-use Rattle.starts.specs.laws.Lending.{lent-placed}
-use Rattle.filling.specs.declared.side.Task.{Task}
-use Rattle.filling.specs.Fill.{tall, fillSide, fillSides, sideCount, fillPlace, fillColumn}
+use Rattle.passes.specs.laws.Lending.{lent-placed}
+use Rattle.entries.specs.declared.side.Task.{Task}
+use Rattle.entries.specs.Fill.{tall, fillSide, fillSides, sideCount, fillPlace}
+use Rattle.filling.specs.Fill.{fillColumn}
 use Rattle.filling.specs.Next.{Still}
-use Rattle.filling.specs.laws.Entered.{sides-count}
-use Rattle.filling.specs.laws.NewEntry.{entry-forbidden, entry-priced}
+use Rattle.entries.specs.laws.Entered.{sides-count}
+use Rattle.entries.specs.laws.NewEntry.{entry-forbidden, entry-priced}
 
 module _ {bytes : List ℕ} {task : Task} {w : List ℕ} {j from to : ℕ} (still : Still bytes task w j from to) where
   -- None has a start,

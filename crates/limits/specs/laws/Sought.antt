@@ -19,11 +19,12 @@ use Rattle.places.specs.laws.Address.{area-needed}
 use Rattle.places.specs.laws.Cleared.{cleared-forgets}
 use Rattle.candidates.specs.Read.{tableIn, columnsIn}
 use Rattle.candidates.specs.laws.Columns.{few-floats, columns-in}
-use Rattle.filling.specs.Fill.{tall, tableWords, filled}
+use Rattle.entries.specs.Fill.{tall, tableWords}
+use Rattle.filling.specs.Fill.{filled}
 use Rattle.filling.specs.Next.{Fillable}
 use Rattle.filling.specs.laws.Fill.{length-filled}
 use Rattle.filling.specs.laws.Kept.{filled-beyond}
-use Rattle.filling.specs.laws.Side.{needed-roomy}
+use Rattle.entries.specs.laws.Side.{needed-roomy}
 use Rattle.walk.specs.Traceable.{isReached, WorkArea, fullPlace, lastStop, Visits}
 use Rattle.walk.specs.laws.Walk.{columns-in-some}
 use Rattle.needs.specs.Needs.{workNeeded}

@@ -13,7 +13,7 @@ use Rattle.candidates.specs.Read.{columnsIn}
 use Rattle.candidates.specs.laws.Columns.{few-floats}
 use Rattle.filling.specs.Fill.{filled}
 use Rattle.filling.specs.laws.Fill.{length-filled}
-use Rattle.filling.specs.laws.Side.{needed-roomy}
+use Rattle.entries.specs.laws.Side.{needed-roomy}
 use Rattle.closings.specs.Chapter.{onFolio, nothingYet, ChapterRoom, Tabled}
 use Rattle.routes.specs.declared.Route.{Route}
 use Rattle.routes.specs.declared.Routes.{Routes}

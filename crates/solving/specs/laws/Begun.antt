@@ -41,7 +41,7 @@ use Rattle.places.specs.declared.Origin.{Origin}
 use Rattle.places.specs.Columns.{placeAt}
 use Rattle.candidates.specs.Read.{columnsIn, countsAt, rowOf}
 use Rattle.candidates.specs.laws.Columns.{few-floats, columns-in, row-figures, row-tables, place-at, placed-at}
-use Rattle.filling.specs.laws.Price.{sound-limits}
+use Rattle.entries.specs.laws.Price.{sound-limits}
 use Rattle.solving.specs.Begun.{originAfter, Ending, Opened}
 
 -- Counts are found again at their column.

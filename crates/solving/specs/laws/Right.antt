@@ -18,10 +18,12 @@ use Rattle.places.specs.Columns.{columns, floatSizes, placeAt, columnIn}
 use Rattle.places.specs.Entry.{cleared}
 use Rattle.places.specs.laws.Cleared.{cleared-length}
 use Rattle.places.specs.laws.Places.{place-inside, line-at, column-at, place-of, forward-earlier}
-use Rattle.filling.specs.Fill.{Words, held, fillSide, fillSides, sideCount, fillPlace, fillColumn, fillColumns, tableWords, filled}
-use Rattle.filling.specs.Filled.{Roomy, Side, Light, Filled}
-use Rattle.filling.specs.laws.Entered.{side-low, side-below, below-side}
-use Rattle.filling.specs.laws.Fill.{length-sides, length-place, length-column, room-kept, side-same, side-other, earlier-next, earlier-column, filled-start, filled-next, filled-keeps, filled-place}
+use Rattle.entries.specs.Fill.{Words, held, fillSide, fillSides, sideCount, fillPlace, tableWords}
+use Rattle.filling.specs.Fill.{fillColumn, fillColumns, filled}
+use Rattle.entries.specs.Filled.{Roomy, Side, Light, Filled}
+use Rattle.entries.specs.laws.Entered.{side-low, side-below, below-side}
+use Rattle.entries.specs.laws.Fill.{length-sides, length-place, room-kept, side-same, side-other, earlier-next, filled-keeps, filled-place}
+use Rattle.filling.specs.laws.Fill.{length-column, earlier-column, filled-start, filled-next}
 use Rattle.candidates.specs.Search.{mostFrom}
 use Rattle.solving.specs.Shown.{at, originOf, graphOf, shown, lastPlace, tableAt, AllRight, Proper}
 use Rattle.solving.specs.laws.Shown.{shown-at, last-wide, full-within, end-right}

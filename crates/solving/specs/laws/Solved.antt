@@ -35,8 +35,8 @@ use Rattle.places.specs.declared.Entry.{Entry}
 use Rattle.places.specs.declared.Entry.the-variants.{Unreached, Least}
 use Rattle.places.specs.Columns.{columns, floatSizes}
 use Rattle.candidates.specs.Read.{tableIn, columnsIn}
-use Rattle.filling.specs.Filled.{Filled}
-use Rattle.filling.specs.laws.Price.{sound-limits}
+use Rattle.entries.specs.Filled.{Filled}
+use Rattle.entries.specs.laws.Price.{sound-limits}
 use Rattle.walk.specs.laws.Walk.{columns-in-some}
 use Rattle.walk.specs.declared.Stop.{Stop}
 use Rattle.walk.specs.Trace.{lastSide, entryOf, writeBack}

@@ -12,11 +12,11 @@ use Rattle.places.specs.declared.Origin.{Origin}
 use Rattle.places.specs.Columns.{columns, floatSizes}
 use Rattle.candidates.specs.Read.{tableIn, columnsIn}
 use Rattle.candidates.specs.laws.Columns.{few-floats, columns-in}
-use Rattle.filling.specs.Fill.{tall}
-use Rattle.filling.specs.Filled.{Roomy, Light, Filled}
+use Rattle.entries.specs.Fill.{tall}
+use Rattle.entries.specs.Filled.{Roomy, Light, Filled}
 use Rattle.filling.specs.laws.Fill.{length-filled, filled-all}
-use Rattle.filling.specs.laws.Side.{needed-roomy}
-use Rattle.filling.specs.laws.Price.{sound-limits, dearest-light}
+use Rattle.entries.specs.laws.Side.{needed-roomy}
+use Rattle.entries.specs.laws.Price.{sound-limits, dearest-light}
 use Rattle.walk.specs.Traceable.{WorkArea, fullPlace, Traceable}
 use Rattle.solving.specs.Shown.{lastPlace, AllRight, Proper}
 use Rattle.solving.specs.Solved.{TabledFrom}

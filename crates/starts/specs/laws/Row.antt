@@ -18,7 +18,7 @@ use Rattle.blocks.specs.declared.heights.Heights.{Heights}
 use Rattle.blocks.specs.Counts.{Within}
 use Rattle.blocks.specs.Heights.{noHeights, Room, Stacked, blockBefore}
 use Rattle.blocks.specs.laws.Heights.{stacked-nothing, stacked-room, back-stacked}
-use Rattle.starts.specs.declared.sweep.Pass.{Pass}
+use Rattle.passes.specs.declared.pass.Pass.{Pass}
 use Rattle.starts.specs.declared.sweep.Row.{Row}
 use Rattle.candidates.specs.Choice.{Candidate}
 use Rattle.candidates.specs.Beside.{Under, alone}
@@ -27,14 +27,15 @@ use Rattle.candidates.specs.Look.{PastOrigin, Told, Reached}
 use Rattle.candidates.specs.declared.look.Reach.{Reach}
 use Rattle.candidates.specs.Cells.{fresh, ColumnRoom}
 use Rattle.starts.specs.Sweep.{Layable, floatsAlone, rowTop}
-use Rattle.starts.specs.Swept.{RowSweep, RowRun, RowSwept, Sweep, SweepDone}
+use Rattle.starts.specs.Swept.{RowSweep, RowRun, RowSwept}
+use Rattle.passes.specs.Swept.{Sweep, SweepDone}
 use Rattle.candidates.specs.laws.Columns.{few-floats, columns-few, row-next, row-grows, row-of, row-figures, row-tables, row-in, within-at, under-at}
 use Rattle.starts.specs.laws.Floats.{alone-at, floats-lay, alone-low}
-use Rattle.starts.specs.laws.Lending.{lent-room}
+use Rattle.passes.specs.laws.Lending.{lent-room}
 use Rattle.candidates.specs.laws.Cells.{scratched-then}
-use Rattle.starts.specs.laws.Cells.{lent-kept}
-use Rattle.starts.specs.laws.Past.{known-past, start-under, start-short}
-use Rattle.starts.specs.laws.Look.{quiet-then, past-kept, recalled-kept, start-past, past-quiet}
+use Rattle.passes.specs.laws.Cells.{lent-kept}
+use Rattle.passes.specs.laws.Past.{known-past, start-under, start-short}
+use Rattle.passes.specs.laws.Look.{quiet-then, past-kept, recalled-kept, start-past, past-quiet}
 
 -- Where neither of two holds, each does not.
 pub or-false : (t u : Bool) → t || u ≡ false → (t ≡ false) × (u ≡ false)

@@ -16,18 +16,18 @@ use Rattle.starts.specs.declared.sweep.Begin.{Begin}
 use Rattle.starts.specs.declared.sweep.Row.{Row}
 use Rattle.candidates.specs.Choice.{Candidate}
 use Rattle.candidates.specs.Read.{sideOf, searchOf, countsAt, rowOf}
-use Rattle.starts.specs.Sweep.{Lent, Summed, Known}
+use Rattle.passes.specs.Sweep.{Lent, Summed, Known}
 use Rattle.candidates.specs.Cells.{Scratched, fresh, Blank}
 use Rattle.starts.specs.Swept.{ColumnSweep, ColumnSweepRun, ColumnSwept, RowSweep, RowSwept}
 use Rattle.candidates.specs.laws.Columns.{row-next, row-grows, row-of, row-figures, row-tables, row-before, row-under, tables-low, within-at, under-at}
 use Rattle.starts.specs.laws.Floats.{figures-alone}
 use Rattle.starts.specs.laws.Row.{or-false}
-use Rattle.starts.specs.laws.Lending.{lent-room}
+use Rattle.passes.specs.laws.Lending.{lent-room}
 use Rattle.candidates.specs.laws.Cells.{scratched-then}
-use Rattle.starts.specs.laws.Cells.{lent-kept, blank-known}
+use Rattle.passes.specs.laws.Cells.{lent-kept, blank-known}
 use Rattle.candidates.specs.laws.Clean.{clean-kept}
-use Rattle.starts.specs.laws.Past.{known-past, start-under, start-short}
-use Rattle.starts.specs.laws.Look.{past-kept, recalled-kept, start-past}
+use Rattle.passes.specs.laws.Past.{known-past, start-under, start-short}
+use Rattle.passes.specs.laws.Look.{past-kept, recalled-kept, start-past}
 
 -- Before the first row no start is known, and every place is unreached.
 pub column-first : {bytes : List ℕ} {g : Galley} {w sums words seen : List ℕ} {j : ℕ} {begin : Begin}

@@ -20,7 +20,7 @@ use Rattle.candidates.specs.Search.{Table}
 use Rattle.candidates.specs.Read.{tableIn, columnsIn, countsAt}
 use Rattle.candidates.specs.laws.Columns.{place-at}
 use Rattle.candidates.specs.laws.Read.{stands-in}
-use Rattle.filling.specs.laws.Entered.{side-low, side-before}
+use Rattle.entries.specs.laws.Entered.{side-low, side-before}
 use Rattle.walk.specs.declared.Stop.{Stop}
 use Rattle.walk.specs.Trace.{startOf, entryOf, back, atOrigin, countBack, writeBack}
 use Rattle.walk.specs.Traceable.{blocksIn, WorkArea, fullPlace, Visits, Traceable, PageRoom, Writable, pagesBack, Counting, Writing}

@@ -3,9 +3,10 @@
 use mathlib.Core.Path.{refl, _∙_}
 use native.Mathlib.Omega.{arith}
 use Rattle.candidates.specs.laws.Columns.{few-floats}
-use Rattle.starts.specs.laws.Lending.{lent-room}
-use Rattle.starts.specs.laws.Cells.{lent-kept}
-use Rattle.filling.specs.laws.First.{columns-past, column-none}
+use Rattle.passes.specs.laws.Lending.{lent-room}
+use Rattle.passes.specs.laws.Cells.{lent-kept}
+use Rattle.entries.specs.laws.Before.{columns-past}
+use Rattle.filling.specs.laws.First.{column-none}
 use Rattle.filling.specs.laws.Column.{column-last, scratched-same}
 use Rattle.filling.specs.laws.Recall.{noted-none, filled-room, filled-quiet, column-noted}
 use borrow.Author.Needs.{needs}

@@ -9,9 +9,9 @@ use Rattle.rules.specs.laws.Walked.{waiting-few}
 use Rattle.window.specs.Slide.{Slid}
 use Rattle.candidates.specs.Read.{countsAt}
 use Rattle.candidates.specs.laws.Columns.{few-floats, within-at}
-use Rattle.starts.specs.laws.Lending.{floats-separable}
+use Rattle.passes.specs.laws.Lending.{floats-separable}
 use Rattle.pricing.specs.Stop.{floatsSay}
-use Rattle.filling.specs.Next.{plain}
+use Rattle.entries.specs.Next.{plain}
 use Rattle.filling.specs.Run.{LastRun}
 use Rattle.filling.specs.laws.Column.{first-slides, last-first, last-done, last-slides, last-looks, last-over, last-place, last-next}
 use borrow.Author.Needs.{needs}
