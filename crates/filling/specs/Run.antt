@@ -40,7 +40,7 @@ pub record ColumnsRun (bytes : List ℕ) (task : Task) (w₀ w words₀ words se
   pub within : j ≤ columnsIn (task .galley)
   pub sized : length w ≡ length w₀
   pub wordsSized : length words ≡ length words₀
-  pub ring : length seen ≡ 76
+  pub ring : length seen ≡ 68
   pub entries : Filled (modelOf bytes (task .galley)) (task .origin) (tableIn (task .galley) w) 0 j
   pub run : fillColumns (modelOf bytes (task .galley)) (task .origin) (columnsIn (task .galley) - j) j w
       ≡ fillColumns (modelOf bytes (task .galley)) (task .origin) (columnsIn (task .galley)) 0 w₀

@@ -155,7 +155,7 @@ fn fill_columns(s: &[u8], task: Task, work: &mut [u32], sums: &[u32], words: &mu
 {
     let columns = candidates::read::columns_of(task.galley);
     // The last columns that are reached. Where more are, those before them are looked at each time.
-    let mut seen = [0u32; 76];
+    let mut seen = [0u32; 68];
     let mut j = task.origin.place.column as usize;
     let mut recall = Recall { since: j, head: 0 };
     while j < columns {

@@ -81,7 +81,7 @@ column-scratched bytes task j some two (suc k) i w e =
 -- One column after another.
 module _ {bytes : List ℕ} {task : Task} {w₀ sums words₀ : List ℕ} (table : TableNext bytes task w₀ sums words₀) where
   -- At first no column is filled, and none before the origin's need be.
-  pub columns-first : (seen : List ℕ) → length seen ≡ 76 → Named seen 0
+  pub columns-first : (seen : List ℕ) → length seen ≡ 68 → Named seen 0
       → ColumnsRun bytes task w₀ w₀ words₀ words₀ seen (record { since = task .origin .place .column; head = 0 }) (task .origin .place .column)
   unfolding tall
   columns-first seen ring named =

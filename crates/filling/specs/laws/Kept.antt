@@ -1,7 +1,7 @@
 -- What every store keeps, filling keeps: the words beyond the table, and those of the columns before the origin's, which stay zeros.
 use Prim.Native.Nat.{ℕ, zero, suc, _+_, _-_, _≤_, _<_}
 use native.Mathlib.Omega.{arith}
-use mathlib.Core.Path.{_≡_, refl, sym, _∙_, ap}
+use mathlib.Core.Path.{_≡_, _∙_, ap}
 use lib.ListN.{take, drop, replicate}
 use Rattle.model.specs.Galley.{Galley}
 use Rattle.places.specs.declared.Origin.{Origin}

@@ -20,7 +20,7 @@ columns-of-requires : tie.Need-columns-of-requires Inv-loop μ-loop
 columns-of-requires c κs = few-floats (c .before .before .before .before .pre .fillable .sound)
 
 loop-holds : tie.Need-loop-holds Inv-loop μ-loop
-loop-holds c = columns-first (c .before .before .before .before .before .before .pre) _ (search needs) (fresh-named 76)
+loop-holds c = columns-first (c .before .before .before .before .before .before .pre) _ (search needs) (fresh-named 68)
 
 slice-aggregate-fill-column : tie.Need-slice-aggregate-fill-column Inv-loop μ-loop
 slice-aggregate-fill-column c = search (needs, c .before .before .before .before .loop .inv .ring)
