@@ -32,7 +32,8 @@ pub record Hinted (g : Galley) (w : List ℕ) (j from x : ℕ) : Type 0 where
   pub early : Quiet g w j (g .spec .sides) from (hintFirst x)
   pub late : Quiet g w j (g .spec .sides) (hintLast x + 1) (g .text .count + 1)
 
--- What `seen` says of column j holds: where no word names it, none of its lines from `from` on is reached on a side that occurs.
+-- What `seen` says of column j holds: where no word names it, none of its lines from `from` on is reached on a side that occurs, and where
+-- one does, none before or after those that the word leaves.
 pub record Told (g : Galley) (w seen : List ℕ) (j from : ℕ) : Type 0 where
   pub none : Absent seen j → Quiet g w j (g .spec .sides) from (g .text .count + 1)
   pub hinted : (x : ℕ) → Present seen j x → Hinted g w j from x

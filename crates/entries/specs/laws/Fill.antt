@@ -37,7 +37,7 @@ length-place g from i q w = length-sides g from i q (sideCount (g .spec .sides))
 pub room-kept : {g : Galley} {v w : Words} → length v ≡ length w → Roomy g w → Roomy g v
 room-kept e room = record { words = omega (arith, room .words) }
 
--- The four words of a place are there.
+-- The five words of a place are there.
 pub in-room : {g : Galley} {w : Words} → Roomy g w → (i q c : ℕ) → i ≤ g .stream 0 .size → q < columns (floatSizes g) → c ≤ 1
     → address (tall g) i q c + 5 ≤ length w
 unfolding tall

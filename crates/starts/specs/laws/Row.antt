@@ -13,6 +13,7 @@ use Rattle.model.specs.Gather.{pick}
 use Rattle.rules.specs.Sums.{whiteAt}
 use Rattle.galley.specs.declared.Galley.{Galley}
 use Rattle.galley.specs.Model.{floatsOf, modelOf}
+use Rattle.galley.specs.laws.Pick.{or-false}
 use Rattle.blocks.specs.declared.Counts.{Counts}
 use Rattle.blocks.specs.declared.heights.Heights.{Heights}
 use Rattle.blocks.specs.Counts.{Within}
@@ -36,11 +37,6 @@ use Rattle.candidates.specs.laws.Cells.{scratched-then}
 use Rattle.passes.specs.laws.Cells.{lent-kept}
 use Rattle.passes.specs.laws.Past.{known-past, start-under, start-short}
 use Rattle.passes.specs.laws.Look.{quiet-then, past-kept, recalled-kept, start-past, past-quiet}
-
--- Where neither of two holds, each does not.
-pub or-false : (t u : Bool) → t || u ≡ false → (t ≡ false) × (u ≡ false)
-or-false false u e = (refl, e)
-or-false true u e = let z : _≡_ {A = ℕ} 0 1 = cc in absurd (omega arith)
 
 -- A row offers columns with no more tables than the end, and the end's own row one less.
 abbrev Offered : Row → ℕ → Type 0

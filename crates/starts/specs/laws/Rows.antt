@@ -8,6 +8,7 @@ use lib.ListN.{length}
 use Rattle.model.specs.Rules.{floor}
 use Rattle.galley.specs.declared.Galley.{Galley}
 use Rattle.galley.specs.Model.{floatsOf, modelOf}
+use Rattle.galley.specs.laws.Pick.{or-false}
 use Rattle.blocks.specs.declared.Counts.{Counts}
 use Rattle.blocks.specs.declared.heights.Heights.{Heights}
 use Rattle.blocks.specs.Heights.{noHeights, Room, Stacked, blockBefore}
@@ -21,7 +22,6 @@ use Rattle.candidates.specs.Cells.{Scratched, fresh, Blank}
 use Rattle.starts.specs.Swept.{ColumnSweep, ColumnSweepRun, ColumnSwept, RowSweep, RowSwept}
 use Rattle.candidates.specs.laws.Columns.{row-next, row-grows, row-of, row-figures, row-tables, row-before, row-under, tables-low, within-at, under-at}
 use Rattle.starts.specs.laws.Floats.{figures-alone}
-use Rattle.starts.specs.laws.Row.{or-false}
 use Rattle.passes.specs.laws.Lending.{lent-room}
 use Rattle.candidates.specs.laws.Cells.{scratched-then}
 use Rattle.passes.specs.laws.Cells.{lent-kept, blank-known}
