@@ -114,8 +114,8 @@
  * bytes more where the dynamic linker binds memcpy or memset at its first call, as in a program that is linked without -z now.
  * Signal handlers are not counted.
  */
-#define BARLEYCHIME_BOOK_STACK_BYTES ((size_t)260352)
-#define BARLEYCHIME_STACK_BYTES ((size_t)258048)
+#define BARLEYCHIME_BOOK_STACK_BYTES ((size_t)244224)
+#define BARLEYCHIME_STACK_BYTES ((size_t)242176)
 #define BARLEYCHIME_MARK_STACK_BYTES ((size_t)1024)
 
 /* Words of an answer, of making and of marking: every caller lends so many. */

@@ -162,7 +162,7 @@ pub fn fill_place(
         let moved = fill_side(s, task, work, sums, words, parts, windows, here);
         let full = moved.full;
         let rest = moved.rest;
-        window::sums::put_row(
+        window::parts::put_row(
             ends,
             c,
             full.head as u32,

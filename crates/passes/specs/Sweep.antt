@@ -44,7 +44,7 @@ Scratch words = 48000 ≤ length words
 -- The sums of all lines.
 pub record Summed (bytes : List ℕ) (g : Galley) (sums : List ℕ) : Type 0 where
   pub rows : Sums (textOf bytes (g .text)) (g .text .count) sums
-  pub room : 4 * g .text .count + 4 ≤ length sums
+  pub room : 3 * g .text .count + 6 ≤ length sums
 
 -- What a page of the pass has beside its lines.
 abbrev pub passLoad : Galley → Pass → Load

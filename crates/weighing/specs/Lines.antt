@@ -28,8 +28,8 @@ linePairs st first beside limit m = total m (pairsTo st first beside limit m)
 pub record Pairable (sums : List ℕ) (lines first beside limit : ℕ) : Type 0 where
   pub few : lines ≤ 4000
   pub from : first ≤ lines
-  pub room : 4 * lines + 4 ≤ length sums
-  pub small : (k : ℕ) → k ≤ lines → SmallPair sums (2 * k + 0)
+  pub room : 3 * lines + 6 ≤ length sums
+  pub small : (k : ℕ) → k ≤ lines → SmallPair sums 0 k
   pub added : beside ≤ 1000000000
   pub limited : limit ≤ 1000000000
 

@@ -16,8 +16,8 @@ pub fn weighed(s: &[u8], g: Galley, first: Counts) -> u64
     requires { ⌜ (Sound (now s) g) × (Within g first) ⌝ }
     ensures { λ r. ⌜ r ≡ weighedFrom (modelOf (now (s .entry)) g) (placeOf g first) ⌝ }
 {
-    // Four sums to a line, for 4,000 lines.
-    let mut sums = [0u32; 16004];
+    // Three words to a line, for 4,000 lines and one before and one after them.
+    let mut sums = [0u32; 12006];
     window::sums::gather(s, g.text, &mut sums);
     crate::columns::all_pairs(s, g, &sums, first)
 }

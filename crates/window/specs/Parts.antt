@@ -3,8 +3,9 @@
 use Prim.Native.Nat.{ℕ, _+_, _-_, _*_, _≤_, _<_}
 use mathlib.Core.Path.{_≡_}
 use mathlib.Core.Bool.{true, false}
-use mathlib.Core.List.{List}
+use mathlib.Core.List.{List, [], _∷_}
 use lib.ListN.{length, getD}
+use lib.Seq.{sets}
 use lib.Dec.{ltb}
 use Rattle.model.specs.Gather.{pick}
 use Rattle.places.specs.declared.Place.{Place}
@@ -23,6 +24,10 @@ partsOf ends c =
       full = record { base = 8000 * c; head = getD ends (4 * c) 0; tail = getD ends (4 * c + 1) 0; lacks = false };
       rest = record { base = 8000 * c + 4000; head = getD ends (4 * c + 2) 0; tail = getD ends (4 * c + 3) 0; lacks = true };
     }
+
+-- The words with four of them written as row k.
+unfoldable pub rowPut : List ℕ → ℕ → ℕ → ℕ → ℕ → ℕ → List ℕ
+rowPut rows k first second third fourth = sets rows (4 * k) (first ∷ second ∷ third ∷ fourth ∷ [])
 
 -- Queues of no line.
 abbrev pub noParts : Parts
@@ -69,7 +74,7 @@ pub record Movable (work sums words : List ℕ) (source : Source) (parts : Parts
   pub high : to .high ≤ top
   pub stands : (a : ℕ) → a < top → Stands work (source .tall) (record { line = a; column = source .column }) (source .side)
   pub costs : Payable (linesIn work source) top
-  pub summed : 4 * top ≤ length sums
+  pub summed : 3 * top + 3 ≤ length sums
   pub rises : Rises from to
   pub held : Both (linesIn work source) sums words (parts .full .base) parts from
   pub room : 3 * (parts .full .base + 8000) ≤ length words

@@ -44,7 +44,7 @@ frontOf words queue b =
 
 -- What line a adds to its cost: where pages lack something, the height up to it at its loosest.
 unfoldable pub addedOf : List ℕ → Bool → ℕ → ℕ
-addedOf sums lacks a = pick lacks (spacedAt sums (2 * a + 1)) 0
+addedOf sums lacks a = pick lacks (spacedAt sums 1 a) 0
 
 -- The lines of a column on a side, as starts: the entry of each.
 abbrev pub linesOf : List ℕ → ℕ → ℕ → ℕ → ℕ → Entry
@@ -103,7 +103,7 @@ Payable col n = (a : ℕ) → a < n → Affordable (col a)
 pub record Feedable (work sums words : List ℕ) (source : Source) (queue : Queue) (from to : ℕ) : Type 0 where
   pub stands : (a : ℕ) → a < to → Stands work (source .tall) (record { line = a; column = source .column }) (source .side)
   pub costs : Payable (linesIn work source) to
-  pub summed : 4 * to ≤ length sums
+  pub summed : 3 * to + 3 ≤ length sums
   pub based : queue .base ≤ queue .head
   pub order : queue .head ≤ queue .tail
   pub short : queue .tail ≤ queue .base + from

@@ -14,25 +14,25 @@ use Rattle.window.specs.Sums.{spacedAt, bareAt, SmallPair, Sums}
 
 -- How far a page to line i reaches from the first line on, with so much beside its lines.
 abbrev pub reachedOf : List ℕ → ℕ → ℕ → ℕ → ℕ
-reachedOf sums space beside i = bareAt sums (2 * i + space) + beside
+reachedOf sums space beside i = bareAt sums space i + beside
 
 -- A page from line a to line i is too tall.
 abbrev pub tooTall : List ℕ → Load → ℕ → ℕ → Bool
-tooTall sums load a i = ltb (load .htmax + spacedAt sums (2 * a + 0)) (reachedOf sums 0 (load .tight) i)
+tooTall sums load a i = ltb (load .htmax + spacedAt sums 0 a) (reachedOf sums 0 (load .tight) i)
 
 -- That can be read, and fits a word.
 pub record Readable (sums : List ℕ) (space beside i : ℕ) : Type 0 where
   pub either : space ≤ 1
-  pub room : 4 * i + 4 ≤ length sums
-  pub small : bareAt sums (2 * i + space) ≤ 1000000000
+  pub room : 3 * i + 3 ≤ length sums
+  pub small : bareAt sums space i ≤ 1000000000
   pub added : beside ≤ 1000000000
 
 -- The sums up to line i, what a page has beside its lines and its limit are small enough to be added in a word.
 pub record Reachable (sums : List ℕ) (space beside limit from i : ℕ) : Type 0 where
   pub start : from ≤ i
   pub either : space ≤ 1
-  pub room : 4 * i + 4 ≤ length sums
-  pub small : (k : ℕ) → k ≤ i → SmallPair sums (2 * k + space)
+  pub room : 3 * i + 6 ≤ length sums
+  pub small : (k : ℕ) → k ≤ i → SmallPair sums space k
   pub added : beside ≤ 1000000000
   pub limited : limit ≤ 1000000001
 
@@ -45,7 +45,7 @@ pub record Slidable (sums : List ℕ) (load : Load) (window : Window) (i : ℕ) 
 -- r is the first line from `from` on whose page to line i stays below the limit, or i.
 abbrev pub FirstBelow : List ℕ → ℕ → ℕ → ℕ → ℕ → ℕ → ℕ → Type 0
 FirstBelow sums space beside limit from i r =
-    First (λ a. limit + spacedAt sums (2 * a + space)) (suc (reachedOf sums space beside i)) from i r
+    First (λ a. limit + spacedAt sums space a) (suc (reachedOf sums space beside i)) from i r
 
 -- A page of lines a + 1 to i, a before i, with these spaces and so much beside reaches the limit.
 abbrev pub Reaches : Stream → (ℕ → ℕ) → ℕ → ℕ → ℕ → ℕ → Type 0

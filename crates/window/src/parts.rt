@@ -3,7 +3,7 @@
 ghost use mathlib.Core.Path.{_≡_};
 ghost use Prim.Native.Nat.{_+_, _*_, _≤_};
 ghost use lib.ListN.{length};
-ghost use Rattle.window.specs.Parts.{partsOf, noParts, later, Movable, Moved, whitenedOf, Whitenable};
+ghost use Rattle.window.specs.Parts.{partsOf, rowPut, noParts, later, Movable, Moved, whitenedOf, Whitenable};
 use crate::queue::Queue;
 use crate::queue::Source;
 use crate::slide::Window;
@@ -34,6 +34,18 @@ pub fn parts_of(ends: &[u32], c: usize) -> Parts
         lacks: true,
     };
     Parts { full, rest }
+}
+
+// Four words written as row k: the heads and tails of a side's two queues.
+pub fn put_row(rows: &mut [u32], k: usize, first: u32, second: u32, third: u32, fourth: u32)
+    requires { ⌜ 4 * k + 4 ≤ length (now rows) ⌝ }
+    ensures { λ _. ⌜ now (rows .exit) ≡ rowPut (now (rows .entry)) k first second third fourth ⌝ }
+{
+    let at = 4 * k;
+    rows[at] = first;
+    rows[at + 1] = second;
+    rows[at + 2] = third;
+    rows[at + 3] = fourth;
 }
 
 // Both queues before the first line, from the first entry on.

@@ -27,11 +27,11 @@ pub struct Queue {
 
 // What line a adds to its cost.
 fn added(sums: &[u32], lacks: bool, a: usize) -> u32
-    requires { ⌜ 4 * a + 4 ≤ length (now sums) ⌝ }
+    requires { ⌜ 3 * a + 6 ≤ length (now sums) ⌝ }
     ensures { λ r. ⌜ r ≡ addedOf (now (sums .entry)) lacks a ⌝ }
 {
     if lacks {
-        return sums[2 * (2 * a + LOOSE)];
+        return crate::sums::spaced(sums, LOOSE, a);
     }
     0
 }
@@ -67,7 +67,7 @@ fn drop_passed(words: &[u32], head: usize, tail: usize, low: usize) -> usize
     h
 }
 
-// A line and the two words of its cost, or the ends of a window, written as entry `at`.
+// A line and the two words of its cost, the ends of a window, or the sums of a line, written as entry `at`.
 pub fn push(words: &mut [u32], at: usize, first: u32, second: u32, third: u32)
     requires { ⌜ 3 * at + 3 ≤ length (now words) ⌝ }
     ensures { λ _. ⌜ now (words .exit) ≡ pushed (now (words .entry)) at first second third ⌝ }

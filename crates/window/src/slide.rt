@@ -41,7 +41,7 @@ pub fn reached(sums: &[u32], space: usize, beside: u32, i: usize) -> u32
     requires { ⌜ Readable (now sums) space beside i ⌝ }
     ensures { λ r. ⌜ r ≡ reachedOf (now (sums .entry)) space beside i ⌝ }
 {
-    sums[2 * (2 * i + space) + 1] + beside
+    crate::sums::bare(sums, space, i) + beside
 }
 
 // The first line from `from` on whose page to line i stays below `limit` with `beside` added to its lines; i where there is none.
@@ -59,7 +59,7 @@ pub fn first_below(
     let far = reached(sums, space, beside, i);
     let mut a = from;
     while a < i {
-        if far < limit + sums[2 * (2 * a + space)] {
+        if far < limit + crate::sums::spaced(sums, space, a) {
             return a;
         }
         a += 1;
@@ -72,7 +72,7 @@ pub fn too_tall(sums: &[u32], load: Load, a: usize, i: usize) -> bool
     requires { ⌜ Reachable (now sums) 0 (load .tight) (load .htmax + 1) a i ⌝ }
     ensures { λ r. ⌜ r ≡ tooTall (now (sums .entry)) load a i ⌝ }
 {
-    load.htmax + sums[2 * (2 * a + TIGHT)] < reached(sums, TIGHT, load.tight, i)
+    load.htmax + crate::sums::spaced(sums, TIGHT, a) < reached(sums, TIGHT, load.tight, i)
 }
 
 // The window of a page that ends with line i, from that of the line before.

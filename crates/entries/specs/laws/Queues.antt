@@ -10,11 +10,9 @@ use Rattle.galley.specs.declared.Galley.{Galley}
 use Rattle.places.specs.declared.Entry.the-variants.{Unreached}
 use Rattle.window.specs.declared.slide.Window.{Window}
 use Rattle.window.specs.declared.parts.Parts.{Parts}
-use Rattle.window.specs.Sums.{rowPut}
 use Rattle.window.specs.Queue.{linesOf}
-use Rattle.window.specs.Parts.{partsOf, Moved}
-use Rattle.window.specs.laws.Sums.{row-length, row-other, row-word}
-use Rattle.window.specs.laws.Parts.{both-none, both-same, both-beside}
+use Rattle.window.specs.Parts.{partsOf, rowPut, Moved}
+use Rattle.window.specs.laws.Parts.{row-length, row-other, row-word, both-none, both-same, both-beside}
 use Rattle.candidates.specs.Read.{sideOf}
 use Rattle.entries.specs.Next.{Holds, Queues}
 

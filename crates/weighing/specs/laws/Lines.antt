@@ -90,7 +90,7 @@ module _ (sums : List ℕ) (first beside limit m : ℕ) where
         start = omega (arith, found .to);
         few = omega (arith, c .few);
         each = λ st rows.
-            let tight : (k : ℕ) → k ≤ i → Pair st (st .least) sums (2 * k + 0) k = λ k l. rows k (omega arith) .tight in
+            let tight : (k : ℕ) → k ≤ i → Pair st (st .least) sums 0 k = λ k l. rows k (omega arith) .tight in
             let passed = end-passes-from sums st (st .least) 0 beside (limit + 1) low i new tight found first (c .each st rows .passed) in
             let opened = end-opens sums st (st .least) 0 beside (limit + 1) low i new tight found in
             let wide = line-width st new i (omega (arith, c .from, found .from)) (found .to) more (λ a h l. passed a i h l (le-refl i)) opened in

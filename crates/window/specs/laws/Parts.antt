@@ -1,22 +1,25 @@
 -- The two parts of a window: where the second starts, and what their queues hold when something else is stored.
-use Prim.Native.Nat.{ℕ, _+_, _≤_, _<_}
+use Prim.Native.Nat.{ℕ, _+_, _*_, _≤_, _<_}
 use native.Mathlib.Nat.{le-refl}
 use native.Mathlib.Omega.{arith}
 use mathlib.Core.Path.{_≡_, refl, subst, _∙_}
 use mathlib.Core.Logic.{_⊎_, inl, inr}
 use mathlib.Core.Bool.{Bool, true, false}
-use mathlib.Core.List.{List}
+use mathlib.Core.List.{List, [], _∷_}
+use lib.ListN.{length, getD}
+use lib.Seq.{length-sets}
 use lib.Dec.{ltb}
 use borrow.Author.Tests.{ltb-true, ltb-false}
 use Rattle.model.specs.Gather.{pick}
 use Rattle.places.specs.declared.Entry.{Entry}
 use Rattle.places.specs.declared.Entry.the-variants.{Unreached}
+use Rattle.places.specs.laws.Stored.{sets-out, sets-in}
 use Rattle.window.specs.declared.slide.Window.{Window}
 use Rattle.window.specs.declared.parts.Parts.{Parts}
 use Rattle.window.specs.declared.queue.Source.{Source}
 use Rattle.window.specs.declared.queue.Queue.{Queue}
 use Rattle.window.specs.Queue.{addedOf, linesIn, Held, Beside, Advanced}
-use Rattle.window.specs.Parts.{later, restFrom, Both, Movable, Moved}
+use Rattle.window.specs.Parts.{rowPut, later, restFrom, Both, Movable, Moved}
 use Rattle.window.specs.laws.Held.{held-none, held-same, beside-line, beside-both, held-beside}
 
 -- The later of two lines is no earlier than either, and no later than what is no earlier than both.
@@ -159,3 +162,18 @@ both-beside {col} {sums} {old} {new} {base} {from} {to} {parts} {window} l m bes
     out′ : (base + 8000 ≤ from) ⊎ (to ≤ base) → (parts .rest .base + window .high ≤ from) ⊎ (to ≤ parts .rest .base)
     out′ (inl p) = inl (omega (arith, h .second))
     out′ (inr p) = inr (omega (arith, h .second))
+
+-- A row that is written has what was written, and every other is as it was.
+module _ (rows : List ℕ) (k first second third fourth : ℕ) where
+  pub row-length : length (rowPut rows k first second third fourth) ≡ length rows
+  unfolding rowPut
+  row-length = length-sets rows (4 * k) (first ∷ second ∷ third ∷ fourth ∷ [])
+
+  pub row-other : (n : ℕ) → (n < 4 * k) ⊎ (4 * k + 4 ≤ n) → getD (rowPut rows k first second third fourth) n 0 ≡ getD rows n 0
+  unfolding rowPut
+  row-other n h = sets-out (first ∷ second ∷ third ∷ fourth ∷ []) rows (4 * k) n h
+
+  pub row-word : (d n : ℕ) → d < 4 → n ≡ 4 * k + d → 4 * k + 4 ≤ length rows
+      → getD (rowPut rows k first second third fourth) n 0 ≡ getD (first ∷ second ∷ third ∷ fourth ∷ []) d 0
+  unfolding rowPut
+  row-word d n l e room = rw e (sets-in (first ∷ second ∷ third ∷ fourth ∷ []) rows (4 * k) d l room)

@@ -20,7 +20,7 @@ module _ (words : List ℕ) (t first second third : ℕ) where
   unfolding pushed
   pushed-length = length-sets words (3 * t) (first ∷ second ∷ third ∷ [])
 
-  pushed-word : (n : ℕ) → (n < 3 * t) ⊎ (3 * t + 3 ≤ n) → getD (pushed words t first second third) n 0 ≡ getD words n 0
+  pub pushed-word : (n : ℕ) → (n < 3 * t) ⊎ (3 * t + 3 ≤ n) → getD (pushed words t first second third) n 0 ≡ getD words n 0
   unfolding pushed
   pushed-word n out = sets-out (first ∷ second ∷ third ∷ []) words (3 * t) n out
 

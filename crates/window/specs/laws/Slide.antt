@@ -47,11 +47,11 @@ ends-next st load window i o =
 pub reaches-readable : {sums : List ℕ} {space beside limit from i : ℕ} → Reachable sums space beside limit from i
     → Readable sums space beside i
 reaches-readable {i = i} r =
-    record { either = r .either; room = r .room; small = r .small i (le-refl i) .1; added = r .added }
+    record { either = r .either; room = omega (arith, r .room); small = r .small i (le-refl i) .1; added = r .added }
 
 -- A page that reaches the limit by line i, as the sums tell, reaches it from there on, since a page that grows at its end only gets higher.
-reaches-on : (sums : List ℕ) (st : Stream) (gap : ℕ → ℕ) (space beside limit a i : ℕ) → Pair st gap sums (2 * a + space) a
-    → Pair st gap sums (2 * i + space) i → a < i → limit + spacedAt sums (2 * a + space) ≤ reachedOf sums space beside i → (e : ℕ) → i ≤ e
+reaches-on : (sums : List ℕ) (st : Stream) (gap : ℕ → ℕ) (space beside limit a i : ℕ) → Pair st gap sums space a
+    → Pair st gap sums space i → a < i → limit + spacedAt sums space a ≤ reachedOf sums space beside i → (e : ℕ) → i ≤ e
     → Reaches st gap beside limit a e
 reaches-on sums st gap space beside limit a i start whole inside high e n =
     let page = reach-stacked st gap a i inside in
@@ -62,12 +62,12 @@ reaches-on sums st gap space beside limit a i start whole inside high e n =
 pub tall-on : {sums : List ℕ} {st : Stream} {m : ℕ} → Sums st m sums → (load : Load) (a i : ℕ) → a < i → i ≤ m
     → tooTall sums load a i ≡ true → (e : ℕ) → i ≤ e → Tall st load a e
 tall-on {sums} {st} rows load a i inside within tall e n =
-    let high = ltb-true (load .htmax + spacedAt sums (2 * a + 0)) (reachedOf sums 0 (load .tight) i) tall in
+    let high = ltb-true (load .htmax + spacedAt sums 0 a) (reachedOf sums 0 (load .tight) i) tall in
     reaches-on sums st (st .least) 0 (load .tight) (load .htmax + 1) a i (rows a (omega arith) .tight) (rows i within .tight) inside (omega arith) e n
 
 -- One end of the window: from what was known of the old one, and the first line from there on whose page stays below the limit.
 module _ (sums : List ℕ) (st : Stream) (gap : ℕ → ℕ) (space beside limit old i new : ℕ)
-    (pairs : (k : ℕ) → k ≤ i → Pair st gap sums (2 * k + space) k) (first : FirstBelow sums space beside limit old i new) where
+    (pairs : (k : ℕ) → k ≤ i → Pair st gap sums space k) (first : FirstBelow sums space beside limit old i new) where
   -- Whatever starts before it reaches the limit by line i and from there on. Starts before a first line may be left out of it.
   pub end-passes-from : (low : ℕ) → ((a e : ℕ) → low ≤ a → a < old → i ≤ e → Reaches st gap beside limit a e) → (a e : ℕ) → low ≤ a → a < new
       → i ≤ e → Reaches st gap beside limit a e
@@ -120,8 +120,8 @@ slide-opens sums st m load old new i low split high rows within ends =
       short = end-opens sums st (st .most) 1 (load .loose) (load .htmin) (old .high) i (new .high) loose high;
     }
   where
-    tight : (k : ℕ) → k ≤ i → Pair st (st .least) sums (2 * k + 0) k
+    tight : (k : ℕ) → k ≤ i → Pair st (st .least) sums 0 k
     tight k l = rows k (omega arith) .tight
 
-    loose : (k : ℕ) → k ≤ i → Pair st (st .most) sums (2 * k + 1) k
+    loose : (k : ℕ) → k ≤ i → Pair st (st .most) sums 1 k
     loose k l = rows k (omega arith) .loose

@@ -1,23 +1,23 @@
 -- Sums from the first line on: the height of a run of lines is what one has beyond another, and none is large.
 use Prim.Native.Nat.{ℕ, zero, suc, pred, _+_, _*_, _≤_, _<_}
-use native.Mathlib.Decide.{decLe}
+use native.Mathlib.Decide.{decLt}
 use native.Mathlib.Omega.{arith}
-use mathlib.Core.Path.{_≡_, refl, sym, ap, subst, _∙_}
-use mathlib.Core.Logic.{_⊎_, inl}
+use mathlib.Core.Path.{_≡_, refl, sym, ap, _∙_}
+use mathlib.Core.Logic.{inl}
 use mathlib.Core.List.{List, [], _∷_}
 use lib.ListN.{length, getD}
-use lib.Seq.{length-sets}
 use Rattle.model.specs.Gather.{sum}
 use Rattle.model.specs.Galley.{Stream}
 use Rattle.model.specs.Height.{stacked}
 use Rattle.model.specs.laws.Gather.{between-sum}
 use Rattle.model.specs.laws.Height.{sum-mono}
-use Rattle.places.specs.laws.Stored.{sets-out, sets-in}
 use Rattle.galley.specs.declared.Stream as galley
 use Rattle.galley.specs.Model.{textOf}
 use Rattle.galley.specs.Sound.{SoundStream}
-use Rattle.window.specs.Sums.{reach, rowPut, SmallPair, Pair, Row, Sums}
+use Rattle.window.specs.Sums.{reach, bareAt, Bare, SmallPair, Pair, Row, Sums}
+use Rattle.window.specs.Queue.{pushed}
 use Rattle.window.specs.Run.{SumsRun}
+use Rattle.window.specs.laws.Pushed.{pushed-length, pushed-word, pushed-own}
 
 -- The lines up to i are those up to a with the space after it, and the rest.
 pub reach-stacked :
@@ -68,49 +68,70 @@ high-next st gap k =
     let spaces = between-sum 0 k gap (omega arith) in
     rw (← e) (omega arith)
 
--- A row that is written has what was written, and every other is as it was.
-module _ (rows : List ℕ) (k first second third fourth : ℕ) where
-  pub row-length : length (rowPut rows k first second third fourth) ≡ length rows
-  unfolding rowPut
-  row-length = length-sets rows (4 * k) (first ∷ second ∷ third ∷ fourth ∷ [])
+-- Row k + 1 written with how far the lines up to k reach and some height. The rows before it are as they were, so that the sums of line k,
+-- which lacked the space after it, are whole.
+module _ (sums : List ℕ) (k tight loose height : ℕ) where
+  row-kept : (n : ℕ) → n < 3 * k + 3 → getD (pushed sums (k + 1) tight loose height) n 0 ≡ getD sums n 0
+  row-kept n l = pushed-word sums (k + 1) tight loose height n (inl (omega arith))
 
-  pub row-other : (n : ℕ) → (n < 4 * k) ⊎ (4 * k + 4 ≤ n) → getD (rowPut rows k first second third fourth) n 0 ≡ getD rows n 0
-  unfolding rowPut
-  row-other n h = sets-out (first ∷ second ∷ third ∷ fourth ∷ []) rows (4 * k) n h
+  row-word : (d : ℕ) → d < 3 → 3 * k + 6 ≤ length sums
+      → getD (pushed sums (k + 1) tight loose height) (3 * k + 3 + d) 0 ≡ getD (tight ∷ loose ∷ height ∷ []) d 0
+  row-word d l room =
+      let at : 3 * k + 3 + d ≡ 3 * (k + 1) + d = omega arith in
+      rw at (pushed-own sums (k + 1) tight loose height d l (omega arith))
 
-  pub row-word : (d n : ℕ) → d < 4 → n ≡ 4 * k + d → 4 * k + 4 ≤ length rows
-      → getD (rowPut rows k first second third fourth) n 0 ≡ getD (first ∷ second ∷ third ∷ fourth ∷ []) d 0
-  unfolding rowPut
-  row-word d n l e room = rw e (sets-in (first ∷ second ∷ third ∷ fourth ∷ []) rows (4 * k) d l room)
+  bare-kept : (space q : ℕ) → space ≤ 1 → q ≤ k → bareAt (pushed sums (k + 1) tight loose height) space q ≡ bareAt sums space q
+  bare-kept space q either l =
+      let first = row-kept (3 * q + space) (omega arith) in
+      let last = row-kept (3 * q + 2) (omega arith) in
+      omega arith
 
--- So it is with the sums of a line.
-module _ (st : Stream) (sums : List ℕ) (k tight high loose wide : ℕ) where
-  pub row-before : (q : ℕ) → q < k → Row st sums q → Row st (rowPut sums k tight high loose wide) q
-  row-before q h r =
+  pair-kept : (st : Stream) (gap : ℕ → ℕ) (space q : ℕ) → space ≤ 1 → q < k → Pair st gap sums space q
+      → Pair st gap (pushed sums (k + 1) tight loose height) space q
+  pair-kept st gap space q either l p =
       record {
-        tight = record {
-          spaced = row-other sums k tight high loose wide (2 * (2 * q + 0)) (inl (omega arith)) ∙ r .tight .spaced;
-          bare = row-other sums k tight high loose wide (2 * (2 * q + 0) + 1) (inl (omega arith)) ∙ r .tight .bare;
-        };
-        loose = record {
-          spaced = row-other sums k tight high loose wide (2 * (2 * q + 1)) (inl (omega arith)) ∙ r .loose .spaced;
-          bare = row-other sums k tight high loose wide (2 * (2 * q + 1) + 1) (inl (omega arith)) ∙ r .loose .bare;
-        };
+        spaced = row-kept (3 * q + 3 + space) (omega arith) ∙ p .spaced;
+        bare = bare-kept space q either (omega arith) ∙ p .bare;
       }
 
-  pub row-own : 4 * k + 4 ≤ length sums → tight ≡ reach st (st .least) k → high ≡ stacked st (st .least) 0 k
-      → loose ≡ reach st (st .most) k → wide ≡ stacked st (st .most) 0 k → Row st (rowPut sums k tight high loose wide) k
-  row-own room t h l w =
+  pair-whole : (st : Stream) (gap : ℕ → ℕ) (space : ℕ) → space ≤ 1 → 3 * k + 6 ≤ length sums
+      → getD (tight ∷ loose ∷ height ∷ []) space 0 ≡ reach st gap k → bareAt sums space k ≡ stacked st gap 0 k
+      → Pair st gap (pushed sums (k + 1) tight loose height) space k
+  pair-whole st gap space either room e bare =
       record {
-        tight = record {
-          spaced = row-word sums k tight high loose wide 0 (2 * (2 * k + 0)) (omega arith) (omega arith) room ∙ t;
-          bare = row-word sums k tight high loose wide 1 (2 * (2 * k + 0) + 1) (omega arith) (omega arith) room ∙ h;
-        };
-        loose = record {
-          spaced = row-word sums k tight high loose wide 2 (2 * (2 * k + 1)) (omega arith) (omega arith) room ∙ l;
-          bare = row-word sums k tight high loose wide 3 (2 * (2 * k + 1) + 1) (omega arith) (omega arith) room ∙ w;
-        };
+        spaced = row-word space (omega arith) room ∙ e;
+        bare = bare-kept space k either (omega arith) ∙ bare;
       }
+
+  -- Where the height is that of line k + 1, so far its sums go without the space after it.
+  bare-next : (st : Stream) (gap : ℕ → ℕ) (space : ℕ) → space ≤ 1 → 3 * k + 6 ≤ length sums
+      → getD (tight ∷ loose ∷ height ∷ []) space 0 ≡ reach st gap k → height ≡ st .ht (k + 1)
+      → bareAt (pushed sums (k + 1) tight loose height) space (k + 1) ≡ stacked st gap 0 (k + 1)
+  bare-next st gap space either room e h =
+      let begin : 3 * (k + 1) + space ≡ 3 * k + 3 + space = omega arith in
+      let own : 3 * (k + 1) + 2 ≡ 3 * k + 3 + 2 = omega arith in
+      let first = row-word space (omega arith) room in
+      let last = row-word 2 (omega arith) room in
+      let high = high-next st gap k in
+      rw (begin, own) (omega arith)
+
+  rows-kept : (st : Stream) → 3 * k + 6 ≤ length sums → tight ≡ reach st (st .least) k → loose ≡ reach st (st .most) k
+      → ((q : ℕ) → q < k → Row st sums q) → Bare st sums k → (q : ℕ) → q ≤ k → Row st (pushed sums (k + 1) tight loose height) q
+  rows-kept st room t l rows bare q m = go (decLt q k)
+    where
+      go : Dec (q < k) → Row st (pushed sums (k + 1) tight loose height) q
+      go (yes p) =
+          record {
+            tight = pair-kept st (st .least) 0 q (omega arith) p (rows q p .tight);
+            loose = pair-kept st (st .most) 1 q (omega arith) p (rows q p .loose);
+          }
+      go (no p) =
+          let last : q ≡ k = omega arith in
+          rw last
+          (record {
+            tight = pair-whole st (st .least) 0 (omega arith) room t (bare .tight);
+            loose = pair-whole st (st .most) 1 (omega arith) room l (bare .loose);
+          })
 
 -- Heights and spaces within the limit make small sums.
 reach-low : (st : Stream) (gap : ℕ → ℕ) (n : ℕ) → ((k : ℕ) → 1 ≤ k → k ≤ n → st .ht k ≤ 100000)
@@ -133,9 +154,9 @@ high-low st gap i =
     omega arith
 
 -- A pair of small sums is small.
-pair-small : (st : Stream) (gap : ℕ → ℕ) (sums : List ℕ) (e k : ℕ) → reach st gap k ≤ 800000000 → Pair st gap sums e k
-    → SmallPair sums e
-pair-small st gap sums e k low p =
+pair-small : (st : Stream) (gap : ℕ → ℕ) (sums : List ℕ) (space k : ℕ) → reach st gap k ≤ 800000000 → Pair st gap sums space k
+    → SmallPair sums space k
+pair-small st gap sums space k low p =
     let spaced = p .spaced in
     let bare = p .bare in
     let less = high-low st gap k in
@@ -156,39 +177,40 @@ module _ (bytes : List ℕ) (text : galley.Stream) (sound : SoundStream bytes te
   loose-low = text-low (textOf bytes text .most) (λ k p q. sound .ranged k p q .mosts)
 
   pub sums-small : (sums : List ℕ) → Sums (textOf bytes text) (text .count) sums → (space : ℕ) → space ≤ 1 → (k : ℕ)
-      → k ≤ text .count → SmallPair sums (2 * k + space)
+      → k ≤ text .count → SmallPair sums space k
   sums-small sums rows zero either k m =
-      pair-small (textOf bytes text) (textOf bytes text .least) sums (2 * k + 0) k (tight-low k m) (rows k m .tight)
+      pair-small (textOf bytes text) (textOf bytes text .least) sums 0 k (tight-low k m) (rows k m .tight)
   sums-small sums rows (suc zero) either k m =
-      pair-small (textOf bytes text) (textOf bytes text .most) sums (2 * k + 1) k (loose-low k m) (rows k m .loose)
+      pair-small (textOf bytes text) (textOf bytes text .most) sums 1 k (loose-low k m) (rows k m .loose)
   sums-small sums rows (suc (suc space)) either k m = absurd (omega arith)
 
 -- The row of zeros is that of the place before the first line.
-pub sums-first : (bytes : List ℕ) (text : galley.Stream) (sums new : List ℕ) → 4 * text .count + 4 ≤ length sums
-    → new ≡ rowPut sums 0 0 0 0 0 → SumsRun bytes text new new 0 0 0
+pub sums-first : (bytes : List ℕ) (text : galley.Stream) (sums new : List ℕ) → 3 * text .count + 6 ≤ length sums
+    → new ≡ pushed sums 0 0 0 0 → SumsRun bytes text new new 0 0 0
 sums-first bytes text sums new room e =
-    let st = textOf bytes text in
-    let tight = reach-none st (st .least) in
-    let loose = reach-none st (st .most) in
     record {
       within = omega arith;
       sized = refl;
-      tights = sym tight;
-      looses = sym loose;
-      rows = λ q l.
-          let z : 0 ≡ q = omega arith in
-          subst (Row st new) z (rw e
-          (row-own st sums 0 0 0 0 0 (omega arith) (sym tight) (sym (high-none st (st .least))) (sym loose)
-          (sym (high-none st (st .most)))));
+      tights = sym (reach-none st (st .least));
+      looses = sym (reach-none st (st .most));
+      rows = λ q l. absurd (omega arith);
+      bare = record {
+        tight = none 0 (omega arith) refl ∙ sym (high-none st (st .least));
+        loose = none 1 (omega arith) refl ∙ sym (high-none st (st .most));
+      };
     }
+  where
+    st : Stream
+    st = textOf bytes text
 
--- One line more at one of the spaces: its two sums from that of the line before.
-pair-next : (st : Stream) (gap : ℕ → ℕ) (k sum height space : ℕ) → sum ≡ reach st gap k → height ≡ st .ht (k + 1)
-    → space ≡ gap (k + 1) → (sum + height + space ≡ reach st gap (k + 1)) × (sum + height ≡ stacked st gap 0 (k + 1))
-pair-next st gap k sum height space s h g =
-    let spaced = reach-next st gap k in
-    let bare = high-next st gap k in
-    omega arith
+    zeros : List ℕ
+    zeros = 0 ∷ 0 ∷ 0 ∷ []
+
+    none : (space : ℕ) → space ≤ 1 → getD zeros space 0 ≡ 0 → bareAt new space 0 ≡ 0
+    none space either z =
+        let first = pushed-own sums 0 0 0 0 space (omega arith) (omega arith) in
+        let last = pushed-own sums 0 0 0 0 2 (omega arith) (omega arith) in
+        rw e (omega arith)
 
 -- One line more: its row is written, and its sums are in hand.
 module _ (bytes : List ℕ) (text : galley.Stream) (sums₀ sums : List ℕ) (tight loose k height least most : ℕ)
@@ -202,30 +224,31 @@ module _ (bytes : List ℕ) (text : galley.Stream) (sums₀ sums : List ℕ) (ti
       let looses = loose-low bytes text sound few k (omega arith) in
       omega (arith, run .tights, run .looses, ranged)
 
-  pub sums-next : (new : List ℕ) → 4 * text .count + 4 ≤ length sums
-      → new ≡ rowPut sums (k + 1) (tight + height + least) (tight + height) (loose + height + most) (loose + height)
-      → SumsRun bytes text sums₀ new (tight + height + least) (loose + height + most) (k + 1)
+  pub sums-next : (new : List ℕ) → 3 * text .count + 6 ≤ length sums → new ≡ pushed sums (k + 1) tight loose height
+      → SumsRun bytes text sums₀ new (tight + (height + least)) (loose + (height + most)) (k + 1)
   sums-next new room e =
       record {
         within = omega arith;
-        sized = ap length e ∙ row-length sums (k + 1) _ _ _ _ ∙ run .sized;
-        tights = tights .0;
-        looses = looses .0;
-        rows = λ q l. rw e (go q (decLe q k) l);
+        sized = ap length e ∙ pushed-length sums (k + 1) tight loose height ∙ run .sized;
+        tights = let next = reach-next st (st .least) k in omega (arith, run .tights);
+        looses = let next = reach-next st (st .most) k in omega (arith, run .looses);
+        rows = λ q l.
+            rw e (rows-kept sums k tight loose height st (omega arith) (run .tights) (run .looses) (run .rows) (run .bare) q (omega arith));
+        bare = record {
+          tight = rw e (bare-next sums k tight loose height st (st .least) 0 (omega arith) (omega arith) (run .tights) a);
+          loose = rw e (bare-next sums k tight loose height st (st .most) 1 (omega arith) (omega arith) (run .looses) a);
+        };
       }
     where
       st : Stream
       st = textOf bytes text
 
-      tights : (tight + height + least ≡ reach st (st .least) (k + 1)) × (tight + height ≡ stacked st (st .least) 0 (k + 1))
-      tights = pair-next st (st .least) k tight height least (run .tights) a b
-
-      looses : (loose + height + most ≡ reach st (st .most) (k + 1)) × (loose + height ≡ stacked st (st .most) 0 (k + 1))
-      looses = pair-next st (st .most) k loose height most (run .looses) a c
-
-      go : (q : ℕ) → Dec (q ≤ k) → q ≤ k + 1
-          → Row st (rowPut sums (k + 1) (tight + height + least) (tight + height) (loose + height + most) (loose + height)) q
-      go q (yes p) l = row-before st sums (k + 1) _ _ _ _ q (omega arith) (run .rows q p)
-      go q (no p) l =
-          let last : q ≡ k + 1 = omega arith in
-          rw last (row-own st sums (k + 1) _ _ _ _ (omega arith) (tights .0) (tights .1) (looses .0) (looses .1))
+-- After the last line: how far it reaches is written too, and the sums are whole.
+pub sums-last : (bytes : List ℕ) (text : galley.Stream) (sums₀ sums new : List ℕ) (tight loose k : ℕ)
+    → SumsRun bytes text sums₀ sums tight loose k → text .count ≤ k → 3 * text .count + 6 ≤ length sums
+    → new ≡ pushed sums (text .count + 1) tight loose 0 → Sums (textOf bytes text) (text .count) new
+sums-last bytes text sums₀ sums new tight loose k run over room e q l =
+    let last : text .count ≡ k = omega (arith, run .within) in
+    let written : new ≡ pushed sums (k + 1) tight loose 0 = e ∙ ap (λ m. pushed sums (m + 1) tight loose 0) last in
+    rw written
+    (rows-kept sums k tight loose 0 (textOf bytes text) (omega arith) (run .tights) (run .looses) (run .rows) (run .bare) q (omega arith))

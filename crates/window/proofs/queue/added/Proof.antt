@@ -6,7 +6,7 @@ use Rattle.window.proofs.queue.added.Tie as tie
 
 returns : tie.Need-returns
 unfolding addedOf
-returns c = rw (c .before .if1 .taken)
+returns c = rw (c .before .if1 .taken) (c .spaced .ensures)
 
 returns-2 : tie.Need-returns-2
 unfolding addedOf
@@ -16,4 +16,4 @@ pub added-spec : {M : Type 1} → statement M
 added-spec =
     tie.close
     (tie.spec
-    (λ c. search needs) (λ c. search needs) (λ c. search needs) (λ c. search needs) (λ c. search needs) returns returns-2)
+    (λ c κs. search needs) returns returns-2)

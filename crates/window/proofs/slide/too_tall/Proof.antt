@@ -5,19 +5,24 @@ use borrow.Author.Needs.{needs}
 use Rattle.window.proofs.slide.too_tall.Statement.{statement}
 use Rattle.window.proofs.slide.too_tall.Tie as tie
 
-add-result-2 : tie.Need-add-result-2
-add-result-2 c =
+spaced-requires : tie.Need-spaced-requires
+spaced-requires c κs =
+    let pre = c .before .pre in
+    (pre .either, omega (arith, pre .start, pre .room))
+
+add-result : tie.Need-add-result
+add-result c =
     let start = c .before .before .before in
-    omega (arith, start .pre .small (start .args .a) (start .pre .start) .0, start .pre .limited)
+    omega (arith, start .pre .small (start .args .a) (start .pre .start) .0, start .pre .limited, c .before .spaced .ensures)
 
 reached-requires : tie.Need-reached-requires
 reached-requires c κs = reaches-readable (c .before .before .before .pre)
 
 returns : tie.Need-returns
-returns c = rw (c .reached .ensures)
+returns c = rw (c .before .before .spaced .ensures, c .reached .ensures)
 
 pub too-tall-spec : {M : Type 1} → statement M
 too-tall-spec =
     tie.close
     (tie.spec
-    (λ c. search needs) (λ c. search needs) (λ c. search needs) (λ c. search needs) (λ c. search needs) add-result-2 reached-requires returns)
+    spaced-requires add-result reached-requires returns)

@@ -3,10 +3,10 @@ use Prim.Native.Nat.{suc, _+_, _*_}
 use native.Mathlib.Omega.{arith}
 use mathlib.Core.Path.{_≡_, refl}
 use lib.ListN.{length-set}
-use Rattle.window.specs.Sums.{rowPut}
+use Rattle.window.specs.Parts.{rowPut}
 use borrow.Author.Needs.{needs}
-use Rattle.window.proofs.sums.put_row.Statement.{statement}
-use Rattle.window.proofs.sums.put_row.Tie as tie
+use Rattle.window.proofs.parts.put_row.Statement.{statement}
+use Rattle.window.proofs.parts.put_row.Tie as tie
 
 slice-write-rows-2 : tie.Need-slice-write-rows-2
 slice-write-rows-2 c = simp length-set (omega arith)
