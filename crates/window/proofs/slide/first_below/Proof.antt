@@ -1,6 +1,6 @@
 -- `first_below` meets its contract. The loop's invariant: the pages from the lines passed all reach the limit, to which each turn
 -- adds one.
-use Prim.Native.Nat.{suc, _+_, _-_, _*_, _≤_}
+use Prim.Native.Nat.{suc, _+_, _-_, _≤_}
 use native.Mathlib.Omega.{arith}
 use Rattle.window.specs.First.{First}
 use Rattle.window.specs.Sums.{spacedAt}

@@ -1,7 +1,6 @@
 -- `too_tall` meets its contract: the sums that it compares are small.
 use native.Mathlib.Omega.{arith}
 use Rattle.window.specs.laws.Slide.{reaches-readable}
-use borrow.Author.Needs.{needs}
 use Rattle.window.proofs.slide.too_tall.Statement.{statement}
 use Rattle.window.proofs.slide.too_tall.Tie as tie
 

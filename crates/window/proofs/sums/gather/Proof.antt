@@ -2,7 +2,7 @@
 -- writes the next row, and so does the end, where that is one of no line.
 use Prim.Native.Nat.{_+_, _-_, _*_, _≤_}
 use native.Mathlib.Omega.{arith}
-use mathlib.Core.Path.{_≡_, ap, _∙_}
+use mathlib.Core.Path.{ap, _∙_}
 use lib.ListN.{length}
 use Rattle.window.specs.Run.{SumsRun}
 use Rattle.window.specs.laws.Pushed.{pushed-length}
