@@ -3,10 +3,10 @@ use Prim.Native.Nat.{ℕ}
 use mathlib.Core.List.{List}
 use Rattle.places.specs.declared.Entry.{Entry}
 use Rattle.window.specs.declared.slide.Load.{Load}
-use Rattle.window.specs.declared.parts.Parts.{Parts}
+use Rattle.queues.specs.declared.parts.Parts.{Parts}
 use Rattle.window.specs.Slide.{reachedOf, Readable}
-use Rattle.window.specs.Queue.{frontOf, QueueStands}
-use Rattle.window.specs.Parts.{whitenedOf, Whitenable}
+use Rattle.queues.specs.Queue.{frontOf, QueueStands}
+use Rattle.queues.specs.Parts.{whitenedOf, Whitenable}
 use Rattle.candidates.specs.Better.{chosen, Later}
 
 -- The better of the two fronts for a page to line i: that of the full pages, and that of the others with their white.

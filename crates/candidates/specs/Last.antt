@@ -10,7 +10,7 @@ use Rattle.window.specs.declared.slide.Load.{Load}
 use Rattle.window.specs.declared.slide.Window.{Window}
 use Rattle.window.specs.Sums.{Sums}
 use Rattle.window.specs.Slide.{shutAt, Slidable, Open}
-use Rattle.window.specs.Queue.{linesOf, Lines, Payable}
+use Rattle.queues.specs.Queue.{linesOf, Lines, Payable}
 
 -- The lines of a column stand in the work area with small costs, and their window can be found from the first one that is reached on.
 pub record LinesStand (g : Galley) (w sums : List ℕ) (load : Load) (column side : ℕ) : Type 0 where

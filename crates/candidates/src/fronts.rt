@@ -2,7 +2,7 @@
 ghost use mathlib.Core.Path.{_≡_};
 ghost use Rattle.candidates.specs.Fronts.{bestFront, Fronted};
 use places::Entry;
-use window::parts::Parts;
+use queues::parts::Parts;
 use window::slide::Load;
 use window::sums::LOOSE;
 
@@ -19,8 +19,8 @@ pub fn best_front(
     requires { ⌜ Fronted (now sums) (now words) parts column load i ⌝ }
     ensures { λ r. ⌜ r ≡ bestFront (now (sums .entry)) (now (words .entry)) parts column load i ⌝ }
 {
-    let full = window::queue::front(words, parts.full, column);
-    let rest = window::queue::front(words, parts.rest, column);
+    let full = queues::queue::front(words, parts.full, column);
+    let rest = queues::queue::front(words, parts.rest, column);
     let reached = window::slide::reached(sums, LOOSE, load.loose, i);
-    crate::choice::choose_later(full, window::parts::whitened(rest, load.htmax, reached))
+    crate::choice::choose_later(full, queues::parts::whitened(rest, load.htmax, reached))
 }

@@ -3,7 +3,7 @@
 ghost use Prim.Native.Nat.{ℕ, _<_};
 ghost use Rattle.places.specs.Address.{Stands};
 ghost use Rattle.places.specs.Best.{Best};
-ghost use Rattle.window.specs.Queue.{linesOf, Lines, Payable};
+ghost use Rattle.queues.specs.Queue.{linesOf, Lines, Payable};
 ghost use Rattle.candidates.specs.Last.{LinesStand, LastBest};
 use galley::Galley;
 use places::Entry;

@@ -11,11 +11,12 @@ use Rattle.places.specs.declared.Entry.the-variants.{Unreached}
 use Rattle.places.specs.Best.{Best}
 use Rattle.window.specs.declared.slide.Load.{Load}
 use Rattle.window.specs.declared.slide.Window.{Window}
-use Rattle.window.specs.declared.queue.Source.{Source}
-use Rattle.window.specs.declared.parts.Parts.{Parts}
+use Rattle.queues.specs.declared.queue.Source.{Source}
+use Rattle.queues.specs.declared.parts.Parts.{Parts}
 use Rattle.window.specs.Slide.{Open}
-use Rattle.window.specs.Queue.{linesOf, Payable}
-use Rattle.window.specs.Parts.{partsOf, Both, Rises, Moved}
+use Rattle.queues.specs.Queue.{linesOf, Payable}
+use Rattle.window.specs.Slide.{Rises}
+use Rattle.queues.specs.Parts.{partsOf, Both, Moved}
 use Rattle.candidates.specs.Fronts.{bestFront, Fronted}
 use Rattle.candidates.specs.Choice.{Starts, Above, Between}
 use Rattle.rules.specs.Parts.{allPlaced}

@@ -12,8 +12,8 @@ use galley::Galley;
 use places::Entry;
 use places::Origin;
 use pricing::Stop;
-use window::parts::Parts;
-use window::queue::Source;
+use queues::parts::Parts;
+use queues::queue::Source;
 use window::slide::Window;
 
 // What is to be filled: the table of a galley, from an origin on.
@@ -124,7 +124,7 @@ fn fill_side(
     };
     let from = windows.from;
     let to = windows.to;
-    let moved = window::parts::move_on(work, sums, words, source, parts, from, to);
+    let moved = queues::parts::move_on(work, sums, words, source, parts, from, to);
     let entry = new_entry(s, task, work, sums, words, moved, end);
     let place = places::place_of(end.at.lines, end.column);
     places::store(work, tall, place, end.side, entry);
@@ -158,11 +158,11 @@ pub fn fill_place(
             waiting: end.waiting,
             stop,
         };
-        let parts = window::parts::parts_of(ends, c);
+        let parts = queues::parts::parts_of(ends, c);
         let moved = fill_side(s, task, work, sums, words, parts, windows, here);
         let full = moved.full;
         let rest = moved.rest;
-        window::parts::put_row(
+        queues::parts::put_row(
             ends,
             c,
             full.head as u32,

@@ -35,7 +35,7 @@ fn remember(seen: &mut [u32], recall: Recall, j: usize, reach: Reach) -> Recall
     let dropped = candidates::ring::name_of(seen[at]);
     seen[at] = candidates::ring::hint_of(j, reach.first, reach.last);
     Recall {
-        since: window::parts::later(recall.since, dropped),
+        since: queues::parts::later(recall.since, dropped),
         head: turned(at, seen.len()),
     }
 }

@@ -11,8 +11,9 @@ use Rattle.places.specs.declared.Entry.the-variants.{Unreached, Least}
 use Rattle.places.specs.Entry.{less}
 use Rattle.places.specs.Address.{Stands}
 use Rattle.places.specs.Table.{tableOf}
-use Rattle.window.specs.declared.queue.Source.{Source}
-use Rattle.window.specs.Queue.{costAt, linesIn, Beside}
+use Rattle.queues.specs.declared.queue.Source.{Source}
+use Rattle.window.specs.Rows.{Beside}
+use Rattle.queues.specs.Queue.{costAt, linesIn}
 
 -- The lesser of a cost and that of an entry.
 unfoldable pub lesserOf : ℕ → Entry → ℕ

@@ -18,7 +18,7 @@ use Rattle.places.specs.Best.{Affordable, Best}
 use Rattle.window.specs.declared.slide.Load.{Load}
 use Rattle.window.specs.Sums.{Sums}
 use Rattle.window.specs.Slide.{Reachable, Tall}
-use Rattle.window.specs.Queue.{linesOf, Payable}
+use Rattle.queues.specs.Queue.{linesOf, Payable}
 use Rattle.passes.specs.declared.pass.Pass.{Pass}
 use Rattle.candidates.specs.Better.{chosen, startAt, taken}
 use Rattle.candidates.specs.Choice.{Starts, Between}

@@ -10,10 +10,11 @@ use Rattle.galley.specs.declared.Galley.{Galley}
 use Rattle.galley.specs.Model.{textOf, modelOf}
 use Rattle.rules.specs.Sums.{whiteAt}
 use Rattle.window.specs.declared.slide.Window.{Window}
-use Rattle.window.specs.declared.parts.Parts.{Parts}
+use Rattle.queues.specs.declared.parts.Parts.{Parts}
 use Rattle.window.specs.Slide.{Ends}
-use Rattle.window.specs.Queue.{linesOf}
-use Rattle.window.specs.Parts.{Both, Rises}
+use Rattle.queues.specs.Queue.{linesOf}
+use Rattle.window.specs.Slide.{Rises}
+use Rattle.queues.specs.Parts.{Both}
 use Rattle.window.specs.Windows.{Kept}
 use Rattle.passes.specs.declared.pass.Pass.{Pass}
 use Rattle.candidates.specs.Read.{sideOf}

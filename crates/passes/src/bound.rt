@@ -5,7 +5,7 @@ ghost use mathlib.Core.Bool.{true};
 ghost use Rattle.passes.specs.Bound.{lesserOf, growsOf, Standing, Boundable, BoundFound, Comparable, Beaten};
 use places::Entry;
 use places::Place;
-use window::queue::Source;
+use queues::queue::Source;
 
 // The lesser of a cost and that of an entry.
 fn lesser(least: u64, entry: Entry) -> u64
@@ -48,7 +48,7 @@ fn bound_lines(work: &[u32], words: &mut [u32], source: Source, since: usize, li
         let place = places::place_of(a, source.column);
         let entry = places::entry_of(work, source.tall, place, source.side);
         least = lesser(least, entry);
-        window::queue::push(
+        window::rows::push(
             words,
             a + 12000,
             place.line,

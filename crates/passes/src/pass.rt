@@ -12,7 +12,7 @@ ghost use Rattle.passes.specs.Swept.{Sweep, SweepDone, SideSweep, SideDo
 use blocks::heights::Heights;
 use galley::Galley;
 use places::Entry;
-use window::queue::Source;
+use queues::queue::Source;
 
 // One sweep: starts in column `from`, for pages that end in column `to` and are no lower than `least`. A page of the floats between
 // alone has these heights, the separation of figures and tables with them, and this white; beside lines they have one separation more.
@@ -114,7 +114,7 @@ fn sweep_side(
         pass.last,
         several,
     );
-    let mut parts = window::parts::no_parts();
+    let mut parts = queues::parts::no_parts();
     let mut starts = window::slide::shut(load);
     let mut fed = window::slide::shut(load);
     let mut i = pass.first;
@@ -136,7 +136,7 @@ fn sweep_side(
             continue;
         }
         let last = fed;
-        parts = window::parts::move_on(work, sums, words, source, parts, last, starts);
+        parts = queues::parts::move_on(work, sums, words, source, parts, last, starts);
         fed = starts;
         let lines = candidates::fronts::best_front(sums, words, parts, pass.from, load, i);
         improve(g, work, lines, i, c, pass);

@@ -77,6 +77,12 @@ pub record Since (load : Load) (window : Window) : Type 0 where
   pub split : load .first ≤ window .split
   pub high : load .first ≤ window .high
 
+-- No end of the window falls.
+pub record Rises (from to : Window) : Type 0 where
+  pub low : from .low ≤ to .low
+  pub split : from .split ≤ to .split
+  pub high : from .high ≤ to .high
+
 -- Of the lines from the first on that a page may start from, whatever starts before `low` is too tall by line i and stays so, whatever
 -- starts before `split` is full, and whatever starts before `high` is full enough.
 pub record Ends (st : Stream) (load : Load) (window : Window) (i : ℕ) : Type 0 where

@@ -1,11 +1,6 @@
--- The laws of the window and its queue.
+-- The laws of the window.
 pub mod First
-pub mod Run
-pub mod Held
-pub mod Pushed
+pub mod Rows
 pub mod Sums
 pub mod Slide
 pub mod Windows
-pub mod Front
-pub mod Parts
-pub mod White

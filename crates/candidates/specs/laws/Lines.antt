@@ -8,7 +8,7 @@ use Rattle.places.specs.declared.Entry.{Entry}
 use Rattle.places.specs.declared.Entry.the-variants.{Unreached, Least}
 use Rattle.places.specs.Best.{Paid, Leads, Best}
 use Rattle.places.specs.laws.Best.{no-reach, best-none, best-least, best-as}
-use Rattle.window.specs.Queue.{Lines}
+use Rattle.queues.specs.Queue.{Lines}
 use Rattle.candidates.specs.Better.{chosen, startAt}
 use Rattle.candidates.specs.laws.Choice.{best-chosen}
 

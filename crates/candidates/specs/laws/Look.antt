@@ -10,8 +10,8 @@ use Rattle.places.specs.declared.Place.{Place}
 use Rattle.places.specs.declared.Entry.the-variants.{Unreached}
 use Rattle.places.specs.Table.{tableOf}
 use Rattle.places.specs.Address.{Small, Stands}
-use Rattle.window.specs.Parts.{later}
-use Rattle.window.specs.laws.Parts.{later-left, later-least}
+use Rattle.queues.specs.Parts.{later}
+use Rattle.queues.specs.laws.Parts.{later-left, later-least}
 use Rattle.candidates.specs.Cells.{ColumnRoom}
 use Rattle.candidates.specs.Read.{tableIn}
 use Rattle.candidates.specs.laws.Columns.{columns-few}

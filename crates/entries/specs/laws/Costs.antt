@@ -12,7 +12,7 @@ use Rattle.places.specs.declared.Origin.{Origin}
 use Rattle.places.specs.Address.{wordsNeeded}
 use Rattle.places.specs.Best.{Affordable}
 use Rattle.places.specs.Order.{Earlier}
-use Rattle.window.specs.Queue.{linesOf, Payable}
+use Rattle.queues.specs.Queue.{linesOf, Payable}
 use Rattle.candidates.specs.Read.{tableIn, sideOf, columnsIn}
 use Rattle.passes.specs.Sweep.{Lent}
 use Rattle.candidates.specs.laws.Columns.{placed-at, within-at}

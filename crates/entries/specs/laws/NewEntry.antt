@@ -24,7 +24,7 @@ use Rattle.places.specs.declared.Entry.{Entry}
 use Rattle.places.specs.declared.Entry.the-variants.{Unreached, Least}
 use Rattle.places.specs.Columns.{placeAt}
 use Rattle.places.specs.Best.{Best}
-use Rattle.window.specs.declared.parts.Parts.{Parts}
+use Rattle.queues.specs.declared.parts.Parts.{Parts}
 use Rattle.window.specs.Slide.{shutAt}
 use Rattle.candidates.specs.Better.{chosen}
 use Rattle.candidates.specs.Search.{Table, before, bestStart, mostFrom, priced, mayStop, begins, newEntry}

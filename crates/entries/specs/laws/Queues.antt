@@ -9,10 +9,10 @@ use lib.ListN.{length, getD}
 use Rattle.galley.specs.declared.Galley.{Galley}
 use Rattle.places.specs.declared.Entry.the-variants.{Unreached}
 use Rattle.window.specs.declared.slide.Window.{Window}
-use Rattle.window.specs.declared.parts.Parts.{Parts}
-use Rattle.window.specs.Queue.{linesOf}
-use Rattle.window.specs.Parts.{partsOf, rowPut, Moved}
-use Rattle.window.specs.laws.Parts.{row-length, row-other, row-word, both-none, both-same, both-beside}
+use Rattle.queues.specs.declared.parts.Parts.{Parts}
+use Rattle.queues.specs.Queue.{linesOf}
+use Rattle.queues.specs.Parts.{partsOf, rowPut, Moved}
+use Rattle.queues.specs.laws.Parts.{row-length, row-other, row-word, both-none, both-same, both-beside}
 use Rattle.candidates.specs.Read.{sideOf}
 use Rattle.entries.specs.Next.{Holds, Queues}
 

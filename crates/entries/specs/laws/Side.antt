@@ -14,10 +14,10 @@ use Rattle.places.specs.Address.{wordsNeeded}
 use Rattle.places.specs.Columns.{columns, floatSizes}
 use Rattle.places.specs.laws.Address.{area-needed}
 use Rattle.rules.specs.Parts.{allPlaced}
-use Rattle.window.specs.declared.parts.Parts.{Parts}
+use Rattle.queues.specs.declared.parts.Parts.{Parts}
 use Rattle.window.specs.Slide.{whiteOf}
-use Rattle.window.specs.Queue.{linesOf, Payable}
-use Rattle.window.specs.Parts.{Both, Movable, Moved}
+use Rattle.queues.specs.Queue.{linesOf, Payable}
+use Rattle.queues.specs.Parts.{Both, Movable, Moved}
 use Rattle.candidates.specs.Beside.{Bears}
 use Rattle.candidates.specs.Fronts.{bestFront}
 use Rattle.candidates.specs.Read.{sideOf, searchOf, columnsIn}

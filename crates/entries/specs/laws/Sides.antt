@@ -7,9 +7,9 @@ use mathlib.Core.Bool.{Bool}
 use mathlib.Core.List.{List}
 use lib.ListN.{length}
 use Rattle.galley.specs.Model.{modelOf}
-use Rattle.window.specs.declared.parts.Parts.{Parts}
-use Rattle.window.specs.Parts.{partsOf, Moved}
-use Rattle.window.specs.laws.Parts.{row-length}
+use Rattle.queues.specs.declared.parts.Parts.{Parts}
+use Rattle.queues.specs.Parts.{partsOf, Moved}
+use Rattle.queues.specs.laws.Parts.{row-length}
 use Rattle.candidates.specs.Search.{newEntry}
 use Rattle.candidates.specs.Read.{tableIn, sideOf}
 use Rattle.passes.specs.Sweep.{Lent}

@@ -11,11 +11,11 @@ use Rattle.model.specs.Galley.{Stream}
 use Rattle.galley.specs.declared.Galley.{Galley}
 use Rattle.galley.specs.Model.{textOf}
 use Rattle.window.specs.Slide.{shutAt, Reachable, Open}
-use Rattle.window.specs.Queue.{linesOf}
-use Rattle.window.specs.Parts.{noParts}
+use Rattle.queues.specs.Queue.{linesOf}
+use Rattle.queues.specs.Parts.{noParts}
 use Rattle.window.specs.Windows.{windowAt}
 use Rattle.window.specs.laws.Slide.{ends-first}
-use Rattle.window.specs.laws.Parts.{both-none}
+use Rattle.queues.specs.laws.Parts.{both-none}
 use Rattle.window.specs.laws.Windows.{kept-beside}
 use Rattle.passes.specs.declared.pass.Pass.{Pass}
 use Rattle.candidates.specs.Read.{sideOf, columnsIn}

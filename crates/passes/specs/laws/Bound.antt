@@ -15,10 +15,12 @@ use Rattle.places.specs.declared.Entry.{Entry}
 use Rattle.places.specs.declared.Entry.the-variants.{Unreached, Least}
 use Rattle.places.specs.Entry.{less}
 use Rattle.places.specs.Best.{Leads, Best}
-use Rattle.window.specs.declared.queue.Source.{Source}
-use Rattle.window.specs.Queue.{queued, linesIn, Beside}
-use Rattle.window.specs.laws.Held.{beside-none}
-use Rattle.window.specs.laws.Pushed.{pushed-length, pushed-beside, other-cost, pushed-own-cost}
+use Rattle.queues.specs.declared.queue.Source.{Source}
+use Rattle.window.specs.Rows.{Beside}
+use Rattle.queues.specs.Queue.{queued, linesIn}
+use Rattle.window.specs.laws.Rows.{beside-none}
+use Rattle.window.specs.laws.Rows.{pushed-length, pushed-beside}
+use Rattle.queues.specs.laws.Pushed.{other-cost, pushed-own-cost}
 use Rattle.candidates.specs.Search.{Search}
 use Rattle.candidates.specs.Choice.{Candidate, Starts, Between}
 use Rattle.passes.specs.Bound.{lesserOf, boundAt, Bounded, BoundFound, BoundRun}

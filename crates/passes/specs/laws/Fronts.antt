@@ -12,14 +12,14 @@ use Rattle.places.specs.declared.Entry.{Entry}
 use Rattle.places.specs.Best.{Best}
 use Rattle.window.specs.declared.slide.Load.{Load}
 use Rattle.window.specs.declared.slide.Window.{Window}
-use Rattle.window.specs.declared.parts.Parts.{Parts}
+use Rattle.queues.specs.declared.parts.Parts.{Parts}
 use Rattle.window.specs.Slide.{reachedOf, whiteOf, Slidable, Open}
-use Rattle.window.specs.Queue.{addedOf, frontOf, Lines, Payable}
-use Rattle.window.specs.Parts.{restFrom, whitenedOf, Both, Fresh}
+use Rattle.queues.specs.Queue.{addedOf, frontOf, Lines, Payable}
+use Rattle.queues.specs.Parts.{restFrom, whitenedOf, Both, Fresh}
 use Rattle.window.specs.laws.Sums.{sums-small}
 use Rattle.window.specs.laws.Slide.{reaches-readable}
-use Rattle.window.specs.laws.Parts.{later-left, later-right, later-least}
-use Rattle.window.specs.laws.White.{split-within, full-best, rest-best, rest-whitenable}
+use Rattle.queues.specs.laws.Parts.{later-left, later-right, later-least}
+use Rattle.queues.specs.laws.White.{split-within, full-best, rest-best, rest-whitenable}
 use Rattle.candidates.specs.Fronts.{bestFront, Fronted}
 use Rattle.candidates.specs.Read.{columnsIn}
 use Rattle.passes.specs.Sweep.{Lent, Scratch, Summed}

@@ -10,10 +10,11 @@ use Rattle.blocks.specs.Heights.{Separable}
 use Rattle.blocks.specs.laws.Heights.{Low}
 use Rattle.places.specs.Address.{Stands}
 use Rattle.window.specs.declared.slide.Window.{Window}
-use Rattle.window.specs.declared.parts.Parts.{Parts}
+use Rattle.queues.specs.declared.parts.Parts.{Parts}
 use Rattle.window.specs.Slide.{Reachable, Slidable}
-use Rattle.window.specs.Queue.{linesOf, Payable}
-use Rattle.window.specs.Parts.{Both, Rises, Movable}
+use Rattle.queues.specs.Queue.{linesOf, Payable}
+use Rattle.window.specs.Slide.{Rises}
+use Rattle.queues.specs.Parts.{Both, Movable}
 use Rattle.window.specs.laws.Sums.{sums-small}
 use Rattle.candidates.specs.Read.{sideOf, columnsIn, loadOf, Placed}
 use Rattle.passes.specs.Sweep.{Lent, Scratch, Summed}

@@ -21,7 +21,7 @@ use Rattle.places.specs.Columns.{placeAt}
 use Rattle.places.specs.Best.{Best}
 use Rattle.window.specs.declared.slide.Window.{Window}
 use Rattle.window.specs.Slide.{whiteOf, Tall, Open}
-use Rattle.window.specs.Queue.{linesOf, Lines}
+use Rattle.queues.specs.Queue.{linesOf, Lines}
 use Rattle.passes.specs.declared.pass.Pass.{Pass}
 use Rattle.candidates.specs.Better.{chosen, taken}
 use Rattle.candidates.specs.Search.{Search}

@@ -17,14 +17,15 @@ use Rattle.places.specs.declared.Entry.{Entry}
 use Rattle.places.specs.declared.Entry.the-variants.{Least}
 use Rattle.places.specs.laws.Best.{no-reach}
 use Rattle.window.specs.declared.slide.Window.{Window}
-use Rattle.window.specs.declared.queue.Source.{Source}
-use Rattle.window.specs.declared.parts.Parts.{Parts}
+use Rattle.queues.specs.declared.queue.Source.{Source}
+use Rattle.queues.specs.declared.parts.Parts.{Parts}
 use Rattle.window.specs.Slide.{Slidable, Open}
-use Rattle.window.specs.Queue.{linesOf, Payable}
-use Rattle.window.specs.Parts.{Both, Rises, Movable, Moved}
+use Rattle.queues.specs.Queue.{linesOf, Payable}
+use Rattle.window.specs.Slide.{Rises}
+use Rattle.queues.specs.Parts.{Both, Movable, Moved}
 use Rattle.window.specs.Windows.{windowAt, Windowable, WindowFound}
 use Rattle.window.specs.laws.Slide.{ends-next}
-use Rattle.window.specs.laws.Parts.{both-same, both-beside}
+use Rattle.queues.specs.laws.Parts.{both-same, both-beside}
 use Rattle.window.specs.laws.Windows.{window-beside, kept-beside, ends-rise}
 use Rattle.passes.specs.declared.pass.Pass.{Pass}
 use Rattle.candidates.specs.Fronts.{bestFront, Fronted}

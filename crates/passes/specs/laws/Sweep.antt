@@ -22,7 +22,7 @@ use Rattle.places.specs.laws.Best.{no-reach, best-as, best-unique}
 use Rattle.window.specs.declared.slide.Load.{Load}
 use Rattle.window.specs.declared.slide.Window.{Window}
 use Rattle.window.specs.Slide.{Tall, Open}
-use Rattle.window.specs.Queue.{Lines}
+use Rattle.queues.specs.Queue.{Lines}
 use Rattle.candidates.specs.Better.{chosen, startAt}
 use Rattle.candidates.specs.Search.{Table, Search, goes, whiteFrom, startFrom, bestStart}
 use Rattle.candidates.specs.Choice.{Candidate, Starts, Any, Above, Level, Between}

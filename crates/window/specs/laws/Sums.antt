@@ -15,9 +15,9 @@ use Rattle.galley.specs.declared.Stream as galley
 use Rattle.galley.specs.Model.{textOf}
 use Rattle.galley.specs.Sound.{SoundStream}
 use Rattle.window.specs.Sums.{reach, bareAt, Bare, SmallPair, Pair, Row, Sums}
-use Rattle.window.specs.Queue.{pushed}
+use Rattle.window.specs.Rows.{pushed}
 use Rattle.window.specs.Run.{SumsRun}
-use Rattle.window.specs.laws.Pushed.{pushed-length, pushed-word, pushed-own}
+use Rattle.window.specs.laws.Rows.{pushed-length, pushed-word, pushed-own}
 
 -- The lines up to i are those up to a with the space after it, and the rest.
 pub reach-stacked :

@@ -11,10 +11,10 @@ use Rattle.model.specs.Galley.{Stream}
 use Rattle.window.specs.declared.slide.Load.{Load}
 use Rattle.window.specs.declared.slide.Window.{Window}
 use Rattle.window.specs.Slide.{Tall, Full, Enough, Ends, Open}
-use Rattle.window.specs.Parts.{Rises}
-use Rattle.window.specs.Queue.{pushed, Beside}
+use Rattle.window.specs.Slide.{Rises}
+use Rattle.window.specs.Rows.{pushed, Beside}
 use Rattle.window.specs.Windows.{windowAt, Kept}
-use Rattle.window.specs.laws.Pushed.{pushed-own}
+use Rattle.window.specs.laws.Rows.{pushed-own}
 
 -- A window that is stored as its line's entry is kept.
 pub window-stored : (words : List ℕ) (i : ℕ) (window : Window) → 3 * (i + 8000) + 3 ≤ length words

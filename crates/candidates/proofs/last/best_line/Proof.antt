@@ -4,7 +4,7 @@ use native.Mathlib.Omega.{arith}
 use mathlib.Core.Path.{_≡_, refl}
 use mathlib.Core.Logic.{_⊎_, inl, inr}
 use Rattle.places.specs.Best.{Best}
-use Rattle.window.specs.Queue.{linesOf, Lines}
+use Rattle.queues.specs.Queue.{linesOf, Lines}
 use Rattle.candidates.specs.laws.Lines.{lines-none, lines-next, lines-all}
 use borrow.Author.Needs.{needs}
 use Rattle.candidates.proofs.last.best_line.Statement.{statement}

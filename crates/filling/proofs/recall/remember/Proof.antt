@@ -2,7 +2,7 @@
 use native.Mathlib.Omega.{arith}
 use mathlib.Core.Path.{ap}
 use lib.ListN.{set}
-use Rattle.window.specs.laws.Parts.{later-left, later-right}
+use Rattle.queues.specs.laws.Parts.{later-left, later-right}
 use borrow.Author.Needs.{needs}
 use Rattle.filling.proofs.recall.remember.Statement.{statement}
 use Rattle.filling.proofs.recall.remember.Tie as tie

@@ -3,7 +3,7 @@
 use Prim.Native.Nat.{_-_}
 use native.Mathlib.Omega.{arith}
 use mathlib.Core.Path.{_≡_}
-use Rattle.window.specs.Queue.{linesIn}
+use Rattle.queues.specs.Queue.{linesIn}
 use Rattle.passes.specs.Bound.{lesserOf, BoundRun}
 use Rattle.passes.specs.laws.Bound.{bound-first, bound-next, bound-last}
 use borrow.Author.Needs.{needs}

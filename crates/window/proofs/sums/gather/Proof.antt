@@ -5,7 +5,7 @@ use native.Mathlib.Omega.{arith}
 use mathlib.Core.Path.{ap, _∙_}
 use lib.ListN.{length}
 use Rattle.window.specs.Run.{SumsRun}
-use Rattle.window.specs.laws.Pushed.{pushed-length}
+use Rattle.window.specs.laws.Rows.{pushed-length}
 use Rattle.window.specs.laws.Sums.{sums-first, sums-fit, sums-next, sums-last}
 use ghost.Mode.{_$_}
 use Rattle.window.proofs.sums.gather.Statement.{statement}

@@ -7,8 +7,8 @@ use mathlib.Core.Path.{_≡_, subst}
 use lib.ListN.{length}
 use Rattle.window.specs.Slide.{Open}
 use Rattle.window.specs.Windows.{windowAt}
-use Rattle.window.specs.laws.Held.{beside-none}
-use Rattle.window.specs.laws.Pushed.{pushed-beside}
+use Rattle.window.specs.laws.Rows.{beside-none}
+use Rattle.window.specs.laws.Rows.{pushed-beside}
 use Rattle.window.specs.laws.Windows.{window-stored}
 use borrow.Author.Needs.{needs}
 use Rattle.window.proofs.windows.window_of.Statement.{statement}
