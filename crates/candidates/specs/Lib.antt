@@ -9,8 +9,6 @@ pub mod Choice
 pub mod Beside
 -- A galley that was read: what the functions ask for, and what they leave.
 pub mod Read
-pub mod Ring
-pub mod Look
 pub mod Cells
 pub mod Last
 pub mod laws

@@ -8,7 +8,5 @@ pub mod White
 pub mod Columns
 pub mod Read
 pub mod Lines
-pub mod Ring
-pub mod Look
 pub mod Cells
 pub mod Clean

@@ -12,7 +12,7 @@ use Rattle.places.specs.declared.Origin.{Origin}
 use Rattle.places.specs.Address.{wordsNeeded}
 use Rattle.candidates.specs.Choice.{Candidate}
 use Rattle.candidates.specs.Read.{sideOf, searchOf, columnsIn}
-use Rattle.candidates.specs.Look.{Quiet, Found}
+use Rattle.reached.specs.Look.{Quiet, Found}
 use Rattle.passes.specs.Sweep.{Lent, Scratch, Summed, Known}
 use Rattle.candidates.specs.Cells.{Blank, Clean}
 use Rattle.entries.specs.declared.side.Task.{Task}

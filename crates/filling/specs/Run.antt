@@ -9,10 +9,10 @@ use Rattle.rules.specs.Waiting.{Walking}
 use Rattle.window.specs.declared.slide.Window.{Window}
 use Rattle.window.specs.Slide.{Ends}
 use Rattle.candidates.specs.Read.{tableIn, columnsIn, countsAt}
-use Rattle.candidates.specs.Look.{Recalled}
+use Rattle.reached.specs.Look.{Recalled}
 use Rattle.candidates.specs.Cells.{Blank, Clean}
 use Rattle.entries.specs.declared.side.Task.{Task}
-use Rattle.filling.specs.declared.recall.Recall.{Recall}
+use Rattle.reached.specs.declared.recall.Recall.{Recall}
 use Rattle.filling.specs.Fill.{fillColumn, fillColumns}
 use Rattle.entries.specs.Filled.{Filled}
 use Rattle.entries.specs.Next.{plain, Queues, Waits}

@@ -9,7 +9,6 @@ ghost use Rattle.candidates.specs.Read.{columnsIn};
 ghost use Rattle.filling.specs.Fill.{fillColumn, fillColumns, filled};
 ghost use Rattle.filling.specs.Next.{endFrom, Begun, Onward, LastNext, TableNext, Fillable};
 ghost use Rattle.filling.specs.Recall.{ColumnTurn, ColumnFilled};
-use crate::recall::Recall;
 use blocks::Counts;
 use blocks::heights::Heights;
 use entries::side::End;
@@ -19,6 +18,7 @@ use galley::Galley;
 use places::Entry;
 use places::Origin;
 use pricing::Floats;
+use reached::recall::Recall;
 use rules::waiting::Waiting;
 use starts::sweep::Begin;
 
@@ -48,7 +48,7 @@ fn next_start(g: Galley, work: &[u32], j: usize, low: usize, last: usize) -> usi
     if low <= last {
         return last;
     }
-    candidates::look::first_line(g, work, j, low)
+    reached::look::first_line(g, work, j, low)
 }
 
 // The places of column j, from its first line that has a start to the last line that a page can reach, each of which holds its best
@@ -115,7 +115,7 @@ fn first_start(task: Task, work: &[u32], j: usize, any: bool) -> usize
     if !any {
         return task.galley.text.count + 1;
     }
-    candidates::look::first_line(task.galley, work, j, line)
+    reached::look::first_line(task.galley, work, j, line)
 }
 
 // Column j: first the starts in the columns before it, then those in the column itself. Where there is neither it is left unreached.
@@ -145,7 +145,7 @@ fn fill_column(
         return recall;
     }
     last_sweep(s, task, work, sums, words, j, first);
-    crate::recall::note(task.galley, work, seen, recall, j, first)
+    reached::recall::note(task.galley, work, seen, recall, j, first)
 }
 
 // All columns from that of the origin on: nothing in an earlier one is past the origin, so that no page reaches it.

@@ -18,7 +18,7 @@ use Rattle.queues.specs.Parts.{Both}
 use Rattle.window.specs.Windows.{Kept}
 use Rattle.passes.specs.declared.pass.Pass.{Pass}
 use Rattle.candidates.specs.Read.{sideOf}
-use Rattle.candidates.specs.Look.{Quiet, LastFound}
+use Rattle.reached.specs.Look.{Quiet, LastFound}
 use Rattle.passes.specs.Bound.{Bounded}
 use Rattle.passes.specs.Sweep.{Lent, Scratch, Summed, passLoad, Passing, Known, Swept, sweepEnd, Stopped}
 use Rattle.candidates.specs.Cells.{number, Scratched}

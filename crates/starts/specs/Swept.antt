@@ -12,7 +12,7 @@ use Rattle.blocks.specs.Heights.{Stacked}
 use Rattle.starts.specs.declared.sweep.Begin.{Begin}
 use Rattle.starts.specs.declared.sweep.Row.{Row}
 use Rattle.candidates.specs.Read.{countsAt, rowOf}
-use Rattle.candidates.specs.Look.{PastOrigin, Recalled}
+use Rattle.reached.specs.Look.{PastOrigin, Recalled}
 use Rattle.passes.specs.Sweep.{Lent, Scratch, Summed, Known}
 use Rattle.starts.specs.Sweep.{rowTop}
 use Rattle.candidates.specs.Cells.{Scratched, Blank, Clean}

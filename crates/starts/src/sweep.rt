@@ -82,7 +82,7 @@ fn sweep_row(
         }
         let from = row_from + t;
         let line = row.begin.origin.lines;
-        let reach = candidates::look::reach_in(g, work, seen, from, row.begin.since, line);
+        let reach = reached::look::reach_in(g, work, seen, from, row.begin.since, line);
         let pass = Pass {
             from,
             to: row.to,

@@ -17,10 +17,10 @@ use Rattle.candidates.specs.Cells.{Scratched, fresh, Blank}
 use Rattle.candidates.specs.Read.{tableIn, columnsIn}
 use Rattle.candidates.specs.laws.Cells.{scratched-then}
 use Rattle.candidates.specs.laws.Clean.{blank-kept}
-use Rattle.candidates.specs.Ring.{Named}
+use Rattle.reached.specs.Ring.{Named}
 use Rattle.candidates.specs.laws.Columns.{columns-in}
 use Rattle.entries.specs.declared.side.Task.{Task}
-use Rattle.filling.specs.declared.recall.Recall.{Recall}
+use Rattle.reached.specs.declared.recall.Recall.{Recall}
 use Rattle.entries.specs.Fill.{tall, sideCount, fillPlace}
 use Rattle.filling.specs.Fill.{fillColumn, fillColumns, filled}
 use Rattle.filling.specs.Next.{ColumnNext, Fillable, TableNext}

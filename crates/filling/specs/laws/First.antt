@@ -14,7 +14,7 @@ use Rattle.places.specs.Order.{Earlier}
 use Rattle.places.specs.laws.Best.{no-reach}
 use Rattle.candidates.specs.Cells.{ColumnRoom, Blank}
 use Rattle.candidates.specs.Read.{tableIn}
-use Rattle.candidates.specs.Look.{Quiet, Found}
+use Rattle.reached.specs.Look.{Quiet, Found}
 use Rattle.candidates.specs.laws.Clean.{empty-unreached}
 use Rattle.passes.specs.laws.Look.{quiet-then, known-before}
 use Rattle.entries.specs.declared.side.Task.{Task}

@@ -12,7 +12,7 @@ use Rattle.places.specs.declared.Entry.the-variants.{Unreached, Least}
 use Rattle.places.specs.laws.Best.{no-reach}
 use Rattle.candidates.specs.Choice.{Candidate, Between}
 use Rattle.candidates.specs.Read.{tableIn, sideOf, searchOf, countsAt}
-use Rattle.candidates.specs.Look.{Quiet, LastFound, PastOrigin, Hinted, Told, Recalled}
+use Rattle.reached.specs.Look.{Quiet, LastFound, PastOrigin, Hinted, Told, Recalled}
 use Rattle.passes.specs.Sweep.{Lent, Knows, Known, Swept}
 use Rattle.candidates.specs.Cells.{number, Scratched}
 use Rattle.candidates.specs.laws.Read.{side-occurs}

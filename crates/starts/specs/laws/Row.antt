@@ -24,8 +24,8 @@ use Rattle.starts.specs.declared.sweep.Row.{Row}
 use Rattle.candidates.specs.Choice.{Candidate}
 use Rattle.candidates.specs.Beside.{Under, alone}
 use Rattle.candidates.specs.Read.{sideOf, searchOf, countsAt, rowOf}
-use Rattle.candidates.specs.Look.{PastOrigin, Told, Reached}
-use Rattle.candidates.specs.declared.look.Reach.{Reach}
+use Rattle.reached.specs.Look.{PastOrigin, Told, Reached}
+use Rattle.reached.specs.declared.look.Reach.{Reach}
 use Rattle.candidates.specs.Cells.{fresh, ColumnRoom}
 use Rattle.starts.specs.Sweep.{Layable, floatsAlone, rowTop}
 use Rattle.starts.specs.Swept.{RowSweep, RowRun, RowSwept}

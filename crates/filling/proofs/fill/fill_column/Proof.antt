@@ -8,7 +8,8 @@ use Rattle.passes.specs.laws.Cells.{lent-kept}
 use Rattle.entries.specs.laws.Before.{columns-past}
 use Rattle.filling.specs.laws.First.{column-none}
 use Rattle.filling.specs.laws.Column.{column-last, scratched-same}
-use Rattle.filling.specs.laws.Recall.{noted-none, filled-room, filled-quiet, column-noted}
+use Rattle.reached.specs.laws.Recall.{noted-none}
+use Rattle.filling.specs.laws.Recall.{filled-room, filled-quiet, column-noted}
 use borrow.Author.Needs.{needs}
 use Rattle.filling.proofs.fill.fill_column.Statement.{statement}
 use Rattle.filling.proofs.fill.fill_column.Tie as tie

@@ -3,7 +3,7 @@
 use Prim.Native.Nat.{_-_}
 use native.Mathlib.Omega.{arith}
 use Rattle.candidates.specs.laws.Columns.{few-floats}
-use Rattle.candidates.specs.laws.Ring.{fresh-named}
+use Rattle.reached.specs.laws.Ring.{fresh-named}
 use Rattle.filling.specs.Run.{ColumnsRun}
 use Rattle.filling.specs.laws.Columns.{columns-first, columns-done, columns-turn, columns-next}
 use borrow.Author.Needs.{needs}

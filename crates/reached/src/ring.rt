@@ -2,7 +2,7 @@
 // from there takes few steps, and every later column asks for them again.
 ghost use mathlib.Core.Path.{_≡_};
 ghost use Prim.Native.Nat.{_≤_};
-ghost use Rattle.candidates.specs.Ring.{hintOf, hintName, hintFirst, hintLast, HintIn, HintFor};
+ghost use Rattle.reached.specs.Ring.{hintOf, hintName, hintFirst, hintLast, HintIn, HintFor};
 
 // The word of a column whose first and last reached lines are these: in eights, so that the first may come out earlier and the last later.
 pub fn hint_of(column: usize, first: usize, last: usize) -> u32

@@ -1,11 +1,11 @@
 -- `reach_in` meets its contract: a column that the ring covers and does not name is not reached, and of another the lines that are left to
 -- look at are looked at.
 use native.Mathlib.Omega.{arith}
 use Rattle.candidates.specs.laws.Columns.{columns-few}
-use Rattle.candidates.specs.laws.Look.{found-after, hint-holds}
+use Rattle.reached.specs.laws.Look.{found-after, hint-holds}
 use borrow.Author.Needs.{needs}
-use Rattle.candidates.proofs.look.reach_in.Statement.{statement}
-use Rattle.candidates.proofs.look.reach_in.Tie as tie
+use Rattle.reached.proofs.look.reach_in.Statement.{statement}
+use Rattle.reached.proofs.look.reach_in.Tie as tie
 
 hint-for-requires : tie.Need-hint-for-requires
 hint-for-requires c κs =

@@ -3,9 +3,9 @@
 ghost use Prim.Native.Nat.{_≤_, _<_};
 ghost use lib.ListN.{length};
 ghost use Rattle.candidates.specs.Cells.{ColumnRoom};
-ghost use Rattle.candidates.specs.Ring.{hintOf, Named};
-ghost use Rattle.filling.specs.Recall.{Remembered, Noted};
-use candidates::look::Reach;
+ghost use Rattle.reached.specs.Ring.{hintOf, Named};
+ghost use Rattle.reached.specs.Recall.{Remembered, Noted};
+use crate::look::Reach;
 use galley::Galley;
 
 // From column `since` on every column that is reached stands in the ring, and the next one takes word `head`.
@@ -32,8 +32,8 @@ fn remember(seen: &mut [u32], recall: Recall, j: usize, reach: Reach) -> Recall
     ensures { λ r. ⌜ Remembered (now (seen .entry)) (now (seen .exit)) recall (hintOf j (reach .first) (reach .last)) r ⌝ }
 {
     let at = recall.head;
-    let dropped = candidates::ring::name_of(seen[at]);
-    seen[at] = candidates::ring::hint_of(j, reach.first, reach.last);
+    let dropped = crate::ring::name_of(seen[at]);
+    seen[at] = crate::ring::hint_of(j, reach.first, reach.last);
     Recall {
         since: queues::parts::later(recall.since, dropped),
         head: turned(at, seen.len()),
@@ -52,7 +52,7 @@ pub fn note(
     requires { ⌜ ColumnRoom g (now work) j × (recall .head < length (now seen)) × Named (now seen) j ⌝ }
     ensures { λ r. ⌜ Noted g (now (work .entry)) (now (seen .entry)) (now (seen .exit)) recall j from r ⌝ }
 {
-    let reach = candidates::look::reach_of(g, work, j, from, g.text.count + 1);
+    let reach = crate::look::reach_of(g, work, j, from, g.text.count + 1);
     if g.text.count < reach.first {
         return recall;
     }

@@ -1,11 +1,11 @@
 -- `last_line` meets its contract. The loop's invariant: no line from `last` on is reached.
 use Prim.Native.Nat.{_+_, _-_, _≤_}
 use native.Mathlib.Omega.{arith}
-use Rattle.candidates.specs.Look.{Quiet}
-use Rattle.candidates.specs.laws.Look.{quiet-back, room-small, room-stands}
+use Rattle.reached.specs.Look.{Quiet}
+use Rattle.reached.specs.laws.Look.{quiet-back, room-small, room-stands}
 use borrow.Author.Needs.{needs}
-use Rattle.candidates.proofs.look.last_line.Statement.{statement}
-use Rattle.candidates.proofs.look.last_line.Tie as tie
+use Rattle.reached.proofs.look.last_line.Statement.{statement}
+use Rattle.reached.proofs.look.last_line.Tie as tie
 
 abbrev Inv-loop : tie.InvT-loop
 Inv-loop g work column from to last₀ last = (last ≤ g .text .count + 1) × Quiet g work column (g .spec .sides) last (g .text .count + 1)

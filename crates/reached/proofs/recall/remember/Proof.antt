@@ -4,8 +4,8 @@ use mathlib.Core.Path.{ap}
 use lib.ListN.{set}
 use Rattle.queues.specs.laws.Parts.{later-left, later-right}
 use borrow.Author.Needs.{needs}
-use Rattle.filling.proofs.recall.remember.Statement.{statement}
-use Rattle.filling.proofs.recall.remember.Tie as tie
+use Rattle.reached.proofs.recall.remember.Statement.{statement}
+use Rattle.reached.proofs.recall.remember.Tie as tie
 
 returns : tie.Need-returns
 returns c =

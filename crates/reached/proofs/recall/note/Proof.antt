@@ -1,10 +1,10 @@
 -- `note` meets its contract: a column without a reached line is left out, and any other is put in the ring with its lines.
 use native.Mathlib.Omega.{arith}
 use Rattle.candidates.specs.laws.Columns.{columns-few}
-use Rattle.filling.specs.laws.Recall.{found-none, noted-none, noted-new}
+use Rattle.reached.specs.laws.Recall.{found-none, noted-none, noted-new}
 use borrow.Author.Needs.{needs}
-use Rattle.filling.proofs.recall.note.Statement.{statement}
-use Rattle.filling.proofs.recall.note.Tie as tie
+use Rattle.reached.proofs.recall.note.Statement.{statement}
+use Rattle.reached.proofs.recall.note.Tie as tie
 
 reach-of-requires : tie.Need-reach-of-requires
 reach-of-requires c κs = (c .before .before .before .pre .0, (omega arith, record { none = λ a d l m. absurd (omega arith) }))

@@ -2,11 +2,11 @@
 use Prim.Native.Nat.{ℕ, _-_}
 use native.Mathlib.Omega.{arith}
 use mathlib.Core.Path.{_≡_, sym, _∙_}
-use Rattle.candidates.specs.Look.{Missed}
-use Rattle.candidates.specs.laws.Look.{missed-next}
+use Rattle.reached.specs.Look.{Missed}
+use Rattle.reached.specs.laws.Look.{missed-next}
 use borrow.Author.Needs.{needs}
-use Rattle.candidates.proofs.look.reached.Statement.{statement}
-use Rattle.candidates.proofs.look.reached.Tie as tie
+use Rattle.reached.proofs.look.reached.Statement.{statement}
+use Rattle.reached.proofs.look.reached.Tie as tie
 
 abbrev Inv-loop : tie.InvT-loop
 Inv-loop work tall place sides c₀ c = Missed work tall place c

@@ -7,9 +7,9 @@ use Rattle.blocks.specs.declared.Counts.{Counts}
 use Rattle.places.specs.declared.Place.{Place}
 use Rattle.places.specs.declared.Entry.the-variants.{Unreached, Least}
 use Rattle.places.specs.Table.{tableOf}
-use Rattle.candidates.specs.declared.look.Reach.{Reach}
+use Rattle.reached.specs.declared.look.Reach.{Reach}
 use Rattle.candidates.specs.Read.{tableIn, countsAt}
-use Rattle.candidates.specs.Ring.{hintFirst, hintLast, Present, Absent, Named}
+use Rattle.reached.specs.Ring.{hintFirst, hintLast, Present, Absent, Named}
 
 -- No line of column j from `from` on and before `to` is reached on the first n sides.
 pub record Quiet (g : Galley) (w : List ℕ) (j n from to : ℕ) : Type 0 where

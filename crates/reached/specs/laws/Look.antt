@@ -12,12 +12,12 @@ use Rattle.places.specs.Table.{tableOf}
 use Rattle.places.specs.Address.{Small, Stands}
 use Rattle.queues.specs.Parts.{later}
 use Rattle.queues.specs.laws.Parts.{later-left, later-least}
 use Rattle.candidates.specs.Cells.{ColumnRoom}
 use Rattle.candidates.specs.Read.{tableIn}
 use Rattle.candidates.specs.laws.Columns.{columns-few}
 use Rattle.candidates.specs.laws.Read.{stands-in}
-use Rattle.candidates.specs.Ring.{Present, HintFor}
-use Rattle.candidates.specs.Look.{Quiet, Missed, Found, Hinted, Told}
+use Rattle.reached.specs.Ring.{Present, HintFor}
+use Rattle.reached.specs.Look.{Quiet, Missed, Found, Hinted, Told}
 
 -- One side more is not reached.
 pub missed-next : (w : List ℕ) (tall : ℕ) (place : Place) (c : ℕ) → Missed w tall place c

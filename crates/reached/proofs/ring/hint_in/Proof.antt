@@ -3,11 +3,11 @@ use Prim.Native.Nat.{ℕ, _+_, _-_, _<_}
 use native.Mathlib.Omega.{arith}
 use mathlib.Core.Path.{_≡_, refl, sym, _∙_, ap}
 use lib.ListN.{length, getD}
-use Rattle.candidates.specs.Ring.{hintName}
-use Rattle.candidates.specs.laws.Ring.{absent-next}
+use Rattle.reached.specs.Ring.{hintName}
+use Rattle.reached.specs.laws.Ring.{absent-next}
 use borrow.Author.Needs.{needs}
-use Rattle.candidates.proofs.ring.hint_in.Statement.{statement}
-use Rattle.candidates.proofs.ring.hint_in.Tie as tie
+use Rattle.reached.proofs.ring.hint_in.Statement.{statement}
+use Rattle.reached.proofs.ring.hint_in.Tie as tie
 
 abbrev Inv-loop : tie.InvT-loop
 Inv-loop seen column name at₀ at = (k : ℕ) → k < at → hintName (getD seen k 0) ≡ column + 1 → ⊥

@@ -5,7 +5,7 @@ use native.Mathlib.Omega.{arith}
 use mathlib.Core.Path.{_≡_, refl, sym, _∙_}
 use mathlib.Core.List.{List}
 use lib.ListN.{getD, replicate}
-use Rattle.candidates.specs.Ring.{hintOf, hintName, hintFirst, hintLast, Named}
+use Rattle.reached.specs.Ring.{hintOf, hintName, hintFirst, hintLast, Named}
 
 module _ (j first last : ℕ) (high : first ≤ 4000) (low : last ≤ 4000) where
   -- The column,

@@ -3,8 +3,8 @@ use native.Mathlib.Omega.{arith}
 use mathlib.Core.Path.{refl}
 use mathlib.Core.Logic.{inl, inr}
 use borrow.Author.Needs.{needs}
-use Rattle.candidates.proofs.ring.hint_for.Statement.{statement}
-use Rattle.candidates.proofs.ring.hint_for.Tie as tie
+use Rattle.reached.proofs.ring.hint_for.Statement.{statement}
+use Rattle.reached.proofs.ring.hint_for.Tie as tie
 
 returns : tie.Need-returns
 returns c = record { none = λ e. absurd (omega arith); some = λ e. inl refl }
