@@ -9,6 +9,7 @@ use Rattle.galley.specs.Model.{textOf, modelOf}
 use Rattle.blocks.specs.Heights.{noHeights}
 use Rattle.places.specs.declared.Entry.the-variants.{Unreached}
 use Rattle.places.specs.Best.{Best}
+use Rattle.places.specs.Entry.{boundless}
 use Rattle.window.specs.declared.slide.Load.{Load}
 use Rattle.window.specs.declared.slide.Window.{Window}
 use Rattle.queues.specs.declared.queue.Source.{Source}
@@ -33,8 +34,8 @@ use Rattle.pricing.specs.Price.{waitsAt}
 -- The entries before (i, j) are filled, from an origin of the galley at which little was paid, with a limit that no list passes.
 pub record Next (bytes : List ℕ) (task : Task) (w : List ℕ) (i j : ℕ) : Type 0 where
   pub lent : Lent bytes (task .galley) w j
-  pub cheap : task .origin .cost ≤ 4600000000000000000
-  pub limited : task .origin .limit ≤ 4600000000000000000
+  pub cheap : task .origin .cost ≤ boundless
+  pub limited : task .origin .limit ≤ boundless
   pub line : task .origin .place .line ≤ task .galley .text .count
   pub origin : task .origin .place .column < columnsIn (task .galley)
   pub filled : Filled (modelOf bytes (task .galley)) (task .origin) (tableIn (task .galley) w) i j

@@ -169,7 +169,7 @@ fn set_pages(s: &[u8], g: Galley, beginning: Greedy) -> Greedy
 
 // What the greedy pages cost, and for the rules that they do not keep a sixteenth more leaves, two turns and two floats that wait. Where
 // they never turn a leaf, the best list hardly does.
-fn limit_of(spec: Spec, pages: Greedy) -> u32
+fn guess_of(spec: Spec, pages: Greedy) -> u32
     requires { ⌜ SpecRanged spec × Counted pages ⌝ }
     ensures { λ r. ⌜ r ≤ 1000000000 ⌝ }
 {
@@ -204,5 +204,5 @@ pub fn first_limit(s: &[u8], g: Galley, origin: Origin) -> u32
         cost: 0,
         turned: 0,
     };
-    limit_of(g.spec, set_pages(s, g, beginning))
+    guess_of(g.spec, set_pages(s, g, beginning))
 }

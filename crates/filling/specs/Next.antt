@@ -10,6 +10,7 @@ use Rattle.blocks.specs.declared.Counts.{Counts}
 use Rattle.rules.specs.declared.waiting.Waiting.{Waiting}
 use Rattle.places.specs.declared.Origin.{Origin}
 use Rattle.places.specs.Address.{wordsNeeded}
+use Rattle.places.specs.Entry.{boundless}
 use Rattle.candidates.specs.Choice.{Candidate}
 use Rattle.candidates.specs.Read.{sideOf, searchOf, columnsIn}
 use Rattle.reached.specs.Look.{Quiet, Found}
@@ -76,8 +77,8 @@ pub record Onward (g : Galley) (w : List ℕ) (j low last r : ℕ) : Type 0 wher
 -- A galley that was read, an origin at one of its lines and columns at which little was paid, and a work area as long as document 01 asks.
 pub record Fillable (bytes : List ℕ) (g : Galley) (from : Origin) (w : List ℕ) : Type 0 where
   pub sound : Sound bytes g
-  pub cheap : from .cost ≤ 4600000000000000000
-  pub limited : from .limit ≤ 4600000000000000000
+  pub cheap : from .cost ≤ boundless
+  pub limited : from .limit ≤ boundless
   pub line : from .place .line ≤ g .text .count
   pub origin : from .place .column < columnsIn g
   pub room : wordsNeeded (g .text .count) (columnsIn g) ≤ length w

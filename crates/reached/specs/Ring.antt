@@ -37,10 +37,14 @@ pub record HintIn (seen : List ℕ) (j r : ℕ) : Type 0 where
   pub none : r ≡ 0 → Absent seen j
   pub some : (r ≡ 0 → ⊥) → Present seen j r
 
--- The word 511 names no column, and leaves every line to look at: r is that, or what the ring has for a column that it covers.
+-- A word that names no column, and leaves every line to look at: from the first to the last that can be written.
+abbrev pub everyLine : ℕ
+everyLine = 511
+
+-- r is that, or what the ring has for a column that it covers.
 pub record HintFor (seen : List ℕ) (since j r : ℕ) : Type 0 where
   pub none : r ≡ 0 → (since ≤ j) × Absent seen j
-  pub some : (r ≡ 0 → ⊥) → (r ≡ 511) ⊎ ((since ≤ j) × Present seen j r)
+  pub some : (r ≡ 0 → ⊥) → (r ≡ everyLine) ⊎ ((since ≤ j) × Present seen j r)
 
 -- Every column that is named comes before j.
 abbrev pub Named : List ℕ → ℕ → Type 0

@@ -50,14 +50,17 @@ fn hint_in(seen: &[u32], column: usize) -> u32
     0
 }
 
+// A word that names no column, and leaves every line to look at: from the first to the last that can be written.
+const EVERY_LINE: u32 = 511;
+
 // What is known of a column where those from `since` on stand in the ring: its word, 0 where it is not reached, and before `since` the
-// word 511, which leaves every line to look at.
+// word that leaves every line to look at.
 pub fn hint_for(seen: &[u32], column: usize, since: usize) -> u32
     requires { ⌜ column ≤ 10250 ⌝ }
     ensures { λ r. ⌜ HintFor (now (seen .entry)) since column r ⌝ }
 {
     if column < since {
-        return 511;
+        return EVERY_LINE;
     }
     hint_in(seen, column)
 }

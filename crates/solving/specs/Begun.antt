@@ -46,7 +46,7 @@ pub record Opened (bytes : List ℕ) (g : Galley) (ws : List ℕ) (from : Origin
   pub whole : Whole (modelOf bytes g) ws
   pub is : originOf (modelOf bytes g) from ≡ after (modelOf bytes g) (pagesOf (modelOf bytes g) ws)
   pub proper : Proper (modelOf bytes g) (from .place)
-  pub cheap : from .cost ≤ 4600000000000000000
+  pub cheap : from .cost ≤ boundless
   pub limited : from .limit ≤ boundless
 
 -- What turns the opening away.

@@ -12,6 +12,7 @@ use Rattle.places.specs.declared.Origin.{Origin}
 use Rattle.places.specs.Address.{wordsNeeded}
 use Rattle.places.specs.Best.{Affordable}
 use Rattle.places.specs.Order.{Earlier}
+use Rattle.places.specs.Entry.{boundless}
 use Rattle.queues.specs.Queue.{linesOf, Payable}
 use Rattle.candidates.specs.Read.{tableIn, sideOf, columnsIn}
 use Rattle.passes.specs.Sweep.{Lent}
@@ -20,7 +21,7 @@ use Rattle.entries.specs.Filled.{Filled}
 use Rattle.entries.specs.laws.Entered.{below-side, side-before, sides-count}
 
 module _ {bytes : List ℕ} {g : Galley} {from : Origin} {i j : ℕ} (w : List ℕ) (sound : Sound bytes g)
-    (cheap : from .cost ≤ 4600000000000000000) (filled : Filled (modelOf bytes g) from (tableIn g w) i j) where
+    (cheap : from .cost ≤ boundless) (filled : Filled (modelOf bytes g) from (tableIn g w) i j) where
   cost-small : (a b c : ℕ) → Earlier a b i j → a ≤ g .text .count → b < columnsIn g → c < g .spec .sides
       → Affordable (tableIn g w a b (sideOf g c))
   cost-small a b c l h k occurs x r e =

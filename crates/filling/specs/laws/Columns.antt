@@ -9,7 +9,7 @@ use Rattle.galley.specs.Model.{modelOf, sidesIn}
 use Rattle.places.specs.declared.Origin.{Origin}
 use Rattle.places.specs.declared.Entry.the-variants.{Unreached}
 use Rattle.places.specs.Address.{address, wordsNeeded}
-use Rattle.places.specs.Entry.{stored, cleared}
+use Rattle.places.specs.Entry.{boundless, stored, cleared}
 use Rattle.places.specs.laws.Address.{address-in, area-needed}
 use Rattle.places.specs.laws.Cleared.{cleared-length, cleared-empty}
 use Rattle.places.specs.Columns.{columns, floatSizes}
@@ -34,21 +34,28 @@ use Rattle.entries.specs.laws.Price.{dearest-light}
 use Rattle.entries.specs.laws.Side.{needed-roomy, lent-roomy, lent-wide}
 use Rattle.filling.specs.laws.Skip.{filled-none, columns-left}
 
+-- As many words can be filled from the same origin, within another limit.
+pub fillable-as : {bytes : List ℕ} {g : Galley} {from : Origin} {w : List ℕ} → Fillable bytes g from w → (limit : ℕ) → limit ≤ boundless
+    → (v : List ℕ) → length v ≡ length w
+    → Fillable bytes g (record { place = from .place; pages = from .pages; cost = from .cost; limit = limit }) v
+fillable-as fillable limit low v long =
+    record {
+      sound = fillable .sound;
+      cheap = fillable .cheap;
+      limited = low;
+      line = fillable .line;
+      origin = fillable .origin;
+      room = rw long (fillable .room);
+    }
+
 -- A table in words that were cleared.
 module _ {bytes : List ℕ} {g : Galley} {from : Origin} {w : List ℕ} (fillable : Fillable bytes g from w) (v : List ℕ)
     (clear : v ≡ cleared (wordsNeeded (g .text .count) (columnsIn g)) w) where
   -- It can be filled,
   pub cleared-fillable : Fillable bytes g from v
   cleared-fillable =
-      let long = cleared-length (wordsNeeded (g .text .count) (columnsIn g)) w (fillable .room) in
-      record {
-        sound = fillable .sound;
-        cheap = fillable .cheap;
-        limited = fillable .limited;
-        line = fillable .line;
-        origin = fillable .origin;
-        room = rw (clear, long) (fillable .room);
-      }
+      fillable-as fillable (from .limit) (fillable .limited) v
+      (ap length clear ∙ cleared-length (wordsNeeded (g .text .count) (columnsIn g)) w (fillable .room))
 
   -- every column is empty,
   pub cleared-blank : (b : ℕ) → b < columnsIn g → Blank g v b

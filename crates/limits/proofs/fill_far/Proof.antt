@@ -3,14 +3,15 @@ use borrow.Author.Needs.{needs}
 use native.Mathlib.Omega.{arith}
 use mathlib.Core.Path.{refl}
 use Rattle.limits.specs.Sought.{within, limitOf, Tried}
-use Rattle.limits.specs.laws.Sought.{limit-low, fillable-within, sought-reached, sought-all, tried-long}
+use Rattle.filling.specs.laws.Columns.{fillable-as}
+use Rattle.limits.specs.laws.Sought.{limit-low, sought-reached, sought-all, tried-long}
 use Rattle.limits.proofs.fill_far.Statement.{statement}
 use Rattle.limits.proofs.fill_far.Tie as tie
 
 fill-within-requires : tie.Need-fill-within-requires
 fill-within-requires c κs =
     rw (c .before .limited .ensures, c .before .before .limit-of .ensures)
-    (fillable-within (c .before .before .before .before .before .pre) _ (limit-low _) _ refl)
+    (fillable-as (c .before .before .before .before .before .pre) _ (limit-low _) _ refl)
 
 -- The first try, within the limit of the turns.
 tried : (c : tie.After-fill-within)
@@ -29,7 +30,7 @@ fill-requires c κs =
     let made = c .before .before .before .before .before in
     let start = made .before .before .before .before .before .before in
     rw (c .before .limited2 .ensures)
-    (fillable-within (start .pre) _ (omega arith) _ (tried-long (start .pre) _ _ (tried made)))
+    (fillable-as (start .pre) _ (omega arith) _ (tried-long (start .pre) _ _ (tried made)))
 
 returns-2 : tie.Need-returns-2
 returns-2 c =

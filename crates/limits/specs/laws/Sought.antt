@@ -49,18 +49,6 @@ forgets bytes g from w =
     rw e at (cleared-forgets (tableWords (modelOf bytes g)) (filled (modelOf bytes g) from w) w (filled-beyond (modelOf bytes g) from w))
 
 module _ {bytes : List ℕ} {g : Galley} {from : Origin} {work : List ℕ} (fill : Fillable bytes g from work) where
-  -- The same words can be filled again, within another limit.
-  pub fillable-within : (limit : ℕ) → limit ≤ boundless → (w : List ℕ) → length w ≡ length work → Fillable bytes g (within limit from) w
-  fillable-within limit low w long =
-      record {
-        sound = fill .sound;
-        cheap = fill .cheap;
-        limited = low;
-        line = fill .line;
-        origin = fill .origin;
-        room = omega (arith, fill .room);
-      }
-
   -- The filled words are a work area to walk over,
   pub filled-area : (w : List ℕ) → w ≡ filled (modelOf bytes g) from work → WorkArea g w
   filled-area w e =

@@ -180,31 +180,24 @@ start-chosen s sought held front h f =
 abbrev pub searchIn : Search → Table → Search
 searchIn s t = record { galley = s .galley; table = t; line = s .line; column = s .column; side = s .side }
 
+-- A start is one in every table that has the same entry for it.
+candidate-in : (s : Search) (t u : Table) (a b x : ℕ) → u a b (s .side) ≡ t a b (s .side) → Candidate (searchIn s t) a b x
+    → Candidate (searchIn s u) a b x
+unfolding goes whiteFrom
+candidate-in s t u a b x same c =
+    let r = c .reached in
+    record {
+      line = c .line;
+      column = c .column;
+      page = c .page;
+      reached = record { own = r .own; start = r .start; entry = same ∙ r .entry; whole = r .whole };
+    }
+
 -- What is known of starts stays known while their entries do not change.
 pub best-same : (s : Search) (t : Table) (P : ℕ → ℕ → Type 0) (e : Entry)
     → ((a b : ℕ) → P a b → a ≤ s .line → b ≤ s .column → t a b (s .side) ≡ s .table a b (s .side))
     → Best (Starts s P) e → Best (Starts (searchIn s t) P) e
-unfolding goes whiteFrom
-best-same s t P e same = best-as (λ a b x c. (c .0, there a b x c)) (λ a b x c. (c .0, back a b x c))
-  where
-    there : (a b x : ℕ) → Starts s P a b x → Candidate (searchIn s t) a b x
-    there a b x (p, c) =
-        record {
-          line = c .line;
-          column = c .column;
-          page = c .page;
-          reached =
-              let r = c .reached in
-              record { own = r .own; start = r .start; entry = same a b p (c .line) (c .column) ∙ r .entry; whole = r .whole };
-        }
-
-    back : (a b x : ℕ) → Starts (searchIn s t) P a b x → Candidate s a b x
-    back a b x (p, c) =
-        record {
-          line = c .line;
-          column = c .column;
-          page = c .page;
-          reached =
-              let r = c .reached in
-              record { own = r .own; start = r .start; entry = sym (same a b p (c .line) (c .column)) ∙ r .entry; whole = r .whole };
-        }
+best-same s t P e same =
+    best-as
+    (λ a b x (p, c). (p, candidate-in s (s .table) t a b x (same a b p (c .line) (c .column)) c))
+    (λ a b x (p, c). (p, candidate-in s t (s .table) a b x (sym (same a b p (c .line) (c .column))) c))

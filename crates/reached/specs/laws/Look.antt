@@ -16,7 +16,7 @@ use Rattle.candidates.specs.Cells.{ColumnRoom}
 use Rattle.candidates.specs.Read.{tableIn}
 use Rattle.candidates.specs.laws.Columns.{columns-few}
 use Rattle.candidates.specs.laws.Read.{stands-in}
-use Rattle.reached.specs.Ring.{Present, HintFor}
+use Rattle.reached.specs.Ring.{Present, everyLine, HintFor}
 use Rattle.reached.specs.Look.{Quiet, Missed, Found, Hinted, Told}
 
 -- One side more is not reached.
@@ -75,7 +75,7 @@ pub hint-holds : {g : Galley} {w seen : List ℕ} {since j from r : ℕ} → g .
     → HintFor seen since j r → (r ≡ 0 → ⊥) → Hinted g w j from r
 hint-holds {g} {w} {seen} {since} {j} {from} {r} few told known some = go (known .some some)
   where
-    go : (r ≡ 511) ⊎ ((since ≤ j) × Present seen j r) → Hinted g w j from r
+    go : (r ≡ everyLine) ⊎ ((since ≤ j) × Present seen j r) → Hinted g w j from r
     go (inl e) =
         record {
           within = omega arith;
