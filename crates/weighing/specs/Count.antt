@@ -21,6 +21,7 @@ use Rattle.passes.specs.Sweep.{Summed}
 use Rattle.weighing.specs.declared.columns.Part.{Part}
 use Rattle.weighing.specs.Columns.{pairsFrom}
 use Rattle.weighing.specs.Lines.{linePairs, Pairable}
+use Rattle.weighing.specs.Known.{Knows}
 
 -- The pages between two columns whose floats between, if there are some, are so high alone: pages of lines beside the floats and a
 -- separation, and the floats alone after any number of lines, from `first` on. Where they are too tall there are none.
@@ -45,6 +46,10 @@ pub record Between (g : Galley) (sums : List ℕ) (first floats : ℕ) : Type 0 
   pub separation : g .spec .smin ≤ 100000
   pub low : floats ≤ 60000000
   pub pairable : (beside : ℕ) → beside ≤ 1000000000 → Pairable sums (g .text .count) first beside (g .spec .htmax)
+
+-- What is known of the pairs of lines from `first` on.
+abbrev pub KnownOf : Galley → List ℕ → ℕ → List ℕ → Type 0
+KnownOf g sums first known = Knows sums known (g .text .count) first (g .spec .htmax)
 
 -- Nothing of a stream of floats, where as many are placed at a page's start as at its end; and one float more, the one before.
 abbrev pub nothing : ℕ → Part

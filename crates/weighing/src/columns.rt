@@ -7,7 +7,7 @@ ghost use Rattle.model.specs.Weighed.{weighedFrom};
 ghost use Rattle.galley.specs.Model.{modelOf};
 ghost use Rattle.blocks.specs.Counts.{placeOf};
 ghost use Rattle.window.specs.Sums.{Sums};
-ghost use Rattle.weighing.specs.Count.{pairsBetween, Weighable, Between, nothing, withOneMore, Extendable, CountableColumn, ColumnCounted};
+ghost use Rattle.weighing.specs.Count.{pairsBetween, Weighable, Between, nothing, withOneMore, Extendable, CountableColumn, ColumnCounted, KnownOf};
 use blocks::Counts;
 use blocks::heights::Heights;
 use galley::Galley;
@@ -44,9 +44,16 @@ fn with_one_more(s: &[u8], stream: Stream, part: Part, end: usize) -> Part
 
 // The pages from a column to another whose floats between are so high alone, none where that is too tall; without floats between, within
 // a column. They start at line `first` or past it.
-fn pairs_between(g: Galley, sums: &[u32], first: usize, floats: u32, some: bool) -> u64
-    requires { ⌜ Between g (now sums) first floats ⌝ }
-    ensures { λ r. ⌜ (r ≤ 16008001) × ((st : model.Stream) → Sums st (g .text .count) (now (sums .entry)) → r ≡ pairsBetween st g first floats some) ⌝ }
+fn pairs_between(
+    g: Galley,
+    sums: &[u32],
+    known: &mut [u32],
+    first: usize,
+    floats: u32,
+    some: bool,
+) -> u64
+    requires { ⌜ Between g (now sums) first floats × KnownOf g (now sums) first (now known) ⌝ }
+    ensures { λ r. ⌜ (r ≤ 16008001) × ((st : model.Stream) → Sums st (g .text .count) (now (sums .entry)) → r ≡ pairsBetween st g first floats some) × KnownOf g (now (sums .entry)) first (now (known .exit)) ⌝ }
 {
     if g.spec.htmax < floats {
         return 0;
@@ -56,16 +63,16 @@ fn pairs_between(g: Galley, sums: &[u32], first: usize, floats: u32, some: bool)
         let beside = floats + g.spec.smin;
         // The floats alone are a page after any number of lines.
         let alone = (lines - first) as u64 + 1;
-        return crate::lines::line_pairs(sums, lines, first, beside, g.spec.htmax) + alone;
+        return crate::known::pairs_beside(sums, known, lines, first, beside, g.spec.htmax) + alone;
     }
-    crate::lines::line_pairs(sums, lines, first, 0, g.spec.htmax)
+    crate::known::pairs_beside(sums, known, lines, first, 0, g.spec.htmax)
 }
 
 // The pages that end in column q, by the columns where they start, from its own back: a table more on the page each time, back to the
 // tables placed first or until the floats are too tall alone; then a figure more, and again no table.
-fn pairs_into(s: &[u8], g: Galley, sums: &[u32], first: Counts, q: usize) -> u64
-    requires { ⌜ CountableColumn (now s) g (now sums) first q ⌝ }
-    ensures { λ r. ⌜ ColumnCounted (now (s .entry)) g first q r ⌝ }
+fn pairs_into(s: &[u8], g: Galley, sums: &[u32], known: &mut [u32], first: Counts, q: usize) -> u64
+    requires { ⌜ CountableColumn (now s) g (now sums) first q × KnownOf g (now sums) (first .lines) (now known) ⌝ }
+    ensures { λ r. ⌜ ColumnCounted (now (s .entry)) g first q r × KnownOf g (now (sums .entry)) (first .lines) (now (known .exit)) ⌝ }
 {
     let end = candidates::read::counts_at(g, 0, q);
     if (end.figures < first.figures) | (end.tables < first.tables) {
@@ -85,7 +92,7 @@ fn pairs_into(s: &[u8], g: Galley, sums: &[u32], first: Counts, q: usize) -> u64
                 tables.heights,
                 figured & tabled,
             );
-            pairs += pairs_between(g, sums, first.lines, floats.tight, figured | tabled);
+            pairs += pairs_between(g, sums, known, first.lines, floats.tight, figured | tabled);
             let tall = g.spec.htmax < floats.tight;
             if tall | (tables.from <= first.tables) {
                 break tall & (end.tables <= tables.from);
@@ -100,15 +107,15 @@ fn pairs_into(s: &[u8], g: Galley, sums: &[u32], first: Counts, q: usize) -> u64
 }
 
 // All pages that start at or past what is placed first.
-pub fn all_pairs(s: &[u8], g: Galley, sums: &[u32], first: Counts) -> u64
-    requires { ⌜ Weighable (now s) g (now sums) first ⌝ }
+pub fn all_pairs(s: &[u8], g: Galley, sums: &[u32], known: &mut [u32], first: Counts) -> u64
+    requires { ⌜ Weighable (now s) g (now sums) first × KnownOf g (now sums) (first .lines) (now known) ⌝ }
     ensures { λ r. ⌜ r ≡ weighedFrom (modelOf (now (s .entry)) g) (placeOf g first) ⌝ }
 {
     let columns = candidates::read::columns_of(g);
     let mut pairs: u64 = 0;
     let mut q = 0;
     while q < columns {
-        pairs += pairs_into(s, g, sums, first, q);
+        pairs += pairs_into(s, g, sums, known, first, q);
         q += 1;
     }
     pairs
