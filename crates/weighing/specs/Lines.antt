@@ -34,12 +34,12 @@ pub record Pairable (sums : List ℕ) (lines first beside limit : ℕ) : Type 0 
   pub added : beside ≤ 1000000000
   pub limited : limit ≤ 1000000000
 
--- These are the pairs, and not too many.
-pub record Counts (sums : List ℕ) (m first beside limit pairs : ℕ) : Type 0 where
+-- So many are the pairs beside so much, and they are not too many for a word.
+pub record Pairs (sums : List ℕ) (m first beside limit pairs : ℕ) : Type 0 where
   pub few : pairs ≤ 16004000
   pub counted : (st : Stream) → Sums st m sums → pairs ≡ linePairs st first beside limit m
 
--- So are they, whatever stands beside the lines that the tally says.
+-- As many as the tally says are the pairs beside all that it covers, from its `from` on and before its `end`.
 pub record Same (sums : List ℕ) (m first limit : ℕ) (tally : Tally) : Type 0 where
   pub few : tally .pairs ≤ 16004000
   pub counted : (b : ℕ) → tally .from ≤ b → b < tally .end → (st : Stream) → Sums st m sums → tally .pairs ≡ linePairs st first b limit m
@@ -56,7 +56,7 @@ pub record Comparable (sums : List ℕ) (limit a i : ℕ) : Type 0 where
   pub last : bareAt sums 0 i ≤ 1000000000
   pub limited : limit ≤ 1000000000
 
--- So it can of a line and the one before it.
+-- So it can for every line up to i, `low` among them.
 pub record Compared (sums : List ℕ) (limit low i : ℕ) : Type 0 where
   pub few : i ≤ 4000
   pub within : low ≤ i

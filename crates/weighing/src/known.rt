@@ -7,7 +7,7 @@ ghost use mathlib.Core.Bool.{true};
 ghost use mathlib.Core.Path.{_≡_};
 ghost use Prim.Native.Nat.{_+_, _*_, _≤_, _<_};
 ghost use lib.ListN.{length, getD};
-ghost use Rattle.weighing.specs.Lines.{Pairable, Same, Counts};
+ghost use Rattle.weighing.specs.Lines.{Pairable, Same, Pairs};
 ghost use Rattle.weighing.specs.Known.{Covers, Knows};
 use crate::lines::Tally;
 
@@ -75,7 +75,7 @@ pub fn pairs_beside(
     limit: u32,
 ) -> u64
     requires { ⌜ Pairable (now sums) lines first beside limit × Knows (now sums) (now known) lines first limit ⌝ }
-    ensures { λ r. ⌜ Counts (now (sums .entry)) lines first beside limit r × Knows (now (sums .entry)) (now (known .exit)) lines first limit ⌝ }
+    ensures { λ r. ⌜ Pairs (now (sums .entry)) lines first beside limit r × Knows (now (sums .entry)) (now (known .exit)) lines first limit ⌝ }
 {
     let told = known_pairs(known, beside);
     let row = known[0];

@@ -2,7 +2,7 @@
 // falls, so that its width is what counts.
 ghost use mathlib.Core.Path.{_≡_};
 ghost use Prim.Native.Nat.{_-_, _≤_, _<_};
-ghost use Rattle.weighing.specs.Lines.{Pairable, tooMuch, Comparable, Compared, WithLine, Same, Counts};
+ghost use Rattle.weighing.specs.Lines.{Pairable, tooMuch, Comparable, Compared, WithLine, Same, Pairs};
 use window::sums::TIGHT;
 
 // So many pairs, and what else a page may have beside its lines for the same ones: from so much on and before so much.
@@ -106,7 +106,7 @@ pub fn line_pairs(
     end: u32,
 ) -> Tally
     requires { ⌜ Pairable (now sums) lines first beside limit ⌝ }
-    ensures { λ r. ⌜ Counts (now (sums .entry)) lines first beside limit (r .pairs) × Same (now (sums .entry)) lines first limit r ⌝ }
+    ensures { λ r. ⌜ Pairs (now (sums .entry)) lines first beside limit (r .pairs) × Same (now (sums .entry)) lines first limit r ⌝ }
 {
     let mut tally = Tally {
         pairs: 0,

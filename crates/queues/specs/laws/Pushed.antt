@@ -3,7 +3,6 @@ use Prim.Native.Nat.{ℕ, suc, _+_, _-_, _*_, _≤_, _<_}
 use native.Mathlib.Decide.{decLe}
 use native.Mathlib.Omega.{arith}
 use mathlib.Core.Path.{_≡_, ap, _∙_}
-use mathlib.Core.Logic.{inl, inr}
 use mathlib.Core.List.{List}
 use lib.ListN.{length, getD}
 use Rattle.places.specs.declared.Entry.{Entry}
@@ -11,34 +10,18 @@ use Rattle.places.specs.Entry.{lowOf, highOf}
 use Rattle.places.specs.Best.{Paid}
 use Rattle.places.specs.laws.Stored.{cost-joined}
 use Rattle.queues.specs.declared.queue.Queue.{Queue}
-use Rattle.window.specs.laws.Rows.{pushed-word, pushed-own}
+use Rattle.window.specs.laws.Rows.{pushed-other, pushed-own}
 use Rattle.queues.specs.Queue.{lineAt, costAt, queued, tailed, Cover, Held, Dropped}
 
 -- A line and its cost pushed as entry t.
 module _ (words : List ℕ) (t line cost : ℕ) where
-  other-entry : (k n : ℕ) → ¬ (k ≡ t) → 3 * k ≤ n → n < 3 * k + 3 → getD (queued words t line cost) n 0 ≡ getD words n 0
-  other-entry k n h l m = go (decLe (suc k) t)
-    where
-      go : Dec (suc k ≤ t) → getD (queued words t line cost) n 0 ≡ getD words n 0
-      go (yes p) = pushed-word words t line (lowOf cost) (highOf cost) n (inl (omega arith))
-      go (no p) =
-          let past : t < k = past-it p in
-          pushed-word words t line (lowOf cost) (highOf cost) n (inr (omega arith))
-        where
-          past-it : ¬ (suc k ≤ t) → t < k
-          past-it p = go′ (decLe (suc t) k)
-            where
-              go′ : Dec (suc t ≤ k) → t < k
-              go′ (yes q) = q
-              go′ (no q) = absurd (h (omega arith))
-
   pub other-line : (k : ℕ) → ¬ (k ≡ t) → lineAt (queued words t line cost) k ≡ lineAt words k
-  other-line k h = other-entry k (3 * k) h (omega arith) (omega arith)
+  other-line k h = pushed-other words t line (lowOf cost) (highOf cost) k (3 * k) h (omega arith) (omega arith)
 
   pub other-cost : (k : ℕ) → ¬ (k ≡ t) → costAt (queued words t line cost) k ≡ costAt words k
   other-cost k h =
-      let low = other-entry k (3 * k + 1) h (omega arith) (omega arith) in
-      let high = other-entry k (3 * k + 2) h (omega arith) (omega arith) in
+      let low = pushed-other words t line (lowOf cost) (highOf cost) k (3 * k + 1) h (omega arith) (omega arith) in
+      let high = pushed-other words t line (lowOf cost) (highOf cost) k (3 * k + 2) h (omega arith) (omega arith) in
       omega arith
 
   pub pushed-own-line : 3 * t + 3 ≤ length words → lineAt (queued words t line cost) t ≡ line

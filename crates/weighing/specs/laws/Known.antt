@@ -1,17 +1,17 @@
 -- Rows of counts that are known: none at first, and those that are written.
 use Prim.Native.Nat.{ℕ, _+_, _*_, _≤_, _<_}
-use native.Mathlib.Decide.{decLt, ℕ-discrete}
+use native.Mathlib.Decide.{ℕ-discrete}
 use native.Mathlib.Omega.{arith}
 use mathlib.Core.Path.{_≡_, sym, _∙_, ap}
-use mathlib.Core.Logic.{inl, inr}
+use mathlib.Core.Logic.{inr}
 use mathlib.Core.List.{List, [], _∷_}
 use lib.ListN.{getD, replicate, length-replicate, getD-replicate}
 use Rattle.model.specs.Galley.{Stream}
 use Rattle.window.specs.Rows.{pushed}
-use Rattle.window.specs.laws.Rows.{pushed-length, pushed-word, pushed-own}
+use Rattle.window.specs.laws.Rows.{pushed-length, pushed-word, pushed-other, pushed-own}
 use Rattle.window.specs.Sums.{Sums}
 use Rattle.weighing.specs.declared.lines.Tally.{Tally}
-use Rattle.weighing.specs.Lines.{linePairs, Counts, Same}
+use Rattle.weighing.specs.Lines.{linePairs, Pairs, Same}
 use Rattle.weighing.specs.Known.{Covers, Knows}
 
 -- Words that are all zeros say nothing.
@@ -28,7 +28,7 @@ knows-none sums m first limit =
 
 -- A row that covers what stands beside the lines has the count of their pairs.
 pub known-counts : {sums known : List ℕ} {m first limit beside r : ℕ} → Knows sums known m first limit → Covers known beside r
-    → Counts sums m first beside limit r
+    → Pairs sums m first beside limit r
 known-counts {beside = beside} knows covers =
     record {
       few = omega (arith, knows .few (covers .at) (covers .some) (covers .inside), covers .pairs);
@@ -58,18 +58,7 @@ module _ {sums known : List ℕ} {m first limit : ℕ} (knows : Knows sums known
     after = pushed known at (tally .from) (tally .end) (tally .pairs)
 
     other : (k d : ℕ) → ¬ (k ≡ at) → d < 3 → getD after (3 * k + d) 0 ≡ getD known (3 * k + d) 0
-    other k d apart l = go (decLt k at)
-      where
-        go : Dec (k < at) → getD after (3 * k + d) 0 ≡ getD known (3 * k + d) 0
-        go (yes h) = pushed-word known at (tally .from) (tally .end) (tally .pairs) (3 * k + d) (inl (omega arith))
-        go (no h) = pushed-word known at (tally .from) (tally .end) (tally .pairs) (3 * k + d) (inr (omega (arith, past h)))
-          where
-            past : ¬ (k < at) → at < k
-            past h = go′ (decLt at k)
-              where
-                go′ : Dec (at < k) → at < k
-                go′ (yes p) = p
-                go′ (no p) = absurd (apart (omega arith))
+    other k d apart l = pushed-other known at (tally .from) (tally .end) (tally .pairs) k (3 * k + d) apart (omega arith) (omega arith)
 
     abbrev row : List ℕ
     row = tally .from ∷ tally .end ∷ tally .pairs ∷ []

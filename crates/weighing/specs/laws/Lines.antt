@@ -18,7 +18,7 @@ use Rattle.window.specs.Slide.{FirstBelow, Reaches}
 use Rattle.window.specs.laws.Sums.{reach-grows}
 use Rattle.window.specs.laws.Slide.{end-passes-from, end-opens}
 use Rattle.weighing.specs.declared.lines.Tally.{Tally}
-use Rattle.weighing.specs.Lines.{linesFit, pairsTo, linePairs, Counts, Same, WithLine, Counted, Counting, Tallied}
+use Rattle.weighing.specs.Lines.{linesFit, pairsTo, linePairs, Pairs, Same, Comparable, Compared, WithLine, Counted, Counting, Tallied}
 use Rattle.weighing.specs.laws.Pairs.{below-past}
 
 module _ (sums : List ℕ) (first beside limit m : ℕ) where
@@ -114,6 +114,17 @@ module _ (sums : List ℕ) (first beside limit m : ℕ) where
   counted-end {low} {i} {pairs} st c e =
       c .counted ∙ ap (λ n. below n (pairsTo st first beside limit m)) e ∙ sym (total-below m (pairsTo st first beside limit m))
 
+-- How much is too much beside a page from any line up to i can be told.
+pub compared-from : {sums : List ℕ} {limit low i : ℕ} → Compared sums limit low i → (a : ℕ) → a ≤ i → Comparable sums limit a i
+compared-from {i = i} c a l =
+    record {
+      start = omega (arith, c .room);
+      end = c .room;
+      first = c .small a l .0;
+      last = c .small i (le-refl i) .1;
+      limited = c .limited;
+    }
+
 -- What else may stand beside the lines.
 module _ (sums : List ℕ) (first beside limit m : ℕ) where
   -- Before the first line, anything.
@@ -159,7 +170,7 @@ module _ (sums : List ℕ) (first beside limit m : ℕ) where
 
   -- After the last line all pairs are counted.
   pub tallied-end : {low i : ℕ} {tally : Tally} → Tallied sums first beside limit m low i tally → m < i → m ≤ 4000
-      → Counts sums m first beside limit (tally .pairs) × Same sums m first limit tally
+      → Pairs sums m first beside limit (tally .pairs) × Same sums m first limit tally
   tallied-end {low} {i} {tally} t over few =
       let e : i ≡ suc m = omega (arith, t .counting .within) in
       let low-enough : tally .pairs ≤ 16004000 = omega (arith, t .counting .few) in (

@@ -1,5 +1,6 @@
 -- A row written: its own words, and those of the others.
 use Prim.Native.Nat.{ℕ, _+_, _*_, _≤_, _<_}
+use native.Mathlib.Decide.{decLt}
 use native.Mathlib.Omega.{arith}
 use mathlib.Core.Path.{_≡_, refl, _∙_}
 use mathlib.Core.Logic.{_⊎_, inl, inr}
@@ -9,7 +10,7 @@ use lib.Seq.{length-sets}
 use Rattle.places.specs.laws.Stored.{sets-out, sets-in}
 use Rattle.window.specs.Rows.{pushed, Beside}
 
--- The words after a push: those of the entry itself, and those of the others.
+-- The words after a row is written: its own, and those of the others.
 module _ (words : List ℕ) (t first second third : ℕ) where
   pub pushed-length : length (pushed words t first second third) ≡ length words
   unfolding pushed
@@ -24,7 +25,16 @@ module _ (words : List ℕ) (t first second third : ℕ) where
   unfolding pushed
   pushed-own d l room = sets-in (first ∷ second ∷ third ∷ []) words (3 * t) d l room
 
-  -- Entries other than the one pushed are as they were.
+  -- So are the words of another row.
+  pub pushed-other : (k n : ℕ) → ¬ (k ≡ t) → 3 * k ≤ n → n < 3 * k + 3 → getD (pushed words t first second third) n 0 ≡ getD words n 0
+  pushed-other k n apart l m = go (decLt k t) (decLt t k)
+    where
+      go : Dec (k < t) → Dec (t < k) → getD (pushed words t first second third) n 0 ≡ getD words n 0
+      go (yes p) q = pushed-word n (inl (omega arith))
+      go (no p) (yes q) = pushed-word n (inr (omega arith))
+      go (no p) (no q) = absurd (apart (omega arith))
+
+  -- Rows other than the one written are as they were.
   pub pushed-beside : {old : List ℕ} {from to : ℕ} → from ≤ t → t < to → Beside old words from to
       → Beside old (pushed words t first second third) from to
   pushed-beside {old} {from} {to} l m h = record { words = λ n p. pushed-word n (apart n p) ∙ h .words n p }
