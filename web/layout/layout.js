@@ -1,0 +1,136 @@
+// Positions, and nothing but positions: the size of a column, the items of a page, the lanes of floats that wait.
+
+/**
+ * @typedef {import('../galley/galley.js').Galley} Galley
+ * @typedef {import('../galley/measure.js').Measured} Measured
+ * @typedef {import('../galley/measure.js').Page} Page
+ * @typedef {import('../galley/measure.js').Float} Float
+ * @typedef {object} Size
+ * @property {boolean} small @property {boolean} two @property {number} f
+ * @property {number} H height of htMax @property {number} PW width of the text block
+ * @property {number} out outer margin @property {number} gut gutter @property {number} sheet inset of the paper
+ * @property {number} lane pitch @property {number} top @property {number} foot @property {number} headroom @property {number} most lanes before bundling
+ * @property {number} text baseline of the page's foot @property {number} w width of a column @property {number} scale @property {number} over most that is drawn past htMax
+ * @property {(folio: number) => number} x left edge of a page's text block
+ * @typedef {{s: number, k: number, y: number, h: number}} Item
+ * @typedef {{F: Float, back: boolean, p: Page, e: Page, i0: number, i1: number, x0: number, x1: number, lane: number, bundle: boolean, cx: number, ex: number}} Arc
+ * @typedef {{arcs: Arc[], lanes: number, over: Map<number, Arc[]>}} Lanes
+ */
+
+/** @param {Galley} g @param {Partial<Size>} sizes @returns {Size} */
+function size(g, sizes) {
+  const Z = /** @type {Size} */ ({ over: 0, f: 1, text: 13, two: g.sides === 2, small: false, ...sizes });
+  Z.w = 2 * Z.out + (Z.two ? 2 * Z.PW + Z.gut : Z.PW + (Z.small ? 0 : 8));
+  Z.scale = Z.H / g.htMax;
+  Z.x = (folio) => !Z.two || folio % 2 === 0 ? Z.out : Z.out + Z.PW + Z.gut;
+  return Z;
+}
+
+/** The reel. @param {Galley} g */
+export const detail = (g) => size(g, { H: 200, PW: 126, out: 24, gut: 36, sheet: 5, lane: 11, top: 9, foot: 19, headroom: 6, most: 7 });
+
+/** The overview; f grows it where there are few leaves. @param {Galley} g @param {number} leaves @param {number} [greatest] */
+export function overview(g, leaves, greatest = 2.4) {
+  const f = Math.min(greatest, Math.max(1, (g.sides === 2 ? 36 : 63) / leaves)), r = Math.sqrt(f);
+  return size(g, { small: true, f, H: 20 * f, PW: 13 * f, out: 4 * f, gut: 3 * f, sheet: 1.5 * f, lane: 3.2 * r, top: 2 * f, foot: 2 * f, headroom: 3 * r, most: 9 });
+}
+
+/** The desk's strip: the page as high as it may be, the rest in proportion. @param {Galley} g @param {number} H @param {number} PW */
+export const strip = (g, H, PW) => size(g, { H, PW, out: 26, gut: 40, sheet: 5, lane: 13, top: 11, foot: 31, text: 24, headroom: 6, most: 7, over: 20 });
+
+/**
+ * The items of a page: figures at the head, lines, tables at the foot; spaces as wide as it takes to reach htMax.
+ * @param {Galley} g @param {Page} P @param {Size} Z @returns {{items: Item[], foot: number}}
+ */
+export function setPage(g, P, Z) {
+  const goal = P.last ? P.least : g.htMax;
+  const r = P.l > P.t ? Math.min(1, Math.max(0, (goal - P.t) / (P.l - P.t))) : goal > P.t ? 1 : 0;
+  const items = [];
+  let y = 0, any = false;
+  for (const s of [1, 0, 2]) {
+    const a = P.a[s], b = P.b[s];
+    if (b <= a) continue;
+    if (any) y += g.sMin + r * (g.sMax - g.sMin);
+    any = true;
+    for (let k = a; k < b; k++) {
+      const item = g.streams[s][k];
+      items.push({ s, k: k + 1, y: y * Z.scale, h: item.h * Z.scale });
+      y += item.h;
+      if (k < b - 1) y += item.least + r * (item.most - item.least);
+    }
+  }
+  return { items, foot: y * Z.scale };
+}
+
+/**
+ * Every float that waits, with its lane and the channels in which it rises and drops. The one cited first has the upper lane.
+ * @param {Measured} L @param {Size} Z @returns {Lanes}
+ */
+export function lanes(L, Z) {
+  /** @type {Arc[]} */ const arcs = [];
+  for (const F of L.floats) {
+    if (!F.turns) continue;
+    const back = F.turns < 0, p = back ? F.fp : F.cp, e = back ? F.cp : F.fp;
+    arcs.push({ F, back, p, e, i0: p.leaf, i1: e.leaf, x0: p.leaf + (Z.x(p.folio) + Z.PW) / Z.w, x1: e.leaf + Z.x(e.folio) / Z.w, lane: 0, bundle: false, cx: 0, ex: 0 });
+  }
+  arcs.sort((A, B) => A.x0 - B.x0 || A.F.cite - B.F.cite || A.F.s - B.F.s || A.F.k - B.F.k);
+  const apart = 0.2, groups = [];
+  let reach = -Infinity;
+  for (const A of arcs) {
+    if (A.x0 > reach + apart) { groups.push([]); reach = A.x1; }
+    groups[groups.length - 1].push(A);
+    reach = Math.max(reach, A.x1);
+  }
+  let used = 0;
+  for (const group of groups) {
+    let open = [], n = 0;
+    for (const A of group) { open = open.filter((e) => e + apart > A.x0); open.push(A.x1); n = Math.max(n, open.length); }
+    const busy = new Array(n).fill(-1);
+    let at = n - 1;
+    for (const A of group) {
+      A.lane = n - 1;
+      for (let step = 0; step < n; step++) {
+        const c = (at - step + n) % n;
+        if (busy[c] < 0 || busy[c] + apart <= A.x0) { A.lane = c; busy[c] = A.x1; at = (c - 1 + n) % n; break; }
+      }
+    }
+    used = Math.max(used, n);
+  }
+  for (const A of arcs) if (A.lane >= Z.most) { A.bundle = true; A.lane = Z.most; }
+  channels(arcs, (A) => A.p.q, (A) => A.F.cite, (A, x) => { A.cx = x; });
+  channels(arcs, (A) => A.e.q, (A) => A.F.s * 1000 + A.F.k, (A, x) => { A.ex = x; });
+  const over = new Map();
+  for (const A of arcs) for (let i = A.i0; i <= A.i1; i++) { const v = over.get(i); if (v) v.push(A); else over.set(i, [A]); }
+  return { arcs, lanes: Math.min(used, Z.most + 1), over };
+}
+
+/** The upper item of a page has the inner channel. */
+function channels(arcs, page, key, put) {
+  const by = new Map();
+  for (const A of arcs) { const v = by.get(page(A)); if (v) v.push(A); else by.set(page(A), [A]); }
+  for (const group of by.values()) {
+    const keys = [...new Set(group.map(key))].sort((a, b) => a - b), gap = Math.min(3.2, 10 / keys.length);
+    for (const A of group) put(A, 3.4 + gap * keys.indexOf(key(A)));
+  }
+}
+
+/** Heights of one staff, from top to bottom. @param {Size} Z @param {number} lanes @param {boolean} anyBad @param {boolean} anyOver */
+export function staffHeights(Z, lanes, anyBad, anyOver) {
+  const sheet = lanes * Z.lane + Z.headroom, y0 = sheet + Z.top, over = anyOver ? Z.over : 0;
+  return { sheet, y0, paper: Z.top + Z.H + Z.foot, total: y0 + Z.H + over + Z.foot + (anyBad && !Z.small ? 12 : 0), over };
+}
+
+/** A polyline with round corners, as a path. @param {number[][]} points @param {number} r */
+export function rounded(points, r) {
+  let d = `M${n(points[0][0])} ${n(points[0][1])}`;
+  for (let k = 1; k < points.length - 1; k++) {
+    const [x0, y0] = points[k - 1], [x, y] = points[k], [x1, y1] = points[k + 1];
+    const q = Math.min(r, (Math.abs(x - x0) + Math.abs(y - y0)) / 2, (Math.abs(x1 - x) + Math.abs(y1 - y)) / 2);
+    d += `L${n(x - Math.sign(x - x0) * q)} ${n(y - Math.sign(y - y0) * q)}Q${n(x)} ${n(y)} ${n(x + Math.sign(x1 - x) * q)} ${n(y + Math.sign(y1 - y) * q)}`;
+  }
+  const [x, y] = points[points.length - 1];
+  return `${d}L${n(x)} ${n(y)}`;
+}
+
+/** A coordinate: one decimal at most. @param {number} x */
+export const n = (x) => String(Math.round(x * 10) / 10);
