@@ -13,6 +13,7 @@ use Rattle.desk.specs.declared.Desk.{Desk}
 use Rattle.layouts.specs.declared.Layout.{Layout}
 use Rattle.desk.specs.declared.Told.{Told}
 use Rattle.desk.specs.declared.Done.{Done}
+use Rattle.desk.specs.Sitting.{Perhaps, None, Some}
 use Rattle.desk.specs.Pages.{wordsOn, isInner, withEnd}
 
 -- A page and its new end are pending, in place of what was.
@@ -46,6 +47,10 @@ askDesk bytes page end d =
     pick (isInner d page)
     (askMarked d page end (markOf bytes (altered d page end)))
     (askOff d page)
+
+-- What is pending, as the words say: the list in force with the end that was asked about.
+unfoldable pub pendingOn : Desk → Perhaps
+pendingOn d = pick (isInner d (d .page)) (Some (altered d (d .page) (d .end))) None
 
 -- Another list of as many pages is in force, and none is pending.
 abbrev pub putIn : Desk → List ℕ → Desk

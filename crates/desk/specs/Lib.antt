@@ -1,9 +1,11 @@
--- The desk, in the order of reading: its list, what each call leaves and answers, and the laws.
+-- The desk, in the order of reading: the calls, a sitting by these alone, a desk's list, what each call leaves and answers, and the laws.
+pub mod Calls
+pub mod Sitting
 pub mod Pages
 pub mod Opening
 pub mod Desk
 pub mod Layouts
 pub mod Held
-pub mod Calls
+pub mod After
 pub mod laws
 pub mod Promised

@@ -14,7 +14,8 @@ use Rattle.model.specs.laws.Gather.{and-left, and-right}
 use Rattle.model.specs.laws.Valid.{same-true, same-refl}
 use Rattle.layouts.specs.declared.Layout.{Layout}
 use Rattle.layouts.specs.Names.{isName, isNamed, findNamed, roomFor, padded, layoutOf, noLayout, freed}
-use Rattle.desk.specs.Held.{Unheld, Held, heldIn}
+use Rattle.desk.specs.Sitting.{None, Some}
+use Rattle.desk.specs.Held.{heldIn}
 use Rattle.layouts.specs.laws.Names.{name-some}
 
 -- One of two is not the other.
@@ -35,7 +36,7 @@ named-one v a b h k =
     let eb = same-true (take (length b) (v .name)) b (and-right (eqb (v .len) (length b)) (same (take (length b) (v .name)) b) k) in
     sym ea ∙ ap (λ (n : ℕ). take n (v .name)) (sym la ∙ lb) ∙ eb
 
-other-name : (v : Layout) (a b : List ℕ) → isNamed v a ≡ true → same a b ≡ false → isNamed v b ≡ false
+pub other-name : (v : Layout) (a b : List ℕ) → isNamed v a ≡ true → same a b ≡ false → isNamed v b ≡ false
 other-name v a b h differ =
     false-of (isNamed v b) (λ k. apart (same a b) (subst (λ (n : List ℕ). same a n ≡ true) (named-one v a b h k) (same-refl a)) differ)
 
@@ -47,7 +48,7 @@ free-unnamed v n proper none =
     rw (ne-eqb (v .len) (length n) (λ e. omega arith))
 
 -- A list kept under a name is under that name alone.
-kept-named : (name list n : List ℕ) → isNamed (layoutOf name list) n ≡ same name n
+pub kept-named : (name list n : List ℕ) → isNamed (layoutOf name list) n ≡ same name n
 unfolding isNamed padded
 kept-named name list n = go (eqb (length name) (length n)) refl
   where
@@ -59,7 +60,7 @@ kept-named name list n = go (eqb (length name) (length n)) refl
 -- ---- by numbers
 module _ (name : List ℕ) where
   -- What is found is under the name, and is what is held.
-  found-named : (vs : List Layout) → findNamed vs name < length vs → isNamed (getD vs (findNamed vs name) noLayout) name ≡ true
+  pub found-named : (vs : List Layout) → findNamed vs name < length vs → isNamed (getD vs (findNamed vs name) noLayout) name ≡ true
   unfolding findNamed
   found-named [] low = absurd (omega arith)
   found-named (v ∷ vs) low = go (isNamed v name) refl low (found-named vs)
@@ -70,27 +71,27 @@ module _ (name : List ℕ) where
       go true e l after = e
       go false e l after = after (omega arith)
 
-  pub found-held : (vs : List Layout) → findNamed vs name < length vs → heldIn vs name ≡ Held (getD vs (findNamed vs name) noLayout .list)
+  pub found-held : (vs : List Layout) → findNamed vs name < length vs → heldIn vs name ≡ Some (getD vs (findNamed vs name) noLayout .list)
   unfolding findNamed heldIn
   found-held [] low = absurd (omega arith)
   found-held (v ∷ vs) low = go (isNamed v name) low (found-held vs)
     where
       go : (b : Bool) → pick b 0 (suc (findNamed vs name)) < suc (length vs)
-          → (findNamed vs name < length vs → heldIn vs name ≡ Held (getD vs (findNamed vs name) noLayout .list))
-          → pick b (Held (v .list)) (heldIn vs name) ≡ Held (getD (v ∷ vs) (pick b 0 (suc (findNamed vs name))) noLayout .list)
+          → (findNamed vs name < length vs → heldIn vs name ≡ Some (getD vs (findNamed vs name) noLayout .list))
+          → pick b (Some (v .list)) (heldIn vs name) ≡ Some (getD (v ∷ vs) (pick b 0 (suc (findNamed vs name))) noLayout .list)
       go true l after = refl
       go false l after = after (omega arith)
 
   -- A layout stored where none before it is under its name is held under it,
   held-here : (vs : List Layout) (k : ℕ) (w : Layout) → isNamed w name ≡ true → k < length vs → k ≤ findNamed vs name
-      → heldIn (set vs k w) name ≡ Held (w .list)
+      → heldIn (set vs k w) name ≡ Some (w .list)
   unfolding findNamed heldIn
   held-here [] k w h low first = absurd (omega arith)
   held-here (v ∷ vs) zero w h low first = rw h
   held-here (v ∷ vs) (suc k) w h low first = go (isNamed v name) first (held-here vs k w h (omega arith))
     where
-      go : (b : Bool) → suc k ≤ pick b 0 (suc (findNamed vs name)) → (k ≤ findNamed vs name → heldIn (set vs k w) name ≡ Held (w .list))
-          → pick b (Held (v .list)) (heldIn (set vs k w) name) ≡ Held (w .list)
+      go : (b : Bool) → suc k ≤ pick b 0 (suc (findNamed vs name)) → (k ≤ findNamed vs name → heldIn (set vs k w) name ≡ Some (w .list))
+          → pick b (Some (v .list)) (heldIn (set vs k w) name) ≡ Some (w .list)
       go true l after = absurd (omega arith)
       go false l after = after (omega arith)
 
@@ -100,20 +101,25 @@ module _ (name : List ℕ) where
   unfolding heldIn
   held-other [] k w h was = refl
   held-other (v ∷ vs) zero w h was = rw (h, was)
-  held-other (v ∷ vs) (suc k) w h was = ap (pick (isNamed v name) (Held (v .list))) (held-other vs k w h was)
+  held-other (v ∷ vs) (suc k) w h was = ap (pick (isNamed v name) (Some (v .list))) (held-other vs k w h was)
 
 -- No name has no bytes.
-none-same : (n : List ℕ) → isName n ≡ true → same [] n ≡ false
+pub none-same : (n : List ℕ) → isName n ≡ true → same [] n ≡ false
 unfolding same
 none-same [] proper = let some = name-some [] proper in absurd (omega arith)
 none-same (x ∷ n) proper = refl
 
+pub same-none : (n : List ℕ) → isName n ≡ true → same n [] ≡ false
+unfolding same
+same-none [] proper = let some = name-some [] proper in absurd (omega arith)
+same-none (x ∷ n) proper = refl
+
 -- A layout is freed where it is under the name, and stays as it is elsewhere.
-freed-hit : (name : List ℕ) (v : Layout) → isNamed v name ≡ true → freed name v ≡ record { len = 0; name = v .name; list = v .list }
+pub freed-hit : (name : List ℕ) (v : Layout) → isNamed v name ≡ true → freed name v ≡ record { len = 0; name = v .name; list = v .list }
 unfolding freed
 freed-hit name v h = rw h
 
-freed-miss : (name : List ℕ) (v : Layout) → isNamed v name ≡ false → freed name v ≡ v
+pub freed-miss : (name : List ℕ) (v : Layout) → isNamed v name ≡ false → freed name v ≡ v
 unfolding freed
 freed-miss name v h = rw h
 
@@ -123,7 +129,7 @@ pub record Room (vs : List Layout) (name : List ℕ) (k : ℕ) : Type 0 where
   pub first : k ≤ findNamed vs name
   pub was : (n : List ℕ) → isName n ≡ true → same name n ≡ false → isNamed (getD vs k noLayout) n ≡ false
 
-room-is : (vs : List Layout) (name : List ℕ) → roomFor vs name < length vs → Room vs name (roomFor vs name)
+pub room-is : (vs : List Layout) (name : List ℕ) → roomFor vs name < length vs → Room vs name (roomFor vs name)
 unfolding roomFor
 room-is vs name = go (ltb (findNamed vs name) (length vs)) refl
   where
@@ -143,34 +149,50 @@ room-is vs name = go (ltb (findNamed vs name) (length vs)) refl
 
 -- Saving keeps the list under the name, and what is held under any other.
 pub save-held : (vs : List Layout) (name list n : List ℕ) → isName n ≡ true → roomFor vs name < length vs
-    → heldIn (set vs (roomFor vs name) (layoutOf name list)) n ≡ pick (same name n) (Held list) (heldIn vs n)
+    → heldIn (set vs (roomFor vs name) (layoutOf name list)) n ≡ pick (same name n) (Some list) (heldIn vs n)
 save-held vs name list n proper low = go (same name n) refl
   where
-    go : (b : Bool) → same name n ≡ b → heldIn (set vs (roomFor vs name) (layoutOf name list)) n ≡ pick b (Held list) (heldIn vs n)
+    go : (b : Bool) → same name n ≡ b → heldIn (set vs (roomFor vs name) (layoutOf name list)) n ≡ pick b (Some list) (heldIn vs n)
     go true e =
-        subst (λ (m : List ℕ). heldIn (set vs (roomFor vs name) (layoutOf name list)) m ≡ Held list) (same-true name n e)
+        subst (λ (m : List ℕ). heldIn (set vs (roomFor vs name) (layoutOf name list)) m ≡ Some list) (same-true name n e)
         (held-here name vs (roomFor vs name) (layoutOf name list) (kept-named name list name ∙ same-refl name) low (room-is vs name low .first))
     go false e =
         held-other n vs (roomFor vs name) (layoutOf name list) (kept-named name list n ∙ e) (room-is vs name low .was n proper e)
 
+-- A layout that is freed of a name is under the other names that it was under, and keeps its list.
+pub freed-named : (name : List ℕ) (v : Layout) (n : List ℕ) → isName n ≡ true → isNamed (freed name v) n ≡ pick (same name n) false (isNamed v n)
+freed-named name v n proper = go (isNamed v name) (same name n) refl refl
+  where
+    free : Layout
+    free = record { len = 0; name = v .name; list = v .list }
+
+    go : (a b : Bool) → isNamed v name ≡ a → same name n ≡ b → isNamed (freed name v) n ≡ pick b false (isNamed v n)
+    go true true e f = rw (freed-hit name v e) (free-unnamed free n proper refl)
+    go true false e f = rw (freed-hit name v e) (free-unnamed free n proper refl ∙ sym (other-name v name n e f))
+    go false true e f = rw (freed-miss name v e) (subst (λ (m : List ℕ). isNamed v m ≡ false) (same-true name n f) e)
+    go false false e f = rw (freed-miss name v e)
+
+freed-list : (name : List ℕ) (v : Layout) → freed name v .list ≡ v .list
+unfolding freed
+freed-list name v = go (isNamed v name)
+  where
+    go : (b : Bool) → pick b (record { len = 0; name = v .name; list = v .list }) v .list ≡ v .list
+    go true = refl
+    go false = refl
+
 -- Dropping leaves nothing under the name, and what is held under any other.
 pub drop-held : (vs : List Layout) (name n : List ℕ) → isName n ≡ true
-    → heldIn (map (freed name) vs) n ≡ pick (same name n) Unheld (heldIn vs n)
+    → heldIn (map (freed name) vs) n ≡ pick (same name n) None (heldIn vs n)
 unfolding heldIn
 drop-held [] name n proper = go (same name n)
   where
-    go : (b : Bool) → Unheld ≡ pick b Unheld Unheld
+    go : (b : Bool) → None ≡ pick b None None
     go true = refl
     go false = refl
-drop-held (v ∷ vs) name n proper = go (isNamed v name) (same name n) refl refl (drop-held vs name n proper)
+drop-held (v ∷ vs) name n proper =
+    rw (freed-named name v n proper, freed-list name v, drop-held vs name n proper) (go (same name n))
   where
-    go : (a b : Bool) → isNamed v name ≡ a → same name n ≡ b → heldIn (map (freed name) vs) n ≡ pick b Unheld (heldIn vs n)
-        → pick (isNamed (freed name v) n) (Held (freed name v .list)) (heldIn (map (freed name) vs) n)
-        ≡ pick b Unheld (pick (isNamed v n) (Held (v .list)) (heldIn vs n))
-    go true true e f rest =
-        rw (freed-hit name v e, free-unnamed (record { len = 0; name = v .name; list = v .list }) n proper refl) rest
-    go true false e f rest =
-        rw (freed-hit name v e, free-unnamed (record { len = 0; name = v .name; list = v .list }) n proper refl, other-name v name n e f) rest
-    go false true e f rest =
-        rw (freed-miss name v e, subst (λ (m : List ℕ). isNamed v m ≡ false) (same-true name n f) e) rest
-    go false false e f rest = rw (freed-miss name v e) (ap (pick (isNamed v n) (Held (v .list))) rest)
+    go : (b : Bool) → pick (pick b false (isNamed v n)) (Some (v .list)) (pick b None (heldIn vs n))
+        ≡ pick b None (pick (isNamed v n) (Some (v .list)) (heldIn vs n))
+    go true = refl
+    go false = refl

@@ -9,7 +9,7 @@ use lib.ListN.{length}
 use borrow.Author.Tests.{eqb-true, eqb-false, leb-true}
 use Rattle.model.specs.Galley as model
 use Rattle.model.specs.Gather.{pick}
-use Rattle.model.specs.Answers.{numbersOf, accepted, pagesOf, countsOf, marked}
+use Rattle.model.specs.Answers.{numbersOf, accepted, countsOf, marked}
 use Rattle.model.specs.laws.Gather.{and-left, and-right}
 use Rattle.model.specs.laws.Words.{counted-at, length-pages}
 use Rattle.model.specs.laws.Valid.{marked-accepted, marked-counts}
@@ -28,15 +28,15 @@ pub data Whole (list : List ℕ) (pages : ℕ) : Type 0 where
   twos : length list ≡ pages * 2 → Whole list pages
   threes : length list ≡ pages * 3 → Whole list pages
 
+-- The pages of a list that the marking accepts are as many as its words make.
+pub marked-pages : (M : model.Galley) (list : List ℕ) → accepted (marked M list) ≡ true
+    → numbersOf (marked M list) .pages ≡ length list / model.streams M
+unfolding countsOf
+marked-pages M list h = rw (marked-counts M list h) (length-pages M list)
+
 marked-long : (M : model.Galley) (list : List ℕ) → accepted (marked M list) ≡ true
     → length list ≡ numbersOf (marked M list) .pages * model.streams M
-unfolding countsOf
-marked-long M list h =
-    let whole = counted-at M list (marked-accepted M list .0 h .whole) .whole in
-    rw (marked-counts M list h) (whole ∙ ap (λ (n : ℕ). n * model.streams M) (sym-length M list))
-  where
-    sym-length : (M : model.Galley) (list : List ℕ) → length list / model.streams M ≡ length (pagesOf M list)
-    sym-length M list = let e = length-pages M list in omega (arith, e)
+marked-long M list h = rw (marked-pages M list h) (counted-at M list (marked-accepted M list .0 h .whole) .whole)
 
 -- A list that the marking accepts has whole pages, as many as it answers.
 pub accepted-whole : (bytes list : List ℕ) → accepted (markOf bytes list) ≡ true → Whole list (numbersOf (markOf bytes list) .pages)
@@ -85,6 +85,17 @@ module _ (list : List ℕ) (pages : ℕ) where
       go true e w = let is = eqb-true (length list) (2 * pages) e in omega arith
       go false e (twos t) = let differ = eqb-false (length list) (2 * pages) e in absurd (differ (omega arith))
       go false e (threes t) = t
+
+-- Where there is a page, they are the words that a list of so many words has for each.
+pub width-is : (words pages : ℕ) (b : Bool) → 1 ≤ pages → words ≡ pages * pick b 2 3 → widthOf words pages ≡ pick b 2 3
+unfolding widthOf
+width-is words pages b some e = go (eqb words (2 * pages)) b refl e
+  where
+    go : (a b : Bool) → eqb words (2 * pages) ≡ a → words ≡ pages * pick b 2 3 → _≡_ {A = ℕ} (pick a 2 3) (pick b 2 3)
+    go true true t e = refl
+    go true false t e = let is = eqb-true words (2 * pages) t in absurd (omega arith)
+    go false true t e = let differ = eqb-false words (2 * pages) t in absurd (differ (omega arith))
+    go false false t e = refl
 
 -- The test of an opening passes lists that 192 words have room for.
 pub open-short : (bytes list : List ℕ)

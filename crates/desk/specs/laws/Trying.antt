@@ -1,98 +1,102 @@
--- What an ask and a commit do to the list in force and to what is pending, whatever the words of a desk.
-use Prim.Native.Nat.{ℕ, zero, suc, _+_}
-use mathlib.Core.Bool.{Bool, true, false}
-use mathlib.Core.List.{List, [], _∷_}
-use mathlib.Core.Path.{_≡_, refl, ap, _∙_}
-use lib.Dec.{eqb}
-use lib.ListN.{getD, set, take}
+-- An ask and a commit on a desk do what they do in a sitting.
+use Prim.Native.Nat.{ℕ, suc, _-_, _*_, _/_, _<_}
+use native.Mathlib.Omega.{arith}
+use mathlib.Core.Bool.{Bool, true, false, _&&_}
+use mathlib.Core.List.{List}
+use mathlib.Core.Path.{_≡_, refl, sym, ap, subst, _∙_}
+use lib.Dec.{leb, ltb}
+use lib.ListN.{length}
+use borrow.Author.Tests.{leb-true, ltb-true}
 use Rattle.model.specs.declared.answer.Answer.{Answer}
-use Rattle.model.specs.Answers.{accepted}
+use Rattle.model.specs.declared.answer.Answer.the-variants.{Refused}
+use Rattle.model.specs.Galley.{Galley, streams}
+use Rattle.model.specs.Answers.{accepted, pagesOf, marked}
 use Rattle.model.specs.Gather.{pick}
+use Rattle.model.specs.laws.Gather.{and-left, and-right}
+use Rattle.model.specs.laws.Words.{length-pages}
 use Rattle.marking.specs.Mark.{markOf}
 use Rattle.desk.specs.declared.Desk.{Desk}
 use Rattle.desk.specs.declared.Told.{Told}
-use Rattle.desk.specs.Pages.{pagesOn, wordsOn, inForce, isInner, pageAt, twoSet, withEnd}
-use Rattle.desk.specs.Desk.{pended, cleared, altered, afterAsk, askMarked, askOff, askDesk, committed, commitBy, commitDesk}
-use Rattle.desk.specs.Calls.{Pending, None, Page, pendingIn, Trying, afterAsked, afterCommitted}
+use Rattle.desk.specs.Calls.{End, Ask, Commit, Marking, Number, wordsAt}
+use Rattle.desk.specs.Sitting.{Perhaps, None, Some, Sitting, Step, pend, putOr, otherEnd, tried, step}
+use Rattle.desk.specs.Pages.{pagesOn, wordsOn, inForce, isInner, withEnd}
+use Rattle.desk.specs.Desk.{pended, cleared, altered, afterAsk, askMarked, askOff, askDesk, pendingOn, committed, commitBy, commitDesk}
+use Rattle.desk.specs.laws.Ends.{take-end, end-pages}
+use Rattle.desk.specs.laws.Stands.{Fits, Sized, Stands, Follows, stays, pend-stands, put-stands}
 
--- The first words of a list with one word set are those words with it set.
-take-set : (n : ℕ) (l : List ℕ) (i a : ℕ) → take n (set l i a) ≡ set (take n l) i a
-take-set zero l i a = refl
-take-set (suc n) [] i a = refl
-take-set (suc n) (x ∷ l) zero a = refl
-take-set (suc n) (x ∷ l) (suc i) a = ap (λ (r : List ℕ). x ∷ r) (take-set n l i a)
+-- An inner page that is asked about is pending, and page 0 is none.
+pended-some : (d : Desk) (page : ℕ) (end : List ℕ) → isInner d page ≡ true → pendingOn (pended d page end) ≡ Some (altered d page end)
+unfolding pendingOn isInner pagesOn altered wordsOn
+pended-some d page end inner = rw inner
 
--- So the first words with another end of a page are those of the list with that end.
-pub take-end : (n width : ℕ) (list : List ℕ) (page : ℕ) (end : List ℕ)
-    → take n (withEnd width list page end) ≡ withEnd width (take n list) page end
-unfolding withEnd
-take-end n width list page end = go (eqb width 3)
-  where
-    at : ℕ
-    at = pageAt width page
+cleared-none : (d : Desk) → pendingOn (cleared d) ≡ None
+unfolding pendingOn isInner
+cleared-none d = refl
 
-    two : take n (twoSet list at end) ≡ twoSet (take n list) at end
-    two = simp take-set
+-- A commit puts in force what is pending.
+committed-pending : (d : Desk) → pick (isInner d (d .page)) (Some (inForce (committed d))) None ≡ pendingOn d
+unfolding pendingOn altered inForce wordsOn pagesOn isInner
+committed-pending d = refl
 
-    go : (b : Bool) → take n (pick b (set (twoSet list at end) (at + 2) (getD end 2 0)) (twoSet list at end))
-        ≡ pick b (set (twoSet (take n list) at end) (at + 2) (getD end 2 0)) (twoSet (take n list) at end)
-    go true = take-set n (twoSet list at end) (at + 2) (getD end 2 0) ∙ ap (λ (l : List ℕ). set l (at + 2) (getD end 2 0)) two
-    go false = two
+module _ (g : Galley) (n : ℕ) (d : Desk) (s : Sitting) (so : Stands g n d s) where
+  module _ (fits : Fits g n) (long : Sized n (s .force)) (bytes : List ℕ) (marks : (list : List ℕ) → markOf bytes list ≡ marked g list) where
+    pages-same : pagesOn d ≡ length (pagesOf g (s .force))
+    pages-same = so .pages ∙ ap (λ (k : ℕ). k / streams g) (sym long) ∙ sym (length-pages g (s .force))
 
--- What the words of a desk say is pending,
-unfoldable pub pendingOn : Desk → Pending
-pendingOn d = pick (isInner d (d .page)) (Page (d .page) (d .end)) None
+    inner-same : (page : ℕ) → isInner d page ≡ leb 1 page && ltb page (length (pagesOf g (s .force)))
+    unfolding isInner
+    inner-same page = rw pages-same
 
--- and what is tried on it.
-abbrev pub tryingOf : Desk → Trying
-tryingOf d = record { force = inForce d; pending = pendingOn d }
+    module _ (page : ℕ) (end : End) where
+      abbrev asked : List ℕ
+      asked = otherEnd g (s .force) page end
 
-module _ (d : Desk) where
-  -- A desk with another page pending has the list in force that it had, and that page pending where it is an inner one;
-  pended-known : (page : ℕ) (end : List ℕ) → isInner d page ≡ true
-      → tryingOf (pended d page end) ≡ record { force = inForce d; pending = Page page end }
-  unfolding pendingOn inForce wordsOn pagesOn isInner
-  pended-known page end inner = rw inner
+      altered-same : isInner d page ≡ true → altered d page (wordsAt end) ≡ asked
+      unfolding altered otherEnd isInner inForce pagesOf
+      altered-same inner =
+          let first = leb-true 1 page (and-left (leb 1 page) (ltb page (pagesOn d)) inner) in
+          let before = ltb-true page (pagesOn d) (and-right (leb 1 page) (ltb page (pagesOn d)) inner) in
+          let p = so .pages in
+          let e : suc (page - 1) ≡ page = omega arith in
+          let whole : length (s .force) ≡ length (s .force) / streams g * streams g = rw long (fits .whole) in
+          let low : page - 1 < length (s .force) / streams g = rw long (omega arith) in
+          let pages = end-pages (length (s .force) / streams g) (streams g) (s .force) (page - 1) (end .lines) (end .figures) (end .tables)
+          (fits .least) (fits .most) whole low in
+          take-end (wordsOn d) (d .width) (d .list) page (wordsAt end)
+          ∙ ap (λ (k : ℕ). withEnd k (inForce d) page (wordsAt end)) (so .width)
+          ∙ ap (λ (l : List ℕ). withEnd (streams g) l page (wordsAt end)) (so .force)
+          ∙ sym (rw e at pages)
 
-  -- and a desk that is cleared has none, since there is no page 0.
-  cleared-known : tryingOf (cleared d) ≡ record { force = inForce d; pending = None }
-  unfolding pendingOn inForce wordsOn pagesOn isInner
-  cleared-known = refl
+      pub ask-follows : Follows g n (askDesk bytes page (wordsAt end) d .desk) (Marking (askDesk bytes page (wordsAt end) d .answer)) (step g s (Ask page end))
+      unfolding askDesk afterAsk tried
+      ask-follows = rw (← inner-same page) (go (isInner d page) refl)
+        where
+          told : Bool → Told
+          told b = pick b (askMarked d page (wordsAt end) (markOf bytes (altered d page (wordsAt end)))) (askOff d page)
 
-  after-known : (page : ℕ) (end : List ℕ) (answer : Answer) → isInner d page ≡ true
-      → tryingOf (afterAsk d page end answer) ≡ record { force = inForce d; pending = pick (accepted answer) (Page page end) None }
-  unfolding afterAsk
-  after-known page end answer inner = go (accepted answer)
-    where
-      go : (b : Bool) → tryingOf (pick b (pended d page end) (cleared d)) ≡ record { force = inForce d; pending = pick b (Page page end) None }
-      go true = pended-known page end inner
-      go false = cleared-known
+          answer : Bool → Answer
+          answer b = pick b (marked g asked) (Refused 23 page)
 
-  -- After an ask these follow from what they were and what the ask answered.
-  pub ask-trying : (bytes : List ℕ) (page : ℕ) (end : List ℕ)
-      → tryingOf (askDesk bytes page end d .desk) ≡ afterAsked (tryingOf d) page end (askDesk bytes page end d .answer)
-  unfolding askDesk
-  ask-trying bytes page end = go (isInner d page) refl (markOf bytes (altered d page end))
-    where
-      told : Bool → Answer → Told
-      told b answer = pick b (askMarked d page end answer) (askOff d page)
+          next : Answer → Step
+          next a = record { reply = Marking a; after = pend s (pick (accepted a) (Some asked) None) }
 
-      go : (b : Bool) → isInner d page ≡ b → (answer : Answer)
-          → tryingOf (told b answer .desk) ≡ afterAsked (tryingOf d) page end (told b answer .answer)
-      go true inner answer = after-known page end answer inner
-      go false outer answer = cleared-known
+          either : isInner d page ≡ true → (c : Bool)
+              → Stands g n (pick c (pended d page (wordsAt end)) (cleared d)) (pend s (pick c (Some asked) None))
+          either inner true = pend-stands g n d s so page (wordsAt end) (Some asked) (pended-some d page (wordsAt end) inner ∙ ap Some (altered-same inner))
+          either inner false = pend-stands g n d s so 0 (d .end) None (cleared-none d)
 
-  committed-known : isInner d (d .page) ≡ true
-      → tryingOf (committed d) ≡ record { force = pendingIn (d .width) (inForce d) (pendingOn d); pending = None }
-  unfolding pendingOn inForce wordsOn pagesOn isInner
-  committed-known inner =
-      rw inner (ap (λ (list : List ℕ). record { force = list; pending = None }) (take-end (wordsOn d) (d .width) (d .list) (d .page) (d .end)))
+          go : (b : Bool) → isInner d page ≡ b → Follows g n (told b .desk) (Marking (told b .answer)) (next (answer b))
+          go true inner =
+              let same = marks (altered d page (wordsAt end)) ∙ ap (marked g) (altered-same inner) in
+              rw same (record { reply = refl; stands = either inner (accepted (marked g asked)) })
+          go false outer = record { reply = refl; stands = pend-stands g n d s so 0 (d .end) None (cleared-none d) }
 
-  -- After a commit they follow likewise.
-  pub commit-trying : tryingOf (commitDesk d .desk) ≡ afterCommitted (d .width) (tryingOf d) (commitDesk d .number)
+  pub commit-follows : Follows g n (commitDesk d .desk) (Number (commitDesk d .number)) (step g s Commit)
   unfolding commitDesk
-  commit-trying = go (isInner d (d .page)) refl
+  commit-follows =
+      subst (λ (p : Perhaps). Follows g n (commitBy (isInner d (d .page)) d .desk) (Number (commitBy (isInner d (d .page)) d .number)) (putOr 24 s p))
+      (committed-pending d ∙ so .pending) (go (isInner d (d .page)))
     where
-      go : (b : Bool) → isInner d (d .page) ≡ b → tryingOf (commitBy b d .desk) ≡ afterCommitted (d .width) (tryingOf d) (commitBy b d .number)
-      go true inner = committed-known inner
-      go false outer = refl
+      go : (b : Bool) → Follows g n (commitBy b d .desk) (Number (commitBy b d .number)) (putOr 24 s (pick b (Some (inForce (committed d))) None))
+      go true = record { reply = refl; stands = put-stands g n d s so (withEnd (d .width) (d .list) (d .page) (d .end)) }
+      go false = stays g n d s so 24
