@@ -9,7 +9,7 @@ from pathlib import Path
 sys.path.insert(0, str(Path(__file__).resolve().parents[1]))
 
 import kinds  # noqa: E402
-from reference import beforehand, book, cases, marking, openings, refusals, sample, search  # noqa: E402
+from reference import beforehand, book, cases, explanations, marking, openings, refusals, sample, search  # noqa: E402
 from reference.galley import Figure, Galley, Line, Spec, Table, read, write  # noqa: E402
 from tally import Tally  # noqa: E402
 
@@ -271,6 +271,25 @@ def bound(tally):
     tally.group('books of one chapter')
 
 
+def explained(tally):
+    """The cases of explanations: what is broken and what is lost for good; every rule and every kind of loss is among them."""
+    rules, kinds_of_loss = set(), set()
+    for case, galley, words in explanations.cases():
+        name, marked = case['name'], marking.mark(galley, words)
+        answer = ('R ' if marked[0] == 'refused' else '') + ' '.join(map(str, marked[1:]))
+        tally.same(f'{name}: answer', answer, case['answer'])
+        told = [(each['page'], each['rule']) for each in case['broken']]
+        tally.same(f'{name}: broken', explanations.broken(galley, words), told)
+        tally.same(f'{name}: the first is the marking\'s', [('refused', rule, page) for page, rule in told[:1]], [marked] if told else [])
+        lost = [(each['page'], each['line'], each['turns'], each['floats'], each['leaves']) for each in case['lost']]
+        tally.same(f'{name}: lost for good', explanations.lost(galley, words) if not told else [], lost)
+        rules.update(rule for _, rule in told)
+        kinds_of_loss.update((bool(floats), bool(leaves)) for *_, floats, leaves in lost)
+    tally.same('rules in the cases', rules, set(range(12, 19)))
+    tally.same('losses in the cases', kinds_of_loss, {(True, False), (False, True), (True, True)})
+    tally.group('cases of explanations')
+
+
 def larger(tally):
     """Larger galleys: what the table returns is valid, and no valid list one slip away from it ranks before it."""
     rng = random.Random(10)
@@ -288,7 +307,7 @@ def larger(tally):
 def main():
     tally = Tally()
     for group in (made, marked, turned_away, round_trips, all_lists, random_lists, searches, editions, swapped, weighings, begun,
-                  loosened, bound, larger):
+                  loosened, bound, explained, larger):
         group(tally)
     for number in [*range(1, 9), *range(12, 19)]:
         tally.same(f'refusal {number} is reached', number in tally.refusals, True)
