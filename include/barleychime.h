@@ -96,6 +96,50 @@
 #include <stddef.h>
 #include <stdint.h>
 
+/* The version of this header, 10,000 times the major number, 100 times the minor one and the patch number, and in figures.
+ * barleychime_version tells that of the library which a program is linked with. Under one major number calls are added, and what a
+ * call does stays: a program works with every library whose version is not below that of the header it was compiled with.
+ */
+#define BARLEYCHIME_VERSION 200
+#define BARLEYCHIME_VERSION_STRING "0.2.0"
+
+/* The refusals by name, as the list above has them in words: what a call returns where it does not return 0. */
+enum barleychime_refusal {
+    BARLEYCHIME_STOPS_SHORT = 1,
+    BARLEYCHIME_UNKNOWN_MARK = 2,
+    BARLEYCHIME_BAD_FIELD = 3,
+    BARLEYCHIME_TOO_MANY = 4,
+    BARLEYCHIME_BEFORE_FIRST_LINE = 5,
+    BARLEYCHIME_NO_SUCH_LINE = 6,
+    BARLEYCHIME_OUT_OF_ORDER = 7,
+    BARLEYCHIME_AFTER_END = 8,
+    BARLEYCHIME_WORK_TOO_SHORT = 9,
+    BARLEYCHIME_LIST_TOO_SHORT = 10,
+    BARLEYCHIME_NO_PAGINATION = 11,
+    BARLEYCHIME_BAD_LIST = 12,
+    BARLEYCHIME_BAD_PAGE = 13,
+    BARLEYCHIME_FORBIDDEN_END = 14,
+    BARLEYCHIME_TOO_HIGH = 15,
+    BARLEYCHIME_TOO_LOW = 16,
+    BARLEYCHIME_TOO_SOON = 17,
+    BARLEYCHIME_UNFINISHED = 18,
+    BARLEYCHIME_INPUT_TOO_LONG = 19, /* of the small program alone: no call returns it */
+    BARLEYCHIME_BAD_OPENING = 20,
+    BARLEYCHIME_NOTHING_LEFT = 21,
+    BARLEYCHIME_NOT_FOR_DESK = 22,
+    BARLEYCHIME_NO_SUCH_PAGE = 23,
+    BARLEYCHIME_NOTHING_PENDING = 24,
+    BARLEYCHIME_BAD_NAME = 25,
+    BARLEYCHIME_NO_SUCH_LAYOUT = 26,
+    BARLEYCHIME_NO_ROOM = 27,
+    BARLEYCHIME_BAD_CHAPTERS = 28,
+    BARLEYCHIME_UNLIKE_FIRST = 29,
+    BARLEYCHIME_FOLIO_STATED = 30,
+    BARLEYCHIME_TOO_MANY_MARKS = 31,
+    BARLEYCHIME_FEWER_THAN_ENGINE = 32,
+    BARLEYCHIME_NO_SUCH_SECTION = 33
+};
+
 /* Words of work area and of page list that making needs for m lines and n figures without tables, and with k tables, 1 to 50.
  * No galley needs more than the most: 1.6 GB of work area, and without tables 32.2 MB.
  */
@@ -218,6 +262,9 @@ enum {
 extern "C" {
 #endif
 
+/* The version of the library, as BARLEYCHIME_VERSION is that of the header. It takes 8 bytes of stack. */
+uint32_t barleychime_version(void);
+
 /* Makes the pages of a galley.
  *
  * The caller owns all memory and lends it for the length of the call.
@@ -303,7 +350,7 @@ static inline size_t barleychime_page_words(const uint8_t *galley, size_t galley
 {
     const uint32_t page[2] = {0, 0};
     uint32_t answer[BARLEYCHIME_ANSWER_WORDS];
-    return barleychime_mark(galley, galley_len, page, 2, answer) == 12 ? 3 : 2;
+    return barleychime_mark(galley, galley_len, page, 2, answer) == BARLEYCHIME_BAD_LIST ? 3 : 2;
 }
 
 /* A desk, at which another end of a page is tried before the list is changed, and layouts are kept to come back to.

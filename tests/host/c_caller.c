@@ -1,4 +1,4 @@
-/* Case A through the C interface: makes it, prints what the program prints, marks two lists, and tries too little memory.
+/* The version of the header and of the archive. Case A through the C interface: makes it, prints what the program prints, marks two lists, and tries too little memory.
  * Then two sections, one of a size that there is none of, and two reports, one with a paper below its engine. At last case A with
  * every record that it can have: double-sided from folio 38, the last page held to lastMin, the figure kept; and a galley with
  * a table, whose lists have three words a page; what each of the two is told to need beforehand, and what making weighed. Case A
@@ -280,6 +280,7 @@ int main(void)
     struct barleychime_paper papers[2] = {{2, 0, 1, 1, 1}, {2, 1, 1, 0xffffffffu, 1}};
     uint32_t answer[BARLEYCHIME_ANSWER_WORDS + 1];
 
+    printf("%s, %d, %u\n", BARLEYCHIME_VERSION_STRING, BARLEYCHIME_VERSION, (unsigned)barleychime_version());
     write_case_a();
     work[WORK] = pages[LIST] = answer[BARLEYCHIME_ANSWER_WORDS] = 7;
     if (barleychime_make(galley, galley_len, work, WORK, pages, LIST, answer) != answer[BARLEYCHIME_NUMBER]) {

@@ -1,9 +1,9 @@
-"""A C program against the header and the archive, without a warning; then the same as C++."""
+"""A C program against the header and the archive, without a warning, as C and as C++; then under the sanitizers, without a leak."""
 
-import shutil
 import subprocess
 
-DUE = ('2 0 1 1 0\n1 1 1\n2 3 1\n'  # made
+DUE = ('0.2.0, 200, 200\n'  # versions
+       '2 0 1 1 0\n1 1 1\n2 3 1\n'  # made
        '0 0: 80 8 64, 19 weighed\n'  # told beforehand, and weighed
        '2 1 1 2 0\nR 15 1\n'  # marked
        'R 9 80\nR 10 8\n'  # too little memory lent
@@ -26,19 +26,25 @@ DUE = ('2 0 1 1 0\n1 1 1\n2 3 1\n'  # made
 STRICT = ['-Wall', '-Wextra', '-Werror', '-pedantic']
 
 
+SANITIZED = ['-g', '-fsanitize=address,undefined', '-fno-sanitize-recover=all']
+WAYS = {'C99': ['cc', '-std=c99'], 'C11': ['cc', '-std=c11'], 'C17': ['cc', '-std=c17'],
+        'C++11': ['c++', '-x', 'c++', '-std=c++11'], 'C++17': ['c++', '-x', 'c++', '-std=c++17']}
+
+
+def built(way, root, source, library, program, options=()):
+    """What the compiler and the linker had to say, which is nothing. The compiler is told the language, so the archive goes to the
+    linker in a second step."""
+    compiler, compiled = WAYS[way], program.with_suffix('.o')
+    steps = [[*compiler, *STRICT, *options, '-I', root / 'include', '-c', source, '-o', compiled],
+             [compiler[0], *options, compiled, library, '-o', program]]
+    ran = [subprocess.run(step, capture_output=True, text=True) for step in steps]
+    return [(step.returncode, step.stderr) for step in ran]
+
+
 def run(tally, root, library, folder):
-    caller = root / 'tests/host/c_caller.c'
-    ways = [('C', ['cc', '-std=c99']), ('C, newer', ['cc', '-std=c17'])]
-    if shutil.which('c++'):
-        ways.append(('C++', ['c++', '-x', 'c++', '-std=c++11']))
-    for name, compiler in ways:
-        # The compiler is told the language, so the archive goes to the linker in a second step.
-        program, compiled = folder / 'c_caller', folder / 'c_caller.o'
-        built = subprocess.run([*compiler, *STRICT, '-I', root / 'include', '-c', caller, '-o', compiled],
-                               capture_output=True, text=True)
-        tally.same(f'{name}: compiled without a warning', (built.returncode, built.stderr), (0, ''))
-        linked = subprocess.run([compiler[0], compiled, library, '-o', program], capture_output=True, text=True)
-        tally.same(f'{name}: linked', (linked.returncode, linked.stderr), (0, ''))
+    caller, program = root / 'tests/host/c_caller.c', folder / 'c_caller'
+    for name, way, options in [*((way, way, ()) for way in WAYS), ('C11, sanitized', 'C11', SANITIZED)]:
+        tally.same(f'{name}: built without a warning', built(way, root, caller, library, program, options), [(0, '')] * 2)
         ran = subprocess.run([program], capture_output=True, text=True)
-        tally.same(f'{name}: case A', (ran.returncode, ran.stdout), (0, DUE))
+        tally.same(f'{name}: case A', (ran.returncode, ran.stdout, ran.stderr), (0, DUE, ''))
     tally.group('C interface')

@@ -9,6 +9,14 @@ pub mod term; // term.rt: the report on marks
 pub mod trying; // trying.rt: the desk
 pub mod whole; // whole.rt: a whole book from its chapters
 
+// The version of this interface, 0.2.0: ten thousands for the major number, hundreds for the minor one, ones for the patch.
+#[no_mangle]
+pub extern "C" fn barleychime_version() -> u32
+    ensures { λ r. ⌜ r ≡ 200 ⌝ }
+{
+    200
+}
+
 // The best pages of a galley: making's answer with the count of what is weighed, and what making leaves in the lent memory.
 #[no_mangle]
 pub extern "C" fn barleychime_make(
