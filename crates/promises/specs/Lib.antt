@@ -10,6 +10,7 @@ pub mod Waiting
 pub mod Forecast
 pub mod Opening
 pub mod Loosening
+pub mod Lost
 pub mod Marks
 pub mod Books
 pub mod BookAnswers

@@ -60,7 +60,7 @@ module _ (bytes : List ℕ) (g : Galley) (read : galleyOf bytes ≡ reads.Galley
       go false false a = refl
 
   -- After no page it is what making answers without an opening.
-  after-nothing : makeAfterOf bytes [] work list ≡ makeOf bytes work list
+  pub after-nothing : makeAfterOf bytes [] work list ≡ makeOf bytes work list
   unfolding makeAfterOf makeAfterRead makeOf makeRead
   after-nothing = rw (read, made-after-nothing (modelOf bytes g) (reads-sane bytes g read))
 
