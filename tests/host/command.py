@@ -11,10 +11,10 @@ class Command:
     @classmethod
     def built(cls, root, library):
         """Built for release over this archive."""
-        manifest = root / 'host/Cargo.toml'
-        subprocess.run(['cargo', 'build', '--release', '--offline', '--quiet', '--manifest-path', manifest], check=True,
+        build = root / 'host/command'  # where cargo finds the setting that takes Debian's crates
+        subprocess.run(['cargo', 'build', '--release', '--offline', '--quiet'], cwd=build, check=True,
                        env={**os.environ, 'BARLEYCHIME_LIB': str(library)})
-        return cls(root / 'host/target/release/barleychime')
+        return cls(build / 'target/release/barleychime')
 
     def run(self, *arguments, given=b''):
         """Exit status, output as bytes, and remarks as text."""

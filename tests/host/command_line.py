@@ -49,10 +49,12 @@ def usage(tally, command, root):
             tally.same(f'{name} {option}', (status, output.split()[:2], remarks), (0, ['barleychime', name], ''))
     status, output, remarks = command.text('--help')
     tally.same('--help', (status, remarks), (0, ''))
+    status, output, remarks = command.text('refusals')
+    tally.same('refusals', (status, remarks), (0, ''))
     for numbers, mender in MENDERS:
         for number in numbers:
             told = [line for line in output.splitlines() if line.split()[:1] == [str(number)]]
-            tally.same(f'{number} in --help', [mender in line for line in told], [True])
+            tally.same(f'{number} in refusals', [mender in line for line in told], [True])
             tally.same(f'{number} in the documents', documented(root, number, mender, told[0]), [])
     status, output, remarks = command.text('--version')
     tally.same('--version', (status, output.split()[0], remarks), (0, 'barleychime', ''))

@@ -44,9 +44,11 @@ def in_c(tally, what, source, _command, root, library, folder, galley):
     tally.same(f'{what}: no bytes', (ran.returncode, ran.stdout), (1, b'R 1 0\n'))
 
 
-def in_rust(tally, what, source, command, _root, _library, folder, galley):
-    file, program, release = folder / 'example.rs', folder / 'example', command.program.parent
+def in_rust(tally, what, source, _command, root, library, folder, galley):
+    file, program, release = folder / 'example.rs', folder / 'example', root / 'host/library/target/release'
     file.write_text(source)
+    subprocess.run(['cargo', 'build', '--release', '--offline', '--quiet'], cwd=root / 'host/library', check=True,
+                   env={**os.environ, 'BARLEYCHIME_LIB': str(library)})
     built = subprocess.run(['rustc', '--edition', '2021', '-D', 'warnings', '--extern',
                             f'barleychime={release / "libbarleychime.rlib"}', file, '-o', program],
                            capture_output=True, text=True)
@@ -84,7 +86,7 @@ def ignored(tally, root):
     commands = re.findall(r'^ {4}(.*)$', plain, re.M)
     written = {name for line in commands for name in re.findall(r'(?:> |-o )(\S+)', line)}
     tally.same('files that are written', written, {'a.galley', 'close.galley', 'make', 'one.galley', 'two.galley'})
-    for name in sorted(written | {'make.c', 'series/chapter.list', 'target/log', 'host/target/release'}):
+    for name in sorted(written | {'make.c', 'series/chapter.list', 'target/log', 'host/library/target/release', 'host/command/target/release'}):
         asked = subprocess.run(['git', 'check-ignore', '--quiet', name], cwd=root, capture_output=True)
         if asked.returncode != 128:  # a copy without git has nothing to ignore
             tally.same(f'{name} is ignored by git', asked.returncode, 0)

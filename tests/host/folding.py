@@ -50,7 +50,7 @@ def command_fold(tally, command):
     for option in ('--help', '-h'):
         status, output, remarks = command.text('fold', option)
         tally.same(f'fold {option}', (status, output.split()[:2], remarks), (0, ['barleychime', 'fold'], ''))
-    tally.same('fold in --help', '  barleychime fold [SIZE] ' in command.text('--help')[1], True)
+    tally.same('fold in --help', '\n  fold ' in command.text('--help')[1], True)
     tally.group('command: sections')
 
 

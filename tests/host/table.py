@@ -89,4 +89,4 @@ def run(tally, command, root):
 
 
 if __name__ == '__main__':
-    print(table(Command(ROOT / 'host/target/release/barleychime'), ROOT), end='')
+    print(table(Command(ROOT / 'host/command/target/release/barleychime'), ROOT), end='')

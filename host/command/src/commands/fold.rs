@@ -1,20 +1,32 @@
-//! The command `fold`: stitched sections, sheet by sheet.
+//! `barleychime fold`: stitched sections, sheet by sheet.
 
-use crate::commands::Outcome;
+use crate::error::Error;
 use crate::output::{say, Output};
+use crate::Outcome;
 use barleychime::engine::{self, Refusal};
 use barleychime::list::{shown, whole_number};
 use barleychime::refusal;
 
+#[derive(clap::Args)]
+pub struct Args {
+    /// Pages of the section, a multiple of 4 from 4 to 64; without it all sections are printed
+    #[arg(value_parser = size)]
+    pub size: Option<u32>,
+}
+
+/// A size is any number: the engine says of which there is a section.
+fn size(word: &str) -> Result<u32, String> {
+    whole_number(word).ok_or_else(|| format!("{} is no whole number of 32 bits", shown(word)))
+}
+
 const SIZES: std::ops::RangeInclusive<u32> = 4..=64;
 
-/// The section of one size.
-pub fn one(size: &str, output: &mut Output) -> Result<Outcome, String> {
-    let size = whole_number(size).ok_or_else(|| format!("{} is no whole number of 32 bits", shown(size)))?;
+pub fn run(args: &Args, output: &mut Output) -> Result<Outcome, Error> {
+    let Some(size) = args.size else { return all(output) };
     match sheets(size) {
         Ok(text) => output.print(text).map(|()| Outcome::Success),
         Err(refusal) => {
-            output.print(format!("{refusal}\n"))?;
+            output.print_row(refusal, None)?;
             say(&format!("{refusal}: {}", refusal::sentence(refusal)));
             Ok(Outcome::Refused)
         }
@@ -22,10 +34,9 @@ pub fn one(size: &str, output: &mut Output) -> Result<Outcome, String> {
 }
 
 /// Every section, smaller ones first.
-pub fn all(output: &mut Output) -> Result<Outcome, String> {
+fn all(output: &mut Output) -> Result<Outcome, Error> {
     let texts: Result<Vec<String>, Refusal> = SIZES.step_by(4).map(sheets).collect();
-    let texts = texts.map_err(|refusal| format!("{refusal}: {}", refusal::sentence(refusal)))?;
-    output.print(texts.join("\n")).map(|()| Outcome::Success)
+    output.print(texts.map_err(Error::Unlike)?.join("\n")).map(|()| Outcome::Success)
 }
 
 /// A line for each sheet: the left and the right page of its front, then those of its back.

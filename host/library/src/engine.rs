@@ -1,15 +1,15 @@
-//! The engine: the functions of `include/barleychime.h`, safe to call. All unsafe code is here, in `book` and in `desk`.
+//! The engine: the functions of `include/barleychime.h`, safe to call. All unsafe code is here, in `chapters` and in `make_up`.
 
-mod book;
-mod desk;
+mod chapters;
+mod make_up;
 
-pub use book::{forecast_book, make_book, make_book_in, Book, BookMaking, BookMeasure, Chapter};
-pub use desk::Desk;
+pub use chapters::{forecast_book, make_book, make_book_in, Book, BookMaking, BookMeasure, Chapter};
+pub use make_up::Desk;
 
 #[allow(unsafe_code)]
 mod c {
-    use super::book::BOOK_WORDS;
-    use super::desk::{DESK_LIST_WORDS, DESK_WORDS};
+    use super::chapters::BOOK_WORDS;
+    use super::make_up::{DESK_LIST_WORDS, DESK_WORDS};
     use super::{ANSWER_WORDS, FORECAST_WORDS};
 
     /// A call on a desk with a name.

@@ -1,4 +1,5 @@
-//! Links the engine's archive: BARLEYCHIME_LIB names it (or its folder), else it is ../target/staticlib/libbarleychime.a.
+//! Links the engine's archive: BARLEYCHIME_LIB names it (or its folder), else it is target/staticlib/libbarleychime.a in the
+//! project's folder.
 
 use std::env;
 use std::path::{Path, PathBuf};
@@ -12,7 +13,7 @@ fn main() {
     let archive = match named.map(PathBuf::from) {
         Some(path) if path.is_dir() => path.join(ARCHIVE),
         Some(path) => path,
-        None => here.join("../target/staticlib").join(ARCHIVE),
+        None => here.join("../../target/staticlib").join(ARCHIVE),
     };
     println!("cargo:rerun-if-changed={}", archive.display());
     if archive.file_name() != Some(ARCHIVE.as_ref()) || !archive.is_file() {

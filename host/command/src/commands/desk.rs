@@ -1,26 +1,52 @@
-//! The command `desk`: page ends tried line by line, by a person at a terminal or by a script through a pipe.
+//! `barleychime desk`: page ends tried line by line, by a person at a terminal or by a script through a pipe.
 
-use crate::commands::{hint_at_pack, read_list, say_why, Outcome, Outcomes};
-use crate::help;
-use crate::output::{say, Output};
-use barleychime::call::{self, Call};
+use super::Outcomes;
+use crate::call::{self, Call};
+use crate::error::Error;
+use crate::input::FileName;
+use crate::output::{hint_at_pack, say, say_why, Output};
+use crate::Outcome;
 use barleychime::engine::{self, Desk, Measure, Refusal};
 use barleychime::galley::Galley;
 use barleychime::list::Extent;
-use barleychime::{explain, input, list, refusal};
+use barleychime::{explanation, list, refusal};
 use std::io::{self, BufRead, IsTerminal, Read, Write};
+
+#[derive(clap::Args)]
+pub struct Args {
+    /// The galley
+    pub galley: FileName,
+    /// A page list for it, which the marking accepts
+    pub list: FileName,
+}
 
 /// More than any call that can be of use.
 const LONGEST_LINE: u64 = 4_096;
 
+/// What `help` says.
+const CALLS: &str = "\
+ask PAGE I J     tries another end of PAGE: lines and figures placed so far (ask PAGE I J D with tables)
+commit           puts in force what was asked last, if it was accepted
+list             prints the list in force
+save NAME        keeps the list in force under a name
+back NAME        puts in force what was saved under a name
+drop NAME        frees a name
+layouts          prints what is saved, and the change in turns of each against the list in force
+quit             ends
+";
+
 /// Opens a desk on a galley and a list, and answers calls from standard input until there are no more.
-pub fn desk(galley: &str, list: &str, output: &mut Output) -> Result<Outcome, String> {
-    let bytes = input::galley(galley)?;
-    let words = read_list(list, engine::page_words(&bytes).ok(), Extent::Whole)?;
+pub fn run(args: &Args, output: &mut Output) -> Result<Outcome, Error> {
+    let Args { galley, list } = args;
+    if galley.is_standard_input() || list.is_standard_input() {
+        return Err(Error::Usage("standard input has the calls, and can be no file here".into()));
+    }
+    let bytes = galley.galley()?;
+    let words = list.list(&bytes, Extent::Whole)?;
     let (desk, in_force) = match Desk::open(&bytes, &words) {
         Ok(opened) => opened,
         Err(refusal) => {
-            output.print(format!("{refusal}\n"))?;
+            output.print_row(refusal, None)?;
             say_why(if refusal.number <= 8 { galley } else { list }, refusal);
             hint_at_pack(galley, &bytes, refusal);
             if let (22, Err(marked)) = (refusal.number, engine::mark(&bytes, &words)) {
@@ -29,7 +55,7 @@ pub fn desk(galley: &str, list: &str, output: &mut Output) -> Result<Outcome, St
             return Ok(Outcome::Refused);
         }
     };
-    output.print(format!("{}\n", list::measure_line(in_force)))?;
+    output.print_row(list::measure_line(in_force), None)?;
     let at_terminal = io::stdin().is_terminal() && io::stderr().is_terminal();
     let page_words = words.len() / in_force.pages as usize;
     let sitting =
@@ -51,7 +77,7 @@ struct Sitting<'galley> {
 }
 
 impl Sitting<'_> {
-    fn answer_all(mut self, output: &mut Output) -> Result<Outcome, String> {
+    fn answer_all(mut self, output: &mut Output) -> Result<Outcome, Error> {
         if self.at_terminal {
             say("the list is in force; `help` names the calls, `quit` ends");
         }
@@ -73,7 +99,7 @@ impl Sitting<'_> {
     }
 
     /// The next line, or why it cannot be read as one; none at the end.
-    fn next_line(&mut self) -> Result<Option<Result<String, String>>, String> {
+    fn next_line(&mut self) -> Result<Option<Result<String, String>>, Error> {
         if self.at_terminal {
             // A prompt is no answer, and need not be seen.
             let _ = write!(io::stderr(), "desk> ");
@@ -81,19 +107,19 @@ impl Sitting<'_> {
         let mut line = Vec::new();
         let read = io::stdin().lock().take(LONGEST_LINE + 1).read_until(b'\n', &mut line);
         self.line += 1;
-        match read.map_err(|error| format!("standard input: {error}"))? {
+        match read.map_err(Error::Calls)? {
             0 => {
                 if self.at_terminal {
                     let _ = writeln!(io::stderr());
                 }
                 Ok(None)
             }
-            bytes if bytes as u64 > LONGEST_LINE => Err(format!("line {}: too long for a call", self.line)),
+            bytes if bytes as u64 > LONGEST_LINE => Err(Error::LongCall { line: self.line }),
             _ => Ok(Some(String::from_utf8(line).map_err(|_| "not text".into()))),
         }
     }
 
-    fn answer(&mut self, call: Call, output: &mut Output) -> Result<(), String> {
+    fn answer(&mut self, call: Call, output: &mut Output) -> Result<(), Error> {
         let answered = match call {
             Call::Ask { page, end } => self.desk.ask(page, end),
             Call::Commit => self.desk.commit().and_then(|()| self.measured()),
@@ -102,10 +128,10 @@ impl Sitting<'_> {
             Call::Drop(ref name) => self.desk.drop_name(name.as_bytes()).map(|()| self.in_force),
             Call::List => return output.print(list::print(self.in_force, &self.desk.list(), self.page_words)),
             Call::Layouts => return output.print(self.layouts()?),
-            Call::Help | Call::Quit => return output.print(help::CALLS),
+            Call::Help | Call::Quit => return output.print(CALLS),
         };
         match answered {
-            Ok(measure) => output.print(self.line_of(measure) + "\n")?,
+            Ok(measure) => output.print_row(self.line_of(measure), None)?,
             Err(refusal) => self.refuse(&call, refusal, output)?,
         }
         if let (Call::Commit | Call::Back(_), Ok(measure)) = (call, answered) {
@@ -115,12 +141,11 @@ impl Sitting<'_> {
     }
 
     /// How many layouts are held, and a line for each: its measure, the change in turns, and its name.
-    fn layouts(&self) -> Result<String, String> {
+    fn layouts(&self) -> Result<String, Error> {
         let held = self.desk.layouts();
         let mut text = format!("{}\n", held.len());
         for (name, list) in held {
-            let measure =
-                engine::mark(self.galley, &list).map_err(|refusal| format!("a layout is refused: {refusal}"))?;
+            let measure = engine::mark(self.galley, &list).map_err(Error::Unlike)?;
             text += &format!("{} {}\n", self.line_of(measure), String::from_utf8_lossy(&name));
         }
         Ok(text)
@@ -137,8 +162,8 @@ impl Sitting<'_> {
         format!("{} {change:+}", list::measure_line(measure))
     }
 
-    fn refuse(&mut self, call: &Call, refusal: Refusal, output: &mut Output) -> Result<(), String> {
-        output.print(format!("{refusal}\n"))?;
+    fn refuse(&mut self, call: &Call, refusal: Refusal, output: &mut Output) -> Result<(), Error> {
+        output.print_row(refusal, None)?;
         self.remark(&format!("{refusal}: {}{}", refusal::sentence(refusal), self.in_numbers(call, refusal)));
         self.outcomes.refused = true;
         Ok(())
@@ -153,7 +178,7 @@ impl Sitting<'_> {
         let mut altered = self.desk.list();
         let at = self.page_words * (*page as usize - 1);
         altered[at..at + self.page_words].copy_from_slice(&end[..self.page_words]);
-        let numbers = explain::in_numbers(&galley, &altered, refusal);
+        let numbers = explanation::in_numbers(&galley, &altered, refusal);
         format!(" ({})", numbers.lines().map(str::trim).collect::<Vec<_>>().join("; "))
     }
 

@@ -1,7 +1,7 @@
 //! What is asked at the desk, a line each: `ask PAGE I J`, or `ask PAGE I J D` where the galley has tables, `commit`, `list`,
 //! `save NAME`, `back NAME`, `drop NAME`, `layouts`, `help`, `quit`.
 
-use crate::list::{numbers, shown};
+use barleychime::list::{numbers, shown};
 
 #[derive(Clone, Debug, PartialEq, Eq)]
 pub enum Call {

@@ -1,0 +1,39 @@
+//! The commands: for each its arguments, and what it does with them.
+
+pub mod book;
+pub mod desk;
+pub mod explain;
+pub mod fold;
+pub mod forecast;
+pub mod make;
+pub mod mark;
+pub mod pack;
+pub mod refusals;
+pub mod report;
+pub mod unpack;
+
+use crate::error::Error;
+use crate::output::say;
+use crate::Outcome;
+
+/// Whether any of several files or calls was refused or could not be read.
+#[derive(Default)]
+pub struct Outcomes {
+    pub refused: bool,
+    pub failed: bool,
+}
+
+impl Outcomes {
+    /// What was read; if nothing was, that is said.
+    pub fn read<Contents>(&mut self, read: Result<Contents, Error>) -> Option<Contents> {
+        read.map_err(|error| say(&error.to_string())).inspect_err(|()| self.failed = true).ok()
+    }
+
+    pub fn whole(&self) -> Outcome {
+        match (self.failed, self.refused) {
+            (true, _) => Outcome::Failed,
+            (false, true) => Outcome::Refused,
+            (false, false) => Outcome::Success,
+        }
+    }
+}

@@ -1,0 +1,86 @@
+//! Files and standard input.
+
+use crate::error::Error;
+use barleychime::engine;
+use barleychime::list::{self, Extent};
+use std::ffi::OsString;
+use std::fmt;
+use std::fs::File;
+use std::io::{self, Read};
+
+/// No galley has more bytes: a specification in its second edition, a folio, 4,000 lines, 200 figures, 50 tables and the
+/// end.
+const LONGEST_GALLEY: u64 = 34 + 6 + 4_250 * 18 + 2;
+/// More than any text of a galley or list that can be of use.
+const LONGEST_TEXT: u64 = 16 << 20;
+
+/// The name of a file, of any bytes; `-` is standard input.
+#[derive(Clone, Debug, PartialEq, Eq)]
+pub struct FileName(OsString);
+
+impl From<OsString> for FileName {
+    fn from(name: OsString) -> Self {
+        FileName(name)
+    }
+}
+
+/// What remarks call the file: nothing that a terminal would obey.
+impl fmt::Display for FileName {
+    fn fmt(&self, out: &mut fmt::Formatter) -> fmt::Result {
+        if self.is_standard_input() {
+            return out.write_str("standard input");
+        }
+        let shown = self.0.to_string_lossy();
+        shown.chars().try_for_each(|c| write!(out, "{}", if c.is_control() { '?' } else { c }))
+    }
+}
+
+impl FileName {
+    pub fn is_standard_input(&self) -> bool {
+        self.0 == "-"
+    }
+
+    pub fn bytes(&self) -> &[u8] {
+        self.0.as_encoded_bytes()
+    }
+
+    /// The bytes of a galley. Every refusal is decided within one byte more than the longest galley has, so that an endless
+    /// input is refused, too, and no more than that is read.
+    pub fn galley(&self) -> Result<Vec<u8>, Error> {
+        self.read(LONGEST_GALLEY + 1)
+    }
+
+    /// A text of a galley or of a list.
+    pub fn text(&self) -> Result<String, Error> {
+        let bytes = self.read(LONGEST_TEXT + 1)?;
+        if bytes.len() as u64 > LONGEST_TEXT {
+            return Err(Error::TooLong { name: self.clone() });
+        }
+        let line = |at: usize| bytes[..at].iter().filter(|&&byte| byte == b'\n').count() + 1;
+        match std::str::from_utf8(&bytes) {
+            // Some editors open a text with this mark.
+            Ok(text) => Ok(text.strip_prefix('\u{feff}').unwrap_or(text).to_owned()),
+            Err(error) => Err(Error::NotText { name: self.clone(), line: line(error.valid_up_to()) }),
+        }
+    }
+
+    /// A list for a galley. A galley that is refused has no lists, and then nobody knows how many words a page has.
+    pub fn list(&self, galley: &[u8], extent: Extent) -> Result<Vec<u32>, Error> {
+        let words = engine::page_words(galley).ok();
+        list::parse(&self.text()?, words, extent).map_err(|what| self.unreadable(what))
+    }
+
+    /// That the file is a text of another kind.
+    pub fn unreadable(&self, what: String) -> Error {
+        Error::Unreadable { name: self.clone(), what }
+    }
+
+    fn read(&self, most: u64) -> Result<Vec<u8>, Error> {
+        let mut bytes = Vec::new();
+        let read = match self.is_standard_input() {
+            true => io::stdin().lock().take(most).read_to_end(&mut bytes),
+            false => File::open(&self.0).and_then(|file| file.take(most).read_to_end(&mut bytes)),
+        };
+        read.map(|_| bytes).map_err(|error| Error::Read { name: self.clone(), error })
+    }
+}
