@@ -2,7 +2,7 @@
 //!
 //! An engineer needs [`engine`] alone; the rest reads and writes what people read and write: galleys ([`text`], [`record`],
 //! [`galley`]), page lists ([`list`], [`page`]), marks ([`marks`]), and says in words what an answer means ([`refusal`],
-//! [`explanation`], [`needs`], [`fill`]).
+//! [`rules`], [`why`], [`explanation`], [`needs`], [`fill`]).
 
 #![deny(unsafe_code)]
 
@@ -16,4 +16,6 @@ pub mod needs;
 pub mod page;
 pub mod record;
 pub mod refusal;
+pub mod rules;
 pub mod text;
+pub mod why;

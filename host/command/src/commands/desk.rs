@@ -178,8 +178,7 @@ impl Sitting<'_> {
         let mut altered = self.desk.list();
         let at = self.page_words * (*page as usize - 1);
         altered[at..at + self.page_words].copy_from_slice(&end[..self.page_words]);
-        let numbers = explanation::in_numbers(&galley, &altered, refusal);
-        format!(" ({})", numbers.lines().map(str::trim).collect::<Vec<_>>().join("; "))
+        format!(" ({})", explanation::in_numbers(&galley, &altered))
     }
 
     /// A remark on the line that was read last; who types it sees which one.

@@ -80,7 +80,7 @@ fn refuse_opening(
     output.print_row(refusal, None)?;
     say_why(list, refusal);
     if let (20, Some(galley)) = (refusal.number, Galley::decode(bytes)) {
-        let broken = explanation::broken_opening(bytes, &galley, opening, refusal.place as usize);
+        let broken = explanation::broken_opening(&galley, opening, refusal.place as usize);
         broken.iter().for_each(|broken| say(&format!("{list}: {broken}")));
     }
     Ok(Outcome::Refused)
