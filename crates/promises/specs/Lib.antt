@@ -14,4 +14,5 @@ pub mod Lost
 pub mod Marks
 pub mod Books
 pub mod BookAnswers
+pub mod Own
 pub mod OneChapter
