@@ -27,7 +27,7 @@ from reference import beforehand, sample  # noqa: E402
 from reference.galley import read, write  # noqa: E402
 
 SEED, PLAIN, TABLED, FINE, LEFT, LONG, BROKEN, BOOKS, SITTINGS = 20261117, 2_200, 1_300, 700, 300, 60, 1_200, 500, 140
-GUARD, SHOWN = 16, 64  # bytes after every area that nobody lent; the most bytes that are written whole
+GUARD, SHOWN = 16, 128  # bytes after every area that nobody lent; the most bytes that are written whole
 ANSWER, FORECAST, SECTION = 36, 24, 8  # bytes of answers
 LIST_WORDS = 12_750
 
