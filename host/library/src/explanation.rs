@@ -1,12 +1,12 @@
 //! A page list in words: page by page, for a refused one every rule that each page breaks with the numbers that break it, and for
 //! one with turns too many the page ends with which they are lost for good.
 
-use crate::engine::{Measure, Refusal};
+use crate::engine::Measure;
 use crate::galley::Galley;
 use crate::list::spaced;
 use crate::page::{folio, spread, white, Page, Place};
 use crate::record::Record;
-use crate::refusal::{meaning_of, sentence};
+use crate::refusal::{Refusal, RefusalKind};
 use crate::rules::{self, counted, counts_in_words, kept_with, Broken};
 use crate::text::field_at_fault;
 use crate::why::Loss;
@@ -59,7 +59,7 @@ pub fn refused(galley: &Galley, list: &[u32], refusal: Refusal) -> String {
             text += &format!("    breaks rule {rule}: {}\n", numbers.join("; "));
         }
     }
-    text += &format!("refused, {refusal}: {}\n", sentence(refusal));
+    text += &format!("refused, {refusal}\n");
     for numbers in broken.iter().take(1).flat_map(|broken| &broken.numbers) {
         text += &format!("    {numbers}\n");
     }
@@ -95,14 +95,14 @@ pub fn broken_opening(galley: &Galley, opening: &[u32], page: usize) -> Option<S
     let pages = Page::all(galley, opening);
     let broken = rules::on_page(galley, pages.get(page.checked_sub(1)?)?, false);
     let Broken { rule, numbers, .. } = broken.first()?;
-    Some(format!("page {page} breaks rule {rule}, {}: {}", meaning_of(*rule), numbers.join("; ")))
+    Some(format!("page {page} breaks rule {rule}, {}: {}", RefusalKind::of(*rule).words(), numbers.join("; ")))
 }
 
 /// A galley that is refused itself: the record, and its field if one is at fault.
 pub fn refused_galley(bytes: &[u8], refusal: Refusal) -> String {
     let record = bytes.get(refusal.place as usize..).and_then(Record::take);
-    let field = record.map_or(String::new(), |(record, _)| field_at_fault(refusal.number, &record));
-    format!("refused, {refusal}: {field}{}\n", sentence(refusal))
+    let field = record.map_or(String::new(), |(record, _)| field_at_fault(refusal.kind, &record));
+    format!("refused, {}: {field}{}\n", refusal.code(), refusal.sentence())
 }
 
 fn opening(galley: &Galley) -> String {

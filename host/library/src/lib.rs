@@ -4,10 +4,11 @@
 //! [`galley`]), page lists ([`list`], [`page`]), marks ([`marks`]), and says in words what an answer means ([`refusal`],
 //! [`rules`], [`why`], [`explanation`], [`needs`], [`fill`]).
 
-#![deny(unsafe_code)]
+#![deny(unsafe_code, missing_docs, clippy::undocumented_unsafe_blocks)]
 
 pub mod engine;
 pub mod explanation;
+pub mod field;
 pub mod fill;
 pub mod galley;
 pub mod list;

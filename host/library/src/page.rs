@@ -7,8 +7,11 @@ pub type Place = [usize; 3];
 
 /// Page `number` from the place before it to the place where it ends.
 pub struct Page {
+    /// Its number, from 1.
     pub number: usize,
+    /// What is placed before it.
     pub start: Place,
+    /// What is placed when it ends.
     pub end: Place,
 }
 

@@ -20,7 +20,7 @@ pub struct Broken {
 /// Every rule that a list breaks, page by page; none if the marking accepts it.
 pub fn broken(galley: &Galley, list: &[u32]) -> Vec<Broken> {
     let words = galley.page_words();
-    if list.is_empty() || list.len() % words != 0 || list.len() > words * blocks(galley) {
+    if list.is_empty() || !list.len().is_multiple_of(words) || list.len() > words * blocks(galley) {
         return vec![Broken { page: 0, rule: 12, numbers: vec![length(galley, list)] }];
     }
     let pages = Page::all(galley, list);

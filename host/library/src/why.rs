@@ -4,7 +4,7 @@
 //! begins with q pages begins with fewer of them, so that best never falls as q grows, and the end of page q loses
 //! best(q) − best(q − 1). Where best is the same at both ends of an interval nothing is lost within it, and that is found by halves.
 
-use crate::engine::{Measure, Memory, Refusal};
+use crate::engine::{MakeError, Measure, Memory};
 use crate::galley::Galley;
 use crate::page::{spread, Page};
 use std::collections::BTreeMap;
@@ -48,7 +48,7 @@ impl<'a> Finder<'a> {
     }
 
     /// The best list of the galley.
-    pub fn best(&mut self) -> Result<&Best, Refusal> {
+    pub fn best(&mut self) -> Result<&Best, MakeError> {
         let best = match self.best.take() {
             Some(best) => best,
             None => made_after(&mut self.memory, self.bytes, &[])?,
@@ -57,7 +57,7 @@ impl<'a> Finder<'a> {
     }
 
     /// The page ends of an accepted list with which turns are lost for good.
-    pub fn losses(&mut self, list: &[u32], measure: Measure) -> Result<Vec<Loss>, Refusal> {
+    pub fn losses(&mut self, list: &[u32], measure: Measure) -> Result<Vec<Loss>, MakeError> {
         let best = self.best()?.clone();
         let (memory, bytes) = (&mut self.memory, self.bytes);
         lost_for_good(self.galley, Best { measure, list: list.to_vec() }, best, |opening| {
@@ -66,7 +66,7 @@ impl<'a> Finder<'a> {
     }
 }
 
-fn made_after(memory: &mut Memory, bytes: &[u8], opening: &[u32]) -> Result<Best, Refusal> {
+fn made_after(memory: &mut Memory, bytes: &[u8], opening: &[u32]) -> Result<Best, MakeError> {
     memory.make_after(bytes, opening).map(|(measure, list)| Best { measure, list: list.to_vec() })
 }
 

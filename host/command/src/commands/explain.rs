@@ -3,12 +3,13 @@
 use super::Outcomes;
 use crate::error::Error;
 use crate::input::FileName;
-use crate::output::Output;
+use crate::output::{hint_at_pack, Output};
 use crate::Outcome;
-use barleychime::engine::{self, Refusal};
+use barleychime::engine;
 use barleychime::explanation;
 use barleychime::galley::Galley;
 use barleychime::list::Extent;
+use barleychime::refusal::Refusal;
 use barleychime::why::Finder;
 
 #[derive(clap::Args)]
@@ -28,25 +29,28 @@ pub fn run(args: &Args, output: &mut Output) -> Result<Outcome, Error> {
     let bytes = args.galley.galley()?;
     if let Err(refusal) = engine::read(&bytes) {
         output.print(explanation::refused_galley(&bytes, refusal))?;
+        hint_at_pack(&args.galley, &bytes, refusal);
         return Ok(Outcome::Refused);
     }
     let galley = Galley::decode(&bytes).ok_or_else(|| Error::NotDecoded { name: args.galley.clone() })?;
+    let unmade = |error| Error::Make { name: args.galley.clone(), error };
     let mut finder = Finder::new(&bytes, &galley);
     let mut outcomes = Outcomes::default();
     for (before, name) in args.lists.iter().enumerate() {
-        let Some(words) = outcomes.read(name.list(&bytes, Extent::Whole)) else { continue };
+        let Some(words) = outcomes.read(name.list(galley.page_words(), Extent::Whole)) else { continue };
+        let words = words.words;
         if args.lists.len() > 1 {
             output.print([if before > 0 { &b"\n"[..] } else { b"" }, name.bytes(), b":\n"].concat())?;
         }
         match engine::mark(&bytes, &words) {
             Ok(measure) => {
-                let best = finder.best().map_err(Error::Unlike)?.measure;
+                let best = finder.best().map_err(unmade)?.measure;
                 if !args.why {
                     output.print(explanation::accepted(&galley, &words, measure))?;
                     output.print(explanation::against_best(best, measure))?;
                 }
                 if args.why || best.turns < measure.turns {
-                    let losses = finder.losses(&words, measure).map_err(Error::Unlike)?;
+                    let losses = finder.losses(&words, measure).map_err(unmade)?;
                     output.print(explanation::lost(&losses))?;
                 }
             }
@@ -62,7 +66,7 @@ pub fn run(args: &Args, output: &mut Output) -> Result<Outcome, Error> {
 /// A refused list loses no turns; with --why it is told why alone.
 fn refused(args: &Args, galley: &Galley, words: &[u32], refusal: Refusal) -> String {
     match args.why {
-        true => format!("refused, {refusal}: {}\n", explanation::in_numbers(galley, words)),
+        true => format!("refused, {}: {}\n", refusal.code(), explanation::in_numbers(galley, words)),
         false => explanation::refused(galley, words, refusal),
     }
 }
@@ -85,7 +89,7 @@ mod tests {
         let broken = rules::broken(&galley, &list).into_iter();
         let broken = broken.map(|each| json!({"page": each.page, "rule": each.rule, "numbers": each.numbers}));
         let (answer, lost) = match engine::mark(&bytes, &list) {
-            Err(refusal) => (refusal.to_string(), vec![]),
+            Err(refusal) => (refusal.code(), vec![]),
             Ok(measure) => {
                 let losses = Finder::new(&bytes, &galley).losses(&list, measure).expect("a galley that can be made");
                 (barleychime::list::measure_line(measure), losses)
