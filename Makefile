@@ -58,7 +58,7 @@ $(SHARED): $(ARCHIVE)
 	cc -shared -Wl,--whole-archive $< -Wl,--no-whole-archive -Wl,-soname,$(SONAME) -Wl,-z,defs -o $@
 
 page: | proofs
-	@if [ -x web/build ]; then web/build; fi
+	@if command -v node > /dev/null; then web/build; else echo 'make: there is no node on PATH, so the command is built without the page'; fi
 
 command: $(ARCHIVE) page
 	@echo 'the command: $(COMMAND)'
