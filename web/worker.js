@@ -1,11 +1,22 @@
-// The worker's side of making: it has an engine and a memory of its own, and answers one opening after another.
+// The worker: it has an engine and a memory of its own, and answers one request after another. Ending it stops whatever it makes.
 
-/** @param {any} scope @param {(wasm: ArrayBuffer) => import('./engine/engine.js').Engine} engine */
-export function serve(scope, engine) {
-  let own = null, galley = null;
-  scope.onmessage = (e) => {
-    if (e.data.wasm) { own = engine(e.data.wasm); galley = e.data.galley; return; }
-    const t = performance.now(), made = own.makeAfter(galley, e.data.opening);
-    scope.postMessage({ ...made, ms: performance.now() - t });
+/**
+ * @typedef {import('./engine/engine.js').Engine} Engine
+ * @typedef {{galley: Uint8Array, opening: ArrayLike<number>}} MakeRequest
+ * @typedef {{book: Uint8Array[]}} BookRequest
+ */
+
+/** @param {any} scope the worker's own @param {(wasm: ArrayBuffer) => Engine} start */
+export function serve(scope, start) {
+  /** @type {Engine | null} */
+  let engine = null;
+  scope.onmessage = (event) => {
+    const { wasm, book, galley, opening } = event.data;
+    if (wasm) {
+      engine = start(wasm);
+      return;
+    }
+    const from = performance.now(), answer = book ? engine.book(book) : engine.makeAfter(galley, opening);
+    scope.postMessage({ ...answer, ms: performance.now() - from });
   };
 }

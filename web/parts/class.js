@@ -1,58 +1,138 @@
-// The class report: all lists of a galley, by turns, and where the class loses them. The sums are the engine's.
-import { comma, esc, length, plural, refusalWords } from '../galley/words.js';
-import { measure, parting, turnsByLeaf, leafOf } from '../galley/measure.js';
-import { n } from '../layout/layout.js';
+// The class report: all lists of a galley by turns, where each loses them, and where the class does. The sums are the engine's.
+import { bar, dotPlot, dotScale, staircase } from '../draw/plots.js';
+import { brokenLength } from '../galley/explain.js';
+import { parting } from '../galley/list.js';
+import { turnsByLeaf } from '../galley/measure.js';
+import { leafOf } from '../galley/page.js';
+import { comma, length, plural, series } from '../galley/words.js';
+import { button, byId, download, drawn, el, link, put } from './dom.js';
 
-function ticks(most) {
-  const step = [1, 2, 5, 10, 20, 50, 100, 200, 500, 1000, 1e9].find((s) => most / s <= 6), out = [];
-  for (let v = 0; v <= most; v += step) out.push(v);
-  return out;
+/**
+ * @typedef {import('./app.js').App} App
+ * @typedef {import('../galley/measure.js').Measured} Measured
+ * @typedef {{name: string, mark: any, words: Uint32Array, L: Measured | null, more: number | null, part: number, why: string}} Row
+ */
+
+const MOST_FLOATS = 15;
+
+/** @param {App} app */
+export function classView(app) {
+  const root = byId('view-class'), { g, lists } = app;
+  if (!g) return put(root, el('p', { class: 'verdict' }, 'Open a galley first.'));
+  if (!lists.length) return put(root, el('p', { class: 'verdict' }, 'No lists were handed in. Drop them here, all at once.'));
+  const best = app.bestMeasured(), rows = rowsOf(app, best), most = Math.max(1, ...rows.map((row) => row.more ?? 0));
+  put(root, figures(app, rows, best),
+    el('h2', {}, 'Lists ', el('small', {}, 'by turns, then white space; the refused ones last. Each leads to its pages'),
+      el('span', { class: 'tools noprint' }, button('Rows as CSV', () => download(`${app.plainName()}-class.csv`, csv(rows)), { id: 'csv' }), button('Print', () => print()))),
+    el('table', { class: 'rep' }, head(most), el('tbody', {}, best && engineRow(best, most), rows.map((row) => rowOf(app, row, best, most)))),
+    best && whereLost(g, rows, best));
 }
 
-/** @param {any} engine @param {any} g @param {{name: string, ends: number[][], mark: any}[]} lists @param {any} best mark of the best list, with ends */
-export function reportPage(engine, g, lists, best) {
-  if (!lists.length) return '<p class="verdict">No lists were handed in.</p>';
-  const B = best ? measure(g, best.ends, 'best') : null;
-  const rows = lists.map((l) => ({ ...l, L: l.mark.ok || l.mark.number > 12 ? measure(g, l.ends, l.name) : null }));
-  const ok = rows.filter((r) => r.mark.ok).sort((a, b) => a.mark.t - b.mark.t || a.mark.w - b.mark.w || (a.name < b.name ? -1 : 1));
-  const no = rows.filter((r) => !r.mark.ok).sort((a, b) => a.mark.number - b.mark.number || a.mark.place - b.mark.place);
-  const most = Math.max(1, ...ok.map((r) => B ? r.mark.t - B.T : 0)), W = 200, sx = (v) => 8 + (W - 16) * v / most;
-  const sums = B ? engine.report(ok.map((r) => ({ ...r.mark, engine: B.T }))) : null;
-  let figs = `<li><b>${rows.length}</b> lists</li><li><b>${ok.length}</b> accepted</li><li><b class="${no.length ? 'bad' : ''}">${no.length}</b> refused</li>`;
-  if (sums && sums.ok && ok.length) figs += `<li><b>${ok.filter((r) => r.mark.t === B.T).length}</b> as few turns as the engine</li><li>mean excess <b>${sums.excess}/${sums.count}</b> = ${(Number(sums.excess) / Number(sums.count)).toFixed(2)} turns</li>`;
-  const plot = (e) => `<svg width="${W}" height="30" aria-hidden="true">${ticks(most).map((v) => `<path class="${v ? 'ax' : 'ax0'}" d="M${n(sx(v))} 0v30"/>`).join('')}${e === null ? '' : `${e ? `<path class="dl" d="M${n(sx(0))} 15H${n(sx(e))}"/>` : ''}<circle class="${e ? 'dd' : 'd0'}" cx="${n(sx(e))}" cy="15" r="4.500"/>`}</svg>`;
-  const spark = (r) => {
-    if (!B || !r.L) return '';
-    const hi = Math.max(r.L.leaf1, B.leaf1), b = turnsByLeaf(g, B, hi), ds = turnsByLeaf(g, r.L, hi).map((v, k) => v - b[k]), x = 150 / ds.length, y = (d) => 25 - 20 / most * Math.max(-1, Math.min(d, most));
-    let d = `M0 ${n(y(ds[0]))}`;
-    ds.forEach((v, k) => { d += `V${n(y(v))}H${n((k + 1) * x)}`; });
-    const cross = r.mark.ok ? '' : `<path class="spx" d="M${n((leafOf(g, r.mark.place) - B.leaf0 + 0.5) * x - 3)} 22l6 6m0 -6l-6 6"/>`;
-    return `<svg width="150" height="30" aria-hidden="true"><path class="ax" d="M0 25h150"/>${r.mark.ok && ds.some(Boolean) ? `<path class="spa" d="${d}V25H0z"/><path class="spl" d="${d}"/>` : ''}${cross}</svg>`;
-  };
-  const why = (r) => {
-    if (!r.mark.ok) return r.L && r.L.first ? `<span class="bad">rule ${r.mark.number} on page ${r.mark.place}</span> <span class="soft">${esc(r.L.first.words)}</span>` : `<span class="bad">${esc(refusalWords(r.mark))}</span>`;
-    if (!B) return '';
-    const e = r.mark.t - B.T, q = parting(r.L.ends, B.ends);
-    if (!q) return 'page for page the engine’s';
-    if (!e) return r.mark.w > B.W ? `as few turns, ${length(g, r.mark.w - B.W)} more white space` : 'as good as the engine’s';
-    const late = r.L.floats.filter((F) => F.turns > B.byId.get(F.id).turns).map((F) => F.id), parts = [];
-    if (late.length) parts.push(`later than the engine’s: ${late.slice(0, 6).join(', ')}${late.length > 6 ? ` and ${late.length - 6} more` : ''}`);
-    if (r.L.Y > B.Y) parts.push(`${plural(r.L.Y - B.Y, 'turn')} more to leaf through`);
-    return parts.join('; ');
-  };
-  const head = `<tr><th>list</th><th class="r">p</th><th class="r">X</th><th class="r">Y</th><th class="r">T</th><th class="r">W</th><th class="r">more</th><th><svg width="${W}" height="16" aria-hidden="true">${ticks(most).map((v) => `<text class="axt" x="${n(sx(v))}" y="11">${v ? `+${v}` : 0}</text>`).join('')}</svg></th><th>as the pages go by</th><th class="r">parts at page</th><th>why</th></tr>`;
-  const row = (r) => {
-    const m = r.mark, e = B && m.ok ? m.t - B.T : null;
-    const nums = m.ok ? [m.p, m.x, m.y, `<b>${m.t}</b>`, comma(m.w)].map((v) => `<td class="r">${v}</td>`).join('') + `<td class="r ${e ? 'loud' : 'soft'}">${e === null ? '' : e ? `+${e}` : 0}</td>` : `<td class="r">${r.ends.length}</td><td colspan="5" class="bad">refused</td>`;
-    return `<tr><td><button class="link" data-show="${esc(r.name)}">${esc(r.name)}</button></td>${nums}<td class="dp">${plot(e)}</td><td class="sp">${spark(r)}</td><td class="r">${B && r.L ? parting(r.L.ends, B.ends) || '' : ''}</td><td class="why soft">${why(r)}</td></tr>`;
-  };
-  const eng = B ? `<tr class="eng"><td>the engine</td>${[B.p, B.X, B.Y, B.T, comma(B.W)].map((v) => `<td class="r">${v}</td>`).join('')}<td></td><td class="dp">${plot(0)}</td><td></td><td></td><td class="why soft">no list has fewer turns</td></tr>` : '';
-  let out = `<ul class="figs num">${figs}</ul><h2>Lists <small>by turns, then white space; the refused ones last. Each leads to its pages</small></h2><div class="scroll"><table class="rep">${head}${eng}${[...ok, ...no].map(row).join('')}</table></div>`;
-  if (B && ok.length) {
-    const lost = B.floats.map((F) => { const d = ok.map((r) => r.L.byId.get(F.id).turns - F.turns).filter((x) => x > 0); return { F, lists: d.length, turns: d.reduce((a, b) => a + b, 0) }; }).filter((x) => x.turns).sort((a, b) => b.turns - a.turns);
-    const top = lost.length ? lost[0].turns : 1;
-    out += `<h2>Where the class loses <small>floats that stand later than in the engine’s list, over ${plural(ok.length, 'accepted list')}</small></h2>`;
-    out += lost.length ? `<div class="scroll"><table><tr><th>float</th><th class="r">height</th><th class="r">cited by line</th><th class="r">lists</th><th class="r">turns</th><th></th></tr>${lost.slice(0, 15).map((x) => `<tr><td>${x.F.id}</td><td class="r">${length(g, x.F.h)}</td><td class="r">${x.F.cite}</td><td class="r">${x.lists}</td><td class="r"><b>${x.turns}</b></td><td><svg width="200" height="12" aria-hidden="true"><rect class="hb" y="1" width="${n(200 * x.turns / top)}" height="9"/></svg></td></tr>`).join('')}</table></div>` : '<p class="sub">No float stands later than in the engine’s list.</p>';
+/** Accepted lists by T, W and name, then refused ones by rule and page. @param {App} app @param {Measured | null} best @returns {Row[]} */
+function rowsOf(app, best) {
+  const rows = app.lists.map((list) => {
+    const L = list.ends.length ? app.measured(list) : null, { mark } = list;
+    const row = { name: list.name, mark, words: list.words, L, more: best && mark.ok ? mark.t - best.T : null, part: best && L ? parting(L.ends, best.ends) : 0, why: '' };
+    return { ...row, why: mark.ok ? whyMore(app.g, row, best) : whyRefused(app.g, row) };
+  });
+  const name = (a, b) => a.name < b.name ? -1 : 1;
+  const accepted = rows.filter((row) => row.mark.ok).sort((a, b) => a.mark.t - b.mark.t || a.mark.w - b.mark.w || name(a, b));
+  const refused = rows.filter((row) => !row.mark.ok).sort((a, b) => a.mark.number - b.mark.number || a.mark.place - b.mark.place || name(a, b));
+  return [...accepted, ...refused];
+}
+
+/** @param {any} g @param {Row} row @param {Measured | null} best */
+function whyMore(g, { L, mark, more, part }, best) {
+  if (!best) return '';
+  if (!part) return 'page for page the engine’s';
+  if (!more) return mark.w > best.W ? `as few turns, ${length(g, mark.w - best.W)} more white space` : 'as good as the engine’s';
+  const late = L.floats.filter((F, k) => F.turns > best.floats[k].turns).map((F) => F.id), parts = [];
+  if (late.length) parts.push(`later than the engine’s: ${series(late, 6)}`);
+  if (L.Y > best.Y) parts.push(`${plural(L.Y - best.Y, 'turn')} more to leaf through`);
+  return parts.join('; ');
+}
+
+/** @param {any} g @param {Row} row */
+function whyRefused(g, { L, mark, words }) {
+  if (mark.number === 12) return `R 12: ${mark.why ?? brokenLength(g, words.length)}`;
+  const fault = L?.pages[mark.place - 1]?.bad[0];
+  return `rule ${mark.number} on page ${mark.place}${fault ? `: ${fault.numbers.join('; ')}` : ''}`;
+}
+
+/** @param {App} app @param {Row[]} rows @param {Measured | null} best */
+function figures(app, rows, best) {
+  const accepted = rows.filter((row) => row.mark.ok), refused = rows.length - accepted.length;
+  const told = [[rows.length, 'lists'], [accepted.length, 'accepted'], [refused, 'refused', refused ? 'bad' : '']]
+    .map(([count, what, cls]) => el('li', {}, el('b', { class: cls || null }, count), ` ${what}`));
+  const sums = best && accepted.length ? app.engine.report(accepted.map((row) => ({ ...row.mark, engine: best.T }))) : null;
+  if (sums?.ok) {
+    const same = accepted.filter((row) => row.more === 0).length, mean = (Number(sums.excess) / Number(sums.count)).toFixed(2);
+    told.push(el('li', {}, el('b', {}, same), ' with as few turns as the engine'),
+      el('li', {}, 'mean excess ', el('b', {}, `${sums.excess}/${sums.count}`), ` = ${mean} turns`),
+      el('li', {}, 'T from ', el('b', {}, String(sums.least)), ' to ', el('b', {}, String(sums.greatest))));
   }
-  return out;
+  return el('ul', { class: 'figs num' }, told);
+}
+
+/** @param {number} most */
+function head(most) {
+  const column = (words, cls = 'r') => el('th', { class: cls || null, scope: 'col' }, words);
+  return el('thead', {}, el('tr', {}, column('list', ''), ['p', 'X', 'Y', 'T', 'W', 'more'].map((k) => column(k)),
+    el('th', { scope: 'col' }, el('span', { class: 'vh' }, 'turns more'), drawn(dotScale(most))), column('as the pages go by', ''), column('parts at page'), column('why', '')));
+}
+
+/** @param {Measured} best @param {number} most */
+function engineRow(best, most) {
+  return el('tr', { class: 'eng' }, el('th', { scope: 'row' }, 'the engine'), numbers([best.p, best.X, best.Y, best.T, best.W]), el('td'),
+    el('td', { class: 'dp' }, drawn(dotPlot(0, most))), el('td', { class: 'sp' }), el('td'), el('td', { class: 'why soft' }, 'no list has fewer turns'));
+}
+
+/** @param {number[]} values */
+const numbers = (values) => values.map((v, k) => el('td', { class: 'r', 'data-t': 'pXYTW'[k] }, k === 3 ? el('b', {}, comma(v)) : comma(v)));
+
+/** @param {App} app @param {Row} row @param {Measured | null} best @param {number} most */
+function rowOf(app, row, best, most) {
+  const { mark, L, more, part } = row, name = el('th', { scope: 'row' }, link(row.name, () => app.showOnly(row.name), { 'data-show': row.name }));
+  const cells = mark.ok ? [numbers([mark.p, mark.x, mark.y, mark.t, mark.w]), el('td', { class: `r ${more ? 'loud' : 'soft'}`, 'data-t': 'more' }, more === null ? '' : more ? `+${more}` : '0')]
+    : [el('td', { class: 'r', 'data-t': 'p' }, L ? L.p : '–'), el('td', { colspan: 5, class: 'bad' }, 'refused')];
+  return el('tr', {}, name, cells, el('td', { class: 'dp' }, drawn(dotPlot(more, most))),
+    el('td', { class: 'sp' }, best && L ? drawn(spark(app.g, L, mark, best, most)) : ''),
+    el('td', { class: 'r', 'data-t': 'parts at page' }, part || ''), el('td', { class: mark.ok ? 'why soft' : 'why bad' }, row.why));
+}
+
+/** @param {any} g @param {Measured} L @param {any} mark @param {Measured} best @param {number} most */
+function spark(g, L, mark, best, most) {
+  const to = Math.max(L.leaf1, best.leaf1), other = turnsByLeaf(g, best, to);
+  const cross = mark.ok ? null : mark.place ? leafOf(g, mark.place) - best.leaf0 : 0;
+  return staircase(turnsByLeaf(g, L, to).map((turns, k) => turns - other[k]), most, cross);
+}
+
+/** Floats by the turns that the class loses with them. @param {any} g @param {Row[]} rows @param {Measured} best */
+function whereLost(g, rows, best) {
+  const accepted = rows.filter((row) => row.mark.ok);
+  const lost = best.floats.map((F, k) => {
+    const more = accepted.map((row) => row.L.floats[k].turns - F.turns).filter((turns) => turns > 0);
+    return { F, lists: more.length, turns: more.reduce((a, b) => a + b, 0) };
+  }).filter((one) => one.turns).sort((a, b) => b.turns - a.turns);
+  const title = el('h2', {}, 'Where the class loses ', el('small', {}, `floats that stand later than in the engine’s list, over ${plural(accepted.length, 'accepted list')}`));
+  if (!lost.length) return [title, el('p', { class: 'sub' }, 'No float stands later than in the engine’s list.')];
+  const heads = ['height', 'cited by line', 'lists', 'turns'].map((words) => el('th', { class: 'r', scope: 'col' }, words));
+  return [title, el('table', { class: 'led' }, el('thead', {}, el('tr', {}, el('th', { scope: 'col' }, 'float'), heads, el('th'))),
+    el('tbody', {}, lost.slice(0, MOST_FLOATS).map(({ F, lists, turns }) => el('tr', {}, el('th', { scope: 'row' }, F.id),
+      el('td', { class: 'r', 'data-t': 'height' }, length(g, F.h)), el('td', { class: 'r', 'data-t': 'cited by line' }, F.cite), el('td', { class: 'r', 'data-t': 'lists' }, lists),
+      el('td', { class: 'r', 'data-t': 'turns' }, el('b', {}, turns)), el('td', {}, drawn(bar(turns / lost[0].turns))))))),
+  lost.length > MOST_FLOATS && el('p', { class: 'sub' }, `and ${lost.length - MOST_FLOATS} more`)];
+}
+
+/** The rows for a spreadsheet. A field that could be taken for a formula is quoted with a blank before it. @param {Row[]} rows */
+export function csv(rows) {
+  const field = (x) => {
+    const text = String(x ?? ''), safe = /^[=+\-@\t\r]/.test(text) && !/^-?\d+$/.test(text) ? ` ${text}` : text;
+    return /[",\n\r]/.test(safe) ? `"${safe.replace(/"/g, '""')}"` : safe;
+  };
+  const line = (row) => {
+    const { mark } = row, told = mark.ok ? [mark.p, mark.x, mark.y, mark.t, mark.w, row.more, '', ''] : [row.L?.p, '', '', '', '', '', mark.number, mark.place];
+    return [row.name, ...told, row.part || '', row.why].map(field).join(',');
+  };
+  return `${['list,p,X,Y,T,W,more,refusal,place,parts at page,why', ...rows.map(line)].join('\r\n')}\r\n`;
 }

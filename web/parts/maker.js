@@ -1,24 +1,38 @@
-// Making in a worker, one job at a time: what the hand waits for goes before what is only nice to know.
+// Making in a worker, one job at a time: what the hand waits for goes before what is only good to know.
+import { impossible } from '../engine/engine.js';
 
 /**
  * @typedef {import('../engine/engine.js').Made} Made
  * @typedef {import('../engine/engine.js').Refusal} Refusal
- * @typedef {{key: string, opening: ArrayLike<number>, urgent: boolean, done: ((r: any) => void)[]}} Job
+ * @typedef {{key: string, request: any, urgent: boolean, done: ((answer: any) => void)[]}} Job
  */
+
+const MOST_KNOWN = 4000;
 
 export class Maker {
   /** @param {() => Worker} start @param {ArrayBuffer} wasm */
-  constructor(start, wasm) { this.start = start; this.wasm = wasm; this.reset(null); }
+  constructor(start, wasm) {
+    this.start = start;
+    this.wasm = wasm;
+    this.reset(null);
+  }
 
   /** Another galley: whatever runs is ended. @param {Uint8Array | null} bytes */
   reset(bytes) {
-    if (this.worker) this.worker.terminate();
-    this.worker = null;
+    this.stop();
     this.bytes = bytes;
-    /** @type {Job[]} */ this.jobs = [];
-    /** @type {Job | null} */ this.running = null;
     /** @type {Map<string, any>} */ this.known = new Map();
     this.lastMs = 0;
+  }
+
+  /** Ends what runs and what waits; whoever waits is told. */
+  stop() {
+    this.worker?.terminate();
+    this.worker = null;
+    const ended = [...(this.running ? [this.running] : []), ...(this.jobs ?? [])];
+    /** @type {Job[]} */ this.jobs = [];
+    /** @type {Job | null} */ this.running = null;
+    for (const job of ended) for (const done of job.done) done({ ...impossible('Making was stopped.'), stopped: true });
   }
 
   /**
@@ -26,42 +40,68 @@ export class Maker {
    * @returns {Promise<(Made & {ms: number}) | Refusal>}
    */
   make(opening = [], urgent = true) {
-    const key = Array.prototype.join.call(opening, ' ');
+    return this.ask(Array.prototype.join.call(opening, ' '), { galley: this.bytes, opening: Array.from(opening) }, urgent);
+  }
+
+  /** Whether there is a pagination of other bytes. @param {Uint8Array} galley @param {ArrayLike<number>} opening @returns {Promise<any>} */
+  tryBytes(galley, opening) {
+    return this.ask(`other ${galley.subarray(0, 40).join(' ')} ${Array.prototype.join.call(opening, ' ')}`,
+      { galley, opening: Array.from(opening) }, false);
+  }
+
+  /** The best book. @param {Uint8Array[]} galleys @returns {Promise<any>} */
+  book(galleys) { return this.ask('book', { book: galleys }, true); }
+
+  /** @param {string} key @param {any} request @param {boolean} urgent @returns {Promise<any>} */
+  ask(key, request, urgent) {
     if (this.known.has(key)) return Promise.resolve(this.known.get(key));
     return new Promise((done) => {
-      const same = [...this.jobs, ...(this.running ? [this.running] : [])].find((j) => j.key === key);
-      if (same) { same.done.push(done); same.urgent ||= urgent; return; }
-      this.jobs.push({ key, opening: Array.from(opening), urgent, done: [done] });
+      const same = [...this.jobs, ...(this.running ? [this.running] : [])].find((job) => job.key === key);
+      if (same) {
+        same.done.push(done);
+        same.urgent ||= urgent;
+        return;
+      }
+      this.jobs.push({ key, request, urgent, done: [done] });
       this.next();
     });
   }
 
   /** Takes back what nobody waits for any more. */
-  forget() { this.jobs = this.jobs.filter((j) => { if (j.urgent) return true; j.done.forEach((d) => d({ ok: false, number: 0, place: 0, why: 'taken back' })); return false; }); }
+  forget() {
+    const dropped = this.jobs.filter((job) => !job.urgent);
+    this.jobs = this.jobs.filter((job) => job.urgent);
+    for (const job of dropped) for (const done of job.done) done(impossible('It is not wanted any more.'));
+  }
 
+  /** The latest urgent job, else the first. */
   next() {
-    if (this.running || !this.jobs.length || !this.bytes) return;
-    let at = -1;
-    this.jobs.forEach((j, k) => { if (j.urgent) at = k; });     // the latest urgent one, else the first
-    const job = this.jobs.splice(at < 0 ? 0 : at, 1)[0];
+    if (this.running || !this.jobs.length) return;
+    const urgent = this.jobs.findLastIndex((job) => job.urgent);
+    const [job] = this.jobs.splice(Math.max(0, urgent), 1);
     this.running = job;
     if (!this.worker) {
       this.worker = this.start();
-      this.worker.postMessage({ wasm: this.wasm, galley: this.bytes });
-      this.worker.onmessage = (e) => this.answered(e.data);
-      this.worker.onerror = () => this.answered({ ok: false, number: 0, place: 0, why: 'the worker could not be started' });
+      this.worker.postMessage({ wasm: this.wasm });
+      this.worker.onmessage = (event) => this.answered(event.data);
+      this.worker.onerror = (event) => {
+        event.preventDefault();
+        this.worker = null;
+        this.answered(impossible('The worker ended: this browser may have too little memory for a galley of this size.'));
+      };
     }
-    this.worker.postMessage({ opening: job.opening });
+    this.worker.postMessage(job.request);
   }
 
-  answered(result) {
+  /** @param {any} answer */
+  answered(answer) {
     const job = this.running;
     this.running = null;
-    if (result.ms) this.lastMs = Math.max(result.ms, this.lastMs * 0.8);
+    if (answer.ms) this.lastMs = Math.max(answer.ms, this.lastMs * 0.8);
     if (job) {
-      if (result.number || result.ok) this.known.set(job.key, result);
-      if (this.known.size > 4000) this.known.clear();
-      job.done.forEach((d) => d(result));
+      if (this.known.size > MOST_KNOWN) this.known.clear();
+      if (answer.number || answer.ok) this.known.set(job.key, answer);
+      for (const done of job.done) done(answer);
     }
     this.next();
   }

@@ -13,7 +13,5 @@ pub mod Loosening
 pub mod Lost
 pub mod Marks
 pub mod Books
-pub mod Outside
 pub mod BookAnswers
-pub mod Own
 pub mod OneChapter

@@ -1,30 +1,32 @@
 // The desk on the screen: score, overview, film strip, sentence and panels. It is told what to show, and draws what has changed.
-import { leafWord, plural, signed } from '../../galley/words.js';
-import { lanes, n, overview, setPage, staffHeights, strip } from '../../layout/layout.js';
-import { leafOf } from '../../galley/measure.js';
+import { grip, overlay, tone } from '../../draw/handle.js';
 import { staff } from '../../draw/staff.js';
-import { endsPanel, overlay, restPanel, score, sentence, tone } from './panels.js';
+import { text } from '../../draw/svg.js';
+import { leafOf } from '../../galley/page.js';
+import { leafWord, plural, signed } from '../../galley/words.js';
+import { lanes, n, overview, staffHeights, strip } from '../../layout/layout.js';
+import { byId, drawn, el, link, put } from '../dom.js';
+import { fitLine } from './ends.js';
+import { endsPanel, layoutsPanel, pairsPanel, restPanel, score, sentence } from './panels.js';
 
-const SKELETON = `<div class="score" id="score"></div>
-<nav class="map" id="deskmap" aria-label="All pages"></nav><p class="legend ui" id="legend"></p>
-<div class="film" id="film" tabindex="0" role="slider" aria-orientation="vertical"><div class="in"></div></div>
-<p class="hint ui" aria-hidden="true"><b>↑ ↓</b> lines · <b>Shift ↑ ↓</b> next accepted end · <b>← →</b> figures · <b>Shift ← →</b> tables · <b>B</b> best end · <b>Space</b> the list in force · <b>N</b> next hint · <b>?</b> all keys</p>
-<div class="act"><button id="prev" aria-label="end of the page before">←<kbd>[</kbd></button><p id="say"></p>
-<button id="cancel">Cancel<kbd>Esc</kbd></button><button id="commit" class="main">Commit<kbd>Enter</kbd></button><button id="next" aria-label="end of the next page">→<kbd>]</kbd></button></div>
-<div class="panels"><section id="ends" aria-label="Ends of this page"></section><section id="rests" aria-label="With the rest made best"></section>
-<section aria-label="List and layouts"><h3>List <small id="lmode"></small></h3><div class="tools"><button id="undo">Undo<kbd>Ctrl Z</kbd></button><button id="redo" aria-label="redo">Redo</button><button id="pagebest" title="the best of this page's ends">Best end<kbd>B</kbd></button><button id="rest" title="keep the pages up to this end, make the rest best">Best from here<kbd>R</kbd></button><button id="makebest">Make best</button><button id="write">Write list<kbd>W</kbd></button><select id="form" aria-label="form of the list"><option value="made">as made</option><option value="plain">plain</option><option value="csv">CSV</option></select><button id="help" aria-label="keys">?</button></div>
-<h3>Layouts <small>to come back to</small></h3><form class="tools" id="saver"><input id="name" maxlength="16" size="12" aria-label="name of the layout"><button>Save<kbd>S</kbd></button></form><div id="lays"></div></section></div>`;
+/**
+ * @typedef {import('./hand.js').DeskHand} DeskHand
+ * @typedef {import('./hand.js').Sitting} Sitting
+ */
+
+/** A page is drawn this much wider than high. */
+const SHAPE = 0.63;
+const PHONE = 700;
 
 export class DeskView {
-  /** @param {HTMLElement} root */
-  constructor(root) {
-    root.innerHTML = SKELETON;
+  /** @param {HTMLElement} root @param {DeskHand} hand */
+  constructor(root, hand) {
     this.root = root;
-    this.$ = (id) => /** @type {any} */ (root.querySelector(`#${id}`));
-    this.film = this.$('film');
+    this.hand = hand;
+    this.film = byId('film');
     this.inner = this.film.querySelector('.in');
-    /** @type {Map<number, {el: HTMLElement, html: string}>} */ this.leaves = new Map();
-    /** @type {Map<number, {el: HTMLElement, html: string}>} */ this.cols = new Map();
+    /** @type {Map<number, {el: HTMLElement, svg: string}>} */ this.leaves = new Map();
+    /** @type {Map<number, {el: HTMLElement, svg: string}>} */ this.columns = new Map();
     this.over = document.createElementNS('http://www.w3.org/2000/svg', 'svg');
     this.over.setAttribute('class', 'over');
     this.over.setAttribute('aria-hidden', 'true');
@@ -32,54 +34,64 @@ export class DeskView {
     this.times = { draw: 0, n: 0, worst: 0 };
   }
 
-  /** Sizes for this galley and window; everything is drawn again. */
+  /** Sizes for this galley and window; everything is drawn again. @param {any} g */
   fit(g) {
     this.g = g;
-    const width = this.film.clientWidth || 1000, phone = innerWidth <= 700, tall = phone ? 330 : Math.max(250, Math.min(430, innerHeight - 560));
-    const pair = g.sides === 2 ? (width - 92) / 2 : (width - 130) / 2, PW = Math.max(90, Math.min(tall * 0.63, pair));
-    this.Z = strip(g, PW / 0.63, PW);
+    const width = this.film.clientWidth || 1000, tall = innerWidth <= PHONE ? 330 : Math.max(250, Math.min(430, innerHeight - 560));
+    const pair = g.sides === 2 ? (width - 92) / 2 : (width - 130) / 2, PW = Math.max(90, Math.min(tall * SHAPE, pair));
+    this.Z = strip(g, PW / SHAPE, PW);
     this.pad = width / 2;
     this.width = width;
     this.rows = 2;
-    this.inner.innerHTML = '';
-    this.inner.append(this.over);
     this.leaves.clear();
-    this.$('deskmap').innerHTML = '';
-    this.cols.clear();
+    this.columns.clear();
+    put(this.inner, /** @type {any} */ (this.over));
+    put(byId('deskmap'));
   }
 
-  /** The boundary between pages q and q + 1, from the left of the film. */
+  /** The boundary between pages q and q + 1, from the left of the film. @param {any} M @param {number} q */
   boundary(M, q) {
-    const Z = this.Z, P = M.pages[q - 1], N = M.pages[q], left = (P.leaf - M.leaf0) * Z.w;
-    return this.pad + left + (P.leaf === N.leaf ? Z.w / 2 : Z.w);
+    const page = M.pages[q - 1], left = (page.leaf - M.leaf0) * this.Z.w;
+    return this.pad + left + (page.leaf === M.pages[q]?.leaf ? this.Z.w / 2 : this.Z.w);
   }
 
-  /** @param {any} s state: {bench, q, best, gains, losses, rests, busy, making} @param {boolean} [center] */
+  /** @param {Sitting} s @param {boolean} [center] */
   draw(s, center = false) {
-    const t0 = performance.now(), { bench, q } = s, g = this.g, Z = this.Z, M = bench.trial ? bench.trial.measured : bench.measured;
+    const from = performance.now(), { bench, q } = s, { Z } = this, M = bench.trial ? bench.trial.measured : bench.measured;
     this.state = s;
-    const ways = lanes(M, Z);
-    const total = M.leaf1 - M.leaf0 + 1;
-    this.ways = ways; this.M = M;
-    this.inner.style.width = `${2 * this.pad + total * Z.w}px`;
-    if (center && q) { this.film.scrollLeft = this.boundary(M, q) - this.width / 2; if (q !== this.lastQ) this.rows = 2; this.lastQ = q; }
+    this.ways = lanes(M, Z);
+    this.M = M;
+    this.inner.style.width = `${2 * this.pad + (M.leaf1 - M.leaf0 + 1) * Z.w}px`;
+    if (center) {
+      this.film.scrollLeft = this.boundary(M, q) - this.width / 2;
+      if (q !== this.lastQ) this.rows = 2;
+      this.lastQ = q;
+    }
     this.rows = Math.max(this.rows, this.lanesInView());
     this.H = staffHeights(Z, this.rows, true, true);
     this.inner.style.height = `${Math.ceil(this.H.total)}px`;
     this.drawLeaves();
     this.drawOver();
     this.drawMap();
-    this.$('score').innerHTML = score(bench.mark, bench.trial, s.best, s.making);
+    put(byId('score'), score(bench, s.best, s.making));
     this.drawAct();
-    const ms = performance.now() - t0;
-    this.times.draw = ms; this.times.n++; this.times.worst = Math.max(this.times.worst, ms);
+    const ms = performance.now() - from;
+    this.times = { draw: ms, n: this.times.n + 1, worst: Math.max(this.times.worst, ms) };
   }
 
   /** The list in force in place of the trial, while it is asked for. @param {boolean} on */
   flick(on) {
-    const { bench } = this.state, t = bench.trial;
-    if (!t && on) return;
-    if (on) { bench.trial = null; this.hidden = t; this.draw(this.state); bench.trial = t; this.film.classList.add('flick'); } else if (this.hidden) { this.hidden = null; this.film.classList.remove('flick'); this.draw(this.state); }
+    if (!this.state) return;
+    const { bench } = this.state, { trial } = bench;
+    if (on && trial) {
+      bench.trial = null;
+      this.draw(this.state);
+      bench.trial = trial;
+      this.film.classList.add('flick');
+    } else if (!on && this.film.classList.contains('flick')) {
+      this.film.classList.remove('flick');
+      this.draw(this.state);
+    }
   }
 
   /** The leaves in view, and one on each side. @returns {[number, number]} */
@@ -92,129 +104,178 @@ export class DeskView {
   lanesInView() {
     const [from, to] = this.inView();
     let most = 0;
-    for (let i = from; i <= to; i++) for (const A of this.ways.over.get(i) || []) most = Math.max(most, A.lane + 1);
+    for (let i = from; i <= to; i++) for (const A of this.ways.over.get(i) ?? []) most = Math.max(most, A.lane + 1);
     return most;
   }
 
   /** The hand leafs through the film. */
-  scrolled() { if (this.lanesInView() > this.rows) this.draw(this.state); else this.drawLeaves(); }
+  scrolled() {
+    if (this.lanesInView() > this.rows) this.draw(this.state); else this.drawLeaves();
+  }
 
   drawLeaves() {
-    const { M, Z, ways, g } = this, { q } = this.state, [from, to] = this.inView();
-    for (const [i, c] of this.leaves) if (i < from || i > to) { c.el.remove(); this.leaves.delete(i); }
-    const moved = this.moved();
-    for (let i = from; i <= to; i++) {
-      let c = this.leaves.get(i);
-      if (!c) {
-        const el = document.createElement('div');
-        el.className = 'leaf';
-        el.style.left = `${this.pad + (i - M.leaf0) * Z.w}px`;
-        this.inner.insertBefore(el, this.over);
-        this.leaves.set(i, c = { el, html: '' });
-      }
-      const { svg } = staff(g, M, ways, i, Z, { rows: this.rows, anyBad: true, anyOver: true, moved });
-      const html = svg.replace(/<\/svg>$/, `${this.grips(i)}</svg>`);
-      if (html !== c.html) { c.el.innerHTML = html; c.html = html; }
-      c.el.classList.toggle('far', !!q && i !== leafOf(g, q) && i !== leafOf(g, q + 1));
+    const { M, Z, ways, g } = this, { q, bench } = this.state, [from, to] = this.inView(), moved = this.moved();
+    for (const [i, leaf] of this.leaves) {
+      if (i >= from && i <= to) continue;
+      leaf.el.remove();
+      this.leaves.delete(i);
     }
+    for (let i = from; i <= to; i++) {
+      const leaf = this.leaves.get(i) ?? this.newLeaf(i);
+      const options = { rows: this.rows, anyBad: true, anyOver: true, moved, printed: bench.printed, more: this.grips(i) };
+      const { svg } = staff(g, M, ways, i, Z, options);
+      if (svg !== leaf.svg) {
+        leaf.el.replaceChildren(drawn(svg));
+        leaf.svg = svg;
+      }
+      leaf.el.classList.toggle('far', i !== leafOf(g, q) && i !== leafOf(g, q + 1));
+    }
+  }
+
+  /** @param {number} i */
+  newLeaf(i) {
+    const leaf = { el: el('div', { class: 'leaf' }), svg: '' };
+    leaf.el.style.left = `${this.pad + (i - this.M.leaf0) * this.Z.w}px`;
+    this.inner.insertBefore(leaf.el, this.over);
+    this.leaves.set(i, leaf);
+    return leaf;
   }
 
   /** Lines and floats that stand elsewhere than in the list in force. */
   moved() {
-    const { bench } = this.state, t = bench.trial;
-    if (!t || t.whole) return null;
-    const f = bench.ends[t.q - 1], floats = new Set();
-    for (const s of [1, 2]) for (let k = Math.min(f[s], t.end[s]) + 1; k <= Math.max(f[s], t.end[s]); k++) floats.add(' FT'[s] + k);
-    return { lines: /** @type {[number, number]} */ ([Math.min(f[0], t.end[0]), Math.max(f[0], t.end[0])]), floats };
+    const { bench } = this.state, { trial } = bench;
+    if (!trial || trial.whole) return null;
+    const floats = new Set(), pairs = [[bench.ends[trial.q - 1], trial.end], ...(trial.second ? [[bench.ends[trial.q], trial.second]] : [])];
+    const lines = pairs.map(([was, is]) => {
+      for (const s of [1, 2]) for (let k = Math.min(was[s], is[s]) + 1; k <= Math.max(was[s], is[s]); k++) floats.add(' FT'[s] + k);
+      return /** @type {[number, number]} */ ([Math.min(was[0], is[0]), Math.max(was[0], is[0])]);
+    });
+    return { lines, floats };
   }
 
-  /** Handles at rest, of the other pages of a leaf. */
+  /** Handles at rest, of the other pages of a leaf. @param {number} i */
   grips(i) {
-    const { M, Z, H, g } = this, { q, gains } = this.state;
-    return (M.byLeaf.get(i) || []).filter((P) => !P.last && P.q !== q).map((P) => {
-      const { items } = setPage(g, P, Z), last = items.filter((it) => it.s === 0).pop() || items[items.length - 1];
-      const y = H.y0 + Math.min(Z.H + Z.over, last ? last.y + last.h : 0) + 2, x = Z.x(P.folio), gain = gains.get(P.q);
-      const w = gain < 0 ? 56 : 36, pill = `<rect class="pl" x="${n(x + (Z.PW - w) / 2)}" y="${n(y - 7.5)}" width="${w}" height="15" rx="7.5"/><text x="${n(x + Z.PW / 2)}" y="${n(y + 3.5)}">${P.b[0]}${gain < 0 ? `  ${signed(gain)}` : ''}</text>`;
-      return `<g class="grip${gain < 0 ? ' gain' : ''}" data-q="${P.q}"><rect class="h" x="${n(x)}" y="${n(y - 11)}" width="${n(Z.PW)}" height="22"/><path d="M${n(x)} ${n(y)}h${n(Z.PW)}"/>${pill}<title>the end of page ${P.q}${gain < 0 ? `: another end has ${plural(-gain, 'turn')} fewer` : ''}</title></g>`;
-    }).join('');
+    const { q, gains, pair, bench } = this.state, other = (page) => !page.last && page.q !== q && page.q > bench.printed;
+    return (this.M.byLeaf.get(i) ?? []).filter(other).map((page) => grip(this.g, page, this.Z, this.H.y0, gains.get(page.q) ?? 0, pair && page.q === q + 1)).join('');
   }
 
   drawOver() {
-    const { M, Z, H, g } = this, { bench, q } = this.state;
-    if (!q) { this.over.innerHTML = ''; return; }
-    const t = bench.trial, a = leafOf(g, q), b = leafOf(g, q + 1), w = (b - a + 1) * Z.w;
+    const { M, Z, H, g } = this, { bench, q, bestEnds } = this.state, { trial } = bench, a = leafOf(g, q), w = (leafOf(g, q + 1) - a + 1) * Z.w;
     this.over.style.left = `${this.pad + (a - M.leaf0) * Z.w}px`;
-    this.over.setAttribute('width', n(w));
-    this.over.setAttribute('height', n(H.total));
-    this.over.setAttribute('viewBox', `0 0 ${n(w)} ${n(H.total)}`);
-    this.over.innerHTML = overlay(g, M, Z, H.y0, q, this.accepted(q), bench.ends[q - 1], { ok: !t || t.answer.ok, change: t ? t.change : 0, trial: !!t, whole: !!(t && t.whole), star: this.state.bestEnds ? this.state.bestEnds[q - 1] || null : null });
+    for (const [name, value] of [['width', n(w)], ['height', n(H.total)], ['viewBox', `0 0 ${n(w)} ${n(H.total)}`]]) this.over.setAttribute(name, value);
+    const state = { ok: !trial || trial.answer.ok, change: trial ? trial.change : 0, trial: !!trial, whole: !!trial?.whole, force: bench.ends[q - 1], star: bestEnds?.[q - 1] ?? null };
+    const marks = q <= bench.printed ? '' : overlay(g, M, Z, H.y0, q, this.accepted(q), state);
+    this.over.replaceChildren(...drawn(`<svg>${marks}</svg>`).childNodes);
   }
 
-  /** One accepted end a line: that with the fewest turns. */
+  /** One accepted end a line: that with the fewest turns. @param {number} q */
   accepted(q) {
-    const { bench } = this.state, now = bench.trial && !bench.trial.whole ? bench.trial.end : bench.ends[q - 1];
-    return [...bench.scan(q).byLine.keys()].sort((a, b) => a - b).map((i) => bench.fitLine(q, i, now));
+    const { bench, pair } = this.state, now = bench.trial && !bench.trial.whole ? bench.trial.end : bench.ends[q - 1];
+    const { byLine } = pair ? bench.pairs(q) : bench.scan(q);
+    return [...byLine.keys()].sort((a, b) => a - b).map((i) => fitLine(byLine.get(i), now));
   }
 
   drawMap() {
-    const { M, g } = this, { q, gains, losses } = this.state, total = M.leaf1 - M.leaf0 + 1, z = overview(g, total, innerWidth <= 700 ? 1 : 2.4), ways = lanes(M, z), map = this.$('deskmap');
-    const rows = Math.max(this.mapRows || 0, Math.min(4, ways.lanes));
-    this.mapRows = total === this.mapTotal ? rows : Math.min(4, ways.lanes);
+    const { M, g } = this, { q, gains, losses, bench } = this.state, map = byId('deskmap'), total = M.leaf1 - M.leaf0 + 1;
+    const Z = overview(g, total, innerWidth <= PHONE ? 1 : 2.4), ways = lanes(M, Z), rows = Math.min(4, ways.lanes);
+    this.mapRows = total === this.mapTotal ? Math.max(this.mapRows ?? 0, rows) : rows;
     this.mapTotal = total;
-    for (const [i, c] of this.cols) if (i > M.leaf1) { c.el.remove(); this.cols.delete(i); }
-    for (let i = M.leaf0; i <= M.leaf1; i++) {
-      let c = this.cols.get(i);
-      if (!c) {
-        const el = document.createElement('a');
-        map.append(el);
-        this.cols.set(i, c = { el, html: '' });
-      }
-      const marks = (M.byLeaf.get(i) || []).map((P) => {
-        const x = z.x(P.folio) + z.PW / 2, lost = losses.get(P.q);
-        return (gains.get(P.q) < 0 ? `<path class="gn" d="M${n(x - 3.5)} 7l3.500 -6l3.500 6z"/>` : '') + (lost ? `<text x="${n(x)}" y="16">+${lost}</text>` : '');
-      }).join('');
-      const html = `${staff(g, M, ways, i, z, { rows: this.mapRows, focus: [q, q + 1] }).svg}<svg class="gl" width="${n(z.w)}" height="17" aria-hidden="true">${marks}</svg><i>${i}</i>`;
-      if (html !== c.html) { c.el.innerHTML = html; c.html = html; c.el.setAttribute('data-leaf', String(i)); }
+    for (const [i, column] of this.columns) {
+      if (i <= M.leaf1) continue;
+      column.el.remove();
+      this.columns.delete(i);
     }
-    const here = this.cols.get(leafOf(g, q));
-    if (map.scrollWidth > map.clientWidth && here && this.mapAt !== q) { this.mapAt = q; map.scrollLeft = here.el.offsetLeft - map.offsetLeft - map.clientWidth / 2 + z.w; }
-    const links = (ps) => ps.slice(0, 8).map((p) => `<button class="link" data-go="${p}">page ${p}</button>`).join(', ') + (ps.length > 8 ? ` and ${ps.length - 8} more` : '');
-    const better = [...gains.values()].filter((v) => v < 0).length, lost = [...losses.keys()];
-    this.$('legend').innerHTML = `${better ? `<b class="g">▲</b> another end has fewer turns: ${links([...gains].filter(([, v]) => v < 0).map(([p]) => p))}` : this.state.scanned ? 'No other end of one page alone has fewer turns' : 'Trying every end of every page…'}`
-      + (lost.length ? ` · turns lost for good: ${lost.slice(0, 8).map((p) => `<b class="l">+${losses.get(p)}</b> with the end of ${links([p])}`).join(', ')}${lost.length > 8 ? ` and ${lost.length - 8} more` : ''}` : this.state.slow ? ` · <button class="link" data-find="1">find where turns are lost for good</button> (${(this.state.slow / 1000).toFixed(1)} s a step)` : '') + ` · a column is a ${leafWord(g)}`;
+    for (let i = M.leaf0; i <= M.leaf1; i++) {
+      const column = this.columns.get(i) ?? this.newColumn(i);
+      const { svg } = staff(g, M, ways, i, Z, { rows: this.mapRows, focus: [q, q + 1], printed: bench.printed }), marks = this.mapMarks(i, Z, gains, losses);
+      if (svg + marks === column.svg) continue;
+      column.svg = svg + marks;
+      column.el.replaceChildren(drawn(svg), drawn(`<svg class="gl" width="${n(Z.w)}" height="17" aria-hidden="true">${marks}</svg>`), el('i', {}, i));
+    }
+    const here = this.columns.get(leafOf(g, q));
+    if (map.scrollWidth > map.clientWidth && here && this.mapAt !== q) {
+      this.mapAt = q;
+      map.scrollLeft = here.el.offsetLeft - map.offsetLeft - map.clientWidth / 2 + Z.w;
+    }
+    this.drawLegend();
+  }
+
+  /** @param {number} i */
+  newColumn(i) {
+    const column = { el: el('a', { href: '#film', tabindex: -1, 'data-leaf': i, 'aria-label': `${leafWord(this.g)} ${i}` }), svg: '' };
+    column.el.addEventListener('click', (event) => {
+      event.preventDefault();
+      const pages = this.M.byLeaf.get(i) ?? [], box = column.el.getBoundingClientRect(), right = event.clientX > box.left + box.width / 2;
+      if (pages.length) this.hand.select(Math.min(this.hand.bench.p - 1, (right ? pages[pages.length - 1] : pages[0]).q));
+    });
+    byId('deskmap').append(column.el);
+    this.columns.set(i, column);
+    return column;
+  }
+
+  /** ▲ where another end has fewer turns, +2 where turns are lost for good. */
+  mapMarks(i, Z, gains, losses) {
+    return (this.M.byLeaf.get(i) ?? []).map((page) => {
+      const x = Z.x(page.folio) + Z.PW / 2, lost = losses.get(page.q);
+      return (gains.get(page.q) < 0 ? `<path class="gn" d="M${n(x - 3.5)} 7l3.5 -6l3.5 6z"/>` : '') + (lost ? text('ls', x, 16, `+${lost.turns}`) : '');
+    }).join('');
+  }
+
+  drawLegend() {
+    const { gains, losses, scanned, slow, bench, best } = this.state, hand = this.hand;
+    const page = (q) => link(`page ${q}`, () => hand.select(q), { 'data-go': q });
+    const better = [...gains].filter(([, change]) => change < 0).map(([q]) => q), lost = [...losses.values()], most = 8;
+    const rest = (count) => count > most ? ` and ${count - most} more` : '';
+    const comma = (nodes) => nodes.flatMap((node, k) => k ? [', ', node] : [node]);
+    const gain = better.length ? [el('b', { class: 'g' }, '▲'), ' another end has fewer turns: ', comma(better.slice(0, most).map(page)), rest(better.length)]
+      : scanned ? 'No other end of one page alone has fewer turns' : 'Trying every end of every page…';
+    const loss = lost.length ? [' · turns lost for good: ', comma(lost.slice(0, most).map((one) => [el('b', { class: 'l' }, `+${one.turns}`), ' with the end of ', page(one.page)])), rest(lost.length)]
+      : slow && best?.ok && bench.mark.t > best.t ? [' · ', link('find where turns are lost for good', () => hand.findLosses(true), { 'data-find': 1 }), ` (${(slow / 1000).toFixed(1)} s a step)`] : '';
+    put(byId('legend'), gain, loss, ` · a column is a ${leafWord(this.g)}`);
   }
 
   drawAct() {
-    const { bench, q } = this.state, t = bench.trial, say = sentence(this.g, bench, q), p = this.$('say');
-    if (p.textContent !== say) { p.textContent = say; p.className = t && !t.answer.ok ? 'no' : ''; }
-    this.$('cancel').disabled = !t;
-    const c = this.$('commit');
-    c.disabled = !t || !t.answer.ok;
-    c.className = `main ${t ? tone(t.change) : ''}`;
-    c.innerHTML = `Commit ${t && t.answer.ok && t.change ? signed(t.change) : ''}<kbd>Enter</kbd>`;
-    this.$('prev').disabled = q <= 1;
-    this.$('next').disabled = q >= bench.p - 1;
-    const { a, c: most } = bench.bounds(q), now = t ? t.end : bench.ends[q - 1];
-    for (const [k, v] of [['label', `End of page ${q}`], ['valuemin', a[0]], ['valuemax', most[0]], ['valuenow', now[0]], ['valuetext', say]]) this.film.setAttribute(`aria-${k}`, String(v));
+    const { bench, q, pair } = this.state, { trial } = bench, words = sentence(this.g, bench, q), say = byId('say');
+    if (say.textContent !== words) {
+      say.textContent = words;
+      say.className = trial && !trial.answer.ok ? 'no' : '';
+    }
+    byId('cancel').disabled = !trial;
+    const commit = byId('commit');
+    commit.disabled = !trial?.answer.ok;
+    commit.className = `main ${trial ? tone(trial.change) : ''}`;
+    put(commit, 'Commit ', trial?.answer.ok && trial.change ? signed(trial.change) : '', el('kbd', {}, 'Enter'));
+    byId('prev').disabled = q <= bench.printed + 1;
+    byId('next').disabled = q >= bench.p - 1;
+    byId('pair').setAttribute('aria-pressed', String(pair));
+    const { a, c } = bench.bounds(q), now = trial ? trial.end : bench.ends[q - 1];
+    const told = { label: `End of page ${q}`, valuemin: a[0], valuemax: c[0], valuenow: now[0], valuetext: words };
+    for (const [name, value] of Object.entries(told)) this.film.setAttribute(`aria-${name}`, String(value));
   }
 
-  /** What does not change while a hand moves. */
+  /** What does not change while a hand moves. @param {Sitting} s */
   drawPanels(s) {
-    const { bench, q } = s;
-    this.$('ends').innerHTML = endsPanel(this.g, bench, q, s.bestEnds);
-    this.$('rests').innerHTML = restPanel(this.g, bench, q, s.rests, s.busy, s.slow);
-    this.$('lmode').textContent = bench.marking ? `${bench.p} pages: above the 64 of the engine’s desk, so each list is marked` : `${bench.p} pages, on the engine’s desk`;
-    this.$('undo').disabled = !bench.canUndo;
-    this.$('redo').disabled = !bench.canRedo;
-    const all = bench.layouts(), used = new Set(all.map((l) => l.name));
-    for (let k = 1; ; k++) { const name = `list-${String(k).padStart(2, '0')}`; if (!used.has(name)) { this.$('name').placeholder = name; break; } }
-    this.$('lays').innerHTML = all.length ? all.map((l, k) => { const m = bench.engine.mark(this.g.bytes, l.words), d = m.t - bench.mark.t; return `<div class="lay ui"><span class="nm"></span><span class="soft">p ${m.p} T ${m.t}</span><span class="${d > 0 ? 'loud' : d < 0 ? 'fine' : 'soft'}">${signed(d)}</span><button data-back="${k}">Back</button><button data-drop="${k}" aria-label="drop">✕</button></div>`; }).join('') : '<p class="sub">None yet.</p>';
-    this.$('lays').querySelectorAll('.nm').forEach((e, k) => { e.textContent = all[k].name; });
+    const { bench, q, pair, bestEnds } = s, { hand } = this, star = bestEnds?.[q - 1] ?? null, pick = (one) => hand.pick(one);
+    put(byId('ends'), pair ? pairsPanel(bench, q, star, pick) : endsPanel(this.g, bench, q, star, pick));
+    put(byId('rests'), restPanel(bench, q, s.rests, s.busy, s.slow, (end) => hand.rest(end)));
+    byId('lmode').textContent = bench.marking ? `${bench.p} pages: above the 64 of the engine’s desk, so each list is marked` : `${bench.p} pages, on the engine’s desk`;
+    byId('undo').disabled = !bench.canUndo;
+    byId('redo').disabled = !bench.canRedo;
+    byId('print').setAttribute('aria-pressed', String(bench.printed > 0));
+    byId('printed').textContent = bench.printed ? `${plural(bench.printed, 'page')} printed: the desk does not touch them.` : 'No page is printed.';
+    const used = new Set(bench.layouts().map((one) => one.name));
+    let k = 1;
+    while (used.has(`list-${String(k).padStart(2, '0')}`)) k++;
+    byId('name').placeholder = `list-${String(k).padStart(2, '0')}`;
+    put(byId('lays'), layoutsPanel(bench, (name) => hand.back(name), (name) => hand.drop(name)));
   }
 
-  /** While a hand moves only the chip that is on changes. */
-  markChips(s) {
-    const now = (s.bench.trial ? s.bench.trial.end : s.bench.ends[s.q - 1]).join(' ');
-    for (const c of this.root.querySelectorAll('.chip')) c.classList.toggle('on', (c.getAttribute('data-end') || c.getAttribute('data-rest')) === now);
+  /** While a hand moves only the chip that is on changes. @param {Sitting} s */
+  markChips({ bench, q }) {
+    const { trial } = bench, end = (trial ? trial.end : bench.ends[q - 1]).join(' '), both = trial?.second ? `${end} ${trial.second.join(' ')}` : end;
+    for (const chip of this.root.querySelectorAll('.chip')) {
+      const own = chip.getAttribute('data-end') ?? chip.getAttribute('data-rest');
+      chip.classList.toggle('on', own === end || own === both);
+    }
   }
 }
