@@ -1,18 +1,21 @@
-"""The C interface of the engine, for every test that calls it: the one place where its functions are declared."""
+"""The C interface of the engine, for every test that calls it with words of its own: what the calls of the Python package do not show,
+as memory of any contents, too little of it, and whether a word was written that should not be. The package declares the functions."""
 import ctypes
 import os
 import pathlib
 import struct
 import subprocess
+import sys
 import tempfile
 
-from reference import book
-from reference.beforehand import lengths
-
 ROOT = pathlib.Path(__file__).resolve().parents[1]
-WORD, LENGTH = ctypes.c_uint32, ctypes.c_size_t
+sys.path.insert(0, str(ROOT / 'python'))
+
+from barleychime.library import ANSWER_WORDS, BOOK_WORDS, FORECAST_WORDS, LENGTH, WIDE, WORD, Functions  # noqa: E402, F401
+from reference import book  # noqa: E402
+from reference.beforehand import lengths  # noqa: E402
+
 HIGHEST = 2**32 - 1
-ANSWER, FORECAST, BOOK = 9, 6, 8  # words of an answer, of a forecast and of the answer for a book
 
 
 def archive(crate='barleychime', variable='BARLEYCHIME_LIB'):
@@ -29,13 +32,17 @@ def probe():
     return archive('galley_probe', 'BARLEYCHIME_PROBE')
 
 
+def shared(archive, file):
+    """An archive as a shared library, which it can be made since it is position independent."""
+    subprocess.run(['gcc', '-shared', '-Wl,--whole-archive', archive, '-Wl,--no-whole-archive', '-o', file], check=True)
+    return file
+
+
 def load(archive):
-    """An archive as a shared object, which it can be made since it is position independent. Tests run beside each other, so each has
-    its own, which it keeps when the file is gone."""
+    """The functions of an archive. Tests run beside each other, so each has a shared library of its own, which it keeps when the file is
+    gone."""
     with tempfile.TemporaryDirectory() as folder:
-        shared = pathlib.Path(folder) / f'{archive.stem}.so'
-        subprocess.run(['gcc', '-shared', '-Wl,--whole-archive', archive, '-Wl,--no-whole-archive', '-o', shared], check=True)
-        return ctypes.CDLL(str(shared))
+        return ctypes.CDLL(str(shared(archive, pathlib.Path(folder) / f'{archive.stem}.so')))
 
 
 def lent(words):
@@ -95,39 +102,18 @@ class Engine:
     has a namesake that takes an opening."""
 
     def __init__(self, library, making='barleychime_make'):
-        bytes_lent, words_lent = (ctypes.c_char_p, LENGTH), (ctypes.c_void_p, LENGTH)
-        self.c_make = self.declared(library, making, *bytes_lent, *words_lent, *words_lent, ctypes.c_void_p)
-        self.c_make_after = self.declared(library, f'{making}_after', *bytes_lent, *words_lent, *words_lent, *words_lent,
-                                          ctypes.c_void_p)
-        self.c_book = self.declared(library, 'barleychime_book', *bytes_lent, *words_lent, *words_lent, *words_lent, ctypes.c_void_p)
-        self.c_mark = self.declared(library, 'barleychime_mark', *bytes_lent, *words_lent, ctypes.c_void_p)
-        self.c_forecast = self.declared(library, 'barleychime_forecast', *bytes_lent, ctypes.c_void_p)
-        self.c_section = self.declared(library, 'barleychime_section', WORD, ctypes.c_void_p, ctypes.c_void_p)
-        self.c_report = self.declared(library, 'barleychime_report', *words_lent, ctypes.c_void_p)
-        desk_and_answer = (ctypes.c_void_p, ctypes.c_void_p)
-        self.c_desk_open = self.declared(library, 'barleychime_desk_open', *bytes_lent, *words_lent, *desk_and_answer)
-        self.c_desk_ask = self.declared(library, 'barleychime_desk_ask', *bytes_lent, WORD, ctypes.c_void_p, *desk_and_answer)
-        self.c_desk_commit = self.declared(library, 'barleychime_desk_commit', *desk_and_answer)
-        for name in ('save', 'back', 'drop'):
-            setattr(self, f'c_desk_{name}', self.declared(library, f'barleychime_desk_{name}', *bytes_lent, *desk_and_answer))
-        self.c_desk_list = self.declared(library, 'barleychime_desk_list', ctypes.c_void_p, *desk_and_answer)
-
-    @staticmethod
-    def declared(library, name, *types):
-        call = library[name]
-        call.argtypes, call.restype = types, WORD
-        return call
+        self.c = Functions(library, making)
 
     def make(self, data, work, pages):
         """The answer, the count of pages weighed, and the work area and the page list afterwards."""
-        lent_work, lent_pages, answer = lent(work), lent(pages), told(ANSWER)
-        returned = self.c_make(data, len(data), lent_work, len(work), lent_pages, len(pages), answer)
+        lent_work, lent_pages, answer = lent(work), lent(pages), told(ANSWER_WORDS)
+        returned = self.c.make(data, len(data), lent_work, len(work), lent_pages, len(pages), answer)
         return *answered(returned, answer), held(lent_work, work), held(lent_pages, pages)
 
     def make_after(self, data, opening, work, pages):
         """The same of lists that begin with an opening, which is only read."""
-        lent_opening, lent_work, lent_pages, answer = lent(opening), lent(work), lent(pages), told(ANSWER)
-        returned = self.c_make_after(data, len(data), lent_opening, len(opening), lent_work, len(work), lent_pages, len(pages), answer)
+        lent_opening, lent_work, lent_pages, answer = lent(opening), lent(work), lent(pages), told(ANSWER_WORDS)
+        returned = self.c.make_after(data, len(data), lent_opening, len(opening), lent_work, len(work), lent_pages, len(pages), answer)
         if held(lent_opening, opening) != tuple(opening):
             return ('wrote to the opening',)
         return *answered(returned, answer), held(lent_work, work), held(lent_pages, pages)
@@ -135,24 +121,24 @@ class Engine:
     def book(self, data, lengths, work, pages):
         """The same of chapters lent end to end; their lengths are only read, and the words of the answer are of 64 bits."""
         lent_lengths, lent_work, lent_pages = lent(lengths), lent(work), lent(pages)
-        answer = (ctypes.c_uint64 * (BOOK + 1))(*[HIGHEST] * (BOOK + 1))
-        returned = self.c_book(data, len(data), lent_lengths, len(lengths), lent_work, len(work), lent_pages, len(pages), answer)
+        answer = (WIDE * (BOOK_WORDS + 1))(*[HIGHEST] * (BOOK_WORDS + 1))
+        returned = self.c.book(data, len(data), lent_lengths, len(lengths), lent_work, len(work), lent_pages, len(pages), answer)
         if held(lent_lengths, lengths) != tuple(lengths):
             return ('wrote to the lengths',)
         return *bound(returned, *answer), held(lent_work, work), held(lent_pages, pages)
 
     def mark(self, data, words):
         """The answer; the list is only read."""
-        lent_words, answer = lent(words), told(ANSWER)
-        marked, weighed = answered(self.c_mark(data, len(data), lent_words, len(words), answer), answer)
+        lent_words, answer = lent(words), told(ANSWER_WORDS)
+        marked, weighed = answered(self.c.mark(data, len(data), lent_words, len(words), answer), answer)
         if held(lent_words, words) != tuple(words):
             return ('wrote to the list',)
         return ('marked with a count', *marked, weighed) if weighed else marked
 
     def forecast(self, data):
         """Number, place, words of work area and of page list, and the ceiling; or what is amiss."""
-        forecast = told(FORECAST)
-        returned = self.c_forecast(data, len(data), forecast)
+        forecast = told(FORECAST_WORDS)
+        returned = self.c.forecast(data, len(data), forecast)
         number, *words, low, high, beyond = forecast
         right = returned == number and beyond == HIGHEST
         return (number, *words, wide(low, high)) if right else ('returned', returned, *forecast)
@@ -160,20 +146,20 @@ class Engine:
     def section(self, size, numbers, answer):
         """The number that is returned, and the numbers and the answer afterwards."""
         lent_numbers, lent_answer = lent(numbers), lent(answer)
-        returned = self.c_section(size, lent_numbers, lent_answer)
+        returned = self.c.section(size, lent_numbers, lent_answer)
         return returned, held(lent_numbers, numbers), held(lent_answer, answer)
 
     def report(self, marks, report):
         """The number that is returned, and the words of the report and after it; the marks, five words each, are only read."""
         words = [word for mark in marks for word in mark]
-        lent_words, lent_report = lent(words), (ctypes.c_uint64 * len(report))(*report)
-        returned = self.c_report(lent_words, len(marks), lent_report)
+        lent_words, lent_report = lent(words), (WIDE * len(report))(*report)
+        returned = self.c.report(lent_words, len(marks), lent_report)
         return returned, tuple(lent_report) if held(lent_words, words) == tuple(words) else ('wrote to the marks',)
 
     @staticmethod
     def at_desk(call, desk, *before):
         """The answer of a call whose last arguments are a desk and an answer, and the words of the desk afterwards."""
-        packed, answer = struct.Struct(f'={len(desk) + 1}I'), told(ANSWER)
+        packed, answer = struct.Struct(f'={len(desk) + 1}I'), told(ANSWER_WORDS)
         lent_desk = (WORD * (len(desk) + 1)).from_buffer_copy(packed.pack(*desk, HIGHEST))
         said, weighed = answered(call(*before, lent_desk, answer), answer)
         after = packed.unpack(lent_desk)
@@ -181,29 +167,29 @@ class Engine:
         return ('counted, or wrote past the desk', weighed, *said) if wrong else said, after[:-1]
 
     def desk_open(self, data, words, desk):
-        return self.at_desk(self.c_desk_open, desk, data, len(data), lent(words), len(words))
+        return self.at_desk(self.c.desk_open, desk, data, len(data), lent(words), len(words))
 
     def desk_ask(self, data, page, end, desk):
         lent_end = lent(end)
-        said, after = self.at_desk(self.c_desk_ask, desk, data, len(data), page, lent_end)
+        said, after = self.at_desk(self.c.desk_ask, desk, data, len(data), page, lent_end)
         return said if held(lent_end, end) == tuple(end) else ('wrote to the end', *said), after
 
     def desk_commit(self, desk):
-        return done(*self.at_desk(self.c_desk_commit, desk))
+        return done(*self.at_desk(self.c.desk_commit, desk))
 
     def desk_save(self, name, desk):
-        return done(*self.at_desk(self.c_desk_save, desk, name, len(name)))
+        return done(*self.at_desk(self.c.desk_save, desk, name, len(name)))
 
     def desk_back(self, name, desk):
-        return done(*self.at_desk(self.c_desk_back, desk, name, len(name)))
+        return done(*self.at_desk(self.c.desk_back, desk, name, len(name)))
 
     def desk_drop(self, name, desk):
-        return done(*self.at_desk(self.c_desk_drop, desk, name, len(name)))
+        return done(*self.at_desk(self.c.desk_drop, desk, name, len(name)))
 
     def desk_list(self, pages, desk):
         """The answer, and the words of the list and of the desk, which is only read, afterwards."""
-        lent_desk, lent_pages, answer = lent(desk), lent([*pages, HIGHEST]), told(ANSWER)
-        said, weighed = answered(self.c_desk_list(lent_desk, lent_pages, answer), answer)
+        lent_desk, lent_pages, answer = lent(desk), lent([*pages, HIGHEST]), told(ANSWER_WORDS)
+        said, weighed = answered(self.c.desk_list(lent_desk, lent_pages, answer), answer)
         *after, beyond = lent_pages
         wrong = weighed or beyond != HIGHEST or held(lent_desk, desk) != tuple(desk) or any(said[2:])
         return ('counted, or wrote to the desk or past the list', *said) if wrong else ('list', said[1]), tuple(after)

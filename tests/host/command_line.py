@@ -1,6 +1,5 @@
 """The command end to end: options, names, standard input, statuses, bad files, lists with junk."""
 
-import re
 import subprocess
 
 from junk import JUNK, JUNK_TABLED
@@ -8,11 +7,6 @@ from reference import cases, marking, refusals
 from reference.galley import Figure, Galley, Line, Spec, Table, write
 
 COMMANDS = {'make': 1, 'book': 1, 'forecast': 1, 'mark': 2, 'explain': 2, 'desk': 2, 'pack': 1, 'unpack': 1, 'report': 2}
-MENDERS = [(range(1, 9), "the galley's writer"), (range(9, 11), 'the host program'), (range(11, 12), 'the designer'),
-           (range(12, 19), 'whoever handed in the list'), (range(19, 20), 'the person at the program'),
-           (range(20, 22), 'whoever handed in the opening'),
-           (range(22, 23), 'whoever handed in the list'), (range(23, 28), 'the make-up hand'), (range(28, 31), 'whoever bound the book'),
-           (range(31, 33), 'whoever handed in the marks'), (range(33, 34), 'whoever asked for the section')]
 
 
 def file(folder, name, data):
@@ -21,19 +15,7 @@ def file(folder, name, data):
     return path
 
 
-def documented(root, number, mender, told):
-    """The documents that say something else about a refusal than the command."""
-    sentence = told.split(None, 1)[1].removesuffix(f' ({mender})')
-    row = re.compile(rf'^\| {number} \| (.*?) \| .* \| (.*?) \|$', re.M)
-    found = row.findall((root / 'README.md').read_text())
-    wrong = [] if found == [(sentence, mender)] else ['README.md']
-    header = (root / 'include/barleychime.h').read_text()
-    if number != 19 and f' *   {number:2}  {sentence.replace("`", "")}\n' not in header:
-        wrong.append('barleychime.h')
-    return wrong
-
-
-def usage(tally, command, root):
+def usage(tally, command):
     for arguments in [(), ('mend',), ('--mend',), ('make', '--mend'), ('make',), ('make', 'a', 'b'), ('make', 'a', '--verbose'),
                       ('make', '--after'), ('make', '--after', 'a'), ('make', '--after', '-', '-'), ('make', '--after', 'a', '--after', 'b', 'c'),
                       ('make', 'a', '--after', 'b'), ('mark', '--after', 'a', 'b', 'c'), ('forecast',), ('forecast', '--lines'),
@@ -49,13 +31,6 @@ def usage(tally, command, root):
             tally.same(f'{name} {option}', (status, output.split()[:2], remarks), (0, ['barleychime', name], ''))
     status, output, remarks = command.text('--help')
     tally.same('--help', (status, remarks), (0, ''))
-    status, output, remarks = command.text('refusals')
-    tally.same('refusals', (status, remarks), (0, ''))
-    for numbers, mender in MENDERS:
-        for number in numbers:
-            told = [line for line in output.splitlines() if line.split()[:1] == [str(number)]]
-            tally.same(f'{number} in refusals', [mender in line for line in told], [True])
-            tally.same(f'{number} in the documents', documented(root, number, mender, told[0]), [])
     status, output, remarks = command.text('--version')
     tally.same('--version', (status, output.split()[0], remarks), (0, 'barleychime', ''))
     tally.group('command: usage')
@@ -69,7 +44,8 @@ def bad_files(tally, command, folder):
                 arguments = [galley] * count
                 arguments[at] = bad
                 status, output, remarks = command.text(name, *arguments)
-                tally.same(f'{name} with {bad} at {at}', (status, output, str(bad) in remarks), (2, '', True))
+                due = {('mark', 1): '?\n', ('report', 1): output}.get((name, at), '')
+                tally.same(f'{name} with {bad} at {at}', (status, output, str(bad) in remarks), (2, due, True))
     empty, best = file(folder, 'empty', b''), file(folder, 'best.list', b'1 1\n3 1\n')
     for arguments, due in [(('make', empty), 'R 1 0\n'), (('mark', empty, best), 'R 1 0\n'), (('unpack', empty), ''),
                            (('pack', empty), ''), (('mark', galley, empty), 'R 12 0\n'), (('make', '/dev/zero'), 'R 2 0\n')]:
@@ -94,17 +70,26 @@ def lists(tally, command, folder):
         junk = file(folder, 'junk.list', data)
         for arguments in [('mark', galley, junk), ('explain', galley, junk)]:
             status, output, remarks = command.text(*arguments)
+            row = '?\n' if arguments[0] == 'mark' else ''
             plain = all(character.isprintable() or character == '\n' for character in remarks) and len(remarks) < 500
             tally.same(f'{arguments[0]} with {name}', (status, output, f'{junk}: ' in remarks and told in remarks, plain),
-                       (2, '', True, True))
+                       (2, row, True, True))
     galley = file(folder, 'a.galley', write(cases.A))
     for name, data in [('comments', b'# mine\n\n 1\t1 # page 1\n3 1'), ('carriage returns', b'1 1\r\n3 1\r\n'),
                        ('a mark of byte order', b'\xef\xbb\xbf1 1\n3 1\n'),
-                       ('as made', b'2 0 1 1 0\n1 1 1\n2 3 1\n'), ('as made, with a wrong measure', b'2 9 9 9 9\n1 1 1\n2 3 1'),
-                       ('as made before white space was measured', b'2 0 1 1\n1 1 1\n2 3 1\n')]:
+                       ('as made', b'2 0 1 1 0\n1 1 1\n2 3 1\n'),
+                       ('as made before white space was measured', b'2 0 1 1\n1 1 1\n2 3 1\n'),
+                       ('page numbers', b'1 1 1\n2 3 1\n'), ('commas', b'1,1\r\n3,1\r\n'), ('semicolons and quotes', b'"1";"1"\n"3";"1"\n'),
+                       ('named columns', b'page,lines,figures\n1,1,1\n2,3,1\n'), ('named columns in another order', b'j\ti\n1\t1\n1\t3\n')]:
         tally.same(f'mark with {name}', command.text('mark', galley, file(folder, 'list', data)), (0, '2 0 1 1 0\n', ''))
+    for said, told in [('2 9 1 1 0', 'X 9, but the marking counts 0'), ('2 0 1 7', 'T 7, but the marking counts 1'),
+                       ('2 0 1 1 5', 'W 5, but the marking counts 0')]:
+        head = file(folder, 'list', f'# mine\n{said}\n1 1 1\n2 3 1\n'.encode())
+        tally.same(f'a head line of {said}', command.text('mark', galley, head),
+                   (0, '2 0 1 1 0\n', f'barleychime: {head}: line 2: the head line says {told}\n'))
     for name, data in [('a table', b'2 1 0\n3 1 1\n'), ('a table, as made', b'2 1 1 2 0\n1 2 1 0\n2 3 1 1\n'),
-                       ('a table, as made before white space was measured', b'2 1 1 2\n1 2 1 0\n2 3 1 1\n')]:
+                       ('a table, as made before white space was measured', b'2 1 1 2\n1 2 1 0\n2 3 1 1\n'),
+                       ('a table, and page numbers', b'1 2 1 0\n2 3 1 1\n'), ('a table, and commas', b'i,j,d\n2,1,0\n3,1,1\n')]:
         tally.same(f'mark with {name}', command.text('mark', tabled, file(folder, 'list', data)), (0, '2 1 1 2 0\n', ''))
     # A galley that is refused says so, whatever its lists have a page.
     cut = file(folder, 'cut.galley', write(cases.K)[:-1])
@@ -123,7 +108,10 @@ def several(tally, command, folder, galley, best):
     tally.same('one of two refused', (status, output), (1, f'R 15 1 {high}\n2 0 1 1 0 {best}\n'))
     tally.same('why', (str(high) in remarks, 'whoever handed in the list can mend it' in remarks), (True, True))
     status, output, _ = command.text('mark', galley, junk, high, folder / 'nowhere', best)
-    tally.same('junk does not stop the rest', (status, output), (2, f'R 15 1 {high}\n2 0 1 1 0 {best}\n'))
+    tally.same('junk does not stop the rest', (status, output), (2, f'? {junk}\nR 15 1 {high}\n? {folder / "nowhere"}\n2 0 1 1 0 {best}\n'))
+    cut = file(folder, 'cut.galley', b'GS 30 30 0 0 1 1 1\n')
+    status, output, remarks = command.text('mark', cut, best, longer, junk)
+    tally.same('a refused galley is told once', (status, output, remarks.count('\n'), '`barleychime pack`' in remarks), (1, 'R 1 0\n', 2, True))
 
 
 def making(tally, command, folder):
@@ -193,6 +181,6 @@ def outputs(tally, command, folder):
 
 
 def run(tally, command, root, folder):
-    usage(tally, command, root)
+    usage(tally, command)
     for group in (bad_files, lists, making, full_size, outputs):
         group(tally, command, folder)

@@ -1,11 +1,13 @@
-"""What the documents have people copy: the C program, the Rust program, the series on all cores; and what they leave."""
+"""What the documents have people copy: the programs in C, Rust and Python, the series on all cores; and what they leave."""
 
 import os
 import re
 import shutil
 import subprocess
+import sys
 
-from c_interface import STRICT
+import engine
+from c_interface import SANITIZED, WAYS, built
 from reference import cases
 from reference.galley import write
 
@@ -17,10 +19,10 @@ def blocks(document, language):
 def run(tally, command, root, library, folder):
     galley = folder / 'example.galley'
     galley.write_bytes(write(cases.A))
-    found = {'c': 0, 'rust': 0, 'sh': 0}
+    found = {'c': 0, 'rust': 0, 'python': 0, 'sh': 0}
     for path in [root / 'README.md', *sorted((root / 'docs').glob('*.md'))]:
         document = path.read_text()
-        for language, example in (('c', in_c), ('rust', in_rust), ('sh', series)):
+        for language, example in (('c', in_c), ('rust', in_rust), ('python', in_python), ('sh', series)):
             for source in blocks(document, language):
                 found[language] += 1
                 example(tally, f'{path.name}, {language}', source, command, root, library, folder, galley)
@@ -31,17 +33,27 @@ def run(tally, command, root, library, folder):
 
 
 def in_c(tally, what, source, _command, root, library, folder, galley):
+    """Without a warning as C and as C++, with the right answers, and under the sanitizers without a leak."""
     file, program = folder / 'example.c', folder / 'example'
     file.write_text(source)
-    built = subprocess.run(['cc', '-std=c99', *STRICT, '-I', root / 'include', file, library, '-o', program],
-                           capture_output=True, text=True)
-    tally.same(f'{what}: built', (built.returncode, built.stderr), (0, ''))
-    ran = subprocess.run([program], input=galley.read_bytes(), capture_output=True)
-    tally.same(f'{what}: case A', (ran.returncode, ran.stdout), (0, b'1 1\n3 1\n'))
-    ran = subprocess.run([program], input=write(cases.K), capture_output=True)
-    tally.same(f'{what}: a table', (ran.returncode, ran.stdout), (0, b'2 1 0\n3 1 1\n'))
-    ran = subprocess.run([program], input=b'', capture_output=True)
-    tally.same(f'{what}: no bytes', (ran.returncode, ran.stdout), (1, b'R 1 0\n'))
+    for name, way, options in [*((way, way, ()) for way in WAYS), ('sanitized', 'C11', SANITIZED)]:
+        tally.same(f'{what}, {name}: built', built(way, root, file, library, program, options), [(0, '')] * 2)
+        for given, data, due in (('case A', galley.read_bytes(), (0, '1 1\n3 1\n', '')), ('a table', write(cases.K), (0, '2 1 0\n3 1 1\n', '')),
+                                 ('no bytes', b'', (1, 'R 1 0\n', '')),
+                                 ('no pagination', write(cases.A_TALL), (1, 'R 11 0\n', 'no pagination meets the page specification\n'))):
+            ran = subprocess.run([program], input=data, capture_output=True)
+            tally.same(f'{what}, {name}: {given}', (ran.returncode, ran.stdout.decode(), ran.stderr.decode()), due)
+
+
+def in_python(tally, what, source, _command, root, library, folder, galley):
+    file, shared = folder / 'example.py', engine.shared(library, folder / 'libbarleychime.so')
+    file.write_text(source)
+    for given, data, due in ((galley, write(cases.A), '1 turns, ((1, 1), (3, 1)), True\n'),
+                             (folder / 'none.galley', b'', "R 1 0: the galley stops short, inside a record or without its `ED`; the galley's writer can mend it\n")):
+        given.write_bytes(data)
+        ran = subprocess.run([sys.executable, file, given], capture_output=True, text=True,
+                             env={**os.environ, 'PYTHONPATH': str(root / 'python'), 'BARLEYCHIME_SHARED': str(shared)})
+        tally.same(f'{what}: {given.name}', (ran.returncode, ran.stdout, ran.stderr), (0, due, ''))
 
 
 def in_rust(tally, what, source, _command, root, library, folder, galley):
@@ -81,12 +93,13 @@ def shown(tally, command, root, galley):
 
 
 def ignored(tally, root):
-    """What README's commands write is not offered to git."""
-    plain = re.sub(r'^```.*?^```$', '', (root / 'README.md').read_text(), flags=re.M | re.S)
+    """What the commands of README.md and docs/EMBEDDING.md write is not offered to git."""
+    documents = ''.join((root / name).read_text() for name in ('README.md', 'docs/EMBEDDING.md'))
+    plain = re.sub(r'^```.*?^```$', '', documents, flags=re.M | re.S)
     commands = re.findall(r'^ {4}(.*)$', plain, re.M)
     written = {name for line in commands for name in re.findall(r'(?:> |-o )(\S+)', line)}
-    tally.same('files that are written', written, {'a.galley', 'close.galley', 'make', 'one.galley', 'two.galley'})
-    for name in sorted(written | {'make.c', 'series/chapter.list', 'target/log', 'host/library/target/release', 'host/command/target/release'}):
+    tally.same('files that are written', written, {'a.galley', 'close.galley', 'one.galley', 'pages', 'two.galley'})
+    for name in sorted(written | {'pages.c', 'series/chapter.list', 'target/log', 'host/library/target/release', 'host/command/target/release'}):
         asked = subprocess.run(['git', 'check-ignore', '--quiet', name], cwd=root, capture_output=True)
         if asked.returncode != 128:  # a copy without git has nothing to ignore
             tally.same(f'{name} is ignored by git', asked.returncode, 0)

@@ -1,10 +1,11 @@
-"""What `explain` says, against the reference: folios, spreads, heights, turns of figures, and the numbers that break a rule."""
+"""What `explain` says, against the reference: folios, spreads, heights, turns of figures, the numbers that break a rule, the page
+ends with which turns are lost for good; and against the cases that all words about lists are held to."""
 
 import random
 import re
 
 import kinds
-from reference import marking, sample, search
+from reference import explanations, marking, sample, search
 from reference.galley import write
 
 PAGE = re.compile(r'^page (\d+)(?:, folio (\d+))?, (?:spread (\d+), (left|right)|a spread by itself): ', re.M)
@@ -79,8 +80,32 @@ def accepted(galley, words, text):
             and f'X {x}, Y {y}, T = alpha·X + beta·Y = {spec.alpha}·{x} + {spec.beta}·{y} = {t}, W {w}\n' in text)
 
 
+def broken(text):
+    """(page, rule, numbers) of every rule that is told to be broken on a page."""
+    found, page = [], 0
+    for line in text.splitlines():
+        page = int(PAGE.match(line)[1]) if PAGE.match(line) else page
+        if line.startswith('    breaks rule '):
+            rule, numbers = line.removeprefix('    breaks rule ').split(': ', 1)
+            found.append((page, int(rule), numbers))
+    return found
+
+
 def refused(galley, words, number, page, text):
-    """Whether the last line gives numbers that do break the rule."""
+    """Whether every page says what it breaks, and what the refusal says are numbers that do break the rule."""
+    told, answered = text.split('\nrefused, R ')
+    numbered = [line for line in answered.splitlines()[1:] if line.startswith('    ')]
+    due = explanations.broken(galley, words)
+    in_all = [line for line in answered.splitlines() if line.startswith('in all it breaks ')]
+    return (numbers_break(galley, words, number, page, '\n'.join(numbered))
+            and [each[:2] for each in broken(told)] == [each for each in due if each[1] != 12]
+            and (number == 12 or broken(told)[0][2] == '; '.join(line.strip() for line in numbered))
+            and len(in_all) == (len(due) > 1)
+            and all(f'rule {rule} on page' in in_all[0] for _, rule in due if in_all))
+
+
+def numbers_break(galley, words, number, page, text):
+    """Whether the lines give numbers that do break the rule."""
     said, width = text.splitlines()[-1], len(galley.streams)
     ends = [galley.nothing, *marking.places(galley, words)]
     start, end = (ends[page - 1], ends[page]) if page else (galley.nothing, galley.nothing)
@@ -89,10 +114,9 @@ def refused(galley, words, number, page, text):
         asked_of = 'an even number' if width == 2 else 'a multiple of three'
         return numbers == [len(words), width, width * sum(galley.sizes)] and asked_of in said
     if number == 13:
-        kinds_told = [(f'{kind}s' in said, u, v, size) for kind, u, v, size in zip(KINDS, start, end, galley.sizes)]
-        return ('fall' in said and any(told and numbers == [u, v] and u > v for told, u, v, _ in kinds_told)
-                or 'claims' in said and any(told and numbers == [v, size] and v > size for told, _, v, size in kinds_told)
-                or 'ends where it starts' in said and start == end and numbers == list(end))
+        told = [f'    {kind}s placed so far fall from {u} to {v}' if v < u else f'    it claims {v} {kind}s, but the galley has {size}'
+                for kind, u, v, size in zip(KINDS, start, end, galley.sizes) if not u <= v <= size]
+        return text.splitlines() == told if told else 'ends where it starts' in said and start == end and numbers == list(end)
     if number == 14:
         told = forbidden(galley, *end[:2])
         return told != [] and text.splitlines()[-len(told):] == told
@@ -130,16 +154,80 @@ def run(tally, command, folder):
             marked = marking.mark(galley, words)
             met.update([marked[1], *kinds.of_refusal(galley, words, *marked[1:])] if marked[0] == 'refused' else [0])
             if marked[0] == 'accepted':
-                fewest, whitest = marking.mark(galley, best)[4:]
-                more = (f'the fewest turns are {fewest}; this list has {marked[4] - fewest} more' if fewest < marked[4]
-                        else 'no list has fewer turns, and none with as many has less white space' if whitest == marked[5]
-                        else f'no list has fewer turns; the least W with as many is {whitest}, and this list has {marked[5] - whitest} more')
-                met.add(('fewest', 'whitest', 'whiter')[(fewest == marked[4]) + (more.startswith('no list has fewer turns;'))])
-                right = accepted(galley, words, text) and text.endswith(f'\n{more}\n')
+                more, lost = compared(galley, words, best, met), losses(galley, words)
+                right = accepted(galley, words, text) and text.endswith(f'\n{more}\n{lost}')
                 tally.same(f'{words} for {galley}', (status, right, remarks), (0, True, ''))
+                due = lost or 'no turn is lost for good\n'
+                tally.same(f'why {words} for {galley}', command.text('explain', '--why', path, '-', given=listed(galley, words)), (0, due, ''))
             else:
                 told = (f'refused, R {marked[1]} {marked[2]}: ' in text and refused(galley, words, *marked[1:], text)
                         and 'whoever handed in the list can mend it' in text)
                 tally.same(f'{words} for {galley}: {text}', (status, told, remarks), (1, True, ''))
-    tally.same('rules explained', met, {0, *range(12, 19), *kinds.OF_REFUSALS, 'fewest', 'whitest', 'whiter'})
+    tally.same('rules explained', met, {0, *range(12, 19), *kinds.OF_REFUSALS, 'fewest', 'whitest', 'whiter', 'lost'})
     tally.group('lists explained')
+    cases(tally, command, folder)
+    several(tally, command, folder)
+
+
+def compared(galley, words, best, met):
+    """What is told of an accepted list against the best."""
+    marked, (fewest, whitest) = marking.mark(galley, words), marking.mark(galley, best)[4:]
+    met.add(('lost', ('whiter', 'whitest')[whitest == marked[5]])[fewest == marked[4]])
+    met.update(['fewest'] if words == best else [])
+    return (f'the fewest turns are {fewest}; this list has {marked[4] - fewest} more' if fewest < marked[4]
+            else 'no list has fewer turns, and none with as many has less white space' if whitest == marked[5]
+            else f'no list has fewer turns; the least W with as many is {whitest}, and this list has {marked[5] - whitest} more')
+
+
+def losses(galley, words):
+    """The lines due for the page ends with which turns are lost for good: which, and how many. What they are called the cases have."""
+    return ''.join(f'{worded(*loss)}\n' for loss in explanations.lost(galley, words))
+
+
+def worded(page, line, turns, floats, leaves):
+    runs = []
+    for name in floats:
+        if runs and (runs[-1][-1][0], int(runs[-1][-1][1:]) + 1) == (name[0], int(name[1:])):
+            runs[-1].append(name)
+        else:
+            runs.append([name])
+    parts = [part for run in runs for part in ([f'{run[0]} to {run[-1]}'] if len(run) > 2 else run)]
+    parts += [] if not leaves else ['a leaf more'] if leaves == 1 else [f'{leaves} leaves more']
+    end = f'after line {line}' if line else 'before any line'
+    what = ' and '.join(filter(None, (', '.join(parts[:-1]), parts[-1])))
+    return f'page {page} ends {end}: {turns} turn{"s" * (turns != 1)} lost for good, {what}'
+
+
+def cases(tally, command, folder):
+    """The cases through the command: every rule under its page, and the words of what is lost for good."""
+    for case, galley, words in explanations.cases():
+        path = folder / 'case.galley'
+        path.write_bytes(write(galley))
+        status, text, _ = command.text('explain', path, '-', given=listed(galley, words))
+        told = broken(text) if case['list'] else []
+        due = [(each['page'], each['rule'], '; '.join(each['numbers'])) for each in case['broken']]
+        if due[:1] and due[0][1] == 12:
+            tally.same(f'{case["name"]}: length', f'    {due[0][2]}\n' in text, True)
+        else:
+            tally.same(f'{case["name"]}: broken', told, due)
+        lost = [line for line in text.splitlines() if 'lost for good' in line]
+        tally.same(f'{case["name"]}: lost', (status, lost), (int(bool(due)), [loss['words'] for loss in case['lost']]))
+    tally.group('cases of explanations, by the command')
+
+
+def several(tally, command, folder):
+    """Several lists: each after its name, and one that cannot be read does not keep the others from being explained."""
+    [(_, galley, _), *_] = explanations.cases()
+    path, one, two, junk = (folder / name for name in ('several.galley', 'one.list', 'two.list', 'junk.list'))
+    path.write_bytes(write(galley))
+    one.write_text('1 1\n3 1\n')
+    two.write_text('2 1\n3 1\n')
+    junk.write_text('one 1\n')
+    texts = [command.text('explain', path, each)[1] for each in (one, two)]
+    due = f'{one}:\n{texts[0]}\n{two}:\n{texts[1]}'
+    tally.same('two lists', command.text('explain', path, one, two), (1, due, ''))
+    status, text, remarks = command.text('explain', path, one, junk, two)
+    tally.same('one of three is none', (status, text, f'{junk}: line 1' in remarks), (2, due, True))
+    status, text, _ = command.text('explain', '--why', path, one, two)
+    tally.same('why, of two', (status, text), (1, f'{one}:\nno turn is lost for good\n\n{two}:\nrefused, R 15 1: 40 is above htMax 30 by 10\n'))
+    tally.group('several lists explained')

@@ -10,7 +10,12 @@ JUNK = [
     ('a very long number', b'9' * 5_000 + b' 1\n', 'line 1: field 1'),
     ('one number', b'1 1\n3\n', 'line 2'),
     ('three numbers', b'1 1\n2 3 1\n', 'line 2'),
-    ('three numbers at once', b'1 1 1\n', 'line 1'),
+    ('page numbers that stop', b'1 1 1\n3 1\n', 'line 2: 2 numbers, but a page has three here: q i j'),
+    ('page numbers from 2', b'2 1 1\n3 3 1\n', 'line 1: field 1: page 1 is due, not 2'),
+    ('an empty field', b'1,\n', 'line 1: field 2'),
+    ('columns of something else', b'page,height\n1,1\n', 'line 1: columns can be named page, lines, figures and tables'),
+    ('a galley as text', b'GS 30 30 0 0 1 1 1\n', 'line 1: a record of a galley'),
+    ('a galley', b'GS' + bytes(28), 'a galley file stands where a text is wanted'),
     ('six numbers', b'1 1 1 1 1 1\n', 'line 1'),
     ('a measure alone', b'1 1 1 1 1\n', '1 pages, but 0 follow'),
     ('two measures', b'2 0 1 1 0\n2 0 1 1 0\n', 'line 2'),
@@ -28,12 +33,12 @@ JUNK = [
 
 # The same for galley K, which has a table.
 JUNK_TABLED = [
-    ('two numbers', b'2 1\n', 'line 1: a page has three numbers (i j d)'),
-    ('one page of two numbers', b'2 1 0\n3 1\n', 'line 2: a page has three numbers (i j d)'),
-    ('four numbers later on', b'2 1 0\n2 3 1 1\n', 'line 2: a page has three numbers (i j d)'),
+    ('two numbers', b'2 1\n', 'line 1: 2 numbers, but a page of this galley has three: i j d'),
+    ('one page of two numbers', b'2 1 0\n3 1\n', 'line 2: 2 numbers, but a page of this galley has three: i j d'),
+    ('four numbers later on', b'2 1 0\n2 3 1 1\n', 'line 2: 4 numbers, but a page of this galley has three: i j d'),
     ('a table that is none', b'2 1 x\n', 'line 1: field 3'),
-    ('a page without its table', b'2 1 1 2 0\n1 2 1\n', 'line 2: a page has four numbers here (q i j d)'),
-    ('five numbers after a measure', b'2 1 1 2 0\n1 2 1 0 0\n', 'line 2: a page has four numbers here (q i j d)'),
+    ('a page without its table', b'2 1 1 2 0\n1 2 1\n', 'line 2: 3 numbers, but a page has four here: q i j d'),
+    ('five numbers after a measure', b'2 1 1 2 0\n1 2 1 0 0\n', 'line 2: 5 numbers, but a page has four here: q i j d'),
     ('a page number out of turn', b'2 1 1 2 0\n2 2 1 0\n', 'line 2: field 1: page 1 is due, not 2'),
     ('a page too few', b'2 1 1 2 0\n1 2 1 0\n', '2 pages, but 1 follow'),
 ]

@@ -52,7 +52,7 @@ def cases_of(tally, command, folder):
 
 
 def remarks(tally, command, folder):
-    """What is said of openings that are refused: of 20 the rule and the numbers, where a list could be so long."""
+    """What is said of openings that are refused: of 20 the rule and the numbers, unless it ends within a page."""
     rng, met = random.Random(8), set()
     for galley in [*sample.galleys(150, 80, 4, 3), *sample.galleys(151, 50, 3, 2, 2)]:
         path = file(folder, 'refused.galley', write(galley))
@@ -68,7 +68,7 @@ def remarks(tally, command, folder):
             tally.same('who can mend it', (str(list_path) in first, 'whoever handed in the opening can mend it' in first), (True, True))
             rule, numbers = broken(galley, opening, place) if number == 20 else (21, '')
             met.add(rule)
-            if number == 20 and place < sum(galley.sizes):
+            if number == 20 and place:
                 tally.same('which rule', (len(rest), f'page {place} breaks rule {rule}, ' in rest[0], rest[0].endswith(numbers)), (1, True, True))
             else:
                 tally.same('no more', rest, [])

@@ -119,7 +119,8 @@ def turned_away(tally, command, folder):
     junk, high = file(folder, 'junk', b'?'), file(folder, 'high', b'2 1\n3 1\n')
     status, output, remarks = command.text('report', galley, best, junk, high, folder / 'nowhere')
     told = [str(path) in remarks for path in (junk, high, folder / 'nowhere')]
-    tally.same('a list that cannot be read', (status, output, told), (2, '', [True] * 3))
+    no_papers = 'refused lists: 1, which are no papers (1 by rule 15)\nunreadable lists: 2, which are no papers\n'
+    tally.same('a list that cannot be read', (status, output, told), (2, in_words([(2, 0, 1, 1, 1)]) + no_papers, [True] * 3))
     tally.same('one list, from standard input', command.text('report', galley, '-', given=b'3 0\n3 1\n'),
                (0, in_words([(2, 1, 1, 2, 1)]) + 'refused lists: 0\n', ''))
     tally.same('the same list often', command.text('report', galley, *[best] * 10_000),

@@ -93,7 +93,7 @@ def errors(tally, command, folder):
         tally.same(f'{told} in {remarks}', (status, output, f'{path}: {told}' in remarks, remarks.count('\n')),
                    (due, b'', True, 1))
     path.write_bytes(b'GS 30 30\n\xff\n')
-    tally.same('no text', command.run('pack', path), (2, b'', f'barleychime: {path}: line 2: not text\n'))
+    tally.same('no text', command.run('pack', path), (2, b'', f'barleychime: {path}: line 2: not text in UTF-8\n'))
     for name, data, number, place in refusals.files():
         status, output, remarks = command.text('unpack', '-', given=data)
         tally.same(f'unpack {name}', (status, f'R {number} {place}' in remarks), (1, True))

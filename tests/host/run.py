@@ -32,6 +32,7 @@ import explained  # noqa: E402
 import folding  # noqa: E402
 import foretold  # noqa: E402
 import printed  # noqa: E402
+import refusal_table  # noqa: E402
 import reported  # noqa: E402
 import round_trips  # noqa: E402
 import samples  # noqa: E402
@@ -55,6 +56,7 @@ def main():
         c_interface.run(tally, ROOT, library, folder)
         archive.run(tally, library)
         command_line.run(tally, command, ROOT, folder)
+        refusal_table.run(tally, command, ROOT)
         advised.run(tally, command, folder)
         round_trips.run(tally, command, ROOT, folder)
         explained.run(tally, command, folder)

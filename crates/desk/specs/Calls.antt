@@ -1,6 +1,6 @@
--- The calls on an open desk, and their answers (document 02, S-7 and S-8).
+-- The calls on an open desk, their answers, and what a sitting of them holds (document 02, S-7 and S-8).
 use Prim.Native.Nat.{ℕ}
-use mathlib.Core.Bool.{false}
+use mathlib.Core.Bool.{Bool, true, false}
 use mathlib.Core.List.{List, [], _∷_}
 use mathlib.Core.Path.{_≡_}
 use Rattle.model.specs.declared.answer.Answer.{Answer}
@@ -28,6 +28,31 @@ pub data Call : Type 0 where
 pub data Reply : Type 0 where
   Marking : Answer → Reply
   Number : ℕ → Reply
+
+-- No list, or a list (notation).
+pub data Perhaps : Type 0 where
+  None : Perhaps
+  Some : List ℕ → Perhaps
+
+abbrev pub isSome : Perhaps → Bool
+isSome None = false
+isSome (Some list) = true
+
+-- A list under a name (document 02, S-8).
+pub record Named : Type 0 where
+  pub name : List ℕ
+  pub list : List ℕ
+
+-- The list in force, what is pending, and the layouts held (document 02, S-7 and S-8).
+pub record Sitting : Type 0 where
+  pub force : List ℕ
+  pub pending : Perhaps
+  pub held : List Named
+
+-- A call's answer, and what it leaves.
+pub record Step : Type 0 where
+  pub reply : Reply
+  pub after : Sitting
 
 -- A call neither saves nor drops under a name,
 abbrev pub Spares : List ℕ → Call → Type 0

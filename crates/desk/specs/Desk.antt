@@ -13,7 +13,7 @@ use Rattle.desk.specs.declared.Desk.{Desk}
 use Rattle.layouts.specs.declared.Layout.{Layout}
 use Rattle.desk.specs.declared.Told.{Told}
 use Rattle.desk.specs.declared.Done.{Done}
-use Rattle.desk.specs.Sitting.{Perhaps, None, Some}
+use Rattle.desk.specs.Calls.{Perhaps, None, Some}
 use Rattle.desk.specs.Pages.{wordsOn, isInner, withEnd}
 
 -- A page and its new end are pending, in place of what was.

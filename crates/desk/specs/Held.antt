@@ -5,7 +5,7 @@ use lib.ListN.{take}
 use Rattle.model.specs.Gather.{pick}
 use Rattle.desk.specs.declared.Desk.{Desk}
 use Rattle.layouts.specs.declared.Layout.{Layout}
-use Rattle.desk.specs.Sitting.{Perhaps, None, Some}
+use Rattle.desk.specs.Calls.{Perhaps, None, Some}
 use Rattle.desk.specs.Pages.{wordsOn}
 use Rattle.layouts.specs.Names.{isNamed}
 

@@ -19,8 +19,8 @@ use Rattle.galley.specs.Model.{modelOf}
 use Rattle.marking.specs.Mark.{markOf}
 use Rattle.desk.specs.declared.Desk.{Desk}
 use Rattle.desk.specs.declared.Told.{Told}
-use Rattle.desk.specs.Calls.{Call, Save, Back, Drop, Number, Quiet, Onward}
-use Rattle.desk.specs.Sitting.{Some, None, Sitting, Step, under, putOr, otherEnd, step, begin, sat, replies}
+use Rattle.desk.specs.Calls.{Call, Save, Back, Drop, Number, Quiet, Onward, Some, None, Sitting, Step}
+use Rattle.desk.specs.Sitting.{under, putOr, otherEnd, step, begin, sat, replies}
 use Rattle.desk.specs.Pages.{pagesOn, inForce, isInner, withEnd}
 use Rattle.desk.specs.Opening.{closed, opened, openOn, openRead, openDesk}
 use Rattle.desk.specs.Desk.{askOff, askDesk, pendingOn, commitDesk}

@@ -1,7 +1,7 @@
 -- A sitting at a desk, told by the calls alone: what each call answers, and the list in force, what is pending and the layouts held
 -- after it (document 02, S-7 and S-8). The galley is one that reads, since a desk does not open on any other.
 use Prim.Native.Nat.{ℕ, _-_}
-use mathlib.Core.Bool.{Bool, true, false, _&&_, _||_}
+use mathlib.Core.Bool.{Bool, _&&_, _||_}
 use mathlib.Core.List.{List, [], _∷_}
 use lib.Dec.{leb, ltb}
 use lib.ListN.{length, set, take}
@@ -11,33 +11,7 @@ use Rattle.model.specs.Galley.{Galley, streams}
 use Rattle.model.specs.Answers.{accepted, pagesOf, wordsOf, same, marked}
 use Rattle.model.specs.Gather.{pick}
 use Rattle.layouts.specs.Names.{isName}
-use Rattle.desk.specs.Calls.{End, Call, Ask, Commit, Save, Back, Drop, Reply, Marking, Number, wordsAt}
-
--- No list, or a list (notation).
-pub data Perhaps : Type 0 where
-  None : Perhaps
-  Some : List ℕ → Perhaps
-
--- A list under a name (document 02, S-8).
-pub record Named : Type 0 where
-  pub name : List ℕ
-  pub list : List ℕ
-
--- The list in force, what is pending, and the layouts held (document 02, S-7 and S-8).
-pub record Sitting : Type 0 where
-  pub force : List ℕ
-  pub pending : Perhaps
-  pub held : List Named
-
--- A call's answer, and what it leaves.
-pub record Step : Type 0 where
-  pub reply : Reply
-  pub after : Sitting
-
--- There is a list (notation).
-abbrev pub isSome : Perhaps → Bool
-isSome None = false
-isSome (Some list) = true
+use Rattle.desk.specs.Calls.{End, Call, Ask, Commit, Save, Back, Drop, Reply, Marking, Number, wordsAt, Perhaps, None, Some, isSome, Named, Sitting, Step}
 
 -- The list held under a name, and the layouts under other names (document 02, S-8).
 unfoldable pub under : List Named → List ℕ → Perhaps
@@ -52,12 +26,9 @@ without name (it ∷ held) = pick (same (it .name) name) (without name held) (it
 unfoldable pub hasRoom : List Named → List ℕ → Bool
 hasRoom held name = isSome (under held name) || ltb (length held) 8
 
--- A refusal by a number changes nothing; else the number is 0 (document 02, S-7 and S-8).
-abbrev pub refuse : Sitting → ℕ → Step
-refuse s number = record { reply = Number number; after = s }
-
-abbrev pub done : Sitting → Step
-done s = record { reply = Number 0; after = s }
+-- A call answers a number, 0 or a refusal, and leaves a sitting (document 02, S-7 and S-8).
+abbrev pub says : ℕ → Sitting → Step
+says number s = record { reply = Number number; after = s }
 
 -- Another list is pending, or none; and other layouts are held (notation).
 abbrev pub pend : Sitting → Perhaps → Sitting
@@ -68,12 +39,12 @@ hold s held = record { force = s .force; pending = s .pending; held = held }
 
 -- A list comes into force, and none is pending; a number refuses where there is none (document 02, S-7, commit; S-8, coming back).
 abbrev pub putOr : ℕ → Sitting → Perhaps → Step
-putOr number s None = refuse s number
-putOr number s (Some list) = done (record { force = list; pending = None; held = s .held })
+putOr number s None = says number s
+putOr number s (Some list) = says 0 (record { force = list; pending = None; held = s .held })
 
 -- 25 refuses a name that has not 1 to 16 bytes (document 02, S-8).
 abbrev pub named : List ℕ → Sitting → Step → Step
-named name s step = pick (isName name) step (refuse s 25)
+named name s step = pick (isName name) step (says 25 s)
 
 -- A list with another end of a page, in as many words as the galley has streams (document 02, S-7).
 unfoldable pub otherEnd : Galley → List ℕ → ℕ → End → List ℕ
@@ -94,13 +65,10 @@ step g s (Ask page end) =
     }
 step g s Commit = putOr 24 s (s .pending)
 step g s (Save name) =
-    named name s
-    (pick (hasRoom (s .held) name)
-    (done (hold s (record { name = name; list = s .force } ∷ without name (s .held))))
-    (refuse s 27))
+    named name s (pick (hasRoom (s .held) name) (says 0 (hold s (record { name = name; list = s .force } ∷ without name (s .held)))) (says 27 s))
 step g s (Back name) = named name s (putOr 26 s (under (s .held) name))
 step g s (Drop name) =
-    named name s (pick (isSome (under (s .held) name)) (done (hold s (without name (s .held)))) (refuse s 26))
+    named name s (pick (isSome (under (s .held) name)) (says 0 (hold s (without name (s .held)))) (says 26 s))
 
 -- A sitting begins with the opening list in force, nothing pending, and nothing held (document 02, S-7 and S-8).
 abbrev pub begin : List ℕ → Sitting

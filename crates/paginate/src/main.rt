@@ -1,5 +1,11 @@
 // The program: a galley from standard input, its pages to standard output. Document 01, "The program".
 ghost use Prim.Native.Nat.{_+_, _≤_, _<_};
+ghost use mathlib.Core.Path.{_≡_};
+ghost use Rattle.model.specs.Galley.{streams};
+ghost use Rattle.galley.specs.declared.Galley.{Galley};
+ghost use Rattle.galley.specs.declared.Reading.the-variants as reads;
+ghost use Rattle.galley.specs.Whole.{galleyOf};
+ghost use Rattle.galley.specs.Model.{modelOf};
 use galley::Reading;
 use libc::STDIN_FILENO;
 use libc::STDOUT_FILENO;
@@ -21,7 +27,11 @@ fn print_refusal(number: u32, place: u32) {
 
 // How many words a page has in the list: one for each stream of the galley. A galley that is refused has no list.
 fn words_of(galley: &[u8]) -> usize
-    ensures { λ r. ⌜ (2 ≤ r) × (r ≤ 3) ⌝ }
+    ensures { λ r. ⌜
+        (2 ≤ r)
+        × (r ≤ 3)
+        × ((g : Galley) → galleyOf (now (galley .entry)) ≡ reads.Galley g → r ≡ streams (modelOf (now (galley .entry)) g))
+        ⌝ }
 {
     let reading = reading::read_galley(galley);
     match reading {

@@ -31,7 +31,7 @@ use Rattle.book.specs.Make.{toldOf, bookRead, workRead, listRead, Bound}
 use Rattle.promises.specs.FirstDemand.{Answered, finished, refused as turned}
 
 -- The numbers with which reading a book may refuse: those of a galley and those of a book,
-abbrev ByReading : ℕ → Type 0
+abbrev pub ByReading : ℕ → Type 0
 ByReading n = ((1 ≤ n) × (n ≤ 8)) ⊎ ((28 ≤ n) × (n ≤ 30))
 
 -- and those with which making one may: 9, 10 and 11 besides.
@@ -39,7 +39,7 @@ abbrev pub ByBook : ℕ → Type 0
 ByBook n = ((1 ≤ n) × (n ≤ 11)) ⊎ ((28 ≤ n) × (n ≤ 30))
 
 -- A book that was read, or a refusal with one of these numbers.
-abbrev Fine : Outcome → Type 0
+abbrev pub Fine : Outcome → Type 0
 Fine (read cs) = Unit {0}
 Fine (refused n at) = ByReading n
 
@@ -78,7 +78,7 @@ unfolding chaptersOf
 chapters-fine bytes [] = tt
 chapters-fine bytes (n ∷ ns) = first-fine bytes n ns (galleyOf (slice 0 n bytes)) refl
 
-book-fine : (bytes lengths : List ℕ) → Fine (bookOf bytes lengths)
+pub book-fine : (bytes lengths : List ℕ) → Fine (bookOf bytes lengths)
 unfolding bookOf
 book-fine bytes lengths =
     picked-fine (addsUp bytes lengths) (chaptersOf bytes lengths) (refused 28 0) (chapters-fine bytes lengths) (inr (omega arith, omega arith))

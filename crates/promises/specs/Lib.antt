@@ -13,5 +13,7 @@ pub mod Loosening
 pub mod Lost
 pub mod Marks
 pub mod Books
+pub mod Outside
 pub mod BookAnswers
+pub mod Own
 pub mod OneChapter

@@ -30,10 +30,11 @@ use Rattle.galley.specs.declared.Galley.{Galley}
 use Rattle.galley.specs.declared.Reading.the-variants as reads
 use Rattle.galley.specs.Whole.{galleyOf}
 use Rattle.galley.specs.Model.{modelOf}
-use Rattle.marking.specs.Mark.{markRead, markOf}
+use Rattle.marking.specs.Mark.{markOf}
 use Rattle.needs.specs.Needs.{workNeeded, listNeeded}
 use Rattle.making.specs.Make.{makeOf}
 use Rattle.making.specs.After.{makeAfterOf, listMadeAfter}
+use Rattle.promises.specs.SecondDemand.{mark-is}
 use Rattle.promises.specs.ThirdDemandAfter.{ThirdDemandAfter, third-demand-after}
 use Rattle.promises.specs.Loosening.{after-nothing}
 
@@ -131,6 +132,13 @@ first-stand g words a q few =
     let rest : eqb (length (take (q * k) words) % k) 0 ≡ true = eq-eqb _ _ (ap (λ n. n % k) long ∙ mul-mod-left q k) in
     rw (rest, places) (pages-stand g q 1 (model.zeros g) (chunks p k words) (let n = length-chunks p k words in omega arith) (m .pages .taken))
 
+-- An accepted list has a page.
+pub page-accepted : (g : model.Galley) (words : List ℕ) → accepted (marked g words) ≡ true → 0 < numbersOf (marked g words) .pages
+unfolding countsOf
+page-accepted g words a =
+    let count = ap (λ r. numbersOf r .pages) (marked-counts g words a) in
+    omega (arith, count, marked-accepted g words .0 a .pages .some)
+
 -- Steps that only rise add up to the whole rise.
 steps-add : (f : ℕ → ℕ) → ((q r : ℕ) → q ≤ r → f q ≤ f r) → (n : ℕ) → f 0 + sum n (λ k. f k - f (k - 1)) ≡ f n
 unfolding sum
@@ -149,14 +157,13 @@ module _ (bytes : List ℕ) (g : Galley) (read : galleyOf bytes ≡ reads.Galley
   abbrev first : ℕ → List ℕ
   first q = firstPages (modelOf bytes g) q words
 
-  mark-is : mark ≡ marked (modelOf bytes g) words
-  unfolding markOf markRead
-  mark-is = rw read refl
+  is : mark ≡ marked (modelOf bytes g) words
+  is = mark-is bytes words g read
 
   -- The first pages of an accepted list, but not all of them, are an opening that neither 20 nor 21 turns away.
   pub first-pages-stand : (q : ℕ) → q < pages → openingTurned (modelOf bytes g) (first q) ≡ none
   first-pages-stand q few =
-      first-stand (modelOf bytes g) words (sym (ap accepted mark-is) ∙ taken) q (subst (λ a. q < numbersOf a .pages) mark-is few)
+      first-stand (modelOf bytes g) words (sym (ap accepted is) ∙ taken) q (subst (λ a. q < numbersOf a .pages) is few)
 
   -- The list is its first pages and the rest.
   whole : (q : ℕ) → words ≡ first q ++ drop (q * model.streams (modelOf bytes g)) words
@@ -211,10 +218,10 @@ module _ (bytes : List ℕ) (g : Galley) (read : galleyOf bytes ≡ reads.Galley
     by-more q r low few =
         let d = demand r few in
         let a = after-finished r few in
-        let (rest, is) = d .begins a in
+        let (rest, begins) = d .begins a in
         let more = drop (q * model.streams (modelOf bytes g)) (first r) in
         let split : first r ++ rest ≡ first q ++ (more ++ rest) = ap (λ l. l ++ rest) (onward q r low) ∙ append-assoc (first q) more rest in
-        let marks : markOf bytes (first q ++ (more ++ rest)) ≡ after r = ap (markOf bytes) (sym split) ∙ ap (markOf bytes) (sym is) ∙ d .same a in
+        let marks : markOf bytes (first q ++ (more ++ rest)) ≡ after r = ap (markOf bytes) (sym split) ∙ ap (markOf bytes) (sym begins) ∙ d .same a in
         subst (λ b. NoBetter (after q) b) marks (begun q (omega arith) (more ++ rest) (ap accepted marks ∙ a))
 
     early : (q : ℕ) → q < pages → best q ≡ after q
@@ -234,11 +241,8 @@ module _ (bytes : List ℕ) (g : Galley) (read : galleyOf bytes ≡ reads.Galley
         go (no a) b = rw (late q (omega arith), late r (omega arith)) (omega arith, λ h. omega arith)
 
     some-pages : 0 < pages
-    unfolding countsOf
     some-pages =
-        let a = sym (ap accepted mark-is) ∙ taken in
-        let count = ap (λ r. numbersOf r .pages) (mark-is ∙ marked-counts (modelOf bytes g) words a) in
-        omega (arith, count, marked-accepted (modelOf bytes g) words .0 a .pages .some)
+        subst (λ a. 0 < numbersOf a .pages) (sym is) (page-accepted (modelOf bytes g) words (sym (ap accepted is) ∙ taken))
 
     abbrev turns : ℕ → ℕ
     turns q = numbersOf (best q) .turns

@@ -26,14 +26,13 @@ use Rattle.galley.specs.Whole.{galleyOf}
 use Rattle.galley.specs.Model.{modelOf}
 use Rattle.galley.specs.laws.Sound.{refusal-number}
 use Rattle.places.specs.Entry.{cleared}
-use Rattle.rules.specs.laws.Sane.{reads-sane}
 use Rattle.needs.specs.Needs.{workNeeded, listNeeded}
 use Rattle.making.specs.After.{stands, sought, makeAfterRead, makeAfterOf, workMadeRead, workMadeAfter, listMadeRead, listMadeAfter, weighedAfterRead, weighedAfterOf, MadeAfter}
 use Rattle.solving.specs.laws.Solved.{reads-limits}
 use Rattle.forecast.specs.Forecast.{forecastRead, forecastOf}
 use Rattle.promises.specs.Answers.{ByMaking, picked}
 use Rattle.promises.specs.FirstDemand.{Answered, finished, refused}
-use Rattle.promises.specs.Limit.{Limited, marked-limited}
+use Rattle.promises.specs.Limit.{Within, mostTurns, mostUntabled, Untabled, Costs, reads-costs, untabled-costs, marked-within}
 
 -- The numbers with which making after an opening may refuse: those of making, and 20 and 21.
 abbrev pub ByMakingAfter : ℕ → Type 0
@@ -157,21 +156,27 @@ module _ {bytes opening work list : List ℕ} {answer : Answer} {count : ℕ} {w
           (le-trans (weighed-from-le (modelOf bytes g) (endOf (model.zeros (modelOf bytes g)) (pagesOf (modelOf bytes g) opening))) (weighed-ceiling (modelOf bytes g)))
       go (reads.Refused n at) = omega arith
 
-  -- It reports at most 1,066,499,000 turns and 424,900,000 of white.
-  pub after-limit : Limited answer
-  after-limit =
-      subst (λ a. Limited a) (sym (m .answers))
-      (of-making-after (λ a. Limited a) bytes opening (length work) (length list) (λ n at h. (omega arith, omega arith))
+  after-within : {most : ℕ} → Costs most bytes → Within most answer
+  after-within {most} costs =
+      subst (λ a. Within most a) (sym (m .answers))
+      (of-making-after (λ a. Within most a) bytes opening (length work) (length list) (λ n at h. (omega arith, omega arith))
       (λ g e. limited g e (making-after (modelOf bytes g) opening)))
     where
-      turned : {a : Answer} → ByOpening a → Limited a
-      turned (at, inl h) = subst (λ a. Limited a) (sym h) (omega arith, omega arith)
-      turned (at, inr h) = subst (λ a. Limited a) (sym h) (omega arith, omega arith)
+      turned : {a : Answer} → ByOpening a → Within most a
+      turned (at, inl h) = subst (λ a. Within most a) (sym h) (omega arith, omega arith)
+      turned (at, inr h) = subst (λ a. Within most a) (sym h) (omega arith, omega arith)
 
       limited : (g : Galley) → galleyOf bytes ≡ reads.Galley g → {a : Answer} {ws : List ℕ} → MakingAfter (modelOf bytes g) opening a ws
-          → Limited a
+          → Within most a
       limited g e (turned-away t h) = turned h
       limited g e (no-list s empty) = (omega arith, omega arith)
       limited g e (best-list rest s m long best whiter) =
-          subst (λ a. Limited a) m
-          (marked-limited (modelOf bytes g) (reads-sane bytes g e) (reads-limits bytes g e) (opening ++ rest))
+          subst (λ a. Within most a) m
+          (marked-within most (modelOf bytes g) (reads-limits bytes g e) (costs g e) (opening ++ rest))
+
+  -- It reports at most 1,066,499,000 turns and 424,900,000 of white, and without tables at most 843,999,000 turns.
+  pub after-limit : Within mostTurns answer
+  after-limit = after-within (reads-costs bytes)
+
+  pub after-untabled : Untabled bytes → Within mostUntabled answer
+  after-untabled untabled = after-within (untabled-costs bytes untabled)

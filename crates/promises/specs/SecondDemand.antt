@@ -33,7 +33,7 @@ pub record Paginates (bytes words : List ℕ) (g : Galley) (p : ℕ) (P : Map) :
   pub list : wordsOf (listOn (modelOf bytes g) P p 1) ≡ words
 
 -- What marking a galley that was read means.
-mark-is : (bytes words : List ℕ) (g : Galley) → galleyOf bytes ≡ reads.Galley g → markOf bytes words ≡ marked (modelOf bytes g) words
+pub mark-is : (bytes words : List ℕ) (g : Galley) → galleyOf bytes ≡ reads.Galley g → markOf bytes words ≡ marked (modelOf bytes g) words
 unfolding markOf markRead
 mark-is bytes words g e = rw e
 

@@ -1,7 +1,7 @@
 //! What is asked at the desk, a line each: `ask PAGE I J`, or `ask PAGE I J D` where the galley has tables, `commit`, `list`,
 //! `save NAME`, `back NAME`, `drop NAME`, `layouts`, `help`, `quit`.
 
-use barleychime::list::{numbers, shown};
+use barleychime::field::{numbers, shown};
 
 #[derive(Clone, Debug, PartialEq, Eq)]
 pub enum Call {
@@ -54,7 +54,7 @@ fn named(line: &str, call: impl Fn(String) -> Call) -> Result<Option<Call>, Stri
 }
 
 fn ask(fields: &[&str], page_words: usize) -> Result<Call, String> {
-    let numbers = numbers(fields)?;
+    let numbers = numbers(fields).map_err(|error| error.to_string())?;
     match (page_words, numbers.as_slice()) {
         (2, &[page, i, j]) => Ok(Call::Ask { page, end: [i, j, 0] }),
         (3, &[page, i, j, d]) => Ok(Call::Ask { page, end: [i, j, d] }),

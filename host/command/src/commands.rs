@@ -26,7 +26,13 @@ pub struct Outcomes {
 impl Outcomes {
     /// What was read; if nothing was, that is said.
     pub fn read<Contents>(&mut self, read: Result<Contents, Error>) -> Option<Contents> {
-        read.map_err(|error| say(&error.to_string())).inspect_err(|()| self.failed = true).ok()
+        read.map_err(|error| self.fail(&error)).ok()
+    }
+
+    /// That something could not be read.
+    pub fn fail(&mut self, error: &Error) {
+        say(&error.to_string());
+        self.failed = true;
     }
 
     pub fn whole(&self) -> Outcome {

@@ -1,7 +1,11 @@
 //! What can keep the command from its work. A refusal is none: it is an answer.
 
 use crate::input::FileName;
-use barleychime::engine::Refusal;
+use barleychime::engine::MakeError;
+use barleychime::list::ListError;
+use barleychime::marks::MarksError;
+use barleychime::refusal::Refusal;
+use barleychime::text::TextError;
 use std::fmt;
 use std::io;
 
@@ -13,10 +17,18 @@ pub enum Error {
     Read { name: FileName, error: io::Error },
     /// A file is longer than anything of its kind.
     TooLong { name: FileName },
+    /// A file is a galley where a text is wanted.
+    Galley { name: FileName },
     /// A line of a file is not text.
     NotText { name: FileName, line: usize },
-    /// A file is text, but no galley, list or marks: what is wrong.
-    Unreadable { name: FileName, what: String },
+    /// A text is no galley.
+    Text { name: FileName, error: TextError },
+    /// A text is no list.
+    List { name: FileName, error: ListError },
+    /// A text is no marks.
+    Marks { name: FileName, error: MarksError },
+    /// A galley cannot be made, though it is not refused.
+    Make { name: FileName, error: MakeError },
     /// The engine reads a galley that this command cannot.
     NotDecoded { name: FileName },
     /// Standard input, as the calls of a desk, cannot be read.
@@ -41,9 +53,13 @@ impl fmt::Display for Error {
         match self {
             Error::Usage(what) => write!(out, "{what}"),
             Error::Read { name, error } => write!(out, "{name}: {error}"),
-            Error::TooLong { name } => write!(out, "{name}: too long for a text of a galley or list"),
-            Error::NotText { name, line } => write!(out, "{name}: line {line}: not text"),
-            Error::Unreadable { name, what } => write!(out, "{name}: {what}"),
+            Error::TooLong { name } => write!(out, "{name}: too long for a text of a galley, of a list or of marks"),
+            Error::Galley { name } => write!(out, "{name}: line 1: a galley file stands where a text is wanted"),
+            Error::NotText { name, line } => write!(out, "{name}: line {line}: not text in UTF-8"),
+            Error::Text { name, error } => write!(out, "{name}: {error}"),
+            Error::List { name, error } => write!(out, "{name}: {error}"),
+            Error::Marks { name, error } => write!(out, "{name}: {error}"),
+            Error::Make { name, error } => write!(out, "{name}: {error}"),
             Error::NotDecoded { name } => write!(out, "{name}: the engine reads it, this command cannot"),
             Error::Calls(error) => write!(out, "standard input: {error}"),
             Error::LongCall { line } => write!(out, "line {line}: too long for a call"),
@@ -57,6 +73,11 @@ impl std::error::Error for Error {
     fn source(&self) -> Option<&(dyn std::error::Error + 'static)> {
         match self {
             Error::Read { error, .. } | Error::Calls(error) | Error::Output(error) => Some(error),
+            Error::Text { error, .. } => Some(error),
+            Error::List { error, .. } => Some(error),
+            Error::Marks { error, .. } => Some(error),
+            Error::Make { error, .. } => Some(error),
+            Error::Unlike(refusal) => Some(refusal),
             _ => None,
         }
     }

@@ -1,8 +1,8 @@
 //! Files and standard input.
 
 use crate::error::Error;
-use barleychime::engine;
-use barleychime::list::{self, Extent};
+use barleychime::list::{self, Extent, List};
+use barleychime::record::Record;
 use std::ffi::OsString;
 use std::fmt;
 use std::fs::File;
@@ -56,6 +56,10 @@ impl FileName {
         if bytes.len() as u64 > LONGEST_TEXT {
             return Err(Error::TooLong { name: self.clone() });
         }
+        // The first record of a galley file has zeros in it, which no text has.
+        if bytes.contains(&0) && Record::take(&bytes).is_some() {
+            return Err(Error::Galley { name: self.clone() });
+        }
         let line = |at: usize| bytes[..at].iter().filter(|&&byte| byte == b'\n').count() + 1;
         match std::str::from_utf8(&bytes) {
             // Some editors open a text with this mark.
@@ -64,15 +68,9 @@ impl FileName {
         }
     }
 
-    /// A list for a galley. A galley that is refused has no lists, and then nobody knows how many words a page has.
-    pub fn list(&self, galley: &[u8], extent: Extent) -> Result<Vec<u32>, Error> {
-        let words = engine::page_words(galley).ok();
-        list::parse(&self.text()?, words, extent).map_err(|what| self.unreadable(what))
-    }
-
-    /// That the file is a text of another kind.
-    pub fn unreadable(&self, what: String) -> Error {
-        Error::Unreadable { name: self.clone(), what }
+    /// A list for a galley whose lists have so many words a page.
+    pub fn list(&self, words: usize, extent: Extent) -> Result<List, Error> {
+        list::parse(&self.text()?, words, extent).map_err(|error| Error::List { name: self.clone(), error })
     }
 
     fn read(&self, most: u64) -> Result<Vec<u8>, Error> {

@@ -2,8 +2,9 @@
 
 use crate::error::Error;
 use crate::input::FileName;
-use barleychime::engine::Refusal;
-use barleychime::refusal::sentence;
+use crate::Outcome;
+use barleychime::refusal::Refusal;
+use serde::Serialize;
 use std::fmt::Display;
 use std::io::{self, IsTerminal, Write};
 
@@ -20,6 +21,13 @@ impl Output {
         self.0.write_all(answer.as_ref()).and_then(|()| self.0.flush()).map_err(Error::Output)
     }
 
+    /// Prints an answer for programs: one value, and the end of a line.
+    pub fn print_json(&mut self, answer: &impl Serialize) -> Result<(), Error> {
+        let mut text = serde_json::to_string_pretty(answer).map_err(|error| Error::Output(error.into()))?;
+        text.push('\n');
+        self.print(text)
+    }
+
     /// Prints an answer on a line, and after it the name of what it is about, byte for byte, if that is to be told.
     pub fn print_row(&mut self, answer: impl Display, name: Option<&FileName>) -> Result<(), Error> {
         let mut row = answer.to_string().into_bytes();
@@ -30,6 +38,26 @@ impl Output {
         row.push(b'\n');
         self.print(row)
     }
+}
+
+/// A text on lines of at most 80 columns, all but the first of which are indented by so many.
+pub fn wrapped(text: &str, indent: usize) -> String {
+    let mut lines = String::new();
+    let mut column = indent;
+    for word in text.split_whitespace() {
+        let length = word.chars().count();
+        if column > indent && column + 1 + length > 80 {
+            lines += "\n";
+            lines += &" ".repeat(indent);
+            column = indent;
+        } else if column > indent {
+            lines += " ";
+            column += 1;
+        }
+        lines += word;
+        column += length;
+    }
+    lines
 }
 
 /// A remark. There is nobody to tell if it cannot be written.
@@ -44,13 +72,21 @@ pub fn watched() -> bool {
 
 /// A refusal in words, of a file or of what has another name.
 pub fn say_why(what: impl Display, refusal: Refusal) {
-    say(&format!("{what}: {refusal}: {}", sentence(refusal)));
+    say(&format!("{what}: {refusal}"));
+}
+
+/// A galley that is refused, or has no pagination.
+pub fn refuse_galley(name: &FileName, bytes: &[u8], refusal: Refusal, output: &mut Output) -> Result<Outcome, Error> {
+    output.print_row(refusal.code(), None)?;
+    say_why(name, refusal);
+    hint_at_pack(name, bytes, refusal);
+    Ok(Outcome::Refused)
 }
 
 /// A text handed in where a galley is wanted is an easy mistake.
 pub fn hint_at_pack(name: &FileName, bytes: &[u8], refusal: Refusal) {
     let is_text = |text: &str| !text.is_empty() && text.chars().all(|c| c.is_whitespace() || !c.is_control());
-    if refusal.number <= 8 && std::str::from_utf8(bytes).is_ok_and(is_text) {
+    if refusal.kind.is_of_galley() && std::str::from_utf8(bytes).is_ok_and(is_text) {
         say(&format!("{name}: this is a text; `barleychime pack` makes a galley of one"));
     }
 }

@@ -6,6 +6,9 @@ mod make_up;
 pub use chapters::{forecast_book, make_book, make_book_in, Book, BookMaking, BookMeasure, Chapter};
 pub use make_up::Desk;
 
+use crate::refusal::{Refusal, RefusalKind};
+use std::fmt;
+
 #[allow(unsafe_code)]
 mod c {
     use super::chapters::BOOK_WORDS;
@@ -108,24 +111,22 @@ const FORECAST_WORDS: usize = 6;
 /// What a valid list comes to.
 #[derive(Clone, Copy, Debug, PartialEq, Eq)]
 pub struct Measure {
+    /// p: the pages.
     pub pages: u32,
+    /// X: the turns from citations to their figures and tables.
     pub x: u32,
+    /// Y: the turns from the first page to the last.
     pub y: u32,
+    /// T: the weighted sum of X and Y.
     pub turns: u32,
     /// W: what all pages but the last lack of htMax, however loose they are.
     pub white: u32,
 }
 
-/// Why work is turned away: document 01's number and place.
-#[derive(Clone, Copy, Debug, PartialEq, Eq)]
-pub struct Refusal {
-    pub number: u32,
-    pub place: u32,
-}
-
 /// What making gives besides the list.
 #[derive(Clone, Copy, Debug, PartialEq, Eq)]
 pub struct Making {
+    /// What the list comes to, or why there is none.
     pub answer: Result<Measure, Refusal>,
     /// The pages weighed, in the plain sense: the pairs of a start and an end, reached or not, with something between them
     /// whose tightest height is at most htMax. It is there on success and where no pagination exists (11), and 0 with every
@@ -149,15 +150,17 @@ pub struct Forecast {
 #[allow(unsafe_code)]
 pub fn forecast(galley: &[u8]) -> Result<Forecast, Refusal> {
     let mut words = [0; FORECAST_WORDS];
-    // The bytes are those of a slice, and the engine writes the words alone.
+    // SAFETY: the bytes are those of a slice, and the engine writes the words alone.
     unsafe {
         c::barleychime_forecast(galley.as_ptr(), galley.len(), &mut words);
     }
     let [number, place, work, list, low, high] = words;
-    match number {
-        0 => Ok(Forecast { work, list, ceiling: wide(low, high) }),
-        _ => Err(Refusal { number, place }),
-    }
+    unless(number, place, Forecast { work, list, ceiling: wide(low, high) })
+}
+
+/// What the engine tells, unless its number is a refusal's.
+fn unless<Told>(number: u32, place: u32, told: Told) -> Result<Told, Refusal> {
+    Refusal::of(number, place).map_or(Ok(told), Err)
 }
 
 fn wide(low: u32, high: u32) -> u64 {
@@ -169,7 +172,8 @@ fn wide(low: u32, high: u32) -> u64 {
 #[allow(unsafe_code)]
 pub fn make_in(galley: &[u8], work: &mut [u32], pages: &mut [u32]) -> Making {
     let mut answer = [0; ANSWER_WORDS];
-    // The areas are those of slices that the borrow checker keeps apart, and the engine reads and writes nothing else.
+    // SAFETY: the areas are those of slices that the borrow checker keeps apart, and the engine reads and writes nothing
+    // else.
     unsafe {
         c::barleychime_make(
             galley.as_ptr(),
@@ -190,7 +194,7 @@ pub fn make_in(galley: &[u8], work: &mut [u32], pages: &mut [u32]) -> Making {
 #[allow(unsafe_code)]
 pub fn make_after_in(galley: &[u8], opening: &[u32], work: &mut [u32], pages: &mut [u32]) -> Making {
     let mut answer = [0; ANSWER_WORDS];
-    // As above.
+    // SAFETY: as in `make_in`.
     unsafe {
         c::barleychime_make_after(
             galley.as_ptr(),
@@ -211,7 +215,7 @@ pub fn make_after_in(galley: &[u8], opening: &[u32], work: &mut [u32], pages: &m
 #[allow(unsafe_code)]
 pub fn mark(galley: &[u8], pages: &[u32]) -> Result<Measure, Refusal> {
     let mut answer = [0; ANSWER_WORDS];
-    // As above.
+    // SAFETY: as in `make_in`.
     unsafe {
         c::barleychime_mark(galley.as_ptr(), galley.len(), pages.as_ptr(), pages.len(), &mut answer);
     }
@@ -219,11 +223,47 @@ pub fn mark(galley: &[u8], pages: &[u32]) -> Result<Measure, Refusal> {
 }
 
 fn made([number, place, pages, x, y, turns, low, high, white]: [u32; ANSWER_WORDS]) -> Making {
-    let answer = match number {
-        0 => Ok(Measure { pages, x, y, turns, white }),
-        _ => Err(Refusal { number, place }),
-    };
-    Making { answer, weighed: wide(low, high) }
+    Making { answer: unless(number, place, Measure { pages, x, y, turns, white }), weighed: wide(low, high) }
+}
+
+/// Why there is no list: the galley is refused, or there is no memory for making it.
+#[derive(Clone, Copy, Debug, PartialEq, Eq)]
+#[non_exhaustive]
+pub enum MakeError {
+    /// The engine turned the work away.
+    Refused(Refusal),
+    /// The memory that making needs cannot be had.
+    NoMemory {
+        /// How much it needs.
+        bytes: u64,
+    },
+}
+
+impl From<Refusal> for MakeError {
+    fn from(refusal: Refusal) -> Self {
+        MakeError::Refused(refusal)
+    }
+}
+
+impl fmt::Display for MakeError {
+    fn fmt(&self, out: &mut fmt::Formatter) -> fmt::Result {
+        match self {
+            MakeError::Refused(refusal) => refusal.fmt(out),
+            MakeError::NoMemory { bytes } => {
+                let megabytes = bytes.div_ceil(1_000_000);
+                write!(out, "making needs {megabytes} MB of memory, and there is not so much")
+            }
+        }
+    }
+}
+
+impl std::error::Error for MakeError {
+    fn source(&self) -> Option<&(dyn std::error::Error + 'static)> {
+        match self {
+            MakeError::Refused(refusal) => Some(refusal),
+            MakeError::NoMemory { .. } => None,
+        }
+    }
 }
 
 /// Memory for making, kept from one galley to the next. It grows to what the forecast tells.
@@ -235,21 +275,34 @@ pub struct Memory {
 }
 
 impl Memory {
+    /// No memory yet.
     pub fn new() -> Self {
         Self::default()
     }
 
     /// Makes a galley's pages: the measure, and the list, of [`page_words`] words a page.
-    pub fn make(&mut self, galley: &[u8]) -> Result<(Measure, &[u32]), Refusal> {
+    ///
+    /// ```
+    /// use barleychime::engine::{MakeError, Memory};
+    /// use barleychime::refusal::RefusalKind;
+    ///
+    /// let galley = barleychime::text::pack("GS 0 30 0 0 1 1 1\nTL 10 0 0 1\nTL 10 0 0 1\nED\n")?.bytes;
+    /// let mut memory = Memory::new();
+    /// let (measure, list) = memory.make(&galley)?;
+    /// assert_eq!((measure.pages, measure.turns, list), (1, 0, &[2, 0][..]));
+    /// let MakeError::Refused(refusal) = memory.make(b"").unwrap_err() else { unreachable!() };
+    /// assert_eq!(refusal.kind, RefusalKind::StopsShort);
+    /// # Ok::<(), Box<dyn std::error::Error>>(())
+    /// ```
+    pub fn make(&mut self, galley: &[u8]) -> Result<(Measure, &[u32]), MakeError> {
         self.make_after(galley, &[])
     }
 
     /// Makes a galley's pages after an opening that is printed, as [`make_after_in`] has it.
-    pub fn make_after(&mut self, galley: &[u8], opening: &[u32]) -> Result<(Measure, &[u32]), Refusal> {
+    pub fn make_after(&mut self, galley: &[u8], opening: &[u32]) -> Result<(Measure, &[u32]), MakeError> {
         self.weighed = 0;
-        let Forecast { work, list, .. } = forecast(galley)?;
-        grow(&mut self.work, work as usize);
-        grow(&mut self.pages, list as usize);
+        let told = forecast(galley)?;
+        self.grow(&told)?;
         let Making { answer, weighed } = make_after_in(galley, opening, &mut self.work, &mut self.pages);
         self.weighed = weighed;
         let measure = answer?;
@@ -261,11 +314,24 @@ impl Memory {
     pub fn weighed(&self) -> u64 {
         self.weighed
     }
+
+    /// Room for what was told. Memory that cannot be had is an error, and what there was is kept.
+    fn grow(&mut self, told: &Forecast) -> Result<(), MakeError> {
+        let area = |area: &mut Vec<u32>, words: u32| {
+            let more = (words as usize).saturating_sub(area.len());
+            area.try_reserve_exact(more)?;
+            area.resize(area.len() + more, 0);
+            Ok(())
+        };
+        let grown = area(&mut self.work, told.work).and_then(|()| area(&mut self.pages, told.list));
+        grown.map_err(|_: std::collections::TryReserveError| MakeError::NoMemory { bytes: told.bytes() })
+    }
 }
 
-fn grow(area: &mut Vec<u32>, words: usize) {
-    if area.len() < words {
-        area.resize(words, 0);
+impl Forecast {
+    /// The bytes of work area and page list together.
+    pub fn bytes(&self) -> u64 {
+        4 * (u64::from(self.work) + u64::from(self.list))
     }
 }
 
@@ -279,8 +345,8 @@ pub fn read(galley: &[u8]) -> Result<(), Refusal> {
 pub fn page_words(galley: &[u8]) -> Result<usize, Refusal> {
     // A galley is read before its list. Two words are a page, and no page too many, or else they break rule 12.
     match mark(galley, &[0, 0]) {
-        Err(refusal) if refusal.number <= 8 => Err(refusal),
-        Err(Refusal { number: 12, .. }) => Ok(3),
+        Err(refusal) if refusal.kind.is_of_galley() => Err(refusal),
+        Err(Refusal { kind: RefusalKind::BadList, .. }) => Ok(3),
         _ => Ok(2),
     }
 }
@@ -290,13 +356,13 @@ pub fn page_words(galley: &[u8]) -> Result<usize, Refusal> {
 #[allow(unsafe_code)]
 pub fn section(size: u32, numbers: &mut [u32; 64]) -> Result<&[u32], Refusal> {
     let mut answer = [0; 2];
-    // The areas are those of arrays that the borrow checker keeps apart, and the engine writes nothing else.
+    // SAFETY: the areas are those of arrays that the borrow checker keeps apart, and the engine writes nothing else.
     unsafe {
         c::barleychime_section(size, numbers, &mut answer);
     }
-    match answer {
-        [0, _] => Ok(&numbers[..size as usize]),
-        [number, place] => Err(Refusal { number, place }),
+    match Refusal::of(answer[0], answer[1]) {
+        None => Ok(&numbers[..size as usize]),
+        Some(refusal) => Err(refusal),
     }
 }
 
@@ -304,10 +370,15 @@ pub fn section(size: u32, numbers: &mut [u32; 64]) -> Result<&[u32], Refusal> {
 #[derive(Clone, Copy, Debug, PartialEq, Eq)]
 #[repr(C)]
 pub struct Mark {
+    /// p of the list.
     pub pages: u32,
+    /// X of the list.
     pub x: u32,
+    /// Y of the list.
     pub y: u32,
+    /// T of the list.
     pub turns: u32,
+    /// The engine's T.
     pub engine: u32,
 }
 
@@ -315,14 +386,23 @@ pub struct Mark {
 /// and a count.
 #[derive(Clone, Copy, Debug, PartialEq, Eq)]
 pub struct Report {
+    /// How many papers there are.
     pub papers: u64,
+    /// The sum of p.
     pub pages: u64,
+    /// The sum of X.
     pub x: u64,
+    /// The sum of Y.
     pub y: u64,
+    /// The sum of T.
     pub turns: u64,
+    /// The least T.
     pub least: u64,
+    /// The greatest T.
     pub greatest: u64,
+    /// The sum of what each T is above the engine's.
     pub excess: u64,
+    /// How many papers the mean excess is over.
     pub count: u64,
 }
 
@@ -330,12 +410,9 @@ pub struct Report {
 #[allow(unsafe_code)]
 pub fn report(marks: &[Mark]) -> Result<Report, Refusal> {
     let mut words = [0; 11];
-    // The marks are those of a slice, in C's layout, and the engine writes the words alone.
+    // SAFETY: the marks are those of a slice, in C's layout, and the engine writes the words alone.
     let number = unsafe { c::barleychime_report(marks.as_ptr(), marks.len(), &mut words) };
     let [_, place, papers, pages, x, y, turns, least, greatest, excess, count] = words;
-    match number {
-        0 => Ok(Report { papers, pages, x, y, turns, least, greatest, excess, count }),
-        // A place is 0 or one of 10,000 papers.
-        _ => Err(Refusal { number, place: place as u32 }),
-    }
+    // A place is 0 or one of 10,000 papers.
+    unless(number, place as u32, Report { papers, pages, x, y, turns, least, greatest, excess, count })
 }

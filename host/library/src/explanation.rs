@@ -1,16 +1,19 @@
-//! A page list in words: page by page, and for a refused one the rule that it breaks with the numbers that break it.
+//! A page list in words: page by page, for a refused one every rule that each page breaks with the numbers that break it, and for
+//! one with turns too many the page ends with which they are lost for good.
 
-use crate::engine::{self, Measure, Memory, Refusal};
-use crate::galley::{Float, Galley};
+use crate::engine::Measure;
+use crate::galley::Galley;
 use crate::list::spaced;
 use crate::page::{folio, spread, white, Page, Place};
 use crate::record::Record;
-use crate::refusal::{meaning_of, mender, sentence};
+use crate::refusal::{Refusal, RefusalKind};
+use crate::rules::{self, counted, counts_in_words, kept_with, Broken};
 use crate::text::field_at_fault;
+use crate::why::Loss;
 
 /// An accepted list.
 pub fn accepted(galley: &Galley, list: &[u32], measure: Measure) -> String {
-    let pages = Page::all(list, galley.page_words());
+    let pages = Page::all(galley, list);
     let mut text = opening(galley);
     for page in &pages {
         text += &page_in_words(galley, &pages, page);
@@ -21,64 +24,85 @@ pub fn accepted(galley: &Galley, list: &[u32], measure: Measure) -> String {
     text + &format!("T = alpha·X + beta·Y = {}·{x} + {}·{y} = {turns}, W {white}\n", spec.alpha, spec.beta)
 }
 
-/// How the list compares with the engine's own.
-pub fn against_best(bytes: &[u8], measure: Measure) -> String {
-    match Memory::new().make(bytes) {
-        Ok((best, _)) if best.turns == measure.turns && best.white == measure.white => {
-            "no list has fewer turns, and none with as many has less white space\n".into()
+/// How an accepted list compares with the best one.
+pub fn against_best(best: Measure, measure: Measure) -> String {
+    if best.turns < measure.turns {
+        let more = measure.turns - best.turns;
+        return format!("the fewest turns are {}; this list has {more} more\n", best.turns);
+    }
+    match measure.white.saturating_sub(best.white) {
+        0 => "no list has fewer turns, and none with as many has less white space\n".into(),
+        more => {
+            let least = best.white;
+            format!("no list has fewer turns; the least W with as many is {least}, and this list has {more} more\n")
         }
-        Ok((best, _)) if best.turns == measure.turns => {
-            let more = measure.white.saturating_sub(best.white);
-            format!(
-                "no list has fewer turns; the least W with as many is {}, and this list has {more} more\n",
-                best.white
-            )
-        }
-        Ok((best, _)) => {
-            let more = measure.turns.saturating_sub(best.turns);
-            format!("the fewest turns are {}; this list has {more} more\n", best.turns)
-        }
-        Err(refusal) => format!("the engine makes no list: {refusal}\n"),
     }
 }
 
-/// A list that breaks one of 12 to 18, up to the page that does.
+/// The page ends with which turns are lost for good, a line each; that there is none is said, too.
+pub fn lost(losses: &[Loss]) -> String {
+    match losses {
+        [] => "no turn is lost for good\n".into(),
+        _ => losses.iter().map(|loss| loss.in_words() + "\n").collect(),
+    }
+}
+
+/// A list that breaks some of 12 to 18: all its pages, and under each what it breaks; then what the marking answers, and which
+/// pages break which rule.
 pub fn refused(galley: &Galley, list: &[u32], refusal: Refusal) -> String {
-    let pages = Page::all(list, galley.page_words());
+    let pages = Page::all(galley, list);
+    let broken = rules::broken(galley, list);
     let mut text = opening(galley);
-    for page in pages.iter().take(refusal.place as usize) {
+    for page in &pages {
         text += &page_in_words(galley, &pages, page);
+        for Broken { rule, numbers, .. } in broken.iter().filter(|broken| broken.page == page.number) {
+            text += &format!("    breaks rule {rule}: {}\n", numbers.join("; "));
+        }
     }
-    text + &format!("refused, {refusal}: {}\n{}\n", sentence(refusal), in_numbers(galley, list, refusal))
+    text += &format!("refused, {refusal}\n");
+    for numbers in broken.iter().take(1).flat_map(|broken| &broken.numbers) {
+        text += &format!("    {numbers}\n");
+    }
+    text + &others(&broken)
 }
 
-/// The numbers by which a list breaks one of 12 to 18.
-pub fn in_numbers(galley: &Galley, list: &[u32], refusal: Refusal) -> String {
-    let pages = Page::all(list, galley.page_words());
-    match pages.get((refusal.place as usize).wrapping_sub(1)) {
-        Some(page) => broken_in_numbers(galley, page, page.number == pages.len(), refusal.number),
-        None => broken_length(galley, list),
+/// Which rule is broken on which pages, the first one first, unless it is but one rule on one page.
+fn others(broken: &[Broken]) -> String {
+    let mut by_rule: Vec<(u32, Vec<usize>)> = Vec::new();
+    for Broken { page, rule, .. } in broken {
+        match by_rule.iter_mut().find(|(known, _)| known == rule) {
+            Some((_, pages)) => pages.push(*page),
+            None => by_rule.push((*rule, vec![*page])),
+        }
+    }
+    let told = by_rule.iter().map(|(rule, pages)| {
+        let noun = if pages.len() == 1 { "page" } else { "pages" };
+        format!("rule {rule} on {noun} {}", spaced(pages).replace(' ', ", "))
+    });
+    match broken.len() {
+        0 | 1 => String::new(),
+        _ => format!("in all it breaks {}\n", told.collect::<Vec<_>>().join("; ")),
     }
 }
 
-/// The rule that a page of an opening breaks, and the numbers that break it. The engine is asked: with a page after it the page
-/// is not the last of a list, and no more than in an opening. None where a list with that page would be too long.
-pub fn broken_opening(bytes: &[u8], galley: &Galley, opening: &[u32], page: usize) -> Option<String> {
-    let words = galley.page_words();
-    let mut list = opening.get(..words * page)?.to_vec();
-    list.resize(words * (page + 1), 0);
-    let rule = engine::mark(bytes, &list).err().filter(|refusal| refusal.place as usize == page)?.number;
-    let pages = Page::all(&list, words);
-    let numbers = broken_in_numbers(galley, pages.get(page.checked_sub(1)?)?, false, rule);
-    let numbers: Vec<&str> = numbers.lines().map(str::trim).collect();
-    Some(format!("page {page} breaks rule {rule}, {}: {}", meaning_of(rule), numbers.join("; ")))
+/// The numbers by which a list breaks the rule that the marking names, on one line; nothing of an accepted list.
+pub fn in_numbers(galley: &Galley, list: &[u32]) -> String {
+    rules::broken(galley, list).first().map_or(String::new(), |broken| broken.numbers.join("; "))
+}
+
+/// The first rule that a page of an opening breaks, as one that is not the last, and the numbers that break it.
+pub fn broken_opening(galley: &Galley, opening: &[u32], page: usize) -> Option<String> {
+    let pages = Page::all(galley, opening);
+    let broken = rules::on_page(galley, pages.get(page.checked_sub(1)?)?, false);
+    let Broken { rule, numbers, .. } = broken.first()?;
+    Some(format!("page {page} breaks rule {rule}, {}: {}", RefusalKind::of(*rule).words(), numbers.join("; ")))
 }
 
 /// A galley that is refused itself: the record, and its field if one is at fault.
 pub fn refused_galley(bytes: &[u8], refusal: Refusal) -> String {
     let record = bytes.get(refusal.place as usize..).and_then(Record::take);
-    let field = record.map_or(String::new(), |(record, _)| field_at_fault(refusal.number, &record));
-    format!("refused, {refusal}: {field}{}\n", sentence(refusal))
+    let field = record.map_or(String::new(), |(record, _)| field_at_fault(refusal.kind, &record));
+    format!("refused, {}: {field}{}\n", refusal.code(), refusal.sentence())
 }
 
 fn opening(galley: &Galley) -> String {
@@ -121,12 +145,6 @@ fn page_in_words(galley: &Galley, pages: &[Page], page: &Page) -> String {
     text
 }
 
-/// Counts of lines, figures and, where there are any, tables.
-fn counts_in_words(galley: &Galley, counts: Place) -> Vec<String> {
-    let words = counts.into_iter().zip(["line", "figure", "table"]).map(|(count, what)| counted(count, what));
-    words.take(galley.page_words()).collect()
-}
-
 /// A place as a list has it.
 fn place_in_words(galley: &Galley, place: Place) -> String {
     format!("({})", spaced(&place[..galley.page_words()]).replace(' ', ", "))
@@ -161,19 +179,6 @@ fn range(kind: &str, before: usize, last: usize) -> Option<String> {
     }
 }
 
-/// What forbids a page end after line i and figure j: either or both.
-fn forbidden_end(galley: &Galley, [i, j, _]: Place) -> String {
-    let line = (0 < i && i < galley.lines.len() && !galley.lines[i - 1].page_end)
-        .then(|| format!("    line {i} forbids a page end in the space after it"));
-    let figure = kept_with(&galley.figures, j).map(|next| format!("    figure {j} is kept with figure {next}"));
-    line.into_iter().chain(figure).collect::<Vec<_>>().join("\n")
-}
-
-/// The figure or table that number j is kept with, if it is, and there is one.
-fn kept_with(floats: &[Float], j: usize) -> Option<usize> {
-    (0 < j && j < floats.len() && floats[j - 1].kept).then_some(j + 1)
-}
-
 /// The turns that a figure or table costs: from the spread of its citation to its own.
 fn float_in_words(galley: &Galley, pages: &[Page], page: &Page, stream: usize, number: usize) -> String {
     let (_, kind, floats) = galley.floats()[stream - 1];
@@ -195,70 +200,4 @@ fn float_in_words(galley: &Galley, pages: &[Page], page: &Page, stream: usize, n
         }
     };
     format!("{opening} on {}: {cost}{kept}\n", numbered(galley, cited_on))
-}
-
-/// The numbers by which the page breaks the rule.
-fn broken_in_numbers(galley: &Galley, page: &Page, last: bool, rule: u32) -> String {
-    let spec = &galley.spec;
-    match rule {
-        13 => broken_order(galley, page),
-        14 => forbidden_end(galley, page.end),
-        15 => {
-            let (tight, _) = page.heights(galley);
-            format!("    {tight} is above htMax {} by {}", spec.ht_max, tight.saturating_sub(spec.ht_max.into()))
-        }
-        16 => {
-            let (_, loose) = page.heights(galley);
-            let (name, least) = if last { ("lastMin", spec.last_min.unwrap_or(0)) } else { ("htMin", spec.ht_min) };
-            format!("    {loose} is below {name} {least} by {}", u64::from(least).saturating_sub(loose))
-        }
-        17 => too_soon(galley, page.end),
-        18 => {
-            let (end, whole) = (page.end, galley.sizes());
-            let [end, whole] = [end, whole].map(|place| spaced(&place[..galley.page_words()]));
-            format!("    the list ends at {end}, and everything is placed at {whole}")
-        }
-        _ => format!("    {} can mend it", mender(rule)),
-    }
-}
-
-/// How the page goes backwards, past what there is, or nowhere.
-fn broken_order(galley: &Galley, page: &Page) -> String {
-    let kinds = || page.start.into_iter().zip(page.end).zip(galley.sizes()).zip(["lines", "figures", "tables"]);
-    if let Some((((before, after), _), kind)) = kinds().find(|(((before, after), _), _)| after < before) {
-        return format!("    {kind} placed so far fall from {before} to {after}");
-    }
-    if let Some((((_, after), size), kind)) = kinds().find(|(((_, after), size), _)| after > size) {
-        return format!("    it claims {after} {kind}, but the galley has {size}");
-    }
-    match counts_in_words(galley, page.end).as_slice() {
-        [others @ .., last] => format!("    it ends where it starts, after {} and {last}", others.join(", ")),
-        [] => String::new(),
-    }
-}
-
-/// The last figure and the last table placed, either or both, if they are cited by a later line than the last placed.
-fn too_soon(galley: &Galley, end: Place) -> String {
-    let told = galley.floats().into_iter().filter_map(|(stream, kind, floats)| {
-        let (number, line) = (end[stream], end[0]);
-        let citation = floats[..number].last()?.citation;
-        (citation > line)
-            .then(|| format!("    {kind} {number} is cited by line {citation}, and the spread ends after line {line}"))
-    });
-    told.collect::<Vec<_>>().join("\n")
-}
-
-fn broken_length(galley: &Galley, list: &[u32]) -> String {
-    let words = galley.page_words();
-    let most = words * galley.sizes().iter().sum::<usize>();
-    let asked = if words == 2 { "an even number" } else { "a multiple of three" };
-    format!("    it has {}; {words} to {most} and {asked} are asked", counted(list.len(), "word"))
-}
-
-fn counted(number: usize, what: &str) -> String {
-    if number == 1 {
-        format!("1 {what}")
-    } else {
-        format!("{number} {what}s")
-    }
 }

@@ -2,13 +2,21 @@
 
 use crate::record::Record;
 
+/// The page specification. Lengths are in hundredths of a point.
 pub struct Spec {
+    /// The least height of a page that is not the last.
     pub ht_min: u32,
+    /// The greatest height of a page.
     pub ht_max: u32,
+    /// The least separation between kinds on a page.
     pub s_min: u32,
+    /// The greatest separation between kinds on a page.
     pub s_max: u32,
+    /// Whether an even folio and the next one face each other.
     pub double_sided: bool,
+    /// The weight of X.
     pub alpha: u32,
+    /// The weight of Y.
     pub beta: u32,
     /// The least height of the last page, which the second edition alone has.
     pub last_min: Option<u32>,
@@ -16,30 +24,43 @@ pub struct Spec {
 
 /// A line, a figure or a table, without its fourth field.
 pub struct Block {
+    /// Its height.
     pub height: u32,
+    /// The least space after it.
     pub least: u32,
+    /// The greatest space after it.
     pub most: u32,
 }
 
+/// A line.
 pub struct Line {
+    /// Its height and the space after it.
     pub block: Block,
+    /// Whether a page may end after it.
     pub page_end: bool,
 }
 
 /// A figure or a table.
 pub struct Float {
+    /// Its height and the space after it.
     pub block: Block,
+    /// The line that cites it, from 1.
     pub citation: usize,
     /// Whether no page may end between it and the next one; no table is kept.
     pub kept: bool,
 }
 
+/// A galley.
 pub struct Galley {
+    /// Its page specification.
     pub spec: Spec,
     /// The folio of page 1.
     pub folio: usize,
+    /// Its lines, in their order.
     pub lines: Vec<Line>,
+    /// Its figures, in their order.
     pub figures: Vec<Float>,
+    /// Its tables, in their order.
     pub tables: Vec<Float>,
 }
 

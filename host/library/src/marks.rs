@@ -1,17 +1,64 @@
 //! Marks as text, a line `p X Y T E` for each paper, and the report on them in words and numbers.
 
-use crate::engine::{Mark, Refusal, Report};
-use crate::list::numbers;
+use crate::engine::{Mark, Report};
+use crate::field::{numbers, FieldError};
+use crate::refusal::Refusal;
 use std::collections::BTreeMap;
+use std::fmt;
 
 /// A mark and the line of the text that it stands on.
 pub struct Entry {
+    /// The line, from 1.
     pub line: usize,
+    /// The mark.
     pub mark: Mark,
 }
 
+/// What is wrong with a text that is no marks, and where.
+#[derive(Clone, Debug, PartialEq, Eq)]
+pub struct MarksError {
+    /// The line, from 1.
+    pub line: usize,
+    /// What is wrong with it.
+    pub fault: MarksFault,
+}
+
+/// What is wrong with a line of marks.
+#[derive(Clone, Debug, PartialEq, Eq)]
+#[non_exhaustive]
+pub enum MarksFault {
+    /// It is a refusal, as `mark` prints one.
+    Refused,
+    /// A field is no number.
+    Field(FieldError),
+    /// It has more or fewer than five numbers: how many.
+    Count(usize),
+}
+
+impl fmt::Display for MarksError {
+    fn fmt(&self, out: &mut fmt::Formatter) -> fmt::Result {
+        write!(out, "line {}: ", self.line)?;
+        match &self.fault {
+            MarksFault::Refused => {
+                write!(out, "a refusal stands where a mark is wanted; a refused list is no paper, so leave it out")
+            }
+            MarksFault::Field(error) => error.fmt(out),
+            MarksFault::Count(found) => write!(out, "a mark has five numbers (p X Y T E), not {found}"),
+        }
+    }
+}
+
+impl std::error::Error for MarksError {}
+
 /// The marks of a text. An error names the line, and the field where there is one.
-pub fn parse(text: &str) -> Result<Vec<Entry>, String> {
+///
+/// ```
+/// use barleychime::marks;
+///
+/// assert_eq!(marks::parse("2 0 1 1 1 # a paper\n").unwrap()[0].mark.pages, 2);
+/// assert_eq!(marks::parse("2 0 1 1\n").err().unwrap().to_string(), "line 1: a mark has five numbers (p X Y T E), not 4");
+/// ```
+pub fn parse(text: &str) -> Result<Vec<Entry>, MarksError> {
     let mut entries = Vec::new();
     for (before, line) in text.lines().enumerate() {
         let fields: Vec<&str> = line.split('#').next().unwrap_or("").split_whitespace().collect();
@@ -19,19 +66,19 @@ pub fn parse(text: &str) -> Result<Vec<Entry>, String> {
             continue;
         }
         let line = before + 1;
-        let mark = mark_of(&fields).map_err(|what| format!("line {line}: {what}"))?;
+        let mark = mark_of(&fields).map_err(|fault| MarksError { line, fault })?;
         entries.push(Entry { line, mark });
     }
     Ok(entries)
 }
 
-fn mark_of(fields: &[&str]) -> Result<Mark, String> {
+fn mark_of(fields: &[&str]) -> Result<Mark, MarksFault> {
     if fields[0] == "R" {
-        return Err("a refusal stands where a mark is wanted; a refused list is no paper".into());
+        return Err(MarksFault::Refused);
     }
-    match numbers(fields)?.as_slice() {
+    match numbers(fields).map_err(MarksFault::Field)?.as_slice() {
         &[pages, x, y, turns, engine] => Ok(Mark { pages, x, y, turns, engine }),
-        _ => Err(format!("a mark has five numbers (p X Y T E), not {}", fields.len())),
+        _ => Err(MarksFault::Count(fields.len())),
     }
 }
 
@@ -67,15 +114,19 @@ fn mean(sum: u64, count: u64) -> String {
     }
 }
 
-/// How many lists were refused, and by which rules.
-pub fn refused_in_words(refused: &[Refusal]) -> String {
+/// How many lists were refused, and by which rules, and how many could not be read, if any.
+pub fn no_papers(refused: &[Refusal], unreadable: usize) -> String {
     let mut by_rule = BTreeMap::new();
     for refusal in refused {
-        *by_rule.entry(refusal.number).or_insert(0) += 1;
+        *by_rule.entry(refusal.kind.number()).or_insert(0) += 1;
     }
     let rules: Vec<String> = by_rule.iter().map(|(rule, lists)| format!("{lists} by rule {rule}")).collect();
-    match refused.len() {
+    let refused = match refused.len() {
         0 => "refused lists: 0\n".into(),
         lists => format!("refused lists: {lists}, which are no papers ({})\n", rules.join(", ")),
+    };
+    match unreadable {
+        0 => refused,
+        lists => refused + &format!("unreadable lists: {lists}, which are no papers\n"),
     }
 }

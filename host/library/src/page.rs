@@ -7,23 +7,36 @@ pub type Place = [usize; 3];
 
 /// Page `number` from the place before it to the place where it ends.
 pub struct Page {
+    /// Its number, from 1.
     pub number: usize,
+    /// What is placed before it.
     pub start: Place,
+    /// What is placed when it ends.
     pub end: Place,
 }
 
 impl Page {
-    /// The pages of a list, so many words a page; words that are left over are no page.
-    pub fn all(list: &[u32], words: usize) -> Vec<Page> {
+    /// The pages of a list; words that are left over are no page. Each starts with what the one before it has placed.
+    pub fn all(galley: &Galley, list: &[u32]) -> Vec<Page> {
         let mut start = [0; 3];
         let mut pages = Vec::new();
-        for (before, counts) in list.chunks_exact(words).enumerate() {
+        for (before, counts) in list.chunks_exact(galley.page_words()).enumerate() {
             let mut end = [0; 3];
             end.iter_mut().zip(counts).for_each(|(placed, &count)| *placed = count as usize);
-            pages.push(Page { number: before + 1, start, end });
-            start = end;
+            let page = Page { number: before + 1, start, end };
+            start = page.placed(galley);
+            pages.push(page);
         }
         pages
+    }
+
+    /// What is placed when it ends: what it says, unless it goes backwards or past the galley; then what it can.
+    pub fn placed(&self, galley: &Galley) -> Place {
+        let (sizes, mut placed) = (galley.sizes(), self.start);
+        for (kind, count) in placed.iter_mut().enumerate() {
+            *count = self.end[kind].clamp(*count, sizes[kind]);
+        }
+        placed
     }
 
     /// Whether it goes forward and within the galley (rule 13), so that it has a height at all.
@@ -75,4 +88,9 @@ pub fn spread(galley: &Galley, page: usize) -> usize {
     } else {
         page
     }
+}
+
+/// Whether a spread ends with page q.
+pub fn ends_spread(galley: &Galley, page: usize) -> bool {
+    spread(galley, page) != spread(galley, page + 1)
 }

@@ -3,30 +3,44 @@
 /// A kind of record: its mark, and the names of its fields as people call them.
 #[derive(Debug, PartialEq, Eq)]
 pub struct Kind {
+    /// Two letters.
     pub mark: &'static str,
+    /// The names of its fields, in their order.
     pub fields: &'static [&'static str],
 }
 
+/// The page specification.
 pub const SPEC: Kind = Kind { mark: "GS", fields: &["htMin", "htMax", "sMin", "sMax", "sides", "alpha", "beta"] };
+/// Its second edition, with the least height of the last page.
 pub const SECOND_SPEC: Kind =
     Kind { mark: "G2", fields: &["htMin", "htMax", "sMin", "sMax", "sides", "alpha", "beta", "lastMin"] };
+/// The folio of the first page.
 pub const FOLIO: Kind = Kind { mark: "FO", fields: &["folio"] };
+/// A line.
 pub const LINE: Kind = Kind { mark: "TL", fields: &["height", "least space", "greatest space", "page end"] };
+/// A figure.
 pub const FIGURE: Kind = Kind { mark: "FG", fields: &["height", "least space", "greatest space", "citation"] };
+/// A figure that is kept with the next one.
 pub const KEPT_FIGURE: Kind = Kind { mark: "FK", fields: FIGURE.fields };
+/// A table.
 pub const TABLE: Kind = Kind { mark: "TB", fields: FIGURE.fields };
+/// The end.
 pub const END: Kind = Kind { mark: "ED", fields: &[] };
 
 /// All of them, in the order in which they come.
 pub const KINDS: [&Kind; 8] = [&SPEC, &SECOND_SPEC, &FOLIO, &LINE, &FIGURE, &KEPT_FIGURE, &TABLE, &END];
 
+/// The kind of a mark.
 pub fn kind_of(mark: &[u8]) -> Option<&'static Kind> {
     KINDS.into_iter().find(|kind| kind.mark.as_bytes() == mark)
 }
 
+/// A record: its kind, and a number for each of its fields.
 #[derive(Clone, Debug, PartialEq, Eq)]
 pub struct Record {
+    /// Its kind.
     pub kind: &'static Kind,
+    /// Its fields, as many as its kind has.
     pub fields: Vec<u32>,
 }
 
@@ -40,6 +54,7 @@ impl Record {
         Some((Record { kind, fields: fields.collect() }, rest))
     }
 
+    /// Writes it after these bytes.
     pub fn put(&self, bytes: &mut Vec<u8>) {
         bytes.extend_from_slice(self.kind.mark.as_bytes());
         for field in &self.fields {

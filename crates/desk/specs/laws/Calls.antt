@@ -8,8 +8,8 @@ use Rattle.model.specs.Galley.{Galley, streams}
 use Rattle.model.specs.Answers.{pagesOf, marked}
 use Rattle.marking.specs.Mark.{markOf}
 use Rattle.desk.specs.declared.Desk.{Desk}
-use Rattle.desk.specs.Calls.{Call, Ask, Commit, Save, Back, Drop, Reply, wordsAt}
-use Rattle.desk.specs.Sitting.{Sitting, otherEnd, step, sat, replies}
+use Rattle.desk.specs.Calls.{Call, Ask, Commit, Save, Back, Drop, Reply, wordsAt, Sitting}
+use Rattle.desk.specs.Sitting.{otherEnd, step, sat, replies}
 use Rattle.desk.specs.After.{leaves, answers, afterCalls, answered}
 use Rattle.desk.specs.laws.Ends.{pages-long}
 use Rattle.desk.specs.laws.Sitting.{All, Lasts, step-all}

@@ -14,7 +14,7 @@ use Rattle.model.specs.laws.Gather.{and-left, and-right}
 use Rattle.model.specs.laws.Valid.{same-true, same-refl}
 use Rattle.layouts.specs.declared.Layout.{Layout}
 use Rattle.layouts.specs.Names.{isName, isNamed, findNamed, roomFor, padded, layoutOf, noLayout, freed}
-use Rattle.desk.specs.Sitting.{None, Some}
+use Rattle.desk.specs.Calls.{None, Some}
 use Rattle.desk.specs.Held.{heldIn}
 use Rattle.layouts.specs.laws.Names.{name-some}
 

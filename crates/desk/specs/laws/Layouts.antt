@@ -13,8 +13,8 @@ use Rattle.model.specs.Gather.{pick, one}
 use Rattle.layouts.specs.Names.{isName, findNamed, roomFor, layoutOf, freed}
 use Rattle.desk.specs.declared.Desk.{Desk}
 use Rattle.desk.specs.declared.Done.{Done}
-use Rattle.desk.specs.Calls.{Save, Back, Drop, Number}
-use Rattle.desk.specs.Sitting.{Perhaps, None, Some, Named, Sitting, Step, isSome, under, without, hasRoom, refuse, done, hold, putOr, named, step}
+use Rattle.desk.specs.Calls.{Save, Back, Drop, Number, Perhaps, None, Some, isSome, Named, Sitting, Step}
+use Rattle.desk.specs.Sitting.{under, without, hasRoom, says, hold, putOr, named, step}
 use Rattle.desk.specs.Pages.{pagesOn, wordsOn, inForce}
 use Rattle.desk.specs.Layouts.{refused, saved, cameBack, dropped, saveDesk, backDesk, dropDesk}
 use Rattle.desk.specs.Held.{heldIn, cut, heldOn}
@@ -59,7 +59,7 @@ module _ (g : Galley) (n : ℕ) (d : Desk) (s : Sitting) (so : Stands g n d s) w
     named-follows after next h = go (isName name) refl
       where
         go : (b : Bool) → isName name ≡ b
-            → Follows g n (pick b after (refused d 25) .desk) (Number (pick b after (refused d 25) .number)) (pick b next (refuse s 25))
+            → Follows g n (pick b after (refused d 25) .desk) (Number (pick b after (refused d 25) .number)) (pick b next (says 25 s))
         go true proper = h proper
         go false proper = stays g n d s so 25
 
@@ -143,7 +143,7 @@ module _ (g : Galley) (n : ℕ) (d : Desk) (s : Sitting) (so : Stands g n d s) w
         after b = pick b (record { desk = saved name d; number = 0 }) (refused d 27)
 
         next : Bool → Step
-        next b = pick b (done (hold s more)) (refuse s 27)
+        next b = pick b (says 0 (hold s more)) (says 27 s)
 
         go : (b : Bool) → room ≡ b → isName name ≡ true → Follows g n (after b .desk) (Number (after b .number)) (next b)
         go true e proper = record { reply = refl; stands = saved-stands proper (ltb-true _ _ e) }
@@ -181,7 +181,7 @@ module _ (g : Galley) (n : ℕ) (d : Desk) (s : Sitting) (so : Stands g n d s) w
         after b = pick b (record { desk = dropped name d; number = 0 }) (refused d 26)
 
         next : Bool → Step
-        next b = pick b (done (hold s (without name (s .held)))) (refuse s 26)
+        next b = pick b (says 0 (hold s (without name (s .held)))) (says 26 s)
 
         go : (b : Bool) → isName name ≡ true → Follows g n (after b .desk) (Number (after b .number)) (next b)
         go true proper = record { reply = refl; stands = dropped-stands proper }

@@ -24,10 +24,11 @@ use Rattle.blocks.specs.laws.Counts.{streams-of}
 use Rattle.marking.specs.Mark.{markRead, markOf}
 use Rattle.desk.specs.declared.Desk.{Desk}
 use Rattle.desk.specs.declared.Told.{Told}
+use Rattle.desk.specs.Calls.{Perhaps, None, isSome}
 use Rattle.desk.specs.Pages.{pagesOn, wordsOn, inForce, isInner, widthOf}
 use Rattle.desk.specs.Opening.{closed, opened, openOn, openRead, openDesk}
 use Rattle.layouts.specs.Names.{isName, freeLayout}
-use Rattle.desk.specs.Sitting.{Perhaps, None, isSome, under, begin}
+use Rattle.desk.specs.Sitting.{under, begin}
 use Rattle.desk.specs.Desk.{pendingOn}
 use Rattle.desk.specs.Held.{heldIn, cut, heldOn}
 use Rattle.desk.specs.laws.Held.{free-unnamed}

@@ -12,7 +12,7 @@ use Rattle.model.specs.Gather.{pick, one}
 use Rattle.model.specs.laws.Valid.{same-true, same-refl}
 use Rattle.layouts.specs.declared.Layout.{Layout}
 use Rattle.layouts.specs.Names.{isName, isNamed, findNamed, roomFor, layoutOf, noLayout, freed}
-use Rattle.desk.specs.Sitting.{None, Some, isSome}
+use Rattle.desk.specs.Calls.{None, Some, isSome}
 use Rattle.desk.specs.Held.{heldIn}
 use Rattle.desk.specs.laws.Held.{other-name, kept-named, found-named, none-same, same-none, room-is, freed-hit, freed-miss, freed-named, save-held, drop-held}
 

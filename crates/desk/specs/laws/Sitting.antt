@@ -12,9 +12,8 @@ use Rattle.model.specs.Answers.{accepted, pagesOf, same, marked}
 use Rattle.model.specs.Gather.{pick, one}
 use Rattle.model.specs.laws.Valid.{same-true, same-refl}
 use Rattle.layouts.specs.Names.{isName}
-use Rattle.desk.specs.Calls.{End, Call, Ask, Commit, Save, Back, Drop, Number, Spares, Quiet, Onward}
-use Rattle.desk.specs.Sitting.{Perhaps, None, Some, Named, Sitting, Step}
-use Rattle.desk.specs.Sitting.{isSome, under, without, hasRoom, refuse, done, hold, putOr, named, otherEnd, tried, step, begin, sat}
+use Rattle.desk.specs.Calls.{End, Call, Ask, Commit, Save, Back, Drop, Number, Spares, Quiet, Onward, Perhaps, None, Some, isSome, Named, Sitting, Step}
+use Rattle.desk.specs.Sitting.{under, without, hasRoom, says, hold, putOr, named, otherEnd, tried, step, begin, sat}
 
 -- ---- what is held
 -- Without a name nothing is held under it, and what is held under any other stays.
@@ -124,12 +123,12 @@ module _ (g : Galley) (P : List ℕ → Type 0) (lasts : Lasts g P) (s : Sitting
   named-all : (name : List ℕ) (next : Step) → All P (next .after) → All P (named name s next .after)
   named-all name next h = go (isName name)
     where
-      go : (b : Bool) → All P (pick b next (refuse s 25) .after)
+      go : (b : Bool) → All P (pick b next (says 25 s) .after)
       go true = h
       go false = all
 
   hold-all : (held : List Named) (number : ℕ) → ((n : List ℕ) → Each P (under held n)) → (b : Bool)
-      → All P (pick b (done (hold s held)) (refuse s number) .after)
+      → All P (pick b (says 0 (hold s held)) (says number s) .after)
   hold-all held number h true = record { force = all .force; pending = all .pending; held = h }
   hold-all held number h false = all
 
@@ -179,12 +178,12 @@ module _ (g : Galley) (s : Sitting) (pends : Pends g (s .force) (s .pending)) wh
   put-pends number (Some list) = nothing refl
 
   hold-pends : (name : List ℕ) (held : List Named) (number : ℕ) (b : Bool)
-      → Pends g (named name s (pick b (done (hold s held)) (refuse s number)) .after .force)
-      (named name s (pick b (done (hold s held)) (refuse s number)) .after .pending)
+      → Pends g (named name s (pick b (says 0 (hold s held)) (says number s)) .after .force)
+      (named name s (pick b (says 0 (hold s held)) (says number s)) .after .pending)
   hold-pends name held number = go (isName name)
     where
-      go : (a b : Bool) → Pends g (pick a (pick b (done (hold s held)) (refuse s number)) (refuse s 25) .after .force)
-          (pick a (pick b (done (hold s held)) (refuse s number)) (refuse s 25) .after .pending)
+      go : (a b : Bool) → Pends g (pick a (pick b (says 0 (hold s held)) (says number s)) (says 25 s) .after .force)
+          (pick a (pick b (says 0 (hold s held)) (says number s)) (says 25 s) .after .pending)
       go true true = pends
       go true false = pends
       go false b = pends
@@ -199,8 +198,8 @@ module _ (g : Galley) (s : Sitting) (pends : Pends g (s .force) (s .pending)) wh
   step-pends (Save name) = hold-pends name _ 27 (hasRoom (s .held) name)
   step-pends (Back name) = go (isName name)
     where
-      go : (a : Bool) → Pends g (pick a (putOr 26 s (under (s .held) name)) (refuse s 25) .after .force)
-          (pick a (putOr 26 s (under (s .held) name)) (refuse s 25) .after .pending)
+      go : (a : Bool) → Pends g (pick a (putOr 26 s (under (s .held) name)) (says 25 s) .after .force)
+          (pick a (putOr 26 s (under (s .held) name)) (says 25 s) .after .pending)
       go true = put-pends 26 (under (s .held) name)
       go false = pends
   step-pends (Drop name) = hold-pends name _ 26 (isSome (under (s .held) name))
@@ -223,7 +222,7 @@ module _ (g : Galley) (name : List ℕ) where
       → under (named other s next .after .held) name ≡ under (s .held) name
   spares-named s other next h = go (isName other)
     where
-      go : (b : Bool) → under (pick b next (refuse s 25) .after .held) name ≡ under (s .held) name
+      go : (b : Bool) → under (pick b next (says 25 s) .after .held) name ≡ under (s .held) name
       go true = h
       go false = refl
 
@@ -232,7 +231,7 @@ module _ (g : Galley) (name : List ℕ) where
   spares-put number s (Some list) = refl
 
   spares-hold : (number : ℕ) (s : Sitting) (held : List Named) → under held name ≡ under (s .held) name → (b : Bool)
-      → under (pick b (done (hold s held)) (refuse s number) .after .held) name ≡ under (s .held) name
+      → under (pick b (says 0 (hold s held)) (says number s) .after .held) name ≡ under (s .held) name
   spares-hold number s held h true = h
   spares-hold number s held h false = refl
 
@@ -268,7 +267,7 @@ module _ (g : Galley) (name : List ℕ) where
     where
       next : Bool → Bool → Step
       next a b =
-          pick a (pick b (done (hold s (record { name = name; list = s .force } ∷ without name (s .held)))) (refuse s 27)) (refuse s 25)
+          pick a (pick b (says 0 (hold s (record { name = name; list = s .force } ∷ without name (s .held)))) (says 27 s)) (says 25 s)
 
       go : (a b : Bool) → next a b .reply ≡ Number 0 → (a ≡ true) × (under (next a b .after .held) name ≡ Some (s .force))
       go true true h = (refl, rw (same-refl name))
@@ -280,7 +279,7 @@ module _ (g : Galley) (name : List ℕ) where
   drop-under s proper = rw proper (go (under (s .held) name) refl)
     where
       go : (p : Perhaps) → under (s .held) name ≡ p
-          → under (pick (isSome p) (done (hold s (without name (s .held)))) (refuse s 26) .after .held) name ≡ None
+          → under (pick (isSome p) (says 0 (hold s (without name (s .held)))) (says 26 s) .after .held) name ≡ None
       go None e = e
       go (Some list) e = under-without (s .held) name name ∙ rw (same-refl name)
 
@@ -292,10 +291,10 @@ pub record Alike (s t : Sitting) : Type 0 where
 
 -- Layouts do not matter to it: saving and dropping change neither,
 named-alike : (name : List ℕ) (s : Sitting) (b : Bool) (held : List Named) (number : ℕ)
-    → Alike (named name s (pick b (done (hold s held)) (refuse s number)) .after) s
+    → Alike (named name s (pick b (says 0 (hold s held)) (says number s)) .after) s
 named-alike name s b held number = go (isName name) b
   where
-    go : (a b : Bool) → Alike (pick a (pick b (done (hold s held)) (refuse s number)) (refuse s 25) .after) s
+    go : (a b : Bool) → Alike (pick a (pick b (says 0 (hold s held)) (says number s)) (says 25 s) .after) s
     go true true = record { force = refl; pending = refl }
     go true false = record { force = refl; pending = refl }
     go false b = record { force = refl; pending = refl }

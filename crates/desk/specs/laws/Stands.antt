@@ -8,8 +8,8 @@ use Rattle.model.specs.Galley.{Galley, streams}
 use Rattle.layouts.specs.declared.Layout.{Layout}
 use Rattle.layouts.specs.Names.{isName}
 use Rattle.desk.specs.declared.Desk.{Desk}
-use Rattle.desk.specs.Calls.{Reply, Number}
-use Rattle.desk.specs.Sitting.{Perhaps, None, Named, Sitting, Step, under, refuse, pend, hold}
+use Rattle.desk.specs.Calls.{Reply, Number, Perhaps, None, Named, Sitting, Step}
+use Rattle.desk.specs.Sitting.{under, says, pend, hold}
 use Rattle.desk.specs.Pages.{pagesOn, wordsOn, inForce, isInner}
 use Rattle.desk.specs.Desk.{pended, altered, pendingOn, putIn, layIn}
 use Rattle.desk.specs.Held.{heldOn}
@@ -49,7 +49,7 @@ pub record Follows (g : Galley) (n : ℕ) (d : Desk) (said : Reply) (next : Step
 
 module _ (g : Galley) (n : ℕ) (d : Desk) (s : Sitting) (so : Stands g n d s) where
   -- A refusal changes nothing.
-  pub stays : (number : ℕ) → Follows g n d (Number number) (refuse s number)
+  pub stays : (number : ℕ) → Follows g n d (Number number) (says number s)
   stays number = record { reply = refl; stands = so }
 
   -- Another page is pending,

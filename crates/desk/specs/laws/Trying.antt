@@ -17,8 +17,8 @@ use Rattle.model.specs.laws.Words.{length-pages}
 use Rattle.marking.specs.Mark.{markOf}
 use Rattle.desk.specs.declared.Desk.{Desk}
 use Rattle.desk.specs.declared.Told.{Told}
-use Rattle.desk.specs.Calls.{End, Ask, Commit, Marking, Number, wordsAt}
-use Rattle.desk.specs.Sitting.{Perhaps, None, Some, Sitting, Step, pend, putOr, otherEnd, tried, step}
+use Rattle.desk.specs.Calls.{End, Ask, Commit, Marking, Number, wordsAt, Perhaps, None, Some, Sitting, Step}
+use Rattle.desk.specs.Sitting.{pend, putOr, otherEnd, tried, step}
 use Rattle.desk.specs.Pages.{pagesOn, wordsOn, inForce, isInner, withEnd}
 use Rattle.desk.specs.Desk.{pended, cleared, altered, afterAsk, askMarked, askOff, askDesk, pendingOn, committed, commitBy, commitDesk}
 use Rattle.desk.specs.laws.Ends.{take-end, end-pages}

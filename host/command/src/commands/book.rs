@@ -4,12 +4,12 @@ use crate::error::Error;
 use crate::input::FileName;
 use crate::output::{hint_at_pack, say, say_why, watched, Output};
 use crate::Outcome;
-use barleychime::engine::{self, Book, Memory, Refusal};
+use barleychime::engine::{self, Book, MakeError, Memory};
 use barleychime::galley::Galley;
 use barleychime::list::{pages, spaced};
 use barleychime::needs;
 use barleychime::record::Record;
-use barleychime::refusal::mender;
+use barleychime::refusal::{Refusal, RefusalKind};
 
 #[derive(clap::Args)]
 pub struct Args {
@@ -24,13 +24,15 @@ pub fn run(args: &Args, output: &mut Output) -> Result<Outcome, Error> {
     let chapters = read(names)?;
     match engine::make_book(&chapters) {
         Ok(made) => output.print(printed(names, &made)).map(|()| Outcome::Success),
-        Err(refusal) => {
+        Err(MakeError::Refused(refusal)) => {
             let outcome = refuse(names, &chapters, refusal, output)?;
-            if refusal.number == 11 {
+            if refusal.kind == RefusalKind::NoPagination {
                 blame(names, &chapters);
             }
             Ok(outcome)
         }
+        // It is the largest chapter that takes so much.
+        Err(error) => Err(Error::Make { name: names[0].clone(), error }),
     }
 }
 
@@ -85,17 +87,21 @@ fn printed(names: &[FileName], made: &Book) -> Vec<u8> {
 
 /// A book that cannot be made: a chapter's own refusal is told with its place in that chapter.
 fn refuse(names: &[FileName], chapters: &[Vec<u8>], refusal: Refusal, output: &mut Output) -> Result<Outcome, Error> {
-    output.print_row(refusal, None)?;
+    output.print_row(refusal.code(), None)?;
     let at = (refusal.place as usize).wrapping_sub(1);
     match (names.get(at), chapters.get(at)) {
-        (Some(name), Some(bytes)) if refusal.number <= 8 => {
+        (Some(name), Some(bytes)) if refusal.kind.is_of_galley() => {
             let own = engine::read(bytes).err().unwrap_or(refusal);
-            say(&format!("{name}: {refusal}: chapter {} is refused by itself:", refusal.place));
+            say(&format!("{name}: {}: chapter {} is refused by itself:", refusal.code(), refusal.place));
             say_why(name, own);
             hint_at_pack(name, bytes, own);
         }
-        (Some(name), _) if matches!(refusal.number, 29 | 30) => say_why(name, refusal),
-        _ if refusal.number == 11 => say(&format!("the book: {refusal}: {NO_CHOICE}; {} can mend it", mender(11))),
+        (Some(name), _) if matches!(refusal.kind, RefusalKind::UnlikeFirst | RefusalKind::FolioStated) => {
+            say_why(name, refusal)
+        }
+        _ if refusal.kind == RefusalKind::NoPagination => {
+            say(&format!("the book: {}: {NO_CHOICE}; {} can mend it", refusal.code(), refusal.kind.mender()))
+        }
         _ => say_why("the book", refusal),
     }
     Ok(Outcome::Refused)

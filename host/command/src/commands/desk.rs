@@ -4,12 +4,13 @@ use super::Outcomes;
 use crate::call::{self, Call};
 use crate::error::Error;
 use crate::input::FileName;
-use crate::output::{hint_at_pack, say, say_why, Output};
+use crate::output::{refuse_galley, say, say_why, Output};
 use crate::Outcome;
-use barleychime::engine::{self, Desk, Measure, Refusal};
+use barleychime::engine::{self, Desk, Measure};
 use barleychime::galley::Galley;
 use barleychime::list::Extent;
-use barleychime::{explanation, list, refusal};
+use barleychime::refusal::{Refusal, RefusalKind};
+use barleychime::{explanation, list};
 use std::io::{self, BufRead, IsTerminal, Read, Write};
 
 #[derive(clap::Args)]
@@ -42,14 +43,16 @@ pub fn run(args: &Args, output: &mut Output) -> Result<Outcome, Error> {
         return Err(Error::Usage("standard input has the calls, and can be no file here".into()));
     }
     let bytes = galley.galley()?;
-    let words = list.list(&bytes, Extent::Whole)?;
+    let words = match engine::page_words(&bytes) {
+        Ok(words) => list.list(words, Extent::Whole)?.words,
+        Err(refusal) => return refuse_galley(galley, &bytes, refusal, output),
+    };
     let (desk, in_force) = match Desk::open(&bytes, &words) {
         Ok(opened) => opened,
         Err(refusal) => {
-            output.print_row(refusal, None)?;
-            say_why(if refusal.number <= 8 { galley } else { list }, refusal);
-            hint_at_pack(galley, &bytes, refusal);
-            if let (22, Err(marked)) = (refusal.number, engine::mark(&bytes, &words)) {
+            output.print_row(refusal.code(), None)?;
+            say_why(list, refusal);
+            if let (RefusalKind::NotForDesk, Err(marked)) = (refusal.kind, engine::mark(&bytes, &words)) {
                 say_why(list, marked);
             }
             return Ok(Outcome::Refused);
@@ -163,23 +166,23 @@ impl Sitting<'_> {
     }
 
     fn refuse(&mut self, call: &Call, refusal: Refusal, output: &mut Output) -> Result<(), Error> {
-        output.print_row(refusal, None)?;
-        self.remark(&format!("{refusal}: {}{}", refusal::sentence(refusal), self.in_numbers(call, refusal)));
+        output.print_row(refusal.code(), None)?;
+        self.remark(&format!("{refusal}{}", self.in_numbers(call, refusal)));
         self.outcomes.refused = true;
         Ok(())
     }
 
     /// The numbers by which the list that was asked about breaks a rule; nothing of other calls and refusals.
     fn in_numbers(&self, call: &Call, refusal: Refusal) -> String {
-        let (Call::Ask { page, end }, 12..=18, Some(galley)) = (call, refusal.number, Galley::decode(self.galley))
+        let (Call::Ask { page, end }, true, Some(galley)) =
+            (call, refusal.kind.is_of_list(), Galley::decode(self.galley))
         else {
             return String::new();
         };
         let mut altered = self.desk.list();
         let at = self.page_words * (*page as usize - 1);
         altered[at..at + self.page_words].copy_from_slice(&end[..self.page_words]);
-        let numbers = explanation::in_numbers(&galley, &altered, refusal);
-        format!(" ({})", numbers.lines().map(str::trim).collect::<Vec<_>>().join("; "))
+        format!(" ({})", explanation::in_numbers(&galley, &altered))
     }
 
     /// A remark on the line that was read last; who types it sees which one.

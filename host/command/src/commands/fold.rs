@@ -3,9 +3,9 @@
 use crate::error::Error;
 use crate::output::{say, Output};
 use crate::Outcome;
-use barleychime::engine::{self, Refusal};
-use barleychime::list::{shown, whole_number};
-use barleychime::refusal;
+use barleychime::engine;
+use barleychime::field::{no_number, whole_number};
+use barleychime::refusal::Refusal;
 
 #[derive(clap::Args)]
 pub struct Args {
@@ -16,7 +16,7 @@ pub struct Args {
 
 /// A size is any number: the engine says of which there is a section.
 fn size(word: &str) -> Result<u32, String> {
-    whole_number(word).ok_or_else(|| format!("{} is no whole number of 32 bits", shown(word)))
+    whole_number(word).ok_or_else(|| no_number(word))
 }
 
 const SIZES: std::ops::RangeInclusive<u32> = 4..=64;
@@ -26,8 +26,8 @@ pub fn run(args: &Args, output: &mut Output) -> Result<Outcome, Error> {
     match sheets(size) {
         Ok(text) => output.print(text).map(|()| Outcome::Success),
         Err(refusal) => {
-            output.print_row(refusal, None)?;
-            say(&format!("{refusal}: {}", refusal::sentence(refusal)));
+            output.print_row(refusal.code(), None)?;
+            say(&refusal.to_string());
             Ok(Outcome::Refused)
         }
     }

@@ -42,7 +42,7 @@ pub fn run(args: &Args, output: &mut Output) -> Result<Outcome, Error> {
             }
             (Ok(_), None) => return Err(Error::NotDecoded { name: name.clone() }),
             (Err(refusal), _) => {
-                output.print_row(refusal, label)?;
+                output.print_row(refusal.code(), label)?;
                 say_why(name, refusal);
                 hint_at_pack(name, &bytes, refusal);
                 outcomes.refused = true;

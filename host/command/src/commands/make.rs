@@ -2,11 +2,12 @@
 
 use crate::error::Error;
 use crate::input::FileName;
-use crate::output::{hint_at_pack, say, say_why, watched, Output};
+use crate::output::{refuse_galley, say, say_why, watched, Output};
 use crate::Outcome;
-use barleychime::engine::{self, Memory, Refusal};
+use barleychime::engine::{self, MakeError, Memory};
 use barleychime::galley::Galley;
 use barleychime::list::{self, Extent};
+use barleychime::refusal::{Refusal, RefusalKind};
 use barleychime::{explanation, fill};
 
 #[derive(clap::Args)]
@@ -28,9 +29,10 @@ pub struct Args {
 pub fn run(args: &Args, output: &mut Output) -> Result<Outcome, Error> {
     let name = &args.galley;
     let bytes = name.galley()?;
-    let opening = match &args.after {
-        None => vec![],
-        Some(list) => list.list(&bytes, Extent::Opening)?,
+    let opening = match (&args.after, engine::page_words(&bytes)) {
+        (None, _) => vec![],
+        (Some(list), Ok(words)) => list.list(words, Extent::Opening)?.words,
+        (Some(_), Err(refusal)) => return refuse_galley(name, &bytes, refusal, output),
     };
     let mut memory = Memory::new();
     let refusal = match memory.make_after(&bytes, &opening) {
@@ -39,17 +41,18 @@ pub fn run(args: &Args, output: &mut Output) -> Result<Outcome, Error> {
             output.print(list::print(measure, pages, words))?;
             None
         }
-        Err(refusal) => Some(refusal),
+        Err(MakeError::Refused(refusal)) => Some(refusal),
+        Err(error) => return Err(Error::Make { name: name.clone(), error }),
     };
     let weighed = memory.weighed();
     let outcome = match (refusal, &args.after) {
         (None, _) => Outcome::Success,
-        (Some(refusal @ Refusal { number: 20 | 21, .. }), Some(list)) => {
+        (Some(refusal), Some(list)) if matches!(refusal.kind, RefusalKind::BadOpening | RefusalKind::NothingLeft) => {
             refuse_opening(list, &bytes, &opening, refusal, output)?
         }
         (Some(refusal), _) => {
-            let outcome = refuse(name, &bytes, refusal, output)?;
-            if refusal.number == 11 {
+            let outcome = refuse_galley(name, &bytes, refusal, output)?;
+            if refusal.kind == RefusalKind::NoPagination {
                 advise(args, &bytes, &opening, &mut memory);
             }
             outcome
@@ -61,14 +64,6 @@ pub fn run(args: &Args, output: &mut Output) -> Result<Outcome, Error> {
     Ok(outcome)
 }
 
-/// A galley that cannot be made.
-pub fn refuse(name: &FileName, bytes: &[u8], refusal: Refusal, output: &mut Output) -> Result<Outcome, Error> {
-    output.print_row(refusal, None)?;
-    say_why(name, refusal);
-    hint_at_pack(name, bytes, refusal);
-    Ok(Outcome::Refused)
-}
-
 /// An opening that no list can begin with, and the rule that it breaks.
 fn refuse_opening(
     list: &FileName,
@@ -77,10 +72,10 @@ fn refuse_opening(
     refusal: Refusal,
     output: &mut Output,
 ) -> Result<Outcome, Error> {
-    output.print_row(refusal, None)?;
+    output.print_row(refusal.code(), None)?;
     say_why(list, refusal);
-    if let (20, Some(galley)) = (refusal.number, Galley::decode(bytes)) {
-        let broken = explanation::broken_opening(bytes, &galley, opening, refusal.place as usize);
+    if let (RefusalKind::BadOpening, Some(galley)) = (refusal.kind, Galley::decode(bytes)) {
+        let broken = explanation::broken_opening(&galley, opening, refusal.place as usize);
         broken.iter().for_each(|broken| say(&format!("{list}: {broken}")));
     }
     Ok(Outcome::Refused)

@@ -14,7 +14,7 @@ pub struct Args {
 
 pub fn run(args: &Args, output: &mut Output) -> Result<Outcome, Error> {
     let name = &args.text;
-    let packed = text::pack(&name.text()?).map_err(|what| name.unreadable(what))?;
+    let packed = text::pack(&name.text()?).map_err(|error| Error::Text { name: name.clone(), error })?;
     if let Err(what) = packed.judge() {
         say(&format!("{name}: {what}"));
         return Ok(Outcome::Refused);

@@ -3,11 +3,12 @@
 use super::make;
 use crate::error::Error;
 use crate::input::FileName;
-use crate::output::{say, say_why, Output};
+use crate::output::{refuse_galley, say, say_why, Output};
 use crate::Outcome;
-use barleychime::engine::{self, Mark, Memory, Refusal};
+use barleychime::engine::{self, MakeError, Mark, Memory};
 use barleychime::list::Extent;
 use barleychime::marks;
+use barleychime::refusal::{Refusal, RefusalKind};
 use std::fmt::Display;
 
 #[derive(clap::Args)]
@@ -31,24 +32,26 @@ pub fn run(args: &Args, output: &mut Output) -> Result<Outcome, Error> {
     }
 }
 
-/// Marks each list and reports on those that are accepted. A refused list is no paper; without a list that cannot be read
-/// the sums would be wrong, so there is no report then.
+/// Marks each list and reports on those that are accepted. A list that is refused or cannot be read is no paper, and is counted
+/// as such.
 fn on_lists(galley: &FileName, lists: &[FileName], output: &mut Output) -> Result<Outcome, Error> {
     let bytes = galley.galley()?;
     let mut memory = Memory::new();
     let engine = match memory.make(&bytes) {
         Ok((measure, _)) => measure.turns,
-        Err(refusal) => {
-            let outcome = make::refuse(galley, &bytes, refusal, output)?;
-            if refusal.number == 11 {
+        Err(MakeError::Refused(refusal)) => {
+            let outcome = refuse_galley(galley, &bytes, refusal, output)?;
+            if refusal.kind == RefusalKind::NoPagination {
                 say(&format!("{galley}: {}", make::ADVICE));
             }
             return Ok(outcome);
         }
+        Err(error) => return Err(Error::Make { name: galley.clone(), error }),
     };
-    let (mut marks, mut refused, mut failed) = (Vec::new(), Vec::new(), false);
+    let words = engine::page_words(&bytes).map_err(Error::Unlike)?;
+    let (mut marks, mut refused, mut unreadable) = (Vec::new(), Vec::new(), 0);
     for name in lists {
-        match name.list(&bytes, Extent::Whole).map(|words| engine::mark(&bytes, &words)) {
+        match name.list(words, Extent::Whole).map(|list| engine::mark(&bytes, &list.words)) {
             Ok(Ok(engine::Measure { pages, x, y, turns, .. })) => marks.push(Mark { pages, x, y, turns, engine }),
             Ok(Err(refusal)) => {
                 say_why(name, refusal);
@@ -56,25 +59,21 @@ fn on_lists(galley: &FileName, lists: &[FileName], output: &mut Output) -> Resul
             }
             Err(error) => {
                 say(&error.to_string());
-                failed = true;
+                unreadable += 1;
             }
         }
     }
-    if failed {
-        return Ok(Outcome::Failed);
-    }
-    match engine::report(&marks) {
-        Ok(told) => {
-            output.print(marks::in_words(&told) + &marks::refused_in_words(&refused))?;
-            Ok(Outcome::Success)
-        }
-        Err(refusal) => refuse("the lists", refusal, output),
-    }
+    let told = match engine::report(&marks) {
+        Ok(told) => told,
+        Err(refusal) => return refuse("the lists", refusal, output),
+    };
+    output.print(marks::in_words(&told) + &marks::no_papers(&refused, unreadable))?;
+    Ok(if unreadable > 0 { Outcome::Failed } else { Outcome::Success })
 }
 
 /// Reports on marks that are handed in as text.
 fn on_marks(name: &FileName, output: &mut Output) -> Result<Outcome, Error> {
-    let entries = marks::parse(&name.text()?).map_err(|what| name.unreadable(what))?;
+    let entries = marks::parse(&name.text()?).map_err(|error| Error::Marks { name: name.clone(), error })?;
     let marks: Vec<Mark> = entries.iter().map(|entry| entry.mark).collect();
     match engine::report(&marks) {
         Ok(told) => {
@@ -89,7 +88,7 @@ fn on_marks(name: &FileName, output: &mut Output) -> Result<Outcome, Error> {
 }
 
 fn refuse(what: impl Display, refusal: Refusal, output: &mut Output) -> Result<Outcome, Error> {
-    output.print_row(refusal, None)?;
+    output.print_row(refusal.code(), None)?;
     say_why(what, refusal);
     Ok(Outcome::Refused)
 }

@@ -1,7 +1,8 @@
 //! A whole book from its chapters, each of which opens on the folio after the one before.
 
-use super::{c, forecast, page_words, Forecast, Refusal};
+use super::{c, forecast, page_words, unless, Forecast, MakeError, Memory};
 use crate::galley::Galley;
+use crate::refusal::{Refusal, RefusalKind};
 
 /// Words of the answer for a book, of 64 bits.
 pub(super) const BOOK_WORDS: usize = 8;
@@ -9,9 +10,13 @@ pub(super) const BOOK_WORDS: usize = 8;
 /// What a book comes to: its chapters' sums, but for Y, which is from its first page to its last.
 #[derive(Clone, Copy, Debug, PartialEq, Eq)]
 pub struct BookMeasure {
+    /// p: the pages.
     pub pages: u64,
+    /// X: the turns from citations to their figures and tables.
     pub x: u64,
+    /// Y: the turns from the first page to the last.
     pub y: u64,
+    /// T: the weighted sum of X and Y.
     pub turns: u64,
     /// W, the sum of the chapters'.
     pub white: u64,
@@ -20,6 +25,7 @@ pub struct BookMeasure {
 /// What making a book gives besides the list.
 #[derive(Clone, Copy, Debug, PartialEq, Eq)]
 pub struct BookMaking {
+    /// What the book comes to, or why there is none.
     pub answer: Result<BookMeasure, Refusal>,
     /// The pages weighed in all chapters, as [`Making`](super::Making) has them.
     pub weighed: u64,
@@ -28,7 +34,9 @@ pub struct BookMaking {
 /// A book that was made.
 #[derive(Clone, Debug, PartialEq, Eq)]
 pub struct Book {
+    /// What it comes to.
     pub measure: BookMeasure,
+    /// Its chapters, in their order.
     pub chapters: Vec<Chapter>,
 }
 
@@ -39,10 +47,12 @@ pub struct Chapter {
     pub folio: u64,
     /// The words that a page takes in its list.
     pub page_words: usize,
+    /// Its page list.
     pub list: Vec<u32>,
 }
 
 impl Chapter {
+    /// How many pages it has.
     pub fn pages(&self) -> usize {
         self.list.len() / self.page_words
     }
@@ -56,7 +66,7 @@ impl Chapter {
 #[allow(unsafe_code)]
 pub fn make_book_in(galleys: &[u8], lengths: &[u32], work: &mut [u32], pages: &mut [u32]) -> BookMaking {
     let mut answer = [0; BOOK_WORDS];
-    // The areas are those of slices that the borrow checker keeps apart, and the engine reads and writes nothing else.
+    // SAFETY: the areas are those of slices that the borrow checker keeps apart, and the engine reads and writes nothing else.
     unsafe {
         c::barleychime_book(
             galleys.as_ptr(),
@@ -71,20 +81,19 @@ pub fn make_book_in(galleys: &[u8], lengths: &[u32], work: &mut [u32], pages: &m
         );
     }
     let [number, place, pages, x, y, turns, white, weighed] = answer;
-    let answer = match number {
-        0 => Ok(BookMeasure { pages, x, y, turns, white }),
-        // Both are of 32 bits, and so are the words that 9 and 10 ask for.
-        _ => Err(Refusal { number: number as u32, place: place as u32 }),
-    };
+    // Both are of 32 bits, and so are the words that 9 and 10 ask for.
+    let answer = unless(number as u32, place as u32, BookMeasure { pages, x, y, turns, white });
     BookMaking { answer, weighed }
 }
 
 /// Makes a book of chapters, each a galley: of all choices of lists, each valid where its chapter opens, the one with the fewest
 /// turns, and of these with the least white space. Refused as [`make_book_in`] has it.
-pub fn make_book<Bytes: AsRef<[u8]>>(chapters: &[Bytes]) -> Result<Book, Refusal> {
+pub fn make_book<Bytes: AsRef<[u8]>>(chapters: &[Bytes]) -> Result<Book, MakeError> {
     let told = forecast_book(chapters)?;
     let (galleys, lengths) = end_to_end(chapters);
-    let (mut work, mut pages) = (vec![0; told.work as usize], vec![0; told.list as usize]);
+    let mut memory = Memory::new();
+    memory.grow(&told)?;
+    let Memory { mut work, mut pages, .. } = memory;
     let measure = make_book_in(&galleys, &lengths, &mut work, &mut pages).answer?;
     // A chapter that is not the first has no folio of its own.
     let first = chapters.first().and_then(|bytes| Galley::decode(bytes.as_ref()));
@@ -114,7 +123,7 @@ pub fn forecast_book<Bytes: AsRef<[u8]>>(chapters: &[Bytes]) -> Result<Forecast,
     let (galleys, lengths) = end_to_end(chapters);
     // In no memory a book is refused for its chapters, or else for the memory.
     match make_book_in(&galleys, &lengths, &mut [], &mut []).answer {
-        Err(refusal) if refusal.number != 9 => return Err(refusal),
+        Err(refusal) if refusal.kind != RefusalKind::WorkTooShort => return Err(refusal),
         _ => (),
     }
     let mut told = Forecast { work: 0, list: 0, ceiling: 0 };

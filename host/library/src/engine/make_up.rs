@@ -1,6 +1,7 @@
 //! The make-up desk: the end of a page is tried before the list is changed, and layouts are kept to come back to.
 
-use super::{c, made, page_words, Measure, Refusal, ANSWER_WORDS};
+use super::{c, made, page_words, Measure, ANSWER_WORDS};
+use crate::refusal::Refusal;
 
 /// Words of the longest list on a desk: 64 pages of three words.
 pub(super) const DESK_LIST_WORDS: usize = 192;
@@ -29,7 +30,7 @@ impl<'galley> Desk<'galley> {
     pub fn open(galley: &'galley [u8], list: &[u32]) -> Result<(Self, Measure), Refusal> {
         let mut desk = Desk { galley, page_words: page_words(galley)?, words: [0; DESK_WORDS] };
         let mut answer = [0; ANSWER_WORDS];
-        // The areas are those of slices and arrays that the borrow checker keeps apart, and the engine writes the last two
+        // SAFETY: the areas are those of slices and arrays that the borrow checker keeps apart, and the engine writes the last two
         // alone.
         unsafe {
             c::barleychime_desk_open(
@@ -51,7 +52,7 @@ impl<'galley> Desk<'galley> {
     #[allow(unsafe_code)]
     pub fn ask(&mut self, page: u32, end: [u32; 3]) -> Result<Measure, Refusal> {
         let mut answer = [0; ANSWER_WORDS];
-        // As above.
+        // SAFETY: as in `open`.
         unsafe {
             c::barleychime_desk_ask(self.galley.as_ptr(), self.galley.len(), page, &end, &mut self.words, &mut answer);
         }
@@ -62,7 +63,7 @@ impl<'galley> Desk<'galley> {
     #[allow(unsafe_code)]
     pub fn commit(&mut self) -> Result<(), Refusal> {
         let mut answer = [0; ANSWER_WORDS];
-        // As above.
+        // SAFETY: as in `open`.
         unsafe {
             c::barleychime_desk_commit(&mut self.words, &mut answer);
         }
@@ -88,7 +89,7 @@ impl<'galley> Desk<'galley> {
     #[allow(unsafe_code)]
     fn named(&mut self, call: c::Named, name: &[u8]) -> Result<(), Refusal> {
         let mut answer = [0; ANSWER_WORDS];
-        // As above.
+        // SAFETY: as in `open`.
         unsafe {
             call(name.as_ptr(), name.len(), &mut self.words, &mut answer);
         }
@@ -114,7 +115,7 @@ impl<'galley> Desk<'galley> {
     #[allow(unsafe_code)]
     pub fn list(&self) -> Vec<u32> {
         let (mut pages, mut answer) = ([0; DESK_LIST_WORDS], [0; ANSWER_WORDS]);
-        // As above; the desk is only read.
+        // SAFETY: as in `open`; the desk is only read.
         unsafe {
             c::barleychime_desk_list(&self.words, &mut pages, &mut answer);
         }

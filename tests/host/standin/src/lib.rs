@@ -6,6 +6,12 @@ mod section;
 
 use core::slice::{from_raw_parts, from_raw_parts_mut};
 
+/// The version of the interface that this stands in for.
+#[no_mangle]
+pub extern "C" fn barleychime_version() -> u32 {
+    200
+}
+
 /// A making of plain Rust under the signature of `barleychime_make`.
 macro_rules! making {
     ($name:ident, $make:path) => {

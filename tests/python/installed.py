@@ -1,0 +1,65 @@
+"""How the package is installed, without a network; that its types hold; and what it says where its library is not there."""
+import os
+import shutil
+import subprocess
+import sys
+
+from engine import ROOT
+
+PROGRAM = 'import barleychime; print(barleychime.__version__, barleychime.fold(4))'
+
+
+def python(folder, path, program, **variables):
+    """What a program printed, and the last line that it complained with, run where the project's own tree is not looked at."""
+    environment = {name: value for name, value in os.environ.items() if name != 'BARLEYCHIME_SHARED'}
+    ran = subprocess.run([sys.executable, '-c', program], cwd=folder, env={**environment, 'PYTHONPATH': str(path), **variables},
+                         capture_output=True, text=True)
+    return ran.stdout, ran.stderr.splitlines()[-1:]
+
+
+def pip(tally, folder):
+    """`pip install ./python` with no registry at hand, from a copy of the project with the library that `make` builds."""
+    project, shared = folder / 'project', folder / 'project/target/shared'
+    shutil.copytree(ROOT / 'python', project / 'python', ignore=shutil.ignore_patterns('__pycache__'))
+    for what in ('without the library', 'with the library'):
+        target = folder / what.split()[0]
+        ran = subprocess.run([sys.executable, '-m', 'pip', 'install', '--quiet', '--no-index', '--target', target, './python'], cwd=project,
+                             capture_output=True, text=True)
+        tally.same(f'pip install ./python {what}', (ran.returncode, 'ERROR' in ran.stderr), (0, False))
+        shared.mkdir(parents=True, exist_ok=True)
+        shutil.copy(os.environ['BARLEYCHIME_SHARED'], shared / 'libbarleychime.so')
+    due = ('0.2.0 ((4, 1, 2, 3),)\n', [])
+    tally.same('installed with the library', python(folder, folder / 'with', PROGRAM), due)
+    named = {'BARLEYCHIME_SHARED': str(shared / 'libbarleychime.so')}
+    tally.same('installed without, and one is named', python(folder, folder / 'without', PROGRAM, **named), due)
+    tally.same('in its own tree', python(folder, project / 'python', PROGRAM), due)
+    tally.same('types are told', (folder / 'with/barleychime/py.typed').is_file(), True)
+
+
+def missing(tally, folder):
+    """The library that is named and no other is loaded, and a library that is none or is older is not called."""
+    alone = folder / 'without'
+    for what, variables, words in (
+            ('a file that is not there', {'BARLEYCHIME_SHARED': str(folder / 'none.so')}, 'which BARLEYCHIME_SHARED names, cannot be loaded'),
+            ('a file that is no library', {'BARLEYCHIME_SHARED': str(ROOT / 'README.md')}, 'which BARLEYCHIME_SHARED names, cannot be loaded'),
+            ('another library', {'BARLEYCHIME_SHARED': 'libm.so.6'}, 'libm.so.6 is older than version 0.2.0'),
+            ('none', {'PKG_CONFIG_LIBDIR': str(folder)}, 'libbarleychime.so is not found: `make` in the project builds it')):
+        printed, said = python(folder, alone, PROGRAM, **variables)
+        tally.same(f'{what}: no answer', printed, '')
+        tally.same(f'{what}: the reason', [words in line and line.startswith('barleychime.library.LibraryMissing') for line in said], [True])
+
+
+def typed(tally):
+    if not shutil.which('mypy'):
+        print('mypy is not here: packages/install python installs it')
+        tally.same('mypy is here, as the gate asks', os.environ.get('CI') != 'true', True)
+        return
+    ran = subprocess.run(['mypy', '--strict', '--no-incremental', '--cache-dir', os.devnull, ROOT / 'python/barleychime'], capture_output=True, text=True)
+    tally.same('mypy --strict', (ran.returncode, ran.stdout.startswith('Success')), (0, True))
+
+
+def run(tally, folder):
+    pip(tally, folder)
+    missing(tally, folder)
+    typed(tally)
+    tally.group('installed in Python')
