@@ -2,6 +2,7 @@
 
 use crate::commands::{book, desk, explain, fold, forecast, make, mark, pack, refusals, report, unpack};
 use crate::error::Error;
+use crate::json;
 use crate::output::Output;
 use crate::Outcome;
 use clap::error::{ContextKind, ContextValue, ErrorKind};
@@ -65,13 +66,36 @@ pub fn run(arguments: impl IntoIterator<Item = OsString>, output: &mut Output) -
     if names_of_standard_input(&matches) > 1 {
         return Err(Error::Usage("standard input can be read only once".into()));
     }
-    match Whole::from_arg_matches(&matches) {
-        Ok(whole) => whole.command.run(output),
-        Err(error) => told(error, output),
+    let whole = match Whole::from_arg_matches(&matches) {
+        Ok(whole) => whole,
+        Err(error) => return told(error, output),
+    };
+    let answered = whole.command.run(output);
+    match (&answered, whole.command.told_to_programs()) {
+        (Err(Error::Output(_)), _) | (Ok(_), _) | (_, None) => {}
+        (Err(error), Some(command)) => {
+            let (outcome, told) = (Outcome::Failed, json::Failure::from(error));
+            output.print_json(&json::Answer { command, outcome, told })?;
+        }
     }
+    answered
 }
 
 impl Commands {
+    /// The name of the command, if its answer is for programs.
+    fn told_to_programs(&self) -> Option<&'static str> {
+        let (json, name) = match self {
+            Commands::Make(args) => (args.format.json, "make"),
+            Commands::Book(args) => (args.format.json, "book"),
+            Commands::Mark(args) => (args.format.json, "mark"),
+            Commands::Explain(args) => (args.json, "explain"),
+            Commands::Report(args) => (args.format.json, "report"),
+            Commands::Fold(args) => (args.format.json, "fold"),
+            _ => return None,
+        };
+        json.then_some(name)
+    }
+
     fn run(&self, output: &mut Output) -> Result<Outcome, Error> {
         match self {
             Commands::Make(args) => make::run(args, output),

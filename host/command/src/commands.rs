@@ -13,6 +13,7 @@ pub mod report;
 pub mod unpack;
 
 use crate::error::Error;
+use crate::marked::{Answer, Marked};
 use crate::output::say;
 use crate::Outcome;
 
@@ -27,6 +28,15 @@ impl Outcomes {
     /// What was read; if nothing was, that is said.
     pub fn read<Contents>(&mut self, read: Result<Contents, Error>) -> Option<Contents> {
         read.map_err(|error| self.fail(&error)).ok()
+    }
+
+    /// What became of a list.
+    pub fn count(&mut self, marked: &Marked) {
+        match marked.answer {
+            Answer::Accepted(_) => {}
+            Answer::Refused(_) => self.refused = true,
+            Answer::Unreadable(_) => self.failed = true,
+        }
     }
 
     /// That something could not be read.

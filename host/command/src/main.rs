@@ -5,14 +5,19 @@ mod args;
 mod call;
 mod commands;
 mod error;
+mod explained;
 mod input;
+mod json;
+mod marked;
 mod output;
+mod rows;
 
 use output::{say, Output};
 use std::process::ExitCode;
 
 /// How a command ended that was not kept from its work by an error.
-#[derive(Clone, Copy, Debug, PartialEq, Eq)]
+#[derive(Clone, Copy, Debug, PartialEq, Eq, serde::Serialize)]
+#[serde(rename_all = "lowercase")]
 pub enum Outcome {
     Success,
     Refused,

@@ -23,7 +23,7 @@ impl Output {
 
     /// Prints an answer for programs: one value, and the end of a line.
     pub fn print_json(&mut self, answer: &impl Serialize) -> Result<(), Error> {
-        let mut text = serde_json::to_string_pretty(answer).map_err(|error| Error::Output(error.into()))?;
+        let mut text = serde_json::to_string(answer).map_err(|error| Error::Output(error.into()))?;
         text.push('\n');
         self.print(text)
     }
@@ -38,6 +38,17 @@ impl Output {
         row.push(b'\n');
         self.print(row)
     }
+}
+
+/// How an answer is printed: for people, or for programs.
+#[derive(Clone, Copy, Default, clap::Args)]
+pub struct Format {
+    /// Print one JSON object
+    #[arg(long)]
+    pub json: bool,
+    /// Print rows with tabs between the columns
+    #[arg(long, conflicts_with = "json")]
+    pub tsv: bool,
 }
 
 /// A text on lines of at most 80 columns, all but the first of which are indented by so many.
@@ -75,9 +86,17 @@ pub fn say_why(what: impl Display, refusal: Refusal) {
     say(&format!("{what}: {refusal}"));
 }
 
-/// A galley that is refused, or has no pagination.
-pub fn refuse_galley(name: &FileName, bytes: &[u8], refusal: Refusal, output: &mut Output) -> Result<Outcome, Error> {
-    output.print_row(refusal.code(), None)?;
+/// A galley that is refused, or has no pagination. Among rows with tabs there is none for it.
+pub fn refuse_galley(
+    name: &FileName,
+    bytes: &[u8],
+    refusal: Refusal,
+    format: Format,
+    output: &mut Output,
+) -> Result<Outcome, Error> {
+    if !format.tsv {
+        output.print_row(refusal.code(), None)?;
+    }
     say_why(name, refusal);
     hint_at_pack(name, bytes, refusal);
     Ok(Outcome::Refused)

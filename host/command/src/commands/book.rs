@@ -2,20 +2,41 @@
 
 use crate::error::Error;
 use crate::input::FileName;
-use crate::output::{hint_at_pack, say, say_why, watched, Output};
+use crate::json;
+use crate::output::{hint_at_pack, say, say_why, watched, Format, Output};
+use crate::rows;
 use crate::Outcome;
-use barleychime::engine::{self, Book, MakeError, Memory};
+use barleychime::engine::{self, Book, Chapter, MakeError, Memory};
 use barleychime::galley::Galley;
 use barleychime::list::{pages, spaced};
 use barleychime::needs;
 use barleychime::record::Record;
 use barleychime::refusal::{Refusal, RefusalKind};
+use serde::Serialize;
 
 #[derive(clap::Args)]
 pub struct Args {
     /// Up to 200 galleys, in the order of the book
     #[arg(required = true, value_name = "CHAPTER")]
     pub chapters: Vec<FileName>,
+    #[command(flatten)]
+    pub format: Format,
+}
+
+/// What programs are told.
+#[derive(Serialize)]
+struct Told<'a> {
+    refusal: Option<json::Refusal>,
+    measure: Option<json::Measure>,
+    chapters: Vec<ToldChapter<'a>>,
+}
+
+/// A chapter, as programs are told of it.
+#[derive(Serialize)]
+struct ToldChapter<'a> {
+    galley: &'a FileName,
+    folio: u64,
+    pages: Vec<json::Page>,
 }
 
 /// Makes a book of chapters: its counts, then for each chapter its first folio, its number of pages and its name, and its pages.
@@ -23,9 +44,19 @@ pub fn run(args: &Args, output: &mut Output) -> Result<Outcome, Error> {
     let names = &args.chapters;
     let chapters = read(names)?;
     match engine::make_book(&chapters) {
-        Ok(made) => output.print(printed(names, &made)).map(|()| Outcome::Success),
+        Ok(made) => {
+            match args.format {
+                Format { json: true, .. } => tell(names, Ok(&made), output)?,
+                Format { tsv: true, .. } => print_rows(names, &made, output)?,
+                _ => output.print(printed(names, &made))?,
+            }
+            Ok(Outcome::Success)
+        }
+        Err(MakeError::Refused(refusal)) if args.format.json => {
+            tell(names, Err(refusal), output).map(|()| Outcome::Refused)
+        }
         Err(MakeError::Refused(refusal)) => {
-            let outcome = refuse(names, &chapters, refusal, output)?;
+            let outcome = refuse(names, &chapters, refusal, args.format, output)?;
             if refusal.kind == RefusalKind::NoPagination {
                 blame(names, &chapters);
             }
@@ -41,7 +72,7 @@ pub fn foretell(names: &[FileName], output: &mut Output) -> Result<Outcome, Erro
     let chapters = read(names)?;
     match engine::forecast_book(&chapters) {
         Ok(told) => output.print(needs::in_words(&told, all_steps(&chapters))).map(|()| Outcome::Success),
-        Err(refusal) => refuse(names, &chapters, refusal, output),
+        Err(refusal) => refuse(names, &chapters, refusal, Format::default(), output),
     }
 }
 
@@ -74,6 +105,33 @@ fn all_steps(chapters: &[Vec<u8>]) -> u64 {
     (1..).zip(chapters).map(|(number, bytes)| steps(number, bytes)).sum()
 }
 
+fn tell(names: &[FileName], made: Result<&Book, Refusal>, output: &mut Output) -> Result<(), Error> {
+    let outcome = if made.is_ok() { Outcome::Success } else { Outcome::Refused };
+    let chapters = made.map_or(&[][..], |made| &made.chapters[..]);
+    let chapter = |(galley, chapter): (_, &Chapter)| ToldChapter {
+        galley,
+        folio: chapter.folio,
+        pages: json::pages(&chapter.list, chapter.page_words),
+    };
+    let told = Told {
+        refusal: made.err().map(Into::into),
+        measure: made.ok().map(|made| made.measure.into()),
+        chapters: names.iter().zip(chapters).map(chapter).collect(),
+    };
+    output.print_json(&json::Answer { command: "book", outcome, told })
+}
+
+fn print_rows(names: &[FileName], made: &Book, output: &mut Output) -> Result<(), Error> {
+    rows::heading(output, &["chapter", "galley", "folio", "page", "lines", "figures", "tables"])?;
+    for (number, (name, chapter)) in names.iter().zip(&made.chapters).enumerate() {
+        for page in json::pages(&chapter.list, chapter.page_words) {
+            let folio = chapter.folio + page.page as u64 - 1;
+            rows::row(output, &[&(number + 1), name, &folio, &page.page, &page.lines, &page.figures, &page.tables])?;
+        }
+    }
+    Ok(())
+}
+
 fn printed(names: &[FileName], made: &Book) -> Vec<u8> {
     let engine::BookMeasure { pages: p, x, y, turns, white } = made.measure;
     let mut text = format!("{}\n", spaced(&[p, x, y, turns, white])).into_bytes();
@@ -86,8 +144,16 @@ fn printed(names: &[FileName], made: &Book) -> Vec<u8> {
 }
 
 /// A book that cannot be made: a chapter's own refusal is told with its place in that chapter.
-fn refuse(names: &[FileName], chapters: &[Vec<u8>], refusal: Refusal, output: &mut Output) -> Result<Outcome, Error> {
-    output.print_row(refusal.code(), None)?;
+fn refuse(
+    names: &[FileName],
+    chapters: &[Vec<u8>],
+    refusal: Refusal,
+    format: Format,
+    output: &mut Output,
+) -> Result<Outcome, Error> {
+    if !format.tsv {
+        output.print_row(refusal.code(), None)?;
+    }
     let at = (refusal.place as usize).wrapping_sub(1);
     match (names.get(at), chapters.get(at)) {
         (Some(name), Some(bytes)) if refusal.kind.is_of_galley() => {

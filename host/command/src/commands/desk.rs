@@ -4,7 +4,7 @@ use super::Outcomes;
 use crate::call::{self, Call};
 use crate::error::Error;
 use crate::input::FileName;
-use crate::output::{refuse_galley, say, say_why, Output};
+use crate::output::{refuse_galley, say, say_why, Format, Output};
 use crate::Outcome;
 use barleychime::engine::{self, Desk, Measure};
 use barleychime::galley::Galley;
@@ -45,7 +45,7 @@ pub fn run(args: &Args, output: &mut Output) -> Result<Outcome, Error> {
     let bytes = galley.galley()?;
     let words = match engine::page_words(&bytes) {
         Ok(words) => list.list(words, Extent::Whole)?.words,
-        Err(refusal) => return refuse_galley(galley, &bytes, refusal, output),
+        Err(refusal) => return refuse_galley(galley, &bytes, refusal, Format::default(), output),
     };
     let (desk, in_force) = match Desk::open(&bytes, &words) {
         Ok(opened) => opened,

@@ -2,7 +2,10 @@
 
 use super::Outcomes;
 use crate::error::Error;
+use crate::explained::Explained;
 use crate::input::FileName;
+use crate::json;
+use crate::marked::Marked;
 use crate::output::{hint_at_pack, Output};
 use crate::Outcome;
 use barleychime::engine;
@@ -11,6 +14,7 @@ use barleychime::galley::Galley;
 use barleychime::list::Extent;
 use barleychime::refusal::Refusal;
 use barleychime::why::Finder;
+use serde::Serialize;
 
 #[derive(clap::Args)]
 pub struct Args {
@@ -22,11 +26,25 @@ pub struct Args {
     /// Say only with which page ends turns are lost for good
     #[arg(long)]
     pub why: bool,
+    /// Print one JSON object
+    #[arg(long)]
+    pub json: bool,
+}
+
+/// What programs are told.
+#[derive(Serialize)]
+struct Told<'a> {
+    galley: &'a FileName,
+    refusal: Option<json::Refusal>,
+    lists: Vec<Explained<'a>>,
 }
 
 /// Explains each list; one that cannot be read does not keep the others from being explained.
 pub fn run(args: &Args, output: &mut Output) -> Result<Outcome, Error> {
     let bytes = args.galley.galley()?;
+    if args.json {
+        return tell(args, &bytes, output);
+    }
     if let Err(refusal) = engine::read(&bytes) {
         output.print(explanation::refused_galley(&bytes, refusal))?;
         hint_at_pack(&args.galley, &bytes, refusal);
@@ -61,6 +79,29 @@ pub fn run(args: &Args, output: &mut Output) -> Result<Outcome, Error> {
         }
     }
     Ok(outcomes.whole())
+}
+
+fn tell(args: &Args, bytes: &[u8], output: &mut Output) -> Result<Outcome, Error> {
+    let mut outcomes = Outcomes::default();
+    let mut told = Told { galley: &args.galley, refusal: None, lists: vec![] };
+    match (engine::read(bytes), Galley::decode(bytes)) {
+        (Err(refusal), _) => {
+            told.refusal = Some(refusal.into());
+            outcomes.refused = true;
+        }
+        (Ok(()), None) => return Err(Error::NotDecoded { name: args.galley.clone() }),
+        (Ok(()), Some(galley)) => {
+            let mut finder = Finder::new(bytes, &galley);
+            for name in &args.lists {
+                let marked = Marked::of(name, bytes, galley.page_words());
+                outcomes.count(&marked);
+                let explained = Explained::of(&marked, &galley, &mut finder);
+                told.lists.push(explained.map_err(|error| Error::Make { name: args.galley.clone(), error })?);
+            }
+        }
+    }
+    let outcome = outcomes.whole();
+    output.print_json(&json::Answer { command: "explain", outcome, told }).map(|()| outcome)
 }
 
 /// A refused list loses no turns; with --why it is told why alone.

@@ -1,17 +1,23 @@
 //! `barleychime fold`: stitched sections, sheet by sheet.
 
 use crate::error::Error;
-use crate::output::{say, Output};
+use crate::json;
+use crate::output::{say, Format, Output};
+use crate::rows;
 use crate::Outcome;
 use barleychime::engine;
 use barleychime::field::{no_number, whole_number};
+use barleychime::list::spaced;
 use barleychime::refusal::Refusal;
+use serde::Serialize;
 
 #[derive(clap::Args)]
 pub struct Args {
-    /// Pages of the section, a multiple of 4 from 4 to 64; without it all sections are printed
+    /// Pages of the section; without it all sections
     #[arg(value_parser = size)]
     pub size: Option<u32>,
+    #[command(flatten)]
+    pub format: Format,
 }
 
 /// A size is any number: the engine says of which there is a section.
@@ -21,27 +27,71 @@ fn size(word: &str) -> Result<u32, String> {
 
 const SIZES: std::ops::RangeInclusive<u32> = 4..=64;
 
+/// A section as its pages stand on the nested sheets, the outermost first.
+#[derive(Serialize)]
+struct Section {
+    size: u32,
+    sheets: Vec<Sheet>,
+}
+
+/// The left and the right page of a sheet's front, and of its back.
+#[derive(Serialize)]
+struct Sheet {
+    front: [u32; 2],
+    back: [u32; 2],
+}
+
+/// What programs are told.
+#[derive(Serialize)]
+struct Told {
+    refusal: Option<json::Refusal>,
+    sections: Vec<Section>,
+}
+
 pub fn run(args: &Args, output: &mut Output) -> Result<Outcome, Error> {
-    let Some(size) = args.size else { return all(output) };
-    match sheets(size) {
-        Ok(text) => output.print(text).map(|()| Outcome::Success),
-        Err(refusal) => {
-            output.print_row(refusal.code(), None)?;
+    let sections = match args.size {
+        Some(size) => section(size).map(|section| vec![section]),
+        None => SIZES.step_by(4).map(section).collect(),
+    };
+    let outcome = if sections.is_ok() { Outcome::Success } else { Outcome::Refused };
+    if args.format.json {
+        let refusal = sections.as_ref().err().copied().map(Into::into);
+        let told = Told { refusal, sections: sections.unwrap_or_default() };
+        return output.print_json(&json::Answer { command: "fold", outcome, told }).map(|()| outcome);
+    }
+    match (sections, args.format.tsv) {
+        (Ok(sections), false) => output.print(in_words(&sections))?,
+        (Ok(sections), true) => print_rows(&sections, output)?,
+        (Err(refusal), tsv) => {
+            if !tsv {
+                output.print_row(refusal.code(), None)?;
+            }
             say(&refusal.to_string());
-            Ok(Outcome::Refused)
         }
     }
+    Ok(outcome)
 }
 
-/// Every section, smaller ones first.
-fn all(output: &mut Output) -> Result<Outcome, Error> {
-    let texts: Result<Vec<String>, Refusal> = SIZES.step_by(4).map(sheets).collect();
-    output.print(texts.map_err(Error::Unlike)?.join("\n")).map(|()| Outcome::Success)
-}
-
-/// A line for each sheet: the left and the right page of its front, then those of its back.
-fn sheets(size: u32) -> Result<String, Refusal> {
+fn section(size: u32) -> Result<Section, Refusal> {
     let mut numbers = [0; 64];
     let pages = engine::section(size, &mut numbers)?;
-    Ok(pages.chunks_exact(4).map(|sheet| format!("{} {} {} {}\n", sheet[0], sheet[1], sheet[2], sheet[3])).collect())
+    let sheet = |four: &[u32]| Sheet { front: [four[0], four[1]], back: [four[2], four[3]] };
+    Ok(Section { size, sheets: pages.chunks_exact(4).map(sheet).collect() })
+}
+
+/// A line for each sheet, and an empty one between two sections.
+fn in_words(sections: &[Section]) -> String {
+    let line = |sheet: &Sheet| spaced(&[sheet.front, sheet.back].concat()) + "\n";
+    let texts = sections.iter().map(|section| section.sheets.iter().map(line).collect::<String>());
+    texts.collect::<Vec<_>>().join("\n")
+}
+
+fn print_rows(sections: &[Section], output: &mut Output) -> Result<(), Error> {
+    rows::heading(output, &["size", "sheet", "front_left", "front_right", "back_left", "back_right"])?;
+    for Section { size, sheets } in sections {
+        for (before, Sheet { front, back }) in sheets.iter().enumerate() {
+            rows::row(output, &[size, &(before + 1), &front[0], &front[1], &back[0], &back[1]])?;
+        }
+    }
+    Ok(())
 }

@@ -2,13 +2,16 @@
 
 use crate::error::Error;
 use crate::input::FileName;
-use crate::output::{refuse_galley, say, say_why, watched, Output};
+use crate::json;
+use crate::output::{refuse_galley, say, say_why, watched, Format, Output};
+use crate::rows;
 use crate::Outcome;
 use barleychime::engine::{self, MakeError, Memory};
 use barleychime::galley::Galley;
 use barleychime::list::{self, Extent};
 use barleychime::refusal::{Refusal, RefusalKind};
 use barleychime::{explanation, fill};
+use serde::Serialize;
 
 #[derive(clap::Args)]
 pub struct Args {
@@ -23,6 +26,20 @@ pub struct Args {
     /// Say how many pages were weighed
     #[arg(long)]
     pub verbose: bool,
+    #[command(flatten)]
+    pub format: Format,
+}
+
+/// What programs are told.
+#[derive(Serialize)]
+struct Told<'a> {
+    galley: &'a FileName,
+    refusal: Option<json::Refusal>,
+    measure: Option<json::Measure>,
+    pages: Vec<json::Page>,
+    weighed: u64,
+    ceiling: Option<u64>,
+    remarks: Vec<String>,
 }
 
 /// Makes a galley; what was weighed is said as far as the galley reads.
@@ -32,13 +49,20 @@ pub fn run(args: &Args, output: &mut Output) -> Result<Outcome, Error> {
     let opening = match (&args.after, engine::page_words(&bytes)) {
         (None, _) => vec![],
         (Some(list), Ok(words)) => list.list(words, Extent::Opening)?.words,
-        (Some(_), Err(refusal)) => return refuse_galley(name, &bytes, refusal, output),
+        // The galley is refused before its opening is looked at.
+        (Some(_), Err(_)) => vec![],
     };
+    if args.format.json {
+        return tell(args, &bytes, &opening, output);
+    }
     let mut memory = Memory::new();
     let refusal = match memory.make_after(&bytes, &opening) {
         Ok((measure, pages)) => {
             let words = pages.len() / measure.pages as usize;
-            output.print(list::print(measure, pages, words))?;
+            match args.format.tsv {
+                false => output.print(list::print(measure, pages, words))?,
+                true => print_rows(pages, words, output)?,
+            }
             None
         }
         Err(MakeError::Refused(refusal)) => Some(refusal),
@@ -48,10 +72,10 @@ pub fn run(args: &Args, output: &mut Output) -> Result<Outcome, Error> {
     let outcome = match (refusal, &args.after) {
         (None, _) => Outcome::Success,
         (Some(refusal), Some(list)) if matches!(refusal.kind, RefusalKind::BadOpening | RefusalKind::NothingLeft) => {
-            refuse_opening(list, &bytes, &opening, refusal, output)?
+            refuse_opening(list, &bytes, &opening, refusal, args.format, output)?
         }
         (Some(refusal), _) => {
-            let outcome = refuse_galley(name, &bytes, refusal, output)?;
+            let outcome = refuse_galley(name, &bytes, refusal, args.format, output)?;
             if refusal.kind == RefusalKind::NoPagination {
                 advise(args, &bytes, &opening, &mut memory);
             }
@@ -64,15 +88,65 @@ pub fn run(args: &Args, output: &mut Output) -> Result<Outcome, Error> {
     Ok(outcome)
 }
 
+fn tell(args: &Args, bytes: &[u8], opening: &[u32], output: &mut Output) -> Result<Outcome, Error> {
+    let mut memory = Memory::new();
+    let ceiling = engine::forecast(bytes).ok().map(|told| told.ceiling);
+    let mut told = Told {
+        galley: &args.galley,
+        refusal: None,
+        measure: None,
+        pages: vec![],
+        weighed: 0,
+        ceiling,
+        remarks: vec![],
+    };
+    let mut outcome = Outcome::Success;
+    match memory.make_after(bytes, opening) {
+        Ok((measure, pages)) => {
+            told.pages = json::pages(pages, pages.len() / measure.pages as usize);
+            told.measure = Some(measure.into());
+        }
+        Err(MakeError::Refused(refusal)) => {
+            outcome = Outcome::Refused;
+            told.refusal = Some(refusal.into());
+        }
+        Err(error) => return Err(Error::Make { name: args.galley.clone(), error }),
+    }
+    told.weighed = memory.weighed();
+    match told.refusal.as_ref().map(|refusal| (RefusalKind::of(refusal.number), refusal.place)) {
+        Some((RefusalKind::NoPagination, _)) if args.advise => {
+            told.remarks = fill::advice(bytes, opening, &mut memory, &mut |_| ());
+        }
+        Some((RefusalKind::BadOpening, page)) => {
+            let galley = Galley::decode(bytes);
+            told.remarks = galley
+                .and_then(|galley| explanation::broken_opening(&galley, opening, page as usize))
+                .into_iter()
+                .collect();
+        }
+        _ => {}
+    }
+    output.print_json(&json::Answer { command: "make", outcome, told }).map(|()| outcome)
+}
+
+fn print_rows(list: &[u32], words: usize, output: &mut Output) -> Result<(), Error> {
+    rows::heading(output, &["page", "lines", "figures", "tables"])?;
+    let print = |page: &json::Page| rows::row(output, &[&page.page, &page.lines, &page.figures, &page.tables]);
+    json::pages(list, words).iter().try_for_each(print)
+}
+
 /// An opening that no list can begin with, and the rule that it breaks.
 fn refuse_opening(
     list: &FileName,
     bytes: &[u8],
     opening: &[u32],
     refusal: Refusal,
+    format: Format,
     output: &mut Output,
 ) -> Result<Outcome, Error> {
-    output.print_row(refusal.code(), None)?;
+    if !format.tsv {
+        output.print_row(refusal.code(), None)?;
+    }
     say_why(list, refusal);
     if let (RefusalKind::BadOpening, Some(galley)) = (refusal.kind, Galley::decode(bytes)) {
         let broken = explanation::broken_opening(&galley, opening, refusal.place as usize);

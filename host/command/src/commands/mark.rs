@@ -3,10 +3,14 @@
 use super::Outcomes;
 use crate::error::Error;
 use crate::input::FileName;
-use crate::output::{refuse_galley, say, say_why, Output};
+use crate::json;
+use crate::marked::{Marked, Row, COLUMNS};
+use crate::output::{refuse_galley, Format, Output};
+use crate::rows;
 use crate::Outcome;
 use barleychime::engine;
-use barleychime::list::{self, Extent};
+use barleychime::refusal::Refusal;
+use serde::Serialize;
 
 #[derive(clap::Args)]
 pub struct Args {
@@ -15,6 +19,16 @@ pub struct Args {
     /// Page lists for it
     #[arg(required = true, value_name = "LIST")]
     pub lists: Vec<FileName>,
+    #[command(flatten)]
+    pub format: Format,
+}
+
+/// What programs are told.
+#[derive(Serialize)]
+struct Told<'a> {
+    galley: &'a FileName,
+    refusal: Option<json::Refusal>,
+    lists: Vec<Row<'a>>,
 }
 
 /// Marks each list, a row each; one that cannot be read is a row with `?`.
@@ -22,31 +36,46 @@ pub fn run(args: &Args, output: &mut Output) -> Result<Outcome, Error> {
     let bytes = args.galley.galley()?;
     let words = match engine::page_words(&bytes) {
         Ok(words) => words,
-        Err(refusal) => return refuse_galley(&args.galley, &bytes, refusal, output),
+        Err(refusal) => return refuse(args, &bytes, refusal, output),
     };
-    let mut outcomes = Outcomes::default();
+    let (mut outcomes, mut told) = (Outcomes::default(), Vec::new());
+    if args.format.tsv {
+        rows::heading(output, &COLUMNS)?;
+    }
     for name in &args.lists {
-        let label = Some(name).filter(|_| args.lists.len() > 1);
-        let list = match name.list(words, Extent::Whole) {
-            Ok(list) => list,
-            Err(error) => {
-                output.print_row("?", label)?;
-                outcomes.fail(&error);
-                continue;
-            }
-        };
-        match engine::mark(&bytes, &list.words) {
-            Ok(measure) => {
-                output.print_row(list::measure_line(measure), label)?;
-                let unlike = list.head.and_then(|head| head.unlike(measure));
-                unlike.iter().for_each(|unlike| say(&format!("{name}: {unlike}")));
-            }
-            Err(refusal) => {
-                output.print_row(refusal.code(), label)?;
-                say_why(name, refusal);
-                outcomes.refused = true;
+        let marked = Marked::of(name, &bytes, words);
+        outcomes.count(&marked);
+        match args.format {
+            Format { json: true, .. } => told.push(marked.json()),
+            Format { tsv: true, .. } => marked.print_tsv(output)?,
+            _ => {
+                output.print_row(marked.line(), Some(name).filter(|_| args.lists.len() > 1))?;
+                marked.say();
             }
         }
     }
-    Ok(outcomes.whole())
+    match args.format.json {
+        true => tell(args, outcomes.whole(), None, told, output),
+        false => Ok(outcomes.whole()),
+    }
+}
+
+/// A refused galley is told once, and has no rows.
+fn refuse(args: &Args, bytes: &[u8], refusal: Refusal, output: &mut Output) -> Result<Outcome, Error> {
+    match args.format.json {
+        true => tell(args, Outcome::Refused, Some(refusal), vec![], output),
+        false => refuse_galley(&args.galley, bytes, refusal, args.format, output),
+    }
+}
+
+fn tell(
+    args: &Args,
+    outcome: Outcome,
+    refusal: Option<Refusal>,
+    lists: Vec<Row>,
+    output: &mut Output,
+) -> Result<Outcome, Error> {
+    let told = Told { galley: &args.galley, refusal: refusal.map(Into::into), lists };
+    output.print_json(&json::Answer { command: "mark", outcome, told })?;
+    Ok(outcome)
 }

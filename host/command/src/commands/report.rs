@@ -3,12 +3,15 @@
 use super::make;
 use crate::error::Error;
 use crate::input::FileName;
-use crate::output::{refuse_galley, say, say_why, Output};
+use crate::json;
+use crate::marked::{Answer, Marked, Row, COLUMNS};
+use crate::output::{refuse_galley, say, say_why, Format, Output};
+use crate::rows;
 use crate::Outcome;
-use barleychime::engine::{self, MakeError, Mark, Memory};
-use barleychime::list::Extent;
+use barleychime::engine::{self, MakeError, Mark, Measure, Memory, Report};
 use barleychime::marks;
 use barleychime::refusal::{Refusal, RefusalKind};
+use serde::Serialize;
 use std::fmt::Display;
 
 #[derive(clap::Args)]
@@ -20,71 +23,176 @@ pub struct Args {
     #[arg(required_unless_present = "marks", value_name = "LIST")]
     pub lists: Vec<FileName>,
     /// Report on marks as text, a line `p X Y T E` for each paper
-    #[arg(long, value_name = "FILE", conflicts_with_all = ["galley", "lists"])]
+    #[arg(long, value_name = "FILE", conflicts_with_all = ["galley", "lists", "tsv"])]
     pub marks: Option<FileName>,
+    #[command(flatten)]
+    pub format: Format,
+}
+
+/// What programs are told.
+#[derive(Default, Serialize)]
+struct Told<'a> {
+    galley: Option<&'a FileName>,
+    refusal: Option<json::Refusal>,
+    engine: Option<json::Measure>,
+    report: Option<Sums>,
+    refused: usize,
+    unreadable: usize,
+    lists: Vec<Row<'a>>,
+}
+
+/// The report itself.
+#[derive(Serialize)]
+struct Sums {
+    papers: u64,
+    pages: u64,
+    x: u64,
+    y: u64,
+    turns: u64,
+    least: u64,
+    greatest: u64,
+    excess: u64,
+}
+
+impl From<Report> for Sums {
+    fn from(report: Report) -> Self {
+        let Report { papers, pages, x, y, turns, least, greatest, excess, .. } = report;
+        Sums { papers, pages, x, y, turns, least, greatest, excess }
+    }
 }
 
 pub fn run(args: &Args, output: &mut Output) -> Result<Outcome, Error> {
     match (&args.marks, &args.galley) {
-        (Some(file), _) => on_marks(file, output),
-        (None, Some(galley)) => on_lists(galley, &args.lists, output),
+        (Some(file), _) => on_marks(file, args.format, output),
+        (None, Some(galley)) => on_lists(galley, args, output),
         (None, None) => Err(Error::Usage("a galley and lists are wanted, or --marks FILE".into())),
     }
 }
 
 /// Marks each list and reports on those that are accepted. A list that is refused or cannot be read is no paper, and is counted
 /// as such.
-fn on_lists(galley: &FileName, lists: &[FileName], output: &mut Output) -> Result<Outcome, Error> {
+fn on_lists(galley: &FileName, args: &Args, output: &mut Output) -> Result<Outcome, Error> {
     let bytes = galley.galley()?;
-    let mut memory = Memory::new();
-    let engine = match memory.make(&bytes) {
-        Ok((measure, _)) => measure.turns,
-        Err(MakeError::Refused(refusal)) => {
-            let outcome = refuse_galley(galley, &bytes, refusal, output)?;
-            if refusal.kind == RefusalKind::NoPagination {
-                say(&format!("{galley}: {}", make::ADVICE));
-            }
-            return Ok(outcome);
-        }
+    let best = match Memory::new().make(&bytes) {
+        Ok((measure, _)) => measure,
+        Err(MakeError::Refused(refusal)) => return refuse_whole(galley, &bytes, args.format, refusal, output),
         Err(error) => return Err(Error::Make { name: galley.clone(), error }),
     };
     let words = engine::page_words(&bytes).map_err(Error::Unlike)?;
-    let (mut marks, mut refused, mut unreadable) = (Vec::new(), Vec::new(), 0);
-    for name in lists {
-        match name.list(words, Extent::Whole).map(|list| engine::mark(&bytes, &list.words)) {
-            Ok(Ok(engine::Measure { pages, x, y, turns, .. })) => marks.push(Mark { pages, x, y, turns, engine }),
-            Ok(Err(refusal)) => {
-                say_why(name, refusal);
-                refused.push(refusal);
-            }
-            Err(error) => {
-                say(&error.to_string());
-                unreadable += 1;
+    let marked: Vec<Marked> = args.lists.iter().map(|name| Marked::of(name, &bytes, words)).collect();
+    let report = engine::report(&papers(&marked, best));
+    match args.format {
+        Format { json: true, .. } => tell(galley, best, &marked, report, output),
+        Format { tsv: true, .. } => {
+            rows::heading(output, &COLUMNS)?;
+            marked.iter().try_for_each(|marked| marked.print_tsv(output))?;
+            Ok(outcome(&marked))
+        }
+        _ => {
+            marked.iter().for_each(Marked::say);
+            match report {
+                Ok(told) => {
+                    output.print(marks::in_words(&told) + &marks::no_papers(&refused(&marked), unreadable(&marked)))?;
+                    Ok(outcome(&marked))
+                }
+                Err(refusal) => refuse("the lists", refusal, output),
             }
         }
     }
-    let told = match engine::report(&marks) {
-        Ok(told) => told,
-        Err(refusal) => return refuse("the lists", refusal, output),
+}
+
+/// A galley that has no list of the engine's to compare with.
+fn refuse_whole(
+    galley: &FileName,
+    bytes: &[u8],
+    format: Format,
+    refusal: Refusal,
+    output: &mut Output,
+) -> Result<Outcome, Error> {
+    if format.json {
+        return answer(
+            Outcome::Refused,
+            Told { galley: Some(galley), refusal: Some(refusal.into()), ..Told::default() },
+            output,
+        );
+    }
+    let outcome = refuse_galley(galley, bytes, refusal, format, output)?;
+    if refusal.kind == RefusalKind::NoPagination {
+        say(&format!("{galley}: {}", make::ADVICE));
+    }
+    Ok(outcome)
+}
+
+/// The marks of the lists that are accepted.
+fn papers(marked: &[Marked], best: Measure) -> Vec<Mark> {
+    let paper = |marked: &Marked| match marked.answer {
+        Answer::Accepted(Measure { pages, x, y, turns, .. }) => Some(Mark { pages, x, y, turns, engine: best.turns }),
+        _ => None,
     };
-    output.print(marks::in_words(&told) + &marks::no_papers(&refused, unreadable))?;
-    Ok(if unreadable > 0 { Outcome::Failed } else { Outcome::Success })
+    marked.iter().filter_map(paper).collect()
+}
+
+fn refused(marked: &[Marked]) -> Vec<Refusal> {
+    let refusal = |marked: &Marked| match marked.answer {
+        Answer::Refused(refusal) => Some(refusal),
+        _ => None,
+    };
+    marked.iter().filter_map(refusal).collect()
+}
+
+fn unreadable(marked: &[Marked]) -> usize {
+    marked.iter().filter(|marked| matches!(marked.answer, Answer::Unreadable(_))).count()
+}
+
+/// A list that is refused is no failure of the report; one that cannot be read is.
+fn outcome(marked: &[Marked]) -> Outcome {
+    match unreadable(marked) {
+        0 => Outcome::Success,
+        _ => Outcome::Failed,
+    }
+}
+
+fn tell(
+    galley: &FileName,
+    best: Measure,
+    marked: &[Marked],
+    report: Result<Report, Refusal>,
+    output: &mut Output,
+) -> Result<Outcome, Error> {
+    let outcome = if report.is_ok() { outcome(marked) } else { Outcome::Refused };
+    let told = Told {
+        galley: Some(galley),
+        refusal: report.err().map(Into::into),
+        engine: Some(best.into()),
+        report: report.ok().map(Into::into),
+        refused: refused(marked).len(),
+        unreadable: unreadable(marked),
+        lists: marked.iter().map(Marked::json).collect(),
+    };
+    answer(outcome, told, output)
 }
 
 /// Reports on marks that are handed in as text.
-fn on_marks(name: &FileName, output: &mut Output) -> Result<Outcome, Error> {
+fn on_marks(name: &FileName, format: Format, output: &mut Output) -> Result<Outcome, Error> {
     let entries = marks::parse(&name.text()?).map_err(|error| Error::Marks { name: name.clone(), error })?;
     let marks: Vec<Mark> = entries.iter().map(|entry| entry.mark).collect();
     match engine::report(&marks) {
-        Ok(told) => {
-            output.print(marks::in_words(&told))?;
-            Ok(Outcome::Success)
+        Ok(report) if format.json => {
+            answer(Outcome::Success, Told { report: Some(report.into()), ..Told::default() }, output)
         }
+        Err(refusal) if format.json => {
+            answer(Outcome::Refused, Told { refusal: Some(refusal.into()), ..Told::default() }, output)
+        }
+        Ok(report) => output.print(marks::in_words(&report)).map(|()| Outcome::Success),
         Err(refusal) => match entries.get((refusal.place as usize).wrapping_sub(1)) {
             Some(entry) => refuse(format!("{name}: line {}", entry.line), refusal, output),
             None => refuse(name, refusal, output),
         },
     }
+}
+
+fn answer(outcome: Outcome, told: Told, output: &mut Output) -> Result<Outcome, Error> {
+    output.print_json(&json::Answer { command: "report", outcome, told }).map(|()| outcome)
 }
 
 fn refuse(what: impl Display, refusal: Refusal, output: &mut Output) -> Result<Outcome, Error> {

@@ -1,0 +1,115 @@
+//! Answers for programs: of each command one object, whose keys stay. docs/schemas has a JSON Schema for each.
+
+use crate::error::Error;
+use crate::input::FileName;
+use crate::Outcome;
+use barleychime::engine::{self, BookMeasure};
+use barleychime::list::UnlikeHead;
+use barleychime::refusal;
+use serde::{Serialize, Serializer};
+
+/// The answer of a command: which it was, how it ended, and what else it tells.
+#[derive(Serialize)]
+pub struct Answer<Told: Serialize> {
+    pub command: &'static str,
+    pub outcome: Outcome,
+    #[serde(flatten)]
+    pub told: Told,
+}
+
+/// What kept a command from its work.
+#[derive(Serialize)]
+pub struct Failure {
+    pub error: String,
+}
+
+impl From<&Error> for Failure {
+    fn from(error: &Error) -> Self {
+        Failure { error: error.to_string() }
+    }
+}
+
+/// A name as JSON can have it: bytes that are no text are shown as U+FFFD.
+impl Serialize for FileName {
+    fn serialize<To: Serializer>(&self, to: To) -> Result<To::Ok, To::Error> {
+        to.serialize_str(&String::from_utf8_lossy(self.bytes()))
+    }
+}
+
+/// What a list or a book comes to.
+#[derive(Clone, Copy, Serialize)]
+pub struct Measure {
+    pub pages: u64,
+    pub x: u64,
+    pub y: u64,
+    pub turns: u64,
+    pub white: u64,
+}
+
+impl From<engine::Measure> for Measure {
+    fn from(measure: engine::Measure) -> Self {
+        let engine::Measure { pages, x, y, turns, white } = measure;
+        Measure { pages: pages.into(), x: x.into(), y: y.into(), turns: turns.into(), white: white.into() }
+    }
+}
+
+impl From<BookMeasure> for Measure {
+    fn from(measure: BookMeasure) -> Self {
+        let BookMeasure { pages, x, y, turns, white } = measure;
+        Measure { pages, x, y, turns, white }
+    }
+}
+
+/// A refusal with its words.
+#[derive(Clone, Serialize)]
+pub struct Refusal {
+    pub number: u32,
+    pub name: &'static str,
+    pub place: u32,
+    pub sentence: String,
+    pub mender: &'static str,
+}
+
+impl From<refusal::Refusal> for Refusal {
+    fn from(refusal: refusal::Refusal) -> Self {
+        let refusal::Refusal { kind, place } = refusal;
+        let (number, name, mender) = (kind.number(), kind.name(), kind.mender());
+        Refusal { number, name, place, sentence: refusal.sentence(), mender }
+    }
+}
+
+/// A page of a list: what is placed when it ends.
+#[derive(Serialize)]
+pub struct Page {
+    pub page: usize,
+    pub lines: u32,
+    pub figures: u32,
+    pub tables: u32,
+}
+
+/// The pages of a list with so many words a page.
+pub fn pages(list: &[u32], words: usize) -> Vec<Page> {
+    let count = |end: &[u32], at: usize| end.get(at).copied().unwrap_or(0);
+    let page = |(before, end): (usize, &[u32])| Page {
+        page: before + 1,
+        lines: count(end, 0),
+        figures: count(end, 1),
+        tables: count(end, 2),
+    };
+    list.chunks_exact(words).enumerate().map(page).collect()
+}
+
+/// A head line that is not what the marking counts.
+#[derive(Clone, Serialize)]
+pub struct Head {
+    pub line: usize,
+    pub name: &'static str,
+    pub said: u32,
+    pub counted: u32,
+}
+
+impl From<&UnlikeHead> for Head {
+    fn from(unlike: &UnlikeHead) -> Self {
+        Head { line: unlike.line, name: unlike.name, said: unlike.said, counted: unlike.counted }
+    }
+}
