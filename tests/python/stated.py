@@ -1,7 +1,7 @@
-"""What the package states a second time, since it cannot read the header: limits, words, version, refusals."""
+"""What the package states a second time, since it cannot read the header: limits, what the words of a desk are, the version. Refusals are
+compared with the library's table where that is, in tests/host."""
 import re
 
-import barleychime
 from barleychime import library
 from engine import ROOT
 
@@ -20,11 +20,4 @@ def run(tally):
     ours = {name: value for name, value in vars(library).items() if name.isupper() and type(value) is int}
     tally.same('constants of the package', ours, {name: header.get(name) for name in ours})
     tally.same('there are some', len(ours) > 20, True)
-    enum = re.search(r'^enum barleychime_refusal \{\n(.*?)^\};', HEADER, re.M | re.S)[1]
-    names = {name: int(number) for name, number in re.findall(r'BARLEYCHIME_(\w+) = (\d+)', enum)}
-    tally.same('names of refusals', {kind.name: kind.value for kind in barleychime.RefusalKind}, names)
-    tally.same('their numbers', sorted(names.values()), list(range(1, 34)))
-    for kind in barleychime.RefusalKind:
-        if kind != barleychime.RefusalKind.INPUT_TOO_LONG:  # which no call answers, so that the header has only its name
-            tally.same(f'words of {kind}', f' *   {kind.value:2}  {kind.words.replace("`", "")}\n' in HEADER, True)
     tally.group('what Python states')
