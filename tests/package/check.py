@@ -4,6 +4,7 @@ import sys
 
 sys.path.insert(0, str(pathlib.Path(__file__).resolve().parents[1]))
 
+import counting
 import installing
 import tarball
 import versions
@@ -13,6 +14,7 @@ from tally import Tally
 def main():
     tally = Tally()
     installing.check(tally)
+    counting.check(tally)
     versions.check(tally)
     tarball.check(tally)
     return tally.end()
