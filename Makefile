@@ -55,7 +55,7 @@ $(ARCHIVE): target/stamp/barleychime
 
 $(SHARED): $(ARCHIVE)
 	@mkdir -p $(@D)
-	cc -shared -Wl,--whole-archive $< -Wl,--no-whole-archive -Wl,-soname,$(SONAME) -Wl,-z,defs -o $@
+	$(CC) -shared -Wl,--whole-archive $< -Wl,--no-whole-archive -Wl,-soname,$(SONAME) -Wl,-z,defs -o $@
 
 page: | proofs
 	@if command -v node > /dev/null; then web/build; else echo 'make: there is no node on PATH, so the command is built without the page'; fi
