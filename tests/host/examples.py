@@ -1,4 +1,4 @@
-"""What the documents have people copy: the programs in C, Rust and Python, the series on all cores; and what they leave."""
+"""What the documents have people copy: the programs in C, Rust, Python and JavaScript, the series on all cores; and what they leave."""
 
 import os
 import re
@@ -19,10 +19,10 @@ def blocks(document, language):
 def run(tally, command, root, library, folder):
     galley = folder / 'example.galley'
     galley.write_bytes(write(cases.A))
-    found = {'c': 0, 'rust': 0, 'python': 0, 'sh': 0}
+    found = {'c': 0, 'rust': 0, 'python': 0, 'js': 0, 'sh': 0}
     for path in [root / 'README.md', *sorted((root / 'docs').glob('*.md'))]:
         document = path.read_text()
-        for language, example in (('c', in_c), ('rust', in_rust), ('python', in_python), ('sh', series)):
+        for language, example in (('c', in_c), ('rust', in_rust), ('python', in_python), ('js', in_javascript), ('sh', series)):
             for source in blocks(document, language):
                 found[language] += 1
                 example(tally, f'{path.name}, {language}', source, command, root, library, folder, galley)
@@ -54,6 +54,17 @@ def in_python(tally, what, source, _command, root, library, folder, galley):
         ran = subprocess.run([sys.executable, file, given], capture_output=True, text=True,
                              env={**os.environ, 'PYTHONPATH': str(root / 'python'), 'BARLEYCHIME_SHARED': str(shared)})
         tally.same(f'{what}: {given.name}', (ran.returncode, ran.stdout, ran.stderr), (0, due, ''))
+
+
+def in_javascript(tally, what, source, _command, root, _library, _folder, galley):
+    """As a module in the project's folder, where web/build has been."""
+    if not (shutil.which('node') and (root / 'target/web/engine.wasm').is_file()):
+        print(f'{what}: did not run, since there is no node or web/build was not run')
+        tally.same(f'{what}: node is here, as the gate asks', os.environ.get('CI') != 'true', True)
+        return
+    for given, due in ((galley.read_bytes(), '1 turns, [1,1,3,1], true\n'), (b'', 'R 1 0: StopsShort\n')):
+        ran = subprocess.run(['node', '--input-type=module', '--eval', source], cwd=root, input=given, capture_output=True)
+        tally.same(f'{what}: {len(given)} bytes', (ran.returncode, ran.stdout.decode(), ran.stderr.decode()), (0, due, ''))
 
 
 def in_rust(tally, what, source, _command, root, library, folder, galley):
