@@ -8,8 +8,8 @@
     True
 
 A galley is bytes, as `barleychime pack` writes them. A page list has an end for each page: the lines and the figures placed so far, and
-the tables too where the galley has any. What the engine turns away is raised as `Refusal`, with its kind, number, place and words; what is no
-galley and no number at all is a `TypeError` or a `ValueError`. Calls share nothing, so that threads may call at the same time.
+the tables too where the galley has any. What the engine turns away is raised as `Refusal`, with its kind, number, place and words; what
+is no galley and no number at all is a `TypeError` or a `ValueError`. Calls share nothing, so that threads may call at the same time.
 """
 from .answers import BookMaking, End, Ends, Forecast, Making, Measure, Paper, Report
 from .calls import book, fold, forecast, make, make_after, mark, page_words, report

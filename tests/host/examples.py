@@ -38,8 +38,8 @@ def in_c(tally, what, source, _command, root, library, folder, galley):
     file.write_text(source)
     for name, way, options in [*((way, way, ()) for way in WAYS), ('sanitized', 'C11', SANITIZED)]:
         tally.same(f'{what}, {name}: built', built(way, root, file, library, program, options), [(0, '')] * 2)
-        for given, data, due in (('case A', galley.read_bytes(), (0, '1 1\n3 1\n', '')), ('a table', write(cases.K), (0, '2 1 0\n3 1 1\n', '')),
-                                 ('no bytes', b'', (1, 'R 1 0\n', '')),
+        for given, data, due in (('case A', galley.read_bytes(), (0, '1 1\n3 1\n', '')),
+                                 ('a table', write(cases.K), (0, '2 1 0\n3 1 1\n', '')), ('no bytes', b'', (1, 'R 1 0\n', '')),
                                  ('no pagination', write(cases.A_TALL), (1, 'R 11 0\n', 'no pagination meets the page specification\n'))):
             ran = subprocess.run([program], input=data, capture_output=True)
             tally.same(f'{what}, {name}: {given}', (ran.returncode, ran.stdout.decode(), ran.stderr.decode()), due)
@@ -48,8 +48,8 @@ def in_c(tally, what, source, _command, root, library, folder, galley):
 def in_python(tally, what, source, _command, root, library, folder, galley):
     file, shared = folder / 'example.py', engine.shared(library, folder / 'libbarleychime.so')
     file.write_text(source)
-    for given, data, due in ((galley, write(cases.A), '1 turns, ((1, 1), (3, 1)), True\n'),
-                             (folder / 'none.galley', b'', "R 1 0: the galley stops short, inside a record or without its `ED`; the galley's writer can mend it\n")):
+    stops = "R 1 0: the galley stops short, inside a record or without its `ED`; the galley's writer can mend it\n"
+    for given, data, due in ((galley, write(cases.A), '1 turns, ((1, 1), (3, 1)), True\n'), (folder / 'none.galley', b'', stops)):
         given.write_bytes(data)
         ran = subprocess.run([sys.executable, file, given], capture_output=True, text=True,
                              env={**os.environ, 'PYTHONPATH': str(root / 'python'), 'BARLEYCHIME_SHARED': str(shared)})

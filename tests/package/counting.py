@@ -33,10 +33,11 @@ def tried(printed, status=0, toolchain=True):
 def check(tally):
     whole = f'{PROVED}rt: galley proved (11 s)\nrt: ok, 3 crates proved\n'
     kept = ''.join(f'{line}\n' for line in whole.splitlines() if line.startswith('rt: '))
-    tally.same('every crate is proved', tried(whole), (0, f'{HEAD}1 of 3: model proved (7 s)\n3 of 3: galley proved (11 s)\n3 of 3 crates proved\n', kept))
+    said = f'{HEAD}1 of 3: model proved (7 s)\n3 of 3: galley proved (11 s)\n3 of 3 crates proved\n'
+    tally.same('every crate is proved', tried(whole), (0, said, kept))
     refused = f'{PROVED}fn galley::read: the goal does not follow\nrt: galley NOT PROVED (11 s)\nrt: 1 crate is not proved\n'
-    status, said, _ = tried(refused, 1)
-    tally.same('a crate is not proved', (status, said), (1, f'{HEAD}1 of 3: model proved (7 s)\n{refused.removeprefix(PROVED)}2 of 3 crates proved\n'))
+    said = f'{HEAD}1 of 3: model proved (7 s)\n{refused.removeprefix(PROVED)}2 of 3 crates proved\n'
+    tally.same('a crate is not proved', tried(refused, 1)[:2], (1, said))
     status, said, _ = tried('', toolchain=False)
     tally.same('there is no toolchain', (status, 'the Rattle toolchain (rt)' in said), (2, True))
     tally.group('proofs counted')

@@ -38,7 +38,8 @@ def unpacked(tally, folder):
     tally.same('sums', ran('sha256sum', '--quiet', '-c', 'SHA256SUMS', cwd=here), (0, b'', ''))
     summed = {line.split(None, 1)[1] for line in (here / 'SHA256SUMS').read_text().splitlines()}
     tally.same('a sum for each file', summed, {name for name in files(here) if not (here / name).is_symlink()} - {'SHA256SUMS'})
-    tally.same('the sum of the tarball', ran('sha256sum', '--quiet', '-c', f'{tarballs[0].name}.sha256', cwd=tarballs[0].parent), (0, b'', ''))
+    beside = f'{tarballs[0].name}.sha256'
+    tally.same('the sum of the tarball', ran('sha256sum', '--quiet', '-c', beside, cwd=tarballs[0].parent), (0, b'', ''))
     proved = (here / 'PROVED').read_text()
     for crate in re.findall(r'^(\w+):', (ROOT / 'crates.txt').read_text(), re.M):
         said = re.findall(rf'^rt: {crate} proved \(|^{crate}: logic=proved functions=', proved, re.M)
@@ -55,17 +56,20 @@ def used(tally, here):
     told = {'PKG_CONFIG_PATH': str(here / 'lib/pkgconfig')}
     flags, libdir = (ran('pkg-config', *asked, 'barleychime', cwd=here, **told)[1].decode().split()
                      for asked in (['--cflags', '--libs'], ['--variable=libdir']))
-    tally.same('pkg-config leads into the folder', all(pathlib.Path(flag[2:]).resolve().is_relative_to(here) for flag in flags if flag[:2] in ('-I', '-L')), True)
-    strict = ['-std=c11', '-Wall', '-Wextra', '-pedantic', '-Werror']
-    for way, linked in (('the shared library', [*flags, f'-Wl,-rpath,{libdir[0]}']), ('the archive', [*flags[:1], f'{libdir[0]}/libbarleychime.a'])):
-        tally.same(f'the C example over {way}: compiled', ran('cc', *strict, 'share/doc/barleychime/pages.c', *linked, '-o', 'pages', cwd=here), (0, b'', ''))
+    led = [pathlib.Path(flag[2:]).resolve().relative_to(here) for flag in flags if flag[:2] in ('-I', '-L')]
+    tally.same('pkg-config leads into the folder', list(map(str, led)), ['include', 'lib'])
+    strict = ['-std=c11', '-Wall', '-Wextra', '-pedantic', '-Werror', 'share/doc/barleychime/pages.c', '-o', 'pages']
+    for way, linked in (('the shared library', [*flags, f'-Wl,-rpath,{libdir[0]}']),
+                        ('the archive', [*flags[:1], f'{libdir[0]}/libbarleychime.a'])):
+        tally.same(f'the C example over {way}: compiled', ran('cc', *strict, *linked, cwd=here), (0, b'', ''))
         tally.same(f'the C example over {way}: case A', ran('./pages', cwd=here, given=case_a), (0, CASE_A.encode(), ''))
     needed = ran('readelf', '-d', 'lib/libbarleychime.so', cwd=here)[1].decode()
     tally.same('the name of the shared library', re.findall(r'soname: \[(.+)\]', needed), ['libbarleychime.so.0'])
     for name in TOLD if ran('bin/barleychime', 'man', cwd=here)[0] == 0 else ():
         tally.same(f'{name} is there', (here / name).is_file() and (here / name).stat().st_size > 200, True)
     wheels = [name for name in files(here) if name.endswith('.whl')]
-    tally.same('the wheel is installed', ran(sys.executable, '-m', 'pip', 'install', '-q', '--no-index', '--target', 'site', *wheels, cwd=here, HOME=str(here))[0], 0)
+    pip = (sys.executable, '-m', 'pip', 'install', '-q', '--no-index', '--target', 'site')
+    tally.same('the wheel is installed', ran(*pip, *wheels, cwd=here, HOME=str(here))[0], 0)
     program = 'import barleychime; print(barleychime.fold(4))'
     tally.same('and called', ran(sys.executable, '-c', program, cwd=here, PYTHONPATH=str(here / 'site')), (0, b'((4, 1, 2, 3),)\n', ''))
 
@@ -79,7 +83,8 @@ def installed(tally, folder):
     tally.same('what is installed', files(into), sorted(listed))
     tally.same('as it was staged', files(into), files(ROOT / 'target/stage'))
     tally.same('the command is installed', ran(into / 'bin/barleychime', '--version', cwd=folder)[:1], (0,))
-    tally.same('nobody else may write it', [oct((into / name).stat().st_mode & 0o777) for name in ('bin/barleychime', 'include/barleychime.h')], ['0o755', '0o644'])
+    modes = [(into / name).stat().st_mode & 0o777 for name in ('bin/barleychime', 'include/barleychime.h')]
+    tally.same('nobody else may write it', modes, [0o755, 0o644])
     (into / 'share/barleychime/mine').write_text('')
     tally.same('make uninstall', make('uninstall', *given), (0, f'removed from {into}\n', ''))
     tally.same('what is left', files(into), ['share/barleychime/mine'])

@@ -17,8 +17,9 @@ def check(tally):
     number = str(10_000 * major + 100 * minor + patch)
     for crate in CRATES:
         tally.same(f'version of {crate}', stated(f'{crate}/Cargo.toml', r'^version = "(.+)"$'), version)
-    tally.same('version of the header, in figures', stated('include/barleychime.h', r'^#define BARLEYCHIME_VERSION_STRING "(.+)"$'), version)
-    tally.same('version of the header', stated('include/barleychime.h', r'^#define BARLEYCHIME_VERSION (\d+)$'), number)
+    header = 'include/barleychime.h'
+    tally.same('version of the header', stated(header, r'^#define BARLEYCHIME_VERSION (\d+)$'), number)
+    tally.same('version of the header, in figures', stated(header, r'^#define BARLEYCHIME_VERSION_STRING "(.+)"$'), version)
     tally.same('version of the engine', stated('crates/barleychime/src/lib.rt', r'barleychime_version\(\) -> u32\n.*≡ (\d+) '), number)
     tally.same('version of the Python package', stated('python/barleychime/__init__.py', r"^__version__ = '(.+)'$"), version)
     tally.same('the newest version in CHANGELOG.md', stated('CHANGELOG.md', r'^## ([\d.]+)'), version)

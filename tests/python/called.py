@@ -2,10 +2,9 @@
 import concurrent.futures
 import doctest
 import random
-import sys
 
 import barleychime
-from reference import beforehand, book, cases, desk, folding, marking, refusals, report, sample, search
+from reference import beforehand, cases, desk, folding, marking, refusals, report, sample, search
 from reference.galley import read, write
 
 
@@ -47,8 +46,8 @@ def made(tally):
             due = making(galley, best, opening) if best else ('refused', *told)
             tally.same(f'making {name}', answer(barleychime.make_after, write(galley), printed), due)
     for name, data, number, place in refusals.files():
-        for call, *more in ((barleychime.make,), (barleychime.make_after, ((1, 1),)), (barleychime.mark, ((1, 1),)), (barleychime.forecast,),
-                            (barleychime.page_words,), (barleychime.Desk, ((1, 1),))):
+        for call, *more in ((barleychime.make,), (barleychime.make_after, ((1, 1),)), (barleychime.mark, ((1, 1),)),
+                            (barleychime.forecast,), (barleychime.page_words,), (barleychime.Desk, ((1, 1),))):
             tally.same(f'{call.__name__} of {name}', answer(call, memoryview(data), *more), ('refused', number, place))
     tally.group('galleys made in Python')
 
@@ -65,7 +64,8 @@ def marked(tally):
             due = barleychime.BookMaking(barleychime.Measure(*counts), lists, sum(map(beforehand.weighed, chapters)))
         tally.same(f'making {name}', answer(barleychime.book, map(write, chapters)), due)
     whole, cut = write(cases.A), write(cases.A)[:-1]
-    for name, chapters, number, place in (('no chapters', [], 28, 0), ('too many chapters', [whole] * 201, 28, 0), ('a chapter cut short', [whole, cut], 1, 2),
+    for name, chapters, number, place in (('no chapters', [], 28, 0), ('too many chapters', [whole] * 201, 28, 0),
+                                          ('a chapter cut short', [whole, cut], 1, 2),
                                           ('another specification', [whole, write(cases.C)], 29, 2)):
         tally.same(f'a book of {name}', answer(barleychime.book, chapters), ('refused', number, place))
     tally.group('lists and books in Python')
@@ -86,13 +86,13 @@ def tried(tally):
             name = rng.choice(('a', 'Blatt 2', 'ä' * 8, b'', b'\xff', b'x' * 17, *'bcdefgh'))
             page, chance = rng.randint(0, len(held.force) + 1), tuple(rng.randint(0, size) for size in galley.sizes)
             call, arguments, answered = rng.choice((
-                (here.ask, (page, rng.choice((chance, *held.force))), desk.asked), (here.commit, (), desk.committed), (here.save, (name,), desk.saved), (here.back, (name,), desk.come_back),
-                (here.drop, (name,), desk.dropped)))
+                (here.ask, (page, rng.choice((chance, *held.force))), desk.asked), (here.commit, (), desk.committed),
+                (here.save, (name,), desk.saved), (here.back, (name,), desk.come_back), (here.drop, (name,), desk.dropped)))
             due, held = answered(held, *(source, *arguments) if call == here.ask else map(in_bytes, arguments))
             tally.kind(call.__name__, f'{call.__name__} {due[0]}')
             tally.same(f'{call.__name__}{arguments} on {galley}', answer(call, *arguments), None if due == desk.DONE else measure(due))
             tally.same('the list in force', here.ends, held.force)
-            tally.same('what is pending', here.pending and altered(held.force, *here.pending), held.pending)
+            tally.same('what is pending', here.pending and desk.altered_list(held.force, *here.pending), held.pending)
             tally.same('the layouts', here.layouts, dict(filter(None, held.layouts)))
     tally.enough([f'{name} {said}' for name in ('ask', 'commit', 'save', 'back', 'drop') for said in ('refused',)], 20)
     tally.enough(['ask accepted', 'commit done', 'save done', 'back done', 'drop done'], 5)
@@ -101,10 +101,6 @@ def tried(tally):
 
 def in_bytes(name):
     return name.encode() if isinstance(name, str) else name
-
-
-def altered(force, page, end):
-    return desk.altered_list(force, page, end)
 
 
 def summed(tally):
@@ -127,18 +123,21 @@ def summed(tally):
 
 def wrong(tally):
     """What is no galley and no number is told as Python tells it, and never cut to 32 bits."""
-    data = write(cases.A)
+    data, at_desk = write(cases.A), barleychime.Desk(write(cases.A), [(1, 1), (3, 1)])
     for what, call, arguments, error, words in (
             ('text as a galley', barleychime.make, ('GS',), TypeError, 'a galley is bytes, not str'),
             ('a number as a galley', barleychime.mark, (7, ()), TypeError, 'a galley is bytes, not int'),
-            ('a number too high', barleychime.mark, (data, [(1, 1), (2**32 + 3, 1)]), ValueError, 'page 2: a number of a page is 0 to 4294967295, not 4294967299'),
-            ('a number below 0', barleychime.make_after, (data, [(-1, 0)]), ValueError, 'page 1: a number of a page is 0 to 4294967295, not -1'),
+            ('a number too high', barleychime.mark, (data, [(1, 1), (2**32 + 3, 1)]), ValueError,
+             'page 2: a number of a page is 0 to 4294967295, not 4294967299'),
+            ('a number below 0', barleychime.make_after, (data, [(-1, 0)]), ValueError,
+             'page 1: a number of a page is 0 to 4294967295, not -1'),
             ('a fraction', barleychime.mark, (data, [(1.5, 0)]), TypeError, "'float' object cannot be interpreted as an integer"),
-            ('three numbers a page', barleychime.mark, (data, [(1, 1), (3, 1, 0)]), ValueError, 'page 2: 3 numbers, but a page of this galley has 2 (lines, figures)'),
+            ('three numbers a page', barleychime.mark, (data, [(1, 1), (3, 1, 0)]), ValueError,
+             'page 2: 3 numbers, but a page of this galley has 2 (lines, figures)'),
             ('two numbers a page', barleychime.mark, (write(cases.K), [(1, 1)]), ValueError,
              'page 1: 2 numbers, but a page of this galley has 3 (lines, figures, tables)'),
             ('a section below 0', barleychime.fold, (-4,), ValueError, 'the size of a section is 0 to 4294967295, not -4'),
-            ('a page too high', barleychime.Desk(data, [(1, 1), (3, 1)]).ask, (2**32 + 1, (1, 1)), ValueError, 'a page is 0 to 4294967295, not 4294967297'),
+            ('a page too high', at_desk.ask, (2**32 + 1, (1, 1)), ValueError, 'a page is 0 to 4294967295, not 4294967297'),
             ('a paper below 0', barleychime.report, ([barleychime.Paper(1, 1, 1, 1, -1)],), ValueError,
              'a number of a paper is 0 to 4294967295, not -1')):
         try:

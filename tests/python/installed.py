@@ -38,15 +38,16 @@ def pip(tally, folder):
 
 def missing(tally, folder):
     """The library that is named and no other is loaded, and a library that is none or is older is not called."""
-    alone = folder / 'without'
+    alone, unfit = folder / 'without', 'which BARLEYCHIME_SHARED names, cannot be loaded'
     for what, variables, words in (
-            ('a file that is not there', {'BARLEYCHIME_SHARED': str(folder / 'none.so')}, 'which BARLEYCHIME_SHARED names, cannot be loaded'),
-            ('a file that is no library', {'BARLEYCHIME_SHARED': str(ROOT / 'README.md')}, 'which BARLEYCHIME_SHARED names, cannot be loaded'),
+            ('a file that is not there', {'BARLEYCHIME_SHARED': str(folder / 'none.so')}, unfit),
+            ('a file that is no library', {'BARLEYCHIME_SHARED': str(ROOT / 'README.md')}, unfit),
             ('another library', {'BARLEYCHIME_SHARED': 'libm.so.6'}, 'libm.so.6 is older than version 0.2.0'),
             ('none', {'PKG_CONFIG_LIBDIR': str(folder)}, 'libbarleychime.so is not found: `make` in the project builds it')):
         printed, said = python(folder, alone, PROGRAM, **variables)
         tally.same(f'{what}: no answer', printed, '')
-        tally.same(f'{what}: the reason', [words in line and line.startswith('barleychime.library.LibraryMissing') for line in said], [True])
+        raised = [words in line and line.startswith('barleychime.library.LibraryMissing') for line in said]
+        tally.same(f'{what}: the reason', raised, [True])
 
 
 def typed(tally):
@@ -54,7 +55,8 @@ def typed(tally):
         print('mypy is not here: packages/install python installs it')
         tally.same('mypy is here, as the gate asks', os.environ.get('CI') != 'true', True)
         return
-    ran = subprocess.run(['mypy', '--strict', '--no-incremental', '--cache-dir', os.devnull, ROOT / 'python/barleychime'], capture_output=True, text=True)
+    ran = subprocess.run(['mypy', '--strict', '--no-incremental', '--cache-dir', os.devnull, ROOT / 'python/barleychime'],
+                         capture_output=True, text=True)
     tally.same('mypy --strict', (ran.returncode, ran.stdout.startswith('Success')), (0, True))
 
 
