@@ -20,6 +20,7 @@ MAN := share/man/man1/barleychime.1
 BASH := share/bash-completion/completions/barleychime
 ZSH := share/zsh/site-functions/_barleychime
 FISH := share/fish/vendor_completions.d/barleychime.fish
+LATEX := $(wildcard latex/*.sty latex/*.lua)
 TARBALL := barleychime-$(VERSION)-x86_64-linux
 INTO = $(DESTDIR)$(PREFIX)
 
@@ -85,6 +86,7 @@ staged: command $(SHARED)
 	@mkdir -p $(STAGE)/share/barleychime $(STAGE)/share/doc/barleychime
 	@cp -R samples $(STAGE)/share/barleychime/samples
 	@if [ -f target/web/barleychime.html ]; then install -m 644 target/web/barleychime.html $(STAGE)/share/barleychime/; fi
+	@$(if $(LATEX),install -D -m 644 -t $(STAGE)/share/texmf/tex/lualatex/barleychime $(LATEX))
 	@install -m 644 README.md CHANGELOG.md $(wildcard docs/COMMAND.md) docs/EMBEDDING.md $(STAGE)/share/doc/barleychime/
 	@sed -n '/^```c$$/,/^```$$/p' docs/EMBEDDING.md | sed '/^```/d' > $(STAGE)/share/doc/barleychime/pages.c
 	@cd $(STAGE) && touch $(FILES) && find . \( -type f -o -type l \) -printf '%P\n' | LC_ALL=C sort > $(FILES)
@@ -95,14 +97,15 @@ install:
 	@[ -f $(STAGE)/$(FILES) ] || { echo 'make install: nothing is built yet: run make first' >&2; exit 1; }
 	@mkdir -p "$(INTO)"
 	@tar -C $(STAGE) -T $(STAGE)/$(FILES) -cf - | tar -C "$(INTO)" --no-same-owner -xf -
-	@if [ -z "$(DESTDIR)" ] && [ "$$(id -u)" -eq 0 ]; then ldconfig || true; fi
+	@if [ -z "$(DESTDIR)" ] && [ "$$(id -u)" -eq 0 ]; then tools/noticed "$(PREFIX)"; fi
 	@echo 'installed below $(INTO)'
 
 uninstall:
 	@[ -f "$(INTO)/$(FILES)" ] || { echo 'make uninstall: nothing is installed below $(INTO)' >&2; exit 1; }
 	@cd "$(INTO)" && xargs -d '\n' rm -f -- < <(cat $(FILES))
-	@cd "$(INTO)" && for folder in share/barleychime share/doc/barleychime; do \
+	@cd "$(INTO)" && for folder in share/barleychime share/doc/barleychime share/texmf/tex/lualatex/barleychime; do \
 	    if [ -d $$folder ]; then find $$folder -depth -type d -empty -delete; fi; done
+	@if [ -z "$(DESTDIR)" ] && [ "$$(id -u)" -eq 0 ]; then tools/noticed "$(PREFIX)"; fi
 	@echo 'removed from $(INTO)'
 
 dist: all python
