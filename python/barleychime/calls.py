@@ -104,7 +104,10 @@ def read(galley: Galley) -> bytes:
 
 def lent(words: int) -> Any:
     """Memory of so many words that is lent to the engine; never none, since the engine takes no null."""
-    return (WORD * max(1, words))()
+    try:
+        return (WORD * max(1, words))()
+    except MemoryError:
+        raise MemoryError(f'{4 * words:,} bytes cannot be had, which the engine asks for') from None
 
 
 def wide(low: int, high: int) -> int:

@@ -50,6 +50,18 @@ def missing(tally, folder):
         tally.same(f'{what}: the reason', raised, [True])
 
 
+def short_of_memory(tally, folder):
+    """The longest galley asks for 1.6 GB; where that cannot be had, the error says so, and the process goes on."""
+    program = ('import resource, barleychime\n'
+               'block = lambda mark, *fields: mark + b"".join(field.to_bytes(4, "big") for field in fields)\n'
+               'galley = (block(b"GS", 0, 3000, 0, 0, 1, 1, 1) + 4000 * block(b"TL", 10, 0, 0, 1)'
+               ' + 200 * block(b"FG", 9, 0, 0, 1) + 50 * block(b"TB", 9, 0, 0, 1) + b"ED")\n'
+               'resource.setrlimit(resource.RLIMIT_AS, (10**9, 10**9))\n'
+               'try:\n    barleychime.make(galley)\nexcept MemoryError as error:\n    print(error, barleychime.fold(4))\n')
+    tally.same('short of memory', python(folder, folder / 'with', program),
+               ('1,640,570,040 bytes cannot be had, which the engine asks for ((4, 1, 2, 3),)\n', []))
+
+
 def typed(tally):
     if not shutil.which('mypy'):
         print('mypy is not here: packages/install python installs it')
@@ -63,5 +75,6 @@ def typed(tally):
 def run(tally, folder):
     pip(tally, folder)
     missing(tally, folder)
+    short_of_memory(tally, folder)
     typed(tally)
     tally.group('installed in Python')
