@@ -37,8 +37,8 @@ def run(tally, command, root):
     tally.same('words in C', words, {row['number']: row['words'].replace('`', '') for row in rows if row['number'] != 19})
     sys.path.insert(0, str(root / 'python'))
     from barleychime.refusals import RefusalKind
-    tally.same('names, words and menders in Python', [(kind.value, kind.name, kind.words, kind.mender) for kind in RefusalKind],
-               [(row['number'], c_name(row['name']), row['words'], row['mender']) for row in rows])
+    tally.same('the table in Python', [(kind.value, kind.name, kind.words, kind.counts, kind.mender) for kind in RefusalKind],
+               [(row['number'], c_name(row['name']), row['words'], row['place'], row['mender']) for row in rows])
     status, page, remarks = command.text('refusals')
     tally.same('refusals', (status, remarks, max(map(len, page.splitlines())) <= 80), (0, '', True))
     flat = ' '.join(page.split())
