@@ -3,3 +3,4 @@ pub mod Section
 pub mod Forecast
 pub mod Book
 pub mod Desk
+pub mod Calls
