@@ -47,6 +47,11 @@ def unpacked(tally, folder):
     return here
 
 
+def newest(symbols):
+    """The newest version of the C library that these symbols are of."""
+    return max(tuple(map(int, version.split(b'.'))) for version in re.findall(rb'GLIBC_([\d.]+)', symbols))
+
+
 def used(tally, here):
     """The command makes a sample; the C example is compiled through pkg-config, over the shared library and over the archive."""
     due = ran(ROOT / 'host/command/target/release/barleychime', 'make', ROOT / 'samples/real/gretl-p441.galley', cwd=ROOT)
@@ -65,6 +70,10 @@ def used(tally, here):
         tally.same(f'the C example over {way}: case A', ran('./pages', cwd=here, given=case_a), (0, CASE_A.encode(), ''))
     needed = ran('readelf', '-d', 'lib/libbarleychime.so', cwd=here)[1].decode()
     tally.same('the name of the shared library', re.findall(r'soname: \[(.+)\]', needed), ['libbarleychime.so.0'])
+    stated = re.search(r'glibc (\d+)\.(\d+) .* needs (\d+)\.(\d+)', (here / 'README.md').read_text())
+    for name, least in zip(('bin/barleychime', 'lib/libbarleychime.so'), (stated.groups()[:2], stated.groups()[2:])):
+        asked = newest(ran('objdump', '-T', name, cwd=here)[1])
+        tally.same(f'{name} asks for glibc {asked}, as is stated or an older one', asked <= tuple(map(int, least)), True)
     for name in TOLD if ran('bin/barleychime', 'man', cwd=here)[0] == 0 else ():
         tally.same(f'{name} is there', (here / name).is_file() and (here / name).stat().st_size > 200, True)
     wheels = [name for name in files(here) if name.endswith('.whl')]
