@@ -25,12 +25,6 @@ def usage(tally, command):
                       ('desk', 'a', '-'), ('pack',), ('unpack', 'a', 'b'), ('mark', '-', '-'), ('explain', '-', '-'), ('make', '')]:
         status, output, remarks = command.text(*arguments)
         tally.same(f'{arguments}', (status, output, remarks.count('\n')), (2, '', 1))
-    for name in COMMANDS:
-        for option in ('--help', '-h'):
-            status, output, remarks = command.text(name, option)
-            tally.same(f'{name} {option}', (status, output.split()[:2], remarks), (0, ['barleychime', name], ''))
-    status, output, remarks = command.text('--help')
-    tally.same('--help', (status, remarks), (0, ''))
     status, output, remarks = command.text('--version')
     tally.same('--version', (status, output.split()[0], remarks), (0, 'barleychime', ''))
     tally.group('command: usage')
@@ -174,9 +168,6 @@ def outputs(tally, command, folder):
     for name in ('make', 'unpack'):
         status, _, remarks = command.text(name, text)
         tally.same(f'{name} with a text', (status, '`barleychime pack`' in remarks), (1, True))
-    shell = f'{command.program} unpack {file(folder, "long.galley", write(cases.LONGEST))} | head -n 1'
-    done = subprocess.run(shell, shell=True, capture_output=True, check=False)
-    tally.same('a closed output', (done.stdout, done.stderr), (b'GS 0 1 0 0 1 1000 1000\n', b''))
     tally.group('command: outputs')
 
 

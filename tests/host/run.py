@@ -31,6 +31,7 @@ import examples  # noqa: E402
 import explained  # noqa: E402
 import folding  # noqa: E402
 import foretold  # noqa: E402
+import options  # noqa: E402
 import printed  # noqa: E402
 import refusal_table  # noqa: E402
 import reported  # noqa: E402
@@ -45,6 +46,7 @@ from tally import Tally  # noqa: E402
 
 def main():
     tally = Tally()
+    os.environ['NO_COLOR'] = '1'  # what is said on a terminal is compared word by word; options.py has colour
     library = Path(os.environ.get('BARLEYCHIME_LIB') or PROVED).resolve()
     if not library.is_file():
         print(f'FAILED {library} is not there')
@@ -57,6 +59,7 @@ def main():
         archive.run(tally, library)
         command_line.run(tally, command, ROOT, folder)
         refusal_table.run(tally, command, ROOT)
+        options.run(tally, command, ROOT, folder)
         advised.run(tally, command, folder)
         round_trips.run(tally, command, ROOT, folder)
         explained.run(tally, command, folder)

@@ -1,20 +1,20 @@
-//! The arguments of the command, and what is said of a call that is wrong.
+//! The arguments of the command.
 
-use crate::commands::{book, desk, explain, fold, forecast, make, mark, pack, refusals, report, unpack};
+use crate::commands::{
+    book, completions, desk, explain, fold, forecast, make, man, mark, pack, refusals, report, unpack,
+};
 use crate::error::Error;
-use crate::json;
-use crate::output::Output;
-use crate::Outcome;
-use clap::error::{ContextKind, ContextValue, ErrorKind};
+use crate::output::{self, Output};
+use crate::{help, json, wrong, Outcome};
+use clap::builder::ValueHint;
+use clap::error::ErrorKind;
 use clap::{CommandFactory, FromArgMatches, Parser, Subcommand};
 use std::ffi::OsString;
 
-const TEMPLATE: &str = "{usage}\n\n{about}\n\n{all-args}{after-help}\n";
-
 /// Makes the pages of a galley with the fewest page turns, and marks page lists.
 #[derive(Parser)]
-#[command(name = "barleychime", version, help_template = TEMPLATE, disable_help_subcommand = false)]
-#[command(after_help = "A file called - is standard input. Exit status: 0 success, 1 refused, 2 an error.")]
+#[command(name = "barleychime", version, after_help = help::WHOLE)]
+#[command(help_template = "{usage}\n\n{about}\n\n{subcommands}{after-help}\n")]
 struct Whole {
     #[command(subcommand)]
     command: Commands,
@@ -23,52 +23,85 @@ struct Whole {
 #[derive(Subcommand)]
 enum Commands {
     /// The best page list of a galley
-    #[command(help_template = TEMPLATE)]
+    #[command(after_help = help::MAKE)]
     Make(make::Args),
-    /// The best page lists of chapters that follow one another, as one book
-    #[command(help_template = TEMPLATE)]
+    /// The best page lists of the chapters of a book
+    #[command(after_help = help::BOOK)]
     Book(book::Args),
     /// Memory, pages weighed and time, told before a galley is made
-    #[command(help_template = TEMPLATE)]
+    #[command(after_help = help::FORECAST)]
     Forecast(forecast::Args),
     /// Pages and turns of page lists, or what they break
-    #[command(help_template = TEMPLATE)]
+    #[command(after_help = help::MARK)]
     Mark(mark::Args),
-    /// A page list in words, page by page
-    #[command(help_template = TEMPLATE)]
+    /// Page lists in words, page by page, and where turns are lost
+    #[command(after_help = help::EXPLAIN)]
     Explain(explain::Args),
     /// Page ends tried on a page list, call by call
-    #[command(help_template = TEMPLATE)]
+    #[command(after_help = help::DESK)]
     Desk(desk::Args),
     /// A galley written as text, as a galley file
-    #[command(help_template = TEMPLATE)]
+    #[command(after_help = help::PACK)]
     Pack(pack::Args),
     /// A galley file as text
-    #[command(help_template = TEMPLATE)]
+    #[command(after_help = help::UNPACK)]
     Unpack(unpack::Args),
-    /// Exact sums over marked lists, and the mean excess over the engine
-    #[command(help_template = TEMPLATE)]
+    /// Exact sums over marked lists, and the excess over the engine
+    #[command(after_help = help::REPORT)]
     Report(report::Args),
     /// The pages of stitched sections, sheet by sheet
-    #[command(help_template = TEMPLATE)]
+    #[command(after_help = help::FOLD)]
     Fold(fold::Args),
     /// Every refusal in words, with who can mend it
-    #[command(help_template = TEMPLATE)]
+    #[command(after_help = help::REFUSALS)]
     Refusals(refusals::Args),
+    /// Completions for a shell
+    #[command(after_help = help::COMPLETIONS, hide = true)]
+    Completions(completions::Args),
+    /// The manual page
+    #[command(after_help = help::MAN, hide = true)]
+    Man(man::Args),
+}
+
+/// The whole command line, with what help, completions and the manual page share.
+pub fn command() -> clap::Command {
+    let template = "{usage}\n\n{about}\n\n{all-args}{after-help}\n";
+    let names: Vec<String> = Whole::command().get_subcommands().map(|command| command.get_name().to_owned()).collect();
+    let whole = Whole::command().term_width(COLUMNS);
+    names
+        .iter()
+        .fold(whole, |whole, name| whole.mut_subcommand(name, |command| hinted(command.help_template(template))))
+}
+
+/// A screen.
+const COLUMNS: usize = 80;
+
+/// Tells completions which arguments are files.
+fn hinted(mut command: clap::Command) -> clap::Command {
+    let is_file = |argument: &&clap::Arg| {
+        let names = argument.get_value_names().unwrap_or_default();
+        names.iter().any(|name| ["GALLEY", "CHAPTER", "LIST", "TEXT", "FILE"].contains(&name.as_str()))
+    };
+    let files: Vec<clap::Id> = command.get_arguments().filter(is_file).map(|file| file.get_id().clone()).collect();
+    for file in files {
+        command = command.mut_arg(file, |argument| argument.value_hint(ValueHint::FilePath));
+    }
+    command
 }
 
 /// Does what the arguments say; the first one is the program's name.
 pub fn run(arguments: impl IntoIterator<Item = OsString>, output: &mut Output) -> Result<Outcome, Error> {
-    let matches = match Whole::command().try_get_matches_from(arguments) {
+    let arguments: Vec<OsString> = arguments.into_iter().collect();
+    let matches = match command().try_get_matches_from(&arguments) {
         Ok(matches) => matches,
-        Err(error) => return told(error, output),
+        Err(error) => return told(error, &arguments, output),
     };
     if names_of_standard_input(&matches) > 1 {
-        return Err(Error::Usage("standard input can be read only once".into()));
+        return Err(Error::Usage("standard input can be read only once, and - stands here twice".into()));
     }
     let whole = match Whole::from_arg_matches(&matches) {
         Ok(whole) => whole,
-        Err(error) => return told(error, output),
+        Err(error) => return told(error, &arguments, output),
     };
     let answered = whole.command.run(output);
     match (&answered, whole.command.told_to_programs()) {
@@ -109,6 +142,8 @@ impl Commands {
             Commands::Report(args) => report::run(args, output),
             Commands::Fold(args) => fold::run(args, output),
             Commands::Refusals(args) => refusals::run(args, output),
+            Commands::Completions(args) => completions::run(args, output),
+            Commands::Man(args) => man::run(args, output),
         }
     }
 }
@@ -121,36 +156,21 @@ fn names_of_standard_input(matches: &clap::ArgMatches) -> usize {
 }
 
 /// Help and version are answers; anything else is a wrong call.
-fn told(error: clap::Error, output: &mut Output) -> Result<Outcome, Error> {
+fn told(error: clap::Error, arguments: &[OsString], output: &mut Output) -> Result<Outcome, Error> {
     match error.kind() {
         ErrorKind::DisplayHelp | ErrorKind::DisplayVersion => {
-            output.print(error.to_string()).map(|()| Outcome::Success)
+            let help = match output::coloured(&std::io::stdout()) {
+                true => error.render().ansi().to_string(),
+                false => error.render().to_string(),
+            };
+            output.print(help.trim_end().to_owned() + "\n").map(|()| Outcome::Success)
         }
-        _ => Err(Error::Usage(in_words(&error))),
+        _ => Err(Error::Usage(wrong::in_words(&error, named(arguments).as_deref()))),
     }
 }
 
-/// What is wrong with a call, on one line.
-fn in_words(error: &clap::Error) -> String {
-    let context = |kind: ContextKind| error.context().find(|(found, _)| *found == kind).map(|(_, value)| words(value));
-    let more = "`barleychime --help` says more";
-    let named = context(ContextKind::InvalidArg).or(context(ContextKind::InvalidSubcommand)).unwrap_or_default();
-    match error.kind() {
-        ErrorKind::MissingSubcommand | ErrorKind::DisplayHelpOnMissingArgumentOrSubcommand => {
-            "a command is wanted; `barleychime --help` names them".into()
-        }
-        ErrorKind::InvalidSubcommand => format!("{named}: no such command; {more}"),
-        ErrorKind::UnknownArgument => format!("{named}: no such option, or one argument too many; {more}"),
-        ErrorKind::MissingRequiredArgument => format!("{named} is wanted; {more}"),
-        ErrorKind::ArgumentConflict => format!("{named} cannot stand beside another, or twice; {more}"),
-        ErrorKind::ValueValidation => match std::error::Error::source(error) {
-            Some(what) => format!("{named}: {what}"),
-            None => format!("{named} has a wrong value"),
-        },
-        _ => error.to_string().lines().next().unwrap_or_default().trim_start_matches("error: ").into(),
-    }
-}
-
-fn words(value: &ContextValue) -> String {
-    value.to_string()
+/// The command that the arguments name.
+fn named(arguments: &[OsString]) -> Option<String> {
+    let first = arguments.get(1)?.to_str()?;
+    command().get_subcommands().find(|command| command.get_name() == first).map(|_| first.to_owned())
 }

@@ -1,11 +1,13 @@
 //! The commands: for each its arguments, and what it does with them.
 
 pub mod book;
+pub mod completions;
 pub mod desk;
 pub mod explain;
 pub mod fold;
 pub mod forecast;
 pub mod make;
+pub mod man;
 pub mod mark;
 pub mod pack;
 pub mod refusals;

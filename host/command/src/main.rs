@@ -1,16 +1,19 @@
 //! The command `barleychime`.
-#![forbid(unsafe_code)]
+#![deny(unsafe_code, clippy::undocumented_unsafe_blocks)]
 
 mod args;
 mod call;
+mod closed;
 mod commands;
 mod error;
 mod explained;
+mod help;
 mod input;
 mod json;
 mod marked;
 mod output;
 mod rows;
+mod wrong;
 
 use output::{say, Output};
 use std::process::ExitCode;
@@ -27,16 +30,17 @@ pub enum Outcome {
 
 const REFUSED: u8 = 1;
 const FAILED: u8 = 2;
+/// As of a program that the signal of a closed pipe ends.
+const NOBODY_READS: u8 = 128 + 13;
 
 fn main() -> ExitCode {
     match args::run(std::env::args_os(), &mut Output::new()) {
         Ok(Outcome::Success) => ExitCode::SUCCESS,
         Ok(Outcome::Refused) => ExitCode::from(REFUSED),
         Ok(Outcome::Failed) => ExitCode::from(FAILED),
+        Err(error) if error.is_closed_pipe() => ExitCode::from(NOBODY_READS),
         Err(error) => {
-            if !error.is_closed_pipe() {
-                say(&error.to_string());
-            }
+            say(&error.to_string());
             ExitCode::from(FAILED)
         }
     }

@@ -1,5 +1,6 @@
 //! Standard output for answers, standard error for remarks.
 
+use crate::closed;
 use crate::error::Error;
 use crate::input::FileName;
 use crate::Outcome;
@@ -18,6 +19,9 @@ impl Output {
 
     /// Prints at once, so that an answer is there before a remark on it.
     pub fn print(&mut self, answer: impl AsRef<[u8]>) -> Result<(), Error> {
+        if closed::standard_output() {
+            return Err(Error::Output(io::Error::other("it is closed")));
+        }
         self.0.write_all(answer.as_ref()).and_then(|()| self.0.flush()).map_err(Error::Output)
     }
 
@@ -73,7 +77,14 @@ pub fn wrapped(text: &str, indent: usize) -> String {
 
 /// A remark. There is nobody to tell if it cannot be written.
 pub fn say(remark: &str) {
-    let _ = writeln!(io::stderr(), "barleychime: {remark}");
+    let (bold, plain) = if coloured(&io::stderr()) { ("\x1b[1m", "\x1b[0m") } else { ("", "") };
+    let _ = writeln!(io::stderr(), "{bold}barleychime:{plain} {remark}");
+}
+
+/// Whether what is written there may have colour: on a terminal, unless NO_COLOR is set (no-color.org) or it can show none.
+pub fn coloured(stream: &impl IsTerminal) -> bool {
+    let unset = std::env::var_os("NO_COLOR").is_none_or(|value| value.is_empty());
+    unset && std::env::var_os("TERM").is_some_and(|terminal| terminal != "dumb") && stream.is_terminal()
 }
 
 /// Whether remarks go to a terminal, where somebody waits.

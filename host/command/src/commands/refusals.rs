@@ -8,7 +8,7 @@ use serde::Serialize;
 
 #[derive(clap::Args)]
 pub struct Args {
-    /// Print the table as JSON
+    /// Print one JSON array
     #[arg(long)]
     pub json: bool,
 }
