@@ -10,7 +10,10 @@ import { circle, path, text } from './svg.js';
  * @typedef {import('./page.js').Spot} Spot
  */
 
-/** A citation and its float on one leaf. @param {Float} F @param {Spot} c @param {Spot} f @param {Size} Z @param {boolean} many */
+/**
+ * A citation and its float on one leaf.
+ * @param {Float} F @param {Spot} c @param {Spot} f @param {Size} Z @param {boolean} many
+ */
 export function quietArc(F, c, f, Z, many) {
   let x = c.r, d;
   if (F.cp === F.fp) {
@@ -27,7 +30,10 @@ export function quietArc(F, c, f, Z, many) {
 /** The height of a lane. @param {Size} Z @param {number} sheet @param {number} lane */
 export const laneHeight = (Z, sheet, lane) => sheet - Z.headroom / 2 - (lane + 0.5) * Z.lane;
 
-/** The corners of an arc within leaf i. @param {Arc} A @param {number} i @param {Size} Z @param {number} y @param {Map<string, Spot>} where */
+/**
+ * The corners of an arc within leaf i.
+ * @param {Arc} A @param {number} i @param {Size} Z @param {number} y @param {Map<string, Spot>} where
+ */
 function corners(A, i, Z, y, where) {
   const line = `0 ${A.F.cite}`, float = `${A.F.s} ${A.F.k}`, points = [];
   if (A.i0 === i) {
@@ -41,7 +47,10 @@ function corners(A, i, Z, y, where) {
   return points;
 }
 
-/** A float that waits, as far as leaf i sees it. @param {Arc} A @param {number} i @param {Size} Z @param {number} sheet @param {Map<string, Spot>} where */
+/**
+ * A float that waits, as far as leaf i sees it.
+ * @param {Arc} A @param {number} i @param {Size} Z @param {number} sheet @param {Map<string, Spot>} where
+ */
 export function loudArc(A, i, Z, sheet, where) {
   const y = laneHeight(Z, sheet, A.lane), points = corners(A, i, Z, y, where), r = Math.sqrt(Z.f), end = points[points.length - 1];
   let marks = path('lp', rounded(points, Z.small ? 1.5 : 4));

@@ -18,7 +18,10 @@ import { circle, path, rect, text, title } from './svg.js';
 /** How a change in turns is coloured; each also has its sign in words. @param {number | null} d */
 export const tone = (d) => d === null ? 'no' : d < 0 ? 'good' : d > 0 ? 'more' : 'same';
 
-/** Where a page's lines begin and end, from the top of its block. @param {Galley} g @param {Page} page @param {Size} Z @param {number} x @returns {Side} */
+/**
+ * Where a page's lines begin and end, from the top of its block.
+ * @param {Galley} g @param {Page} page @param {Size} Z @param {number} x @returns {Side}
+ */
 function sideOf(g, page, Z, x) {
   const { items } = setPage(g, page, Z), lines = items.filter((it) => it.s === 0), figures = items.filter((it) => it.s === 1);
   const lowest = figures[figures.length - 1], last = lines[lines.length - 1], limit = Z.H + Z.over, head = lowest ? lowest.y + lowest.h + 3 : 0;
@@ -26,7 +29,10 @@ function sideOf(g, page, Z, x) {
     bottom: Math.min(limit, last ? last.y + last.h : head) };
 }
 
-/** Floats that an end has elsewhere than another: F6← is back on the page, F6→ on the next one. @param {number[]} from @param {Accepted} to */
+/**
+ * Floats that an end has elsewhere than another: F6← is back on the page, F6→ on the next one.
+ * @param {number[]} from @param {Accepted} to
+ */
 function floatsMoved(from, to) {
   const moved = [[1, from[1], to.j], [2, from[2], to.d]].map(([s, a, b]) => b > a ? `${floatRange(s, a, b)}←` : b < a ? `${floatRange(s, b, a)}→` : '');
   return moved.filter(Boolean).join(' ');
@@ -72,7 +78,10 @@ function flips(sides, Z, y0) {
   return marks;
 }
 
-/** The bar under the last line of the page, with the line's number in it; and the same bar above the first line of the next page. */
+/**
+ * The bar under the last line of the page, with the line's number in it; and the same bar above the first line of the next
+ * page.
+ */
 function bars(sides, Z, y0, end, state) {
   const cls = `bar ${state.trial ? tone(state.ok ? state.change : null) : 'rest'}`;
   return sides.map((side, k) => {
@@ -101,7 +110,10 @@ export function overlay(g, M, Z, y0, q, ends, state) {
   return hits(sides, Z, y0) + ticks(sides, Z, y0, ends, end, state.star) + flips(sides, Z, y0) + inForce + bars(sides, Z, y0, end, state);
 }
 
-/** The handle at rest of another page. @param {Galley} g @param {Page} page @param {Size} Z @param {number} y0 @param {number} gain @param {boolean} follows */
+/**
+ * The handle at rest of another page.
+ * @param {Galley} g @param {Page} page @param {Size} Z @param {number} y0 @param {number} gain @param {boolean} follows
+ */
 export function grip(g, page, Z, y0, gain, follows) {
   const { items } = setPage(g, page, Z), last = items.filter((it) => it.s === 0).pop() ?? items[items.length - 1];
   const y = y0 + Math.min(Z.H + Z.over, last ? last.y + last.h : 0) + 2, x = Z.x(page.folio), better = gain < 0, w = better || follows ? 60 : 36;

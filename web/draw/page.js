@@ -36,6 +36,7 @@ class Lines {
       this.ties += `M${n(x)} ${n(y0 + y + ink - 0.3)}h3v${n(Math.max(0.8, Math.min(next.y, limit) - y - ink + 0.6))}h-3z`;
     }
     if (tall) this.texts += text('ln', x + 5, y0 + y + hh / 2 + 3, `${hh >= 13 ? 'line ' : ''}${k}`);
+    else if (Z.numbered) this.texts += text('ln low', x - 3, y0 + y + hh / 2 + 2.2, k, 'end');
   }
 
   /** Below the floats. */
@@ -84,7 +85,10 @@ function torn(Z, x, y0, foot, limit) {
   return path('torn', d);
 }
 
-/** @param {Galley} g @param {Measured} L @param {Page} page @param {Size} Z @param {number} x @param {number} y0 @param {Item} it @param {Moved | null} moved */
+/**
+ * @param {Galley} g @param {Measured} L @param {Page} page @param {Size} Z @param {number} x @param {number} y0
+ * @param {Item} it @param {Moved | null} moved
+ */
 function floatBox(g, L, page, Z, x, y0, { s, k, y, h }, moved) {
   const id = ' FT'[s] + k, thin = h < 4 && !Z.small, tall = Math.max(h, Z.small ? 1.2 : 0.6), inset = Z.small || thin ? 0 : 0.5;
   const kind = s === 1 ? 'fg' : 'tb';
@@ -122,7 +126,10 @@ function floatLabel(s, run, x, y0, Z) {
   return text(`fn${size === 8 ? ' th' : ''}${s === 2 ? ' tn' : ''}`, x + Z.PW / 2, y, label);
 }
 
-/** The page's range of heights against the window that is allowed. @param {Galley} g @param {Page} page @param {Size} Z @param {number} y0 */
+/**
+ * The page's range of heights against the window that is allowed.
+ * @param {Galley} g @param {Page} page @param {Size} Z @param {number} y0
+ */
 export function gauge(g, page, Z, y0) {
   const left = Z.two && page.folio % 2 === 0, x = left ? Z.sheet + 4 : Z.w - Z.sheet - 4, top = Z.H + Z.over;
   const a = Math.min(page.least, g.htMax) * Z.scale, t = Math.min(page.t * Z.scale, top), l = Math.min(page.l * Z.scale, top);

@@ -2,7 +2,10 @@
 import { n } from '../layout/layout.js';
 import { circle, drawing, path, rect, text } from './svg.js';
 
-/** One step of the staircase of turns lost, under a column of the overview. @param {number} d @param {number} before @param {number} w @param {number} most */
+/**
+ * One step of the staircase of turns lost, under a column of the overview.
+ * @param {number} d @param {number} before @param {number} w @param {number} most
+ */
 export function stair(d, before, w, most) {
   const y = 28 - 16 * d / most, v = 28 - 16 * before / most;
   let marks = d ? rect('lead', 0, Math.min(y, 28), w, Math.abs(28 - y)) : '';

@@ -67,7 +67,10 @@ export function staff(g, L, ways, i, Z, options = {}) {
   return { svg: drawing(Z.small ? 'sm' : 'st', Z.w, H.total, marks + (options.more ?? ''), words), height: H.total };
 }
 
-/** A leaf for a screen reader. @param {Galley} g @param {Measured} L @param {number} i @param {string} label @param {number} printed */
+/**
+ * A leaf for a screen reader.
+ * @param {Galley} g @param {Measured} L @param {number} i @param {string} label @param {number} printed
+ */
 export function leafWords(g, L, i, label, printed) {
   const pages = L.byLeaf.get(i) ?? [], told = label ? `${label}, ` : '';
   if (!pages.length) return `${told}no page here`;

@@ -27,7 +27,10 @@ export class Desk {
 
   get words() { return this.engine.words(this.at, DESK_WORDS).slice(); }
 
-  /** Another end of a page: pending where it is accepted. @param {number} page @param {ArrayLike<number>} end @returns {Mark | Refusal} */
+  /**
+   * Another end of a page: pending where it is accepted.
+   * @param {number} page @param {ArrayLike<number>} end @returns {Mark | Refusal}
+   */
   ask(page, end) {
     const e = this.engine, length = e.galley(this.bytes);
     e.words(e.endAt, 3).set([end[0], end[1], end[2] || 0]);

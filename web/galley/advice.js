@@ -34,7 +34,10 @@ const told = (g, name, asked, found) => `${name} is ${asked}; the greatest at wh
 /** @param {string} name @param {number} asked */
 const inVain = (name, asked) => asked === 0 ? '' : `; no ${name} is low enough by itself`;
 
-/** Each least height lowered by itself, or else both. @param {Galley} g @param {(htMin: number, lastMin: number) => Promise<boolean>} exists */
+/**
+ * Each least height lowered by itself, or else both.
+ * @param {Galley} g @param {(htMin: number, lastMin: number) => Promise<boolean>} exists
+ */
 async function lowered(g, exists) {
   const { htMin } = g, lastMin = g.lastMin ?? 0;
   if (!await exists(0, 0)) return [`no pagination exists even at htMin 0${lastMin === 0 ? '' : ' and lastMin 0'}`];
@@ -56,7 +59,10 @@ async function shortened(g, opening, exists) {
   return [`a pagination exists that begins with ${kept} of the opening’s ${pages} pages, and no more`];
 }
 
-/** What would help a galley that has no pagination. @param {Galley} g @param {ArrayLike<number>} opening @param {Exists} exists @returns {Promise<string[]>} */
+/**
+ * What would help a galley that has no pagination.
+ * @param {Galley} g @param {ArrayLike<number>} opening @param {Exists} exists @returns {Promise<string[]>}
+ */
 export async function advice(g, opening, exists) {
   const tried = new Map([[`${g.htMin} ${g.lastMin ?? 0}`, Promise.resolve(false)]]);
   const at = (htMin, lastMin) => {

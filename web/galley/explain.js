@@ -18,7 +18,10 @@ const KINDS = ['line', 'figure', 'table'];
 /** A count as the command writes it. @param {number} n @param {string} what */
 const counted = (n, what) => `${n} ${what}${n === 1 ? '' : 's'}`;
 
-/** Every rule that a page breaks. @param {Galley} g @param {Page} page @param {number[]} end as the list has it @returns {Broken[]} */
+/**
+ * Every rule that a page breaks.
+ * @param {Galley} g @param {Page} page @param {number[]} end as the list has it @returns {Broken[]}
+ */
 export function broken(g, page, end) {
   const { q, a } = page, out = /** @type {Broken[]} */ ([]);
   const add = (rule, numbers, short) => out.push({ page: q, rule, numbers, short });

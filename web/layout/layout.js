@@ -13,6 +13,7 @@
  * @property {number} most lanes before bundling
  * @property {number} text baseline of the page's foot @property {number} w width of a column
  * @property {number} scale @property {number} over most that is drawn past htMax
+ * @property {boolean} numbered every line has its number, however low it is
  * @property {(folio: number) => number} x left edge of a page's text block
  * @typedef {{s: number, k: number, y: number, h: number}} Item
  * @typedef {{F: Float, back: boolean, p: Page, e: Page, i0: number, i1: number, x0: number, x1: number, lane: number,
@@ -25,7 +26,7 @@ const APART = 0.2;
 
 /** @param {Galley} g @param {Partial<Size>} sizes @returns {Size} */
 function size(g, sizes) {
-  const Z = /** @type {Size} */ ({ over: 0, f: 1, text: 13, two: g.sides === 2, small: false, ...sizes });
+  const Z = /** @type {Size} */ ({ over: 0, f: 1, text: 13, two: g.sides === 2, small: false, numbered: false, ...sizes });
   Z.w = 2 * Z.out + (Z.two ? 2 * Z.PW + Z.gut : Z.PW + (Z.small ? 0 : 8));
   Z.scale = Z.H / g.htMax;
   Z.x = (folio) => !Z.two || folio % 2 === 0 ? Z.out : Z.out + Z.PW + Z.gut;
@@ -42,15 +43,22 @@ export function overview(g, leaves, greatest = 2.4) {
     foot: 2 * f, headroom: 3 * r, most: 9 });
 }
 
-/** The desk's strip: the page as high as it may be, the rest in proportion. @param {Galley} g @param {number} H @param {number} PW */
+/**
+ * The desk's strip: the page as high as it may be, the rest in proportion.
+ * @param {Galley} g @param {number} H @param {number} PW
+ */
 export const strip = (g, H, PW) => size(g, { H, PW, out: 26, gut: 40, sheet: 5, lane: 13, top: 11, foot: 31, text: 24,
   headroom: 6, most: 7, over: 20 });
 
-/** The large view: so high that the line that is lowest has room for its number, within reason. @param {Galley} g @param {number} least */
-export function large(g, least) {
-  const lowest = Math.min(...g.streams[0].map((line) => line.h).filter(Boolean), g.htMax);
-  const H = Math.max(least, Math.min(1800, 10.2 * g.htMax / lowest)), PW = Math.min(0.63 * H, 440);
-  return size(g, { H, PW, out: 30, gut: 44, sheet: 6, lane: 13, top: 12, foot: 24, text: 16, headroom: 8, most: 9, over: 34 });
+/**
+ * The large view: as high as asked, or so high that nearly every line has room for its number; as wide as there is room.
+ * @param {Galley} g @param {number} asked @param {number} room for the two pages of a spread
+ */
+export function large(g, asked, room) {
+  const low = g.streams[0].map((line) => line.h).filter(Boolean).sort((a, b) => a - b), typical = low[Math.floor(low.length / 4)] ?? g.htMax;
+  const H = Math.max(asked, Math.min(2 * asked, 11 * g.htMax / typical)), fits = (room - 60 - (g.sides === 2 ? 44 : 8)) / g.sides;
+  const PW = Math.max(130, Math.min(0.63 * H, fits, 440));
+  return size(g, { H, PW, out: 30, gut: 44, sheet: 6, lane: 13, top: 12, foot: 24, text: 16, headroom: 8, most: 9, over: 34, numbered: true });
 }
 
 /**
@@ -165,7 +173,10 @@ export function lanes(L, Z) {
   return { arcs, lanes: Math.min(used, Z.most + 1), over };
 }
 
-/** Heights of one staff, from top to bottom. @param {Size} Z @param {number} rows @param {boolean} anyBad @param {boolean} anyOver */
+/**
+ * Heights of one staff, from top to bottom.
+ * @param {Size} Z @param {number} rows @param {boolean} anyBad @param {boolean} anyOver
+ */
 export function staffHeights(Z, rows, anyBad, anyOver) {
   const sheet = rows * Z.lane + Z.headroom, y0 = sheet + Z.top, over = anyOver ? Z.over : 0;
   return { sheet, y0, over, paper: Z.top + Z.H + Z.foot, total: y0 + Z.H + over + Z.foot + (anyBad && !Z.small ? 12 : 0) };

@@ -6,13 +6,13 @@ import { readList, toEnds, toWords } from '../galley/list.js';
 import { lostForGood } from '../galley/lost.js';
 import { measure } from '../galley/measure.js';
 import { sentence } from '../galley/refusals.js';
-import { specification } from '../galley/words.js';
+import { plural, specification } from '../galley/words.js';
 import { bookView } from './book.js';
 import { classView } from './class.js';
 import { Bench } from './desk/bench.js';
 import { DeskHand } from './desk/hand.js';
 import { byId, el, put, state } from './dom.js';
-import { fromBase64, LONGEST_FILE, sort } from './files.js';
+import { openSample, readFiles, take } from './intake.js';
 import { Keeper } from './keeper.js';
 import { Maker } from './maker.js';
 import { openView } from './open.js';
@@ -26,9 +26,10 @@ import { showView } from './show/show.js';
  * @typedef {{name: string, words: Uint32Array, ends: number[][], mark: any}} List
  */
 
+const ABOUT = 'Page make-up that is proved: make, compare, and try page ends at the desk.';
 const VIEWS = ['open', 'show', 'class', 'desk', 'book'];
-/** Making that takes longer, in ms, is not done unasked. */
-export const QUICK = 400;
+/** Making that takes longer, in ms, is not done unasked; nor, where that is not known yet, with a longer work area, in words. */
+const QUICK = 400, SHORT = 4e6;
 
 export class App {
   /** @param {WebAssembly.Module} module @param {ArrayBuffer} wasm @param {string} script of the page, and of its worker */
@@ -100,7 +101,7 @@ export class App {
     this.making = false;
     this.stopped = !!(/** @type {any} */ (made).stopped);
     this.bestKnown(this.stopped ? null : made);
-    if (made.number === 11 && this.maker.lastMs < QUICK) this.advise();
+    if (made.number === 11 && this.quick()) this.advise();
   }
 
   /** @param {any} made */
@@ -180,46 +181,14 @@ export class App {
     return mark;
   }
 
-  /** Files that were dropped, chosen or pasted. What cannot be read is said and changes nothing. @param {import('./files.js').File[]} files */
-  take(files) {
-    const sorted = files.map(sort), galleys = sorted.filter((file) => file.kind === 'galley'), lists = sorted.filter((file) => file.kind === 'list');
-    const bad = sorted.find((file) => file.kind === 'refused');
-    if (bad) return this.toast(`${bad.name} is not read: ${bad.why}`);
-    if (galleys.length > 1) return lists.length ? this.toast('Several galleys are a book, and lists are for one galley: open them apart.') : this.openBook(galleys);
-    if (!galleys.length && !this.g) return this.toast('First a galley, then lists for it.');
-    if (!galleys.length && lists.length === 1) {
-      const read = readList(lists[0].text, this.g.width);
-      if (!read.ok) return this.toast(`${lists[0].name} is neither a galley nor a list. ${read.why}`);
-    }
-    if (galleys.length && !this.openGalley(galleys[0].name, galleys[0].bytes)) return this.go('show');
-    if (galleys.length) this.keeper.resume();
-    const first = lists.map((list) => ({ name: list.name, mark: this.addList(list.name, list.text) })).find(({ mark }) => mark.ok);
-    this.chosen = lists.length ? new Set([first?.name ?? lists[0].name]) : this.chosen;
-    if (first && !this.keeper.resumed) this.bench.put(this.lists.find((list) => list.name === first.name).words, first.name);
-    this.go(this.lists.length > 2 ? 'class' : 'show');
-  }
+  /** Files that were dropped, chosen or pasted. @param {import('./files.js').File[]} files */
+  take(files) { take(this, files); }
 
   /** @param {FileList | null} list */
-  async files(list) {
-    const files = [...(list ?? [])], long = files.find((file) => file.size > LONGEST_FILE);
-    if (long) return this.toast(`${long.name} is not read: it is longer than any galley or list.`);
-    try {
-      this.take(await Promise.all(files.map(async (file) => ({ name: file.name, bytes: new Uint8Array(await file.arrayBuffer()) }))));
-    } catch (error) { this.toast(`The files could not be read: ${error.message}`); }
-  }
+  files(list) { return readFiles(this, list); }
 
-  /** A sample, or what `barleychime show` put into the file. @param {any} sample */
-  sample(sample) {
-    if (sample.galleys) return this.openBook(sample.galleys.map(({ name, galley }) => ({ name, bytes: fromBase64(galley) })));
-    const bytes = fromBase64(sample.galley), known = sample.best ? readList(sample.best, this.engine.width(bytes)) : null;
-    if (!this.openGalley(sample.name, bytes, known?.ok ? known.words : null)) return this.go('show');
-    const kept = this.keeper.resume();
-    for (const list of sample.lists) this.addList(list.name, list.text);
-    const first = this.lists.find((list) => list.mark.ok) ?? this.lists[0];
-    this.chosen = new Set(first ? [first.name] : []);
-    if (first?.mark.ok && !kept) this.bench.put(first.words, first.name);
-    this.go(this.lists.length > 2 ? 'class' : 'show');
-  }
+  /** A sample, or what `barleychime show` put into the file. @param {import('./files.js').Sample} sample */
+  sample(sample) { openSample(this, sample); }
 
   /** Several galleys as a book. @param {{name: string, bytes: Uint8Array}[]} chapters */
   async openBook(chapters) {
@@ -234,7 +203,10 @@ export class App {
 
   stopBook() { this.binder.stop(); }
 
-  /** A chapter of the book, with the list that it has there. @param {string} name @param {Uint8Array} bytes @param {Uint32Array} list */
+  /**
+   * A chapter of the book, with the list that it has there.
+   * @param {string} name @param {Uint8Array} bytes @param {Uint32Array} list
+   */
   openChapter(name, bytes, list) {
     if (!this.openGalley(name, bytes)) return this.go('show');
     this.keeper.resume();
@@ -287,9 +259,10 @@ export class App {
 
   draw() {
     const focused = document.activeElement?.id;
-    byId('title').textContent = this.name || 'Barleychime';
-    document.title = this.name ? `${this.name} – Barleychime` : 'Barleychime';
-    byId('spec').textContent = this.g ? specification(this.g) : this.refused ? '' : 'Page make-up that is proved: make, compare, and try page ends at the desk.';
+    const book = this.tab === 'book' && this.book, name = book ? 'A book' : this.name;
+    byId('title').textContent = name || 'Barleychime';
+    document.title = name ? `${name} – Barleychime` : 'Barleychime';
+    byId('spec').textContent = book ? plural(book.chapters.length, 'chapter') : this.g ? specification(this.g) : this.refused ? '' : ABOUT;
     const views = { open: openView, show: showView, class: classView, book: bookView, desk: () => this.drawDesk() };
     views[this.tab](this);
     if (focused && document.activeElement === document.body) byId(focused)?.focus({ preventScroll: true });
@@ -329,13 +302,16 @@ export class App {
     return best?.ok ? this.measured({ name: this.bench.printed ? `best after page ${this.bench.printed}` : 'best', ends: best.ends }) : null;
   }
 
-  /** What a list loses for good: known, being looked for, or null where it takes long and nobody has asked. @param {Measured} L */
+  /**
+   * What a list loses for good: known, being looked for, or null where it takes long and nobody has asked.
+   * @param {Measured} L
+   */
   lostOf(L) {
     const best = this.target();
     if (!L.ok || !best?.ok) return null;
     if (L.T <= best.t) return [];
     const key = L.ends.join(' ');
-    if (!this.lost.has(key) && this.maker.lastMs > 0 && this.maker.lastMs < QUICK) this.findLost(L);
+    if (!this.lost.has(key) && this.quick()) this.findLost(L);
     return this.lost.get(key) ?? null;
   }
 
@@ -343,13 +319,16 @@ export class App {
   async findLost(L) {
     const { g } = this, key = L.ends.join(' '), words = toWords(L.ends, g.width), asked = !this.lost.has(key);
     this.lost.set(key, 'looking');
-    if (asked && this.maker.lastMs >= QUICK) this.draw();
+    if (asked && !this.quick()) this.draw();
     const from = this.bench.printed;
     const lost = await lostForGood(g, L.ends, (q) => this.maker.make(words.subarray(0, Math.max(q, from) * g.width), false), () => this.g === g);
     if (!lost || this.g !== g) return;
     this.lost.set(key, lost);
     if (this.tab === 'show') this.draw();
   }
+
+  /** Whether making is so quick that it may be done unasked. */
+  quick() { return this.maker.lastMs ? this.maker.lastMs < QUICK : !!this.forecast && this.forecast.work < SHORT; }
 
   plainName() { return this.name.replace(/\.(galley|txt)$/, '') || 'galley'; }
   keep() { this.keeper.soon(); }

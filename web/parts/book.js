@@ -1,11 +1,10 @@
 // Several galleys as the chapters of one book, made together by the engine. A chapter opens with the list that it has in the book.
 import { read, withFolio } from '../galley/galley.js';
-import { toEnds } from '../galley/list.js';
+import { madeText, toEnds } from '../galley/list.js';
 import { measure } from '../galley/measure.js';
 import { sentence } from '../galley/refusals.js';
-import { comma, plural } from '../galley/words.js';
+import { comma } from '../galley/words.js';
 import { button, byId, download, el, link, put, state } from './dom.js';
-import { madeText } from '../galley/list.js';
 
 /**
  * @typedef {import('./app.js').App} App
@@ -19,13 +18,12 @@ const LAST_FOLIO = 9999;
 export function bookView(app) {
   const root = byId('view-book'), { book } = app;
   if (!book) return put(root, el('p', { class: 'verdict' }, 'Open several galleys at once: they are the chapters of a book.'));
-  const title = el('p', { class: 'verdict' }, `A book of ${plural(book.chapters.length, 'chapter')}`);
   if (!book.made) {
-    return put(root, title, el('div', { class: 'state busy', role: 'status' }, el('p', {}, el('b', {}, 'The book is being made…')),
+    return put(root, el('div', { class: 'state busy', role: 'status' }, el('p', {}, el('b', {}, 'The book is being made…')),
       el('p', {}, button('Stop', () => app.stopBook()))), order(app, book));
   }
-  if (!book.made.ok) return put(root, title, refusedBook(book), order(app, book));
-  put(root, title, totals(book.made), chapters(app, book), order(app, book));
+  if (!book.made.ok) return put(root, refusedBook(book), order(app, book));
+  put(root, totals(book.made), chapters(app, book), order(app, book));
 }
 
 /** @param {Book} book */

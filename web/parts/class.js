@@ -28,7 +28,10 @@ export function classView(app) {
     best && whereLost(g, rows, best));
 }
 
-/** Accepted lists by T, W and name, then refused ones by rule and page. @param {App} app @param {Measured | null} best @returns {Row[]} */
+/**
+ * Accepted lists by T, W and name, then refused ones by rule and page.
+ * @param {App} app @param {Measured | null} best @returns {Row[]}
+ */
 function rowsOf(app, best) {
   const rows = app.lists.map((list) => {
     const L = list.ends.length ? app.measured(list) : null, { mark } = list;

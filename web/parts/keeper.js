@@ -29,7 +29,7 @@ export class Keeper {
     clearTimeout(this.timer);
     this.timer = undefined;
     const { app } = this;
-    this.store.keepView({ tab: app.tab, q: app.hand.s.q, chosen: [...app.chosen], key: app.g ? this.store.key : '' });
+    this.store.keepView({ tab: app.tab, q: app.hand.s.q, chosen: [...app.chosen], key: app.g ? this.store.key : '', ms: app.maker.lastMs });
     if (app.g && !this.store.keep(this.work())) app.toast('This browser has no room to keep the work: clear what is kept of other galleys (Open).');
   }
 
@@ -37,7 +37,7 @@ export class Keeper {
   work() {
     const { app } = this;
     return { name: app.name, galley: toBase64(app.bytes), lists: app.lists.map((list) => ({ name: list.name, text: list.words.join(' ') })),
-      best: app.best?.ok ? app.best.list.join(' ') : null, ms: Math.round(app.maker.lastMs / 50) * 50, bench: app.bench?.open ? app.bench.keep() : null };
+      best: app.best?.ok ? app.best.list.join(' ') : null, bench: app.bench?.open ? app.bench.keep() : null };
   }
 
   /** After a galley was opened: takes up what is kept of it. @returns {boolean} whether there was a desk */
@@ -47,7 +47,6 @@ export class Keeper {
     this.notice(null);
     if (!work || !app.g) return false;
     for (const list of work.lists ?? []) app.addList(String(list.name), String(list.text));
-    if (work.ms && !app.maker.lastMs) app.maker.lastMs = Number(work.ms);
     if (!work.bench) return false;
     const again = new Bench(app.engine, app.g);
     if (!again.restore(work.bench)) {
@@ -68,6 +67,7 @@ export class Keeper {
     if (!work?.galley) return false;
     const best = work.best ? Uint32Array.from(String(work.best).split(' ').map(Number)) : null;
     app.openGalley(String(work.name), fromBase64(work.galley), best);
+    if (view?.ms) app.maker.lastMs = Number(view.ms);
     this.resume();
     app.chosen = new Set(view?.chosen ?? app.lists.slice(0, 1).map((list) => list.name));
     app.tab = 'open';
@@ -110,10 +110,10 @@ export class Keeper {
       }, { id: 'keephere' }));
   }
 
-  /** @param {string | null} words @param {...HTMLElement} buttons */
+  /** Says something that stays until it is answered. @param {string | null} words @param {...HTMLElement} buttons */
   notice(words, ...buttons) {
     const box = byId('notice');
     box.hidden = words === null;
-    put(box, words && el('p', {}, words), buttons);
+    put(box, words && el('p', {}, words), buttons.length ? buttons : button('Close', () => this.notice(null)));
   }
 }

@@ -43,7 +43,10 @@ export class Maker {
     return this.ask(Array.prototype.join.call(opening, ' '), { galley: this.bytes, opening: Array.from(opening) }, urgent);
   }
 
-  /** Whether there is a pagination of other bytes. @param {Uint8Array} galley @param {ArrayLike<number>} opening @returns {Promise<any>} */
+  /**
+   * Whether there is a pagination of other bytes.
+   * @param {Uint8Array} galley @param {ArrayLike<number>} opening @returns {Promise<any>}
+   */
   tryBytes(galley, opening) {
     return this.ask(`other ${galley.subarray(0, 40).join(' ')} ${Array.prototype.join.call(opening, ' ')}`,
       { galley, opening: Array.from(opening) }, false);

@@ -44,7 +44,10 @@ export class Store {
     return parsed(this.seen);
   }
 
-  /** Keeps work on the galley at hand. @param {any} work @param {boolean} [force] @returns {boolean} false where there is no room */
+  /**
+   * Keeps work on the galley at hand.
+   * @param {any} work @param {boolean} [force] @returns {boolean} false where there is no room
+   */
   keep(work, force = false) {
     if (this.contested && !force) return true;
     this.contested = false;

@@ -152,7 +152,10 @@ export class Bench {
     return this.tried(q, e, null, answer, ends, null, '');
   }
 
-  /** Asks about the ends of a page and of the next one together. @param {number} q @param {number[]} end @param {number[]} second */
+  /**
+   * Asks about the ends of a page and of the next one together.
+   * @param {number} q @param {number[]} end @param {number[]} second
+   */
   tryPair(q, end, second) {
     if (sameEnd(second, this.ends[q])) return this.try(q, end);
     const ends = this.ends.slice();
@@ -161,7 +164,10 @@ export class Bench {
     return this.tried(q, end, second, this.engine.mark(this.g.bytes, toWords(ends, this.g.width)), ends, null, '');
   }
 
-  /** Another list as a trial: nothing is in force before it is committed. @param {number} q @param {ArrayLike<number>} words @param {string} what */
+  /**
+   * Another list as a trial: nothing is in force before it is committed.
+   * @param {number} q @param {ArrayLike<number>} words @param {string} what
+   */
   tryList(q, words, what) {
     const ends = toEnds(words, this.g.width), at = Math.min(q, ends.length);
     return this.tried(q, ends[at - 1], null, this.engine.mark(this.g.bytes, words), ends, Uint32Array.from(words), what);

@@ -6,7 +6,8 @@ import { closesLeaf, citedBy, couldBePage, heights, mayEnd } from '../../galley/
  * @typedef {import('./bench.js').Bench} Bench
  * @typedef {{i: number, j: number, d: number, t: number, w: number, change: number, second: number[] | null}} Candidate
  *   an accepted end; second: that of the next page, where both are moved
- * @typedef {{j: number, d: number, accepted: Candidate[]}} Row  of equal floats
+ * @typedef {{i: number, number: number, place: number}} Asked  an end with its answer, 0 where it is accepted
+ * @typedef {{j: number, d: number, ends: Asked[], accepted: Candidate[]}} Row  of equal floats
  * @typedef {{rows: Map<string, Row>, asked: number, best: Candidate | null, byLine: Map<number, Candidate[]>, refused: Map<number, number>}} Scan
  *   refused: how often by which rule
  * @typedef {{accepted: Candidate[], asked: number, best: Candidate | null, byLine: Map<number, Candidate[]>}} Pairs
@@ -44,7 +45,8 @@ export function scan(bench, q) {
   const words = g.width === 3 ? ends : ends.map((end) => end.slice(0, 2));
   bench.engine.markEnds(g.bytes, bench.words, g.width, q, words, (k, number, place, t, w) => {
     const [i, j, d] = ends[k], key = `${j} ${d}`;
-    if (!out.rows.has(key)) out.rows.set(key, { j, d, accepted: [] });
+    if (!out.rows.has(key)) out.rows.set(key, { j, d, ends: [], accepted: [] });
+    out.rows.get(key).ends.push({ i, number, place });
     if (number) {
       out.refused.set(number, (out.refused.get(number) ?? 0) + 1);
       return;
@@ -57,7 +59,10 @@ export function scan(bench, q) {
   return out;
 }
 
-/** Every end of page q with every end of the next page that could go with it. @param {Bench} bench @param {number} q @returns {Pairs} */
+/**
+ * Every end of page q with every end of the next page that could go with it.
+ * @param {Bench} bench @param {number} q @returns {Pairs}
+ */
 export function pairs(bench, q) {
   const { g } = bench, a = bench.bounds(q).a, c = bench.ends[q + 1], last = q + 2 === bench.p, ends = /** @type {number[][]} */ ([]);
   const closes = (f) => last ? heights(g, f, c)[0] <= g.htMax && !sameEnd(f, c) : couldBePage(g, q + 2, f, c);
@@ -81,13 +86,19 @@ export function pairs(bench, q) {
   return out;
 }
 
-/** The accepted end of a row of floats that has the fewest turns, then the least white space, then is nearest. @param {Row | undefined} row @param {number} near */
+/**
+ * The accepted end of a row of floats that has the fewest turns, then the least white space, then is nearest.
+ * @param {Row | undefined} row @param {number} near
+ */
 export function fitRow(row, near) {
   const far = (one) => Math.abs(one.i - near);
   return (row?.accepted ?? []).reduce((best, one) => better(one, best) || (one.t === best.t && one.w === best.w && far(one) < far(best)) ? one : best, /** @type {Candidate | null} */ (null));
 }
 
-/** Of the accepted ends after line i the one with the fewest turns, then with floats nearest to those of `near`. @param {Candidate[]} ends @param {number[]} near */
+/**
+ * Of the accepted ends after line i the one with the fewest turns, then with floats nearest to those of `near`.
+ * @param {Candidate[]} ends @param {number[]} near
+ */
 export function fitLine(ends, near) {
   const far = (one) => Math.abs(one.j - near[1]) + Math.abs(one.d - near[2]);
   return ends.reduce((best, one) => !best || one.t < best.t || (one.t === best.t && (far(one) < far(best) || (far(one) === far(best) && one.w < best.w))) ? one : best, /** @type {Candidate | null} */ (null));

@@ -21,8 +21,6 @@ import { DeskView } from './view.js';
  * @property {boolean} scanned
  */
 
-/** Making that takes longer, in ms, is not done unasked. */
-const QUICK = 400;
 /** How long a slice of trying every end takes, in ms. */
 const SLICE = 8;
 
@@ -61,7 +59,7 @@ export class DeskHand {
     const { s } = this;
     s.best = best;
     s.making = making;
-    s.slow = this.app.maker.lastMs > QUICK ? this.app.maker.lastMs : 0;
+    s.slow = this.app.quick() ? 0 : Math.max(1, this.app.maker.lastMs);
     s.bestEnds = best?.ok ? toEnds(best.list, this.app.g.width) : null;
     if (!this.bench?.open || !this.view.Z || this.bench !== this.app.bench) return;
     s.q = this.within(s.q);
@@ -142,7 +140,10 @@ export class DeskHand {
     else this.toLine(step > 0 ? Math.min(...lines) : Math.max(...lines));
   }
 
-  /** Floats to the next page (step −1) or back (step 1); the lines follow to the best accepted end. @param {number} s @param {number} step @param {boolean} [follow] @param {number | null} [to] */
+  /**
+   * Floats to the next page (step −1) or back (step 1); the lines follow to the best accepted end.
+   * @param {number} s @param {number} step @param {boolean} [follow] @param {number | null} [to]
+   */
   floats(s, step, follow = true, to = null) {
     const end = [...this.now()], { q, pair } = this.s, count = to ?? shifted(this.bench, q, end, s, step);
     if (count === null) return this.app.toast(`No ${s === 1 ? 'figure' : 'table'} to ${step < 0 ? 'push' : 'pull back'}.`);
@@ -308,7 +309,7 @@ export class DeskHand {
   /** Where turns are lost for good; where making is slow only when it is asked for. @param {boolean} asked */
   async findLosses(asked) {
     const { s, bench, run } = this, { maker } = this.app, words = bench.words.slice(), { width } = bench.g;
-    s.slow = maker.lastMs > QUICK ? maker.lastMs : 0;
+    s.slow = this.app.quick() ? 0 : Math.max(1, maker.lastMs);
     if (!s.best?.ok || (s.slow && !asked) || bench.mark.t === s.best.t) return;
     if (asked) this.app.toast('Looking by halves; it goes on while you work.');
     const bestAfter = (q) => maker.make(words.subarray(0, Math.max(q, bench.printed) * width), false);
@@ -329,7 +330,7 @@ export class DeskHand {
 
   async rests() {
     const { s, version, bench } = this, { q } = s, ms = this.app.maker.lastMs;
-    if (!s.best || ms > QUICK || this.app.tab !== 'desk' || bench.p < 2) return;
+    if (!s.best || !this.app.quick() || this.app.tab !== 'desk' || bench.p < 2) return;
     const ends = openings(bench, q, ms < 40 ? 60 : ms < 150 ? 24 : 8), before = bench.ends.slice(0, q - 1);
     Object.assign(s, { rests: [], busy: true });
     let last = 0;

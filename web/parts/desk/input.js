@@ -101,7 +101,10 @@ function listenToButtons(hand) {
   });
 }
 
-/** The line whose distance is nearest to that of the pointer; an accepted one within 4 px first. @param {DeskHand} hand @param {number} y @param {boolean} alone */
+/**
+ * The line whose distance is nearest to that of the pointer; an accepted one within 4 px first.
+ * @param {DeskHand} hand @param {number} y @param {boolean} alone
+ */
 function dragTo(hand, y, alone) {
   const { drag, bench } = hand, { q, pair } = hand.s, [heights, least] = bench.g.sums[0], at = (i) => (heights[i] + least[i]) * hand.view.Z.scale;
   const want = at(drag.end[0]) + (y - drag.y), { a, c } = bench.bounds(q), { byLine } = pair ? bench.pairs(q) : bench.scan(q);

@@ -61,7 +61,11 @@ function wholeWords(bench, trial) {
   return `${trial.what}: ${turnsWords(trial.change).toLowerCase()}${pages}; it parts from the list in force on page ${q}.`;
 }
 
-/** One accepted end. @param {Bench} bench @param {number} q @param {Candidate} one @param {number[]} now @param {number[] | null} star @param {(one: Candidate) => void} pick */
+/**
+ * One accepted end.
+ * @param {Bench} bench @param {number} q @param {Candidate} one @param {number[]} now @param {number[] | null} star
+ * @param {(one: Candidate) => void} pick
+ */
 function chip(bench, q, one, now, star, pick) {
   const end = [one.i, one.j, one.d], was = sameEnd(end, bench.ends[q - 1]) && !one.second, is = sameEnd(end, now) && (!one.second || sameEnd(one.second, bench.trial?.second ?? bench.ends[q]));
   const told = was ? 'in force' : signed(one.change), { a } = bench.bounds(q), here = [1, 2].map((s) => floatRange(s, a[s], end[s])).filter(Boolean).join(' ');
@@ -71,7 +75,10 @@ function chip(bench, q, one, now, star, pick) {
   one.second ? `${one.i} + ${one.second[0]}` : one.i, one.second && here && el('u', {}, here), el('i', {}, told), star && sameEnd(end, star) && el('i', { class: 'star', title: 'as in the best list' }, '★'));
 }
 
-/** All accepted ends of a page, a row for each placing of floats. @param {any} g @param {Bench} bench @param {number} q @param {number[] | null} star @param {(one: Candidate) => void} pick */
+/**
+ * All accepted ends of a page, a row for each placing of floats.
+ * @param {any} g @param {Bench} bench @param {number} q @param {number[] | null} star @param {(one: Candidate) => void} pick
+ */
 export function endsPanel(g, bench, q, star, pick) {
   const found = bench.scan(q), { a, c } = bench.bounds(q), force = bench.ends[q - 1], now = bench.trial ? bench.trial.end : force;
   const on = (row) => row.j === now[1] && row.d === now[2], gain = (row) => Math.min(0, ...row.accepted.map((one) => one.change));
@@ -88,14 +95,21 @@ export function endsPanel(g, bench, q, star, pick) {
       el('span', { class: 'chips' }, row.accepted.length ? row.accepted.map((one) => chip(bench, q, one, now, star, pick)) : el('i', { class: 'none' }, 'no line end is accepted so'))))];
 }
 
-/** Ends of a page and of the next one together. @param {Bench} bench @param {number} q @param {number[] | null} star @param {(one: Candidate) => void} pick */
+/**
+ * Ends of a page and of the next one together.
+ * @param {Bench} bench @param {number} q @param {number[] | null} star @param {(one: Candidate) => void} pick
+ */
 export function pairsPanel(bench, q, star, pick) {
   const found = bench.pairs(q), now = bench.trial ? bench.trial.end : bench.ends[q - 1], shown = found.accepted.slice(0, MOST_PAIRS_SHOWN);
   return [el('h3', {}, `Ends of pages ${q} and ${q + 1} together `, el('small', {}, `${plural(found.accepted.length, 'pair')} accepted of ${comma(found.asked)} asked${found.accepted.length > shown.length ? `; the best ${shown.length}` : ''}`)),
     el('div', { class: 'row' }, el('span', { class: 'chips' }, shown.length ? shown.map((one) => chip(bench, q, one, now, star, pick)) : el('i', { class: 'none' }, 'no two ends are accepted together')))];
 }
 
-/** Ends of the page after which the rest is made best. @param {Bench} bench @param {number} q @param {any[]} rests @param {boolean} busy @param {number} slow @param {(end: number[]) => void} pick */
+/**
+ * Ends of the page after which the rest is made best.
+ * @param {Bench} bench @param {number} q @param {any[]} rests @param {boolean} busy @param {number} slow
+ * @param {(end: number[]) => void} pick
+ */
 export function restPanel(bench, q, rests, busy, slow, pick) {
   const force = bench.ends[q - 1], near = (one) => Math.abs(one.end[0] - force[0]), now = bench.trial ? bench.trial.end : force, { a } = bench.bounds(q);
   const list = [...rests].sort((x, y) => x.made.t - y.made.t || x.made.w - y.made.w || near(x) - near(y));
@@ -105,7 +119,7 @@ export function restPanel(bench, q, rests, busy, slow, pick) {
       title: `p ${made.p}, X ${made.x}, Y ${made.y}, T ${made.t}, W ${comma(made.w)}`,
       'aria-label': `end page ${q} after line ${end[0]}${floats ? ` with ${floats}` : ''} and make the rest best: ${signed(d)} turns` }, end[0] || '–', floats && el('u', {}, floats), el('i', {}, signed(d)));
   };
-  const empty = busy ? null : el('i', { class: 'none' }, slow ? `Making takes ${(slow / 1000).toFixed(1)} s here: R makes the best from the end that is tried` : 'no list begins with such a page');
+  const empty = busy ? null : el('i', { class: 'none' }, slow ? `Making ${slow > 1 ? `takes ${(slow / 1000).toFixed(1)} s` : 'is slow'} here: R makes the best from the end that is tried` : 'no list begins with such a page');
   return [el('h3', {}, '… and all pages after it made best ', el('small', {}, busy ? 'being made…' : list.length > MOST_RESTS_SHOWN ? `the best ${MOST_RESTS_SHOWN} of ${list.length}` : '')),
     el('div', { class: 'row' }, el('span', { class: 'chips' }, list.length ? list.slice(0, MOST_RESTS_SHOWN).map(one) : empty))];
 }
@@ -114,11 +128,11 @@ export function restPanel(bench, q, rests, busy, slow, pick) {
 export function layoutsPanel(bench, back, drop) {
   const all = bench.layouts();
   if (!all.length) return el('p', { class: 'sub' }, 'None yet.');
-  return all.map(({ name, words }) => {
+  return all.map(({ name, words }, k) => {
     const m = bench.engine.mark(bench.g.bytes, words), d = m.ok ? m.t - bench.mark.t : 0;
     return el('div', { class: 'lay ui' }, el('span', { class: 'nm' }, name), el('span', { class: 'soft' }, m.ok ? `p ${m.p} T ${m.t}` : ''),
       el('span', { class: d > 0 ? 'loud' : d < 0 ? 'fine' : 'soft' }, signed(d)),
-      el('button', { type: 'button', 'data-back': name, onclick: () => back(name), 'aria-label': `back to ${name}` }, 'Back'),
-      el('button', { type: 'button', 'data-drop': name, onclick: () => drop(name), 'aria-label': `drop ${name}` }, '✕'));
+      el('button', { type: 'button', 'data-back': k, onclick: () => back(name), 'aria-label': `back to ${name}` }, 'Back'),
+      el('button', { type: 'button', 'data-drop': k, onclick: () => drop(name), 'aria-label': `drop ${name}` }, '✕'));
   });
 }

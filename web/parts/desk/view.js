@@ -45,6 +45,7 @@ export class DeskView {
     this.rows = 2;
     this.leaves.clear();
     this.columns.clear();
+    this.legend = '';
     put(this.inner, /** @type {any} */ (this.over));
     put(byId('deskmap'));
   }
@@ -61,7 +62,7 @@ export class DeskView {
     this.state = s;
     this.ways = lanes(M, Z);
     this.M = M;
-    this.inner.style.width = `${2 * this.pad + (M.leaf1 - M.leaf0 + 1) * Z.w}px`;
+    sized(this.inner, 'width', 2 * this.pad + (M.leaf1 - M.leaf0 + 1) * Z.w);
     if (center) {
       this.film.scrollLeft = this.boundary(M, q) - this.width / 2;
       if (q !== this.lastQ) this.rows = 2;
@@ -69,7 +70,7 @@ export class DeskView {
     }
     this.rows = Math.max(this.rows, this.lanesInView());
     this.H = staffHeights(Z, this.rows, true, true);
-    this.inner.style.height = `${Math.ceil(this.H.total)}px`;
+    sized(this.inner, 'height', Math.ceil(this.H.total));
     this.drawLeaves();
     this.drawOver();
     this.drawMap();
@@ -186,17 +187,16 @@ export class DeskView {
       this.columns.delete(i);
     }
     for (let i = M.leaf0; i <= M.leaf1; i++) {
-      const column = this.columns.get(i) ?? this.newColumn(i);
-      const { svg } = staff(g, M, ways, i, Z, { rows: this.mapRows, focus: [q, q + 1], printed: bench.printed }), marks = this.mapMarks(i, Z, gains, losses);
-      if (svg + marks === column.svg) continue;
-      column.svg = svg + marks;
+      const column = this.columns.get(i) ?? this.newColumn(i), marks = this.mapMarks(i, Z, gains, losses);
+      const sum = `${leafSum(M, ways, i)} ${this.mapRows} ${bench.printed} ${[q, q + 1].filter((one) => leafOf(g, one) === i)} ${marks}`;
+      if (sum === column.svg) continue;
+      column.svg = sum;
+      const { svg } = staff(g, M, ways, i, Z, { rows: this.mapRows, focus: [q, q + 1], printed: bench.printed });
       column.el.replaceChildren(drawn(svg), drawn(`<svg class="gl" width="${n(Z.w)}" height="17" aria-hidden="true">${marks}</svg>`), el('i', {}, i));
     }
     const here = this.columns.get(leafOf(g, q));
-    if (map.scrollWidth > map.clientWidth && here && this.mapAt !== q) {
-      this.mapAt = q;
-      map.scrollLeft = here.el.offsetLeft - map.offsetLeft - map.clientWidth / 2 + Z.w;
-    }
+    if (this.mapAt !== q && here && map.scrollWidth > map.clientWidth) map.scrollLeft = here.el.offsetLeft - map.offsetLeft - map.clientWidth / 2 + Z.w;
+    this.mapAt = q;
     this.drawLegend();
   }
 
@@ -222,7 +222,10 @@ export class DeskView {
   }
 
   drawLegend() {
-    const { gains, losses, scanned, slow, bench, best } = this.state, hand = this.hand;
+    const { gains, losses, scanned, slow, bench, best } = this.state, { hand } = this;
+    const sum = `${[...gains]} ${[...losses.values()].map((one) => one.words)} ${scanned} ${slow} ${bench.mark.t} ${best?.t}`;
+    if (sum === this.legend) return;
+    this.legend = sum;
     const page = (q) => link(`page ${q}`, () => hand.select(q), { 'data-go': q });
     const better = [...gains].filter(([, change]) => change < 0).map(([q]) => q), lost = [...losses.values()], most = 8;
     const rest = (count) => count > most ? ` and ${count - most} more` : '';
@@ -230,7 +233,7 @@ export class DeskView {
     const gain = better.length ? [el('b', { class: 'g' }, '▲'), ' another end has fewer turns: ', comma(better.slice(0, most).map(page)), rest(better.length)]
       : scanned ? 'No other end of one page alone has fewer turns' : 'Trying every end of every page…';
     const loss = lost.length ? [' · turns lost for good: ', comma(lost.slice(0, most).map((one) => [el('b', { class: 'l' }, `+${one.turns}`), ' with the end of ', page(one.page)])), rest(lost.length)]
-      : slow && best?.ok && bench.mark.t > best.t ? [' · ', link('find where turns are lost for good', () => hand.findLosses(true), { 'data-find': 1 }), ` (${(slow / 1000).toFixed(1)} s a step)`] : '';
+      : slow && best?.ok && bench.mark.t > best.t ? [' · ', link('find where turns are lost for good', () => hand.findLosses(true), { 'data-find': 1 }), slow > 1 ? ` (${(slow / 1000).toFixed(1)} s a step)` : ''] : '';
     put(byId('legend'), gain, loss, ` · a column is a ${leafWord(this.g)}`);
   }
 
@@ -278,4 +281,17 @@ export class DeskView {
       chip.classList.toggle('on', own === end || own === both);
     }
   }
+}
+
+/** Sets a size where it is another one, since that lays the page out again. @param {HTMLElement} element @param {'width' | 'height'} side @param {number} size */
+function sized(element, side, size) {
+  const value = `${size}px`;
+  if (element.style[side] !== value) element.style[side] = value;
+}
+
+/** What the overview of a leaf depends on. @param {any} M @param {any} ways @param {number} i */
+function leafSum(M, ways, i) {
+  const pages = (M.byLeaf.get(i) ?? []).map((page) => `${page.q} ${page.a} ${page.b} ${page.bad.length}`);
+  const arcs = (ways.over.get(i) ?? []).map((A) => `${A.F.id} ${A.lane} ${A.i0} ${A.i1}`);
+  return `${pages}|${arcs}|${M.first?.page === M.byLeaf.get(i)?.[0]?.q}`;
 }

@@ -10,7 +10,8 @@ import { byId, drawn, el, put } from '../dom.js';
 
 /** @param {App} app @param {Scene} scene @param {number} leaf */
 export function openLarge(app, scene, leaf) {
-  const dialog = byId('large'), { g, order, leaves } = scene, Z = large(g, Math.max(420, innerHeight - 190));
+  const dialog = byId('large'), { g, order, leaves } = scene, beside = innerWidth > 900 ? order.length : 1;
+  const Z = large(g, Math.max(420, innerHeight - 190), (innerWidth - 80) / beside);
   const ways = order.map((L) => lanes(L, Z)), word = g.sides === 2 ? 'Spread' : 'Page';
   let at = leaves.indexOf(leaf);
   const draw = () => {

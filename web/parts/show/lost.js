@@ -21,8 +21,8 @@ export function lostBox(app, { g, hand, best }) {
 function ofList(app, g, L, named) {
   const lost = app.lostOf(L), name = named ? el('b', {}, `${L.name}: `) : null;
   if (lost === null) {
-    const seconds = (app.maker.lastMs / 1000).toFixed(1);
-    return el('p', {}, name, button('Find it', () => app.findLost(L), { 'data-find': L.name }), ` by halves; a step takes about ${seconds} s.`);
+    const told = app.maker.lastMs ? `a step takes about ${(app.maker.lastMs / 1000).toFixed(1)} s` : 'a step makes the galley once';
+    return el('p', {}, name, button('Find it', () => app.findLost(L), { 'data-find': L.name }), ` by halves; ${told}.`);
   }
   if (lost === 'looking') return el('p', { class: 'soft' }, name, 'looking, by halves…');
   const waits = (ids) => {

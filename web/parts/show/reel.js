@@ -41,10 +41,22 @@ export function reelOf(app, scene) {
   const told = 'figures are drawn at the head and tables at the foot; a list says only on which page they stand. Choose one to see it large';
   return [el('h2', {}, `${word}s `, el('small', {}, told)),
     el('ul', { class: 'key', 'aria-label': 'Key' }, key(g, order).map(({ svg, words }) => el('li', {}, drawn(svg), words))),
-    el('div', { class: 'reel', id: 'reel' }, columns)];
+    watched(el('div', { class: 'reel', id: 'reel' }, columns))];
 }
 
-/** @param {any} L @param {number} c @param {number} i @param {string} word @param {number} came @param {boolean} part @param {number} lost */
+/** Marks in the overview what is in view of the reel. @param {HTMLElement} reel */
+function watched(reel) {
+  const seen = new IntersectionObserver((entries) => {
+    for (const { target, isIntersecting } of entries) document.querySelector(`#view-show .map a[href="#${target.id}"]`)?.classList.toggle('here', isIntersecting);
+  });
+  for (const column of reel.querySelectorAll('.col')) seen.observe(column);
+  return reel;
+}
+
+/**
+ * @param {any} L @param {number} c @param {number} i @param {string} word @param {number} came @param {boolean} part
+ * @param {number} lost
+ */
 function caption(L, c, i, word, came, part, lost) {
   const here = L.byLeaf.has(i) ? '' : i > L.leaf1 ? ' has ended' : ' has not begun';
   return el('span', { class: 'cap' }, c === 0 && [el('b', {}, `${word} ${i}`), ', '], L.name, here && el('i', {}, here),

@@ -42,7 +42,10 @@ function sceneOf(g, hand, best, order) {
   return { g, hand, best, order, lo, hi, part, leaves: leavesOf(order, lo, hi, part) };
 }
 
-/** Leaves to draw; of very many those with something to tell. @param {Measured[]} order @param {number} lo @param {number} hi @param {number} part */
+/**
+ * Leaves to draw; of very many those with something to tell.
+ * @param {Measured[]} order @param {number} lo @param {number} hi @param {number} part
+ */
 function leavesOf(order, lo, hi, part) {
   const all = Array.from({ length: hi - lo + 1 }, (_, k) => lo + k);
   if (all.length <= MOST_LEAVES) return all;
