@@ -28,8 +28,10 @@ import { showView } from './show/show.js';
 
 const ABOUT = 'Page make-up that is proved: make, compare, and try page ends at the desk.';
 const VIEWS = ['open', 'show', 'class', 'desk', 'book'];
-/** Making that takes longer, in ms, is not done unasked; nor, where that is not known yet, with a longer work area, in words. */
+/** Making that takes longer, in ms, is not done again and again unasked; where its time is not known, the words of its work area tell. */
 const QUICK = 400, SHORT = 4e6;
+/** What is lost for good takes a dozen makings, in the worker, while nobody waits. */
+const PATIENT = 1500;
 
 export class App {
   /** @param {WebAssembly.Module} module @param {ArrayBuffer} wasm @param {string} script of the page, and of its worker */
@@ -311,7 +313,7 @@ export class App {
     if (!L.ok || !best?.ok) return null;
     if (L.T <= best.t) return [];
     const key = L.ends.join(' ');
-    if (!this.lost.has(key) && this.quick()) this.findLost(L);
+    if (!this.lost.has(key) && this.quick(PATIENT)) this.findLost(L);
     return this.lost.get(key) ?? null;
   }
 
@@ -319,7 +321,7 @@ export class App {
   async findLost(L) {
     const { g } = this, key = L.ends.join(' '), words = toWords(L.ends, g.width), asked = !this.lost.has(key);
     this.lost.set(key, 'looking');
-    if (asked && !this.quick()) this.draw();
+    if (asked && !this.quick(PATIENT)) this.draw();
     const from = this.bench.printed;
     const lost = await lostForGood(g, L.ends, (q) => this.maker.make(words.subarray(0, Math.max(q, from) * g.width), false), () => this.g === g);
     if (!lost || this.g !== g) return;
@@ -327,8 +329,8 @@ export class App {
     if (this.tab === 'show') this.draw();
   }
 
-  /** Whether making is so quick that it may be done unasked. */
-  quick() { return this.maker.lastMs ? this.maker.lastMs < QUICK : !!this.forecast && this.forecast.work < SHORT; }
+  /** Whether making is so quick that it may be done unasked. @param {number} [ms] */
+  quick(ms = QUICK) { return this.maker.lastMs ? this.maker.lastMs < ms : !!this.forecast && this.forecast.work < SHORT; }
 
   plainName() { return this.name.replace(/\.(galley|txt)$/, '') || 'galley'; }
   keep() { this.keeper.soon(); }

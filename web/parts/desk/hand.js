@@ -21,6 +21,8 @@ import { DeskView } from './view.js';
  * @property {boolean} scanned
  */
 
+/** What takes a dozen makings is done unasked where one takes less than this, in ms. */
+const PATIENT = 1500;
 /** How long a slice of trying every end takes, in ms. */
 const SLICE = 8;
 
@@ -310,7 +312,7 @@ export class DeskHand {
   async findLosses(asked) {
     const { s, bench, run } = this, { maker } = this.app, words = bench.words.slice(), { width } = bench.g;
     s.slow = this.app.quick() ? 0 : Math.max(1, maker.lastMs);
-    if (!s.best?.ok || (s.slow && !asked) || bench.mark.t === s.best.t) return;
+    if (!s.best?.ok || (!asked && !this.app.quick(PATIENT)) || bench.mark.t === s.best.t) return;
     if (asked) this.app.toast('Looking by halves; it goes on while you work.');
     const bestAfter = (q) => maker.make(words.subarray(0, Math.max(q, bench.printed) * width), false);
     const lost = await lostForGood(bench.g, bench.ends, bestAfter, () => run === this.run);
