@@ -3,7 +3,8 @@
 use crate::before::Before;
 use crate::clock;
 use crate::galleys::{chapter, galley, Shape, CHAPTERS};
-use barleychime::engine::{self, BookMaking, BookMeasure, Making as Made, Measure, Refusal};
+use barleychime::engine::{self, BookMaking, BookMeasure, Making as Made, Measure};
+use barleychime::refusal::{Refusal, RefusalKind};
 use std::hint::black_box;
 use std::time::Duration;
 
@@ -89,7 +90,10 @@ pub fn making(shape: Shape, runs: u32) -> Making {
             let (number, turns) = timed(&mut before, || engine.make(black_box(&galley.bytes), &mut work, &mut list));
             let answer = answers[0].0.answer;
             assert!(
-                answer.map_or_else(|refusal| refusal.number == number, |measure| number == 0 && measure.turns == turns),
+                answer.map_or_else(
+                    |refusal| refusal.kind.number() == number,
+                    |measure| number == 0 && measure.turns == turns
+                ),
                 "{}: other turns before",
                 shape.name
             );
@@ -97,7 +101,7 @@ pub fn making(shape: Shape, runs: u32) -> Making {
     }
     let (Made { answer, weighed }, _) = answers[0];
     assert!(answers.iter().all(|other| *other == answers[0]), "{}: not one answer and one list", shape.name);
-    let turns = answer.map_or_else(|refusal| refusal.to_string(), |measure| measure.turns.to_string());
+    let turns = answer.map_or_else(|refusal| refusal.code(), |measure| measure.turns.to_string());
     let ceiling = engine::forecast(&galley.bytes).map_or(0, |told| told.ceiling);
     assert!(weighed <= ceiling, "{}: more is weighed than was told", shape.name);
     let ([engine, queue, limited, plain], most_figures) = (times, galley.most_figures);
@@ -143,7 +147,7 @@ pub fn book(shape: Shape, runs: u32) -> Bound {
         let due = timed(&mut native, || native::book(black_box(&galleys), &lengths, &mut work, &mut due_pages));
         assert!(made == bound_of(due) && pages == due_pages, "{}: not one answer and one list", shape.name);
         timed(&mut alone, || chapters.iter().all(|bytes| engine::make_in(bytes, &mut work, &mut pages).answer.is_ok()));
-        turns = made.answer.map_or_else(|refusal| refusal.to_string(), |measure| measure.turns.to_string());
+        turns = made.answer.map_or_else(|refusal| refusal.code(), |measure| measure.turns.to_string());
     }
     Bound { turns, engine, native, alone }
 }
@@ -151,7 +155,7 @@ pub fn book(shape: Shape, runs: u32) -> Bound {
 fn bound_of(native: native::Book) -> BookMaking {
     let answer = match native.number {
         0 => Ok(BookMeasure { pages: native.p, x: native.x, y: native.y, turns: native.t, white: native.w }),
-        number => Err(Refusal { number: number as u32, place: native.place as u32 }),
+        number => Err(Refusal { kind: RefusalKind::of(number as u32), place: native.place as u32 }),
     };
     BookMaking { answer, weighed: native.weighed }
 }
@@ -175,7 +179,7 @@ pub fn marking(shape: Shape, runs: u32) -> Marking {
 fn made_of(native: native::Answer) -> Made {
     let answer = match native.number {
         0 => Ok(Measure { pages: native.p, x: native.x, y: native.y, turns: native.t, white: native.w }),
-        number => Err(Refusal { number, place: native.place }),
+        number => Err(Refusal { kind: RefusalKind::of(number), place: native.place }),
     };
     Made { answer, weighed: native.weighed }
 }

@@ -14,7 +14,7 @@ pub fn mark(bytes: &[u8], list: &[u32]) -> Answer {
 
 fn mark_galley(galley: &Galley, list: &[u32]) -> Answer {
     let words = galley.page_words();
-    if list.is_empty() || list.len() % words != 0 || list.len() > words * galley.blocks() {
+    if list.is_empty() || !list.len().is_multiple_of(words) || list.len() > words * galley.blocks() {
         return Answer::refused(12, 0);
     }
     let pages = list.len() / words;

@@ -38,7 +38,7 @@ impl Origin {
 /// then 21 where nothing is left.
 pub fn origin_of(galley: &Galley, opening: &[u32]) -> Result<Origin, Answer> {
     let words = galley.page_words();
-    if opening.len() % words != 0 {
+    if !opening.len().is_multiple_of(words) {
         return Err(Answer::refused(20, 0));
     }
     let pages = opening.len() / words;

@@ -88,6 +88,8 @@ fn weigh(galley: &Galley, work: &[u32], place: Place, start: Place, page: Height
     if start == place || page.loose < ht_min {
         return;
     }
+    // A side is a number by which other tables are asked, too.
+    #[allow(clippy::needless_range_loop)]
     for side in first_side(spec.sides)..=ENDS {
         let Some(before) = least(galley, work, start, side_before(spec.sides, side)) else { continue };
         let cost = before.cost + Cost::from(white);

@@ -179,6 +179,8 @@ fn sweep(
             enter(galley, work, (window.split, from), |side, cost| queues[side].full.enter(window.split, cost));
             window.split += 1;
         }
+        // A side is a number by which other tables are asked, too.
+        #[allow(clippy::needless_range_loop)]
         for side in first_side(spec.sides)..=ENDS {
             if side == ENDS && i < citation {
                 continue;

@@ -7,7 +7,7 @@ use core::slice::from_raw_parts_mut;
 #[no_mangle]
 pub unsafe extern "C" fn barleychime_section(size: u32, numbers: *mut u32, answer: *mut u32) -> u32 {
     let (numbers, answer) = unsafe { (from_raw_parts_mut(numbers, 64), from_raw_parts_mut(answer, 2)) };
-    if !(4..=64).contains(&size) || size % 4 != 0 {
+    if !(4..=64).contains(&size) || !size.is_multiple_of(4) {
         answer.copy_from_slice(&[33, size]);
         return 33;
     }
