@@ -28,7 +28,10 @@ import { showView } from './show/show.js';
 
 const ABOUT = 'Page make-up that is proved: make, compare, and try page ends at the desk.';
 const VIEWS = ['open', 'show', 'class', 'desk', 'book'];
-/** Making that takes longer, in ms, is not done again and again unasked; where its time is not known, the words of its work area tell. */
+/**
+ * Making that takes longer, in ms, is not done again and again unasked; where its time is not known, the words of its work
+ * area tell.
+ */
 const QUICK = 400, SHORT = 4e6;
 /** What is lost for good takes a dozen makings, in the worker, while nobody waits. */
 const PATIENT = 1500;

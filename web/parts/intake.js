@@ -24,7 +24,10 @@ export function take(app, files) {
   app.go(app.lists.length > FEW ? 'class' : 'show');
 }
 
-/** Why these files cannot be taken, or nothing. @param {App} app @param {Sorted[]} sorted @param {any[]} galleys @param {any[]} lists */
+/**
+ * Why these files cannot be taken, or nothing.
+ * @param {App} app @param {Sorted[]} sorted @param {any[]} galleys @param {any[]} lists
+ */
 function faultOf(app, sorted, galleys, lists) {
   const bad = sorted.find((file) => file.kind === 'refused');
   if (bad?.kind === 'refused') return `${bad.name} is not read: ${bad.why}`;
@@ -35,7 +38,10 @@ function faultOf(app, sorted, galleys, lists) {
   return list.ok ? '' : `${lists[0].name} is neither a galley nor a list. ${list.why}`;
 }
 
-/** Opens a galley; one that is refused does not take the place of what is open. @param {App} app @param {{name: string, bytes: Uint8Array}} galley */
+/**
+ * Opens a galley; one that is refused does not take the place of what is open.
+ * @param {App} app @param {{name: string, bytes: Uint8Array}} galley
+ */
 function opened(app, { name, bytes }) {
   const told = app.engine.forecast(bytes);
   if (!told.ok && app.g) {
@@ -47,7 +53,10 @@ function opened(app, { name, bytes }) {
   return told.ok;
 }
 
-/** The first accepted of these lists is drawn, and lies on the desk unless work is kept there. @param {App} app @param {string[]} names */
+/**
+ * The first accepted of these lists is drawn, and lies on the desk unless work is kept there.
+ * @param {App} app @param {string[]} names
+ */
 function begin(app, names) {
   const lists = app.lists.filter((list) => names.includes(list.name)), first = lists.find((list) => list.mark.ok) ?? lists[0];
   if (!first) return;

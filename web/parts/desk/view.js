@@ -7,7 +7,8 @@ import { leafWord, plural, signed } from '../../galley/words.js';
 import { lanes, n, overview, staffHeights, strip } from '../../layout/layout.js';
 import { byId, drawn, el, link, put } from '../dom.js';
 import { fitLine } from './ends.js';
-import { endsPanel, layoutsPanel, pairsPanel, restPanel, score, sentence } from './panels.js';
+import { endsPanel, layoutsPanel, pairsPanel, restPanel } from './panels.js';
+import { score, sentence } from './score.js';
 
 /**
  * @typedef {import('./hand.js').DeskHand} DeskHand
@@ -259,7 +260,7 @@ export class DeskView {
   /** What does not change while a hand moves. @param {Sitting} s */
   drawPanels(s) {
     const { bench, q, pair, bestEnds } = s, { hand } = this, star = bestEnds?.[q - 1] ?? null, pick = (one) => hand.pick(one);
-    put(byId('ends'), pair ? pairsPanel(bench, q, star, pick) : endsPanel(this.g, bench, q, star, pick));
+    put(byId('ends'), pair ? pairsPanel(bench, q, star, pick) : endsPanel(bench, q, star, pick));
     put(byId('rests'), restPanel(bench, q, s.rests, s.busy, s.slow, (end) => hand.rest(end)));
     byId('lmode').textContent = bench.marking ? `${bench.p} pages: above the 64 of the engine’s desk, so each list is marked` : `${bench.p} pages, on the engine’s desk`;
     byId('undo').disabled = !bench.canUndo;
@@ -283,7 +284,10 @@ export class DeskView {
   }
 }
 
-/** Sets a size where it is another one, since that lays the page out again. @param {HTMLElement} element @param {'width' | 'height'} side @param {number} size */
+/**
+ * Sets a size where it is another one, since that lays the page out again.
+ * @param {HTMLElement} element @param {'width' | 'height'} side @param {number} size
+ */
 function sized(element, side, size) {
   const value = `${size}px`;
   if (element.style[side] !== value) element.style[side] = value;
