@@ -1,0 +1,6 @@
+pub mod Told
+pub mod State
+pub mod Fit
+pub mod Reach
+pub mod Exact
+pub mod Total

@@ -1,0 +1,1 @@
+// What each refusal of the reader says of the bytes alone: see specs/.
