@@ -67,6 +67,7 @@ pub record Begun (bytes : List ℕ) (s : Spec) (o : Stated) (m n k : ℕ) : Type
   pub figures : Floats bytes (galleyIn s o m n k .figures) m 200 (λ at. found.Figure (floatOf (isKept bytes at) bytes at))
   pub tables : Floats bytes (galleyIn s o m n k .tables) m 50 (λ at. found.Table (floatOf false bytes at))
 
+-- The same of any beginning; of none nothing is asked.
 unfoldable pub Begins : List ℕ → Start → Type 0
 Begins bytes nothing = Unit {0}
 Begins bytes (begun s o m n k) = Begun bytes s o m n k
@@ -99,7 +100,7 @@ crowded (begun s o m n k) mark =
     (pick (eqb mark FG || eqb mark FK) (eqb n 200)
     (eqb mark TB && eqb k 50))
 
--- The mark fits there.
+-- The mark fits there: it may follow, not before the first line, and there may be one more of its kind.
 abbrev pub fits : Start → ℕ → Bool
 fits b mark = mayFollow b mark && not (early b mark) && not (crowded b mark)
 
@@ -131,17 +132,17 @@ pub record Upto (bytes : List ℕ) (at : ℕ) (b : Start) : Type 0 where
   pub begins : Begins bytes b
   pub due : dueAt b ≡ at
 
--- They do, there is a mark there, and
+-- These records stand before the place, and the two bytes of a mark are there.
 pub record Marked (bytes : List ℕ) (at : ℕ) (b : Start) : Type 0 where
   pub upto : Upto bytes at b
   pub mark : at + 2 ≤ length bytes
 
--- it fits.
+-- These records stand before the place, and the mark there fits.
 pub record Fitting (bytes : List ℕ) (at : ℕ) (b : Start) : Type 0 where
   pub marked : Marked bytes at b
   pub fit : fits b (markAt bytes at) ≡ true
 
--- 1: the bytes end before the mark of a record, or inside a record whose mark fits.
+-- 1: the bytes end before the mark of a record, or inside a record whose mark fits; `size` is the bytes of a record with that mark.
 abbrev pub StopsShort : List ℕ → ℕ → Type 0
 StopsShort bytes at =
     ((b : Start) × Upto bytes at b × (length bytes < at + 2))
