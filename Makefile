@@ -80,14 +80,14 @@ staged: command $(SHARED)
 	@ln -s $(SONAME) $(STAGE)/lib/libbarleychime.so
 	@mkdir -p $(STAGE)/lib/pkgconfig
 	@sed 's/@VERSION@/$(VERSION)/' tools/barleychime.pc.in > $(STAGE)/lib/pkgconfig/barleychime.pc
-	@$(COMMAND) man > /dev/null 2>&1 || exit 0; cd $(STAGE) && mkdir -p $(dir $(MAN) $(BASH) $(ZSH) $(FISH)) && \
+	@cd $(STAGE) && mkdir -p $(dir $(MAN) $(BASH) $(ZSH) $(FISH)) && \
 	    for told in 'man:$(MAN)' 'completions bash:$(BASH)' 'completions zsh:$(ZSH)' 'completions fish:$(FISH)'; do \
 	    bin/barleychime $${told%%:*} > "$${told#*:}"; done
 	@mkdir -p $(STAGE)/share/barleychime $(STAGE)/share/doc/barleychime
 	@cp -R samples $(STAGE)/share/barleychime/samples
 	@if [ -f target/web/barleychime.html ]; then install -m 644 target/web/barleychime.html $(STAGE)/share/barleychime/; fi
 	@$(if $(LATEX),install -D -m 644 -t $(STAGE)/share/texmf/tex/lualatex/barleychime $(LATEX))
-	@install -m 644 README.md CHANGELOG.md $(wildcard docs/COMMAND.md) docs/EMBEDDING.md $(STAGE)/share/doc/barleychime/
+	@install -m 644 README.md CHANGELOG.md docs/COMMAND.md docs/EMBEDDING.md $(STAGE)/share/doc/barleychime/
 	@sed -n '/^```c$$/,/^```$$/p' docs/EMBEDDING.md | sed '/^```/d' > $(STAGE)/share/doc/barleychime/pages.c
 	@cd $(STAGE) && touch $(FILES) && find . \( -type f -o -type l \) -printf '%P\n' | LC_ALL=C sort > $(FILES)
 	@echo 'all is built; `make install` installs it below $(PREFIX)'

@@ -74,7 +74,7 @@ def used(tally, here):
     for name, least in zip(('bin/barleychime', 'lib/libbarleychime.so'), (stated.groups()[:2], stated.groups()[2:])):
         asked = newest(ran('objdump', '-T', name, cwd=here)[1])
         tally.same(f'{name} asks for glibc {asked}, as is stated or an older one', asked <= tuple(map(int, least)), True)
-    for name in TOLD if ran('bin/barleychime', 'man', cwd=here)[0] == 0 else ():
+    for name in TOLD:
         tally.same(f'{name} is there', (here / name).is_file() and (here / name).stat().st_size > 200, True)
     wheels = [name for name in files(here) if name.endswith('.whl')]
     pip = (sys.executable, '-m', 'pip', 'install', '-q', '--no-index', '--target', 'site')
