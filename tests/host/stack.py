@@ -10,8 +10,8 @@ import subprocess
 from c_interface import STRICT
 from engine import nine
 from frames import Unknown, needed, symbols
-from reference import beforehand, marking, openings
-from reference.galley import read
+from reference import beforehand, cases, marking, openings
+from reference.galley import read, write
 
 SPARE = 4096  # bytes that the header may have more than the machine code takes, and that more than is seen
 BINDING = 4096  # bytes for the dynamic linker where it binds memcpy or memset at its first call, as the header has it
@@ -27,7 +27,7 @@ def built(root, library, folder, binding):
 
 
 def called(program, stack, files):
-    """Exit status, bytes left at the call, bytes taken, and the nine words of the answer."""
+    """Exit status, bytes left at the call, bytes taken, and the words of the answer."""
     ran = subprocess.run([program, str(stack), *files], capture_output=True, text=True)
     left, taken, *answer = map(int, ran.stdout.split()) if ran.returncode == 0 else (0, 0)
     return ran.returncode, left, taken, tuple(answer)
@@ -54,6 +54,16 @@ def calls(command, root, folder):
             (True, "LaTeX's list", [made, latex], loose), (True, 'a list for a galley cut short', [cut, lists], refused)]
 
 
+def books(folder):
+    """The same of books: the eight words of an answer are of 64 bits each."""
+    for number, (name, chapters, choice, measure) in enumerate(cases.BOUND):
+        files = [folder / f'bound-{number}-{chapter}' for chapter in range(len(chapters))]
+        for file, galley in zip(files, chapters):
+            file.write_bytes(write(galley))
+        counted = sum(map(beforehand.weighed_by_runs, chapters))
+        yield False, f'a book, {name}', ['book', *files], (0, 0, *measure, counted) if choice else (11, *(0,) * 6, counted)
+
+
 def best_list(command, path, folder):
     """A file with the list that is made of a galley, and its mark."""
     pages = [line.split()[1:] for line in command.text('make', path)[1].splitlines()[1:]]
@@ -74,8 +84,8 @@ def due_of_opening(path, lists):
 
 
 def figures(tally, stated, takes, seen):
-    """The header's figures, what the machine code takes, and what calls were seen to take, for making and for marking."""
-    for work, header, code, calls_took in zip(('making', 'marking'), stated, takes, seen):
+    """The header's figures, what the machine code takes, and what calls were seen to take, for making, marking and a book."""
+    for work, header, code, calls_took in zip(('making', 'marking', 'a book'), stated, takes, seen):
         tally.same(f'stack of {work}: the header has {header} bytes, the archive takes {code}', code <= header <= code + SPARE,
                    True)
         tally.same(f'stack of {work}: {calls_took} bytes were seen, the archive takes {code}',
@@ -105,26 +115,42 @@ def linked(tally, root, library):
     tally.same('nothing but code and constants', [kind for kind in kinds if kind not in 'TtRr'], [])
 
 
+# What the header says of the other calls in words: the bytes of stack that each takes at most.
+IN_WORDS = {'version': 8, **dict.fromkeys(('report', 'forecast', 'section'), 999),
+            **{f'desk_{name}': 24_575 for name in ('open', 'ask', 'commit', 'save', 'back', 'drop', 'list')}}
+
+
+def in_rust(tally, root, of_making, of_book):
+    """The Rust interface states the header's figures."""
+    constants = dict(re.findall(r'pub const (\w*STACK_BYTES): usize = ([\d_]+);', (root / 'host/library/src/engine.rs').read_text()))
+    tally.same('the figures in Rust', constants, {'STACK_BYTES': f'{of_making:_}', 'BOOK_STACK_BYTES': f'{of_book:_}'})
+
+
 def run(tally, command, root, library, folder):
     linked(tally, root, library)
     try:
-        takes = [max(needed(library, f'barleychime_{name}') for name in names) for names in (('make', 'make_after'), ('mark',))]
+        takes = [max(needed(library, f'barleychime_{name}') for name in names)
+                 for names in (('make', 'make_after'), ('mark',), ('book',))]
     except Unknown as error:
         tally.same('the machine code can be followed', str(error), '')
         return
     lazy, now = (built(root, library, folder, binding) for binding in ('lazy', 'now'))
-    *stated, of_book = map(int, subprocess.run([now], check=True, capture_output=True, text=True).stdout.split())
-    seen = [0, 0]
+    stated = [*map(int, subprocess.run([now], check=True, capture_output=True, text=True).stdout.split())]
+    in_rust(tally, root, stated[0], stated[2])
+    seen = [0, 0, 0]
     for what in calls(command, root, folder):
         marks = what[0]
         seen[marks] = max(seen[marks], threads(tally, lazy, now, what, stated[marks], takes[marks]))
+    for what in books(folder):
+        seen[2] = max(seen[2], threads(tally, lazy, now, what, stated[2], takes[2]))
     figures(tally, stated, takes, seen)
-    for name in ('report', 'forecast'):
-        tally.same(f'stack of a {name}, under 1,000 bytes', needed(library, f'barleychime_{name}') < 1_000, True)
-    takes_there = needed(library, 'barleychime_book')
-    tally.same(f'stack of a book: the header has {of_book} bytes, the archive takes {takes_there}',
-               takes_there <= of_book <= takes_there + SPARE, True)
-    for name in ('open', 'ask', 'commit', 'save', 'back', 'drop', 'list'):
-        takes_there = needed(library, f'barleychime_desk_{name}')
-        tally.same(f'stack of a desk, {name}: {takes_there} bytes', takes_there < 24_576, True)
-    tally.group('stack', f'; making takes {takes[0]:,} bytes, marking {takes[1]:,}')
+    for name, most in IN_WORDS.items():
+        takes_there = needed(library, f'barleychime_{name}')
+        tally.same(f'stack of barleychime_{name}: {takes_there} bytes, at most {most}', takes_there <= most, True)
+    tally.same('calls whose stack is measured', sorted({*IN_WORDS, 'make', 'make_after', 'mark', 'book'}), sorted(exported(library)))
+    tally.group('stack', f'; making takes {takes[0]:,} bytes, marking {takes[1]:,}, a book {takes[2]:,}')
+
+
+def exported(library):
+    """The calls of the archive, without the name of the library before each."""
+    return [name.removeprefix('barleychime_') for name in symbols(library)['T'] if name.startswith('barleychime_')]

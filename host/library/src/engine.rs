@@ -1,4 +1,18 @@
 //! The engine: the functions of `include/barleychime.h`, safe to call. All unsafe code is here, in `chapters` and in `make_up`.
+//!
+//! One duty of the header is left to the caller, since no call can see it: the thread has [`STACK_BYTES`] of stack left, and for a
+//! book [`BOOK_STACK_BYTES`]. The main thread has that, and so has every thread that `std::thread` starts with the stack it gives
+//! by itself; one that is started with a smaller stack needs as much, and room for its own frames:
+//!
+//! ```
+//! use barleychime::engine::{Memory, STACK_BYTES};
+//!
+//! let galley = barleychime::text::pack("GS 0 30 0 0 1 1 1\nTL 10 0 0 1\nTL 10 0 0 1\nED\n")?.bytes;
+//! let small = std::thread::Builder::new().stack_size(STACK_BYTES + 32 * 1024);
+//! let thread = small.spawn(move || Memory::new().make(&galley).map(|(measure, _)| measure.pages))?;
+//! assert_eq!(thread.join().unwrap()?, 1);
+//! # Ok::<(), Box<dyn std::error::Error>>(())
+//! ```
 
 mod chapters;
 mod make_up;
@@ -102,6 +116,11 @@ mod c {
         ) -> u32;
     }
 }
+
+/// Bytes of stack that a call takes at most, but for that of a book.
+pub const STACK_BYTES: usize = 242_176;
+/// Bytes of stack that making a book takes at most.
+pub const BOOK_STACK_BYTES: usize = 244_224;
 
 /// Words of an answer, of making and of marking.
 const ANSWER_WORDS: usize = 9;
