@@ -1,7 +1,7 @@
 //! The arguments of the command.
 
 use crate::commands::{
-    book, completions, desk, explain, fold, forecast, make, man, mark, pack, refusals, report, unpack,
+    book, completions, desk, explain, fold, forecast, make, man, mark, pack, refusals, report, tex, unpack,
 };
 use crate::error::Error;
 use crate::output::{self, Output};
@@ -52,6 +52,9 @@ enum Commands {
     /// The pages of stitched sections, sheet by sheet
     #[command(after_help = help::FOLD)]
     Fold(fold::Args),
+    /// A LaTeX document's pages, by LuaLaTeX and the engine in turn
+    #[command(help_template = TEMPLATE)]
+    Tex(tex::Args),
     /// Every refusal in words, with who can mend it
     #[command(after_help = help::REFUSALS)]
     Refusals(refusals::Args),
@@ -141,6 +144,7 @@ impl Commands {
             Commands::Unpack(args) => unpack::run(args, output),
             Commands::Report(args) => report::run(args, output),
             Commands::Fold(args) => fold::run(args, output),
+            Commands::Tex(args) => tex::run(args, output),
             Commands::Refusals(args) => refusals::run(args, output),
             Commands::Completions(args) => completions::run(args, output),
             Commands::Man(args) => man::run(args, output),

@@ -37,6 +37,8 @@ pub enum Error {
     LongCall { line: usize },
     /// The engine refuses what it has answered before.
     Unlike(Refusal),
+    /// TeX cannot be run, or stops at an error, or its files are not there: what is said of that.
+    Tex(String),
     /// Standard output cannot be written.
     Output(io::Error),
 }
@@ -51,7 +53,7 @@ impl Error {
 impl fmt::Display for Error {
     fn fmt(&self, out: &mut fmt::Formatter) -> fmt::Result {
         match self {
-            Error::Usage(what) => write!(out, "{what}"),
+            Error::Usage(what) | Error::Tex(what) => write!(out, "{what}"),
             Error::Read { name, error } => write!(out, "{name}: {error}"),
             Error::TooLong { name } => write!(out, "{name}: too long for a text of a galley, of a list or of marks"),
             Error::Galley { name } => write!(out, "{name}: line 1: a galley file stands where a text is wanted"),

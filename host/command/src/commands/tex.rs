@@ -1,0 +1,188 @@
+//! `barleychime tex`: from a document to its pages. LuaLaTeX and the engine run by turns until nothing changes.
+
+mod galleys;
+mod lists;
+mod runs;
+mod shipped;
+
+use crate::error::Error;
+use crate::output::{say, watched, Output};
+use crate::Outcome;
+use galleys::Part;
+use lists::{Lists, Printed};
+use runs::{Job, TeX};
+use shipped::Turns;
+use std::fs;
+use std::path::PathBuf;
+
+const MOST_RUNS: u32 = 10;
+/// Runs without lists in which references settle, so that LaTeX's own turns are those of its finished pages.
+const MOST_OWN: u32 = 3;
+
+#[derive(clap::Args)]
+pub struct Args {
+    /// The document; it says \usepackage{barleychime}
+    #[arg(value_name = "DOCUMENT[.tex]")]
+    pub document: PathBuf,
+    /// Only turn JOB.galley.txt into JOB.list, for latexmk or a Makefile
+    #[arg(long)]
+    pub lists_only: bool,
+    /// Keep the pages of the PDF up to N, which are printed, and make the rest
+    #[arg(long, value_name = "N")]
+    pub after: Option<usize>,
+    /// Let TeX write to this folder
+    #[arg(long, value_name = "FOLDER")]
+    pub output_directory: Option<PathBuf>,
+}
+
+pub fn run(args: &Args, output: &mut Output) -> Result<Outcome, Error> {
+    let job = Job::new(&args.document, args.output_directory.as_deref()).map_err(Error::Tex)?;
+    let printed = args.after.map(|last| pages_printed(&job, last)).transpose()?;
+    if args.lists_only {
+        return lists_only(&job, printed.as_ref());
+    }
+    let tex = TeX::new().map_err(Error::Tex)?;
+    let mut work = Work { job: &job, tex: &tex, printed: printed.as_ref(), runs: 0, lists: Lists::default() };
+    let own = work.own_pages()?;
+    let settled = work.by_lists()?;
+    output.print(summary(&job, &own, &work.lists))?;
+    if !settled {
+        say(&format!("after {MOST_RUNS} runs the galleys still change: page numbers in the text change its lines"));
+        return Ok(Outcome::Refused);
+    }
+    Ok(Outcome::Success)
+}
+
+/// The pages that were shipped last, up to one of the PDF.
+fn pages_printed(job: &Job, last: usize) -> Result<Printed, Error> {
+    let shipped = shipped::read(&job.text(".pages"));
+    match shipped.folios.len() {
+        0 => Err(Error::Tex(format!(
+            "{}: not there; --after needs it from the run whose pages were printed",
+            job.file(".pages").display()
+        ))),
+        pages if last > pages => Err(Error::Tex(format!("--after {last}: the PDF had {pages} pages"))),
+        _ => Ok(Printed { shipped, last }),
+    }
+}
+
+fn read_galleys(job: &Job) -> Result<Vec<Part>, Error> {
+    let parts = galleys::read(&job.text(".galley.txt"));
+    if parts.is_empty() && !job.file(".galley.txt").is_file() {
+        let what = "not written; does the document say \\usepackage{barleychime}, in one column?";
+        return Err(Error::Tex(format!("{}: {what}", job.file(".galley.txt").display())));
+    }
+    Ok(parts)
+}
+
+fn write_lists(job: &Job, text: &str) -> Result<(), Error> {
+    let path = job.file(".list");
+    fs::write(&path, text).map_err(|error| Error::Tex(format!("{}: {error}", path.display())))
+}
+
+/// Lists for the galleys that are there. Barriers of the lists before stay; a file that would not change is left as it is, so
+/// that a Makefile sees when all is done.
+fn lists_only(job: &Job, printed: Option<&Printed>) -> Result<Outcome, Error> {
+    let parts = read_galleys(job)?;
+    let before = job.text(".list");
+    let mut lists = Lists::default();
+    lists.barriers.extend(before.lines().filter_map(|row| row.strip_prefix("barrier ")?.parse::<u32>().ok()));
+    lists.make(&parts, printed).map_err(Error::Tex)?;
+    let text = lists.text(&parts);
+    if text != before {
+        write_lists(job, &text)?;
+    }
+    Ok(Outcome::Success)
+}
+
+/// LaTeX's own pages: the galleys and the turns of each, as far as it was shipped whole.
+struct Own(Vec<(String, Option<Turns>)>);
+
+struct Work<'job> {
+    job: &'job Job,
+    tex: &'job TeX,
+    printed: Option<&'job Printed>,
+    runs: u32,
+    lists: Lists,
+}
+
+impl Work<'_> {
+    fn run(&mut self, what: &str) -> Result<(), Error> {
+        self.runs += 1;
+        if watched() {
+            say(&format!("run {} of LuaLaTeX: {what}", self.runs));
+        }
+        self.tex.run(self.job).map_err(Error::Tex)
+    }
+
+    /// Runs without lists until references settle.
+    fn own_pages(&mut self) -> Result<Own, Error> {
+        [".list", ".galley.txt", ".pages"].iter().for_each(|ending| self.job.remove(ending));
+        let mut before = None;
+        while self.runs < MOST_OWN {
+            self.run("LaTeX's own pages")?;
+            let now = self.job.references();
+            if before.replace(now.clone()) == Some(now) {
+                break;
+            }
+        }
+        let (parts, shipped) = (read_galleys(self.job)?, shipped::read(&self.job.text(".pages")));
+        Ok(Own(parts.iter().map(|part| (part.sum.clone(), shipped.turns(part))).collect()))
+    }
+
+    /// Lists and runs by turns; whether nothing changes any more.
+    fn by_lists(&mut self) -> Result<bool, Error> {
+        let mut before = String::new();
+        loop {
+            let parts = read_galleys(self.job)?;
+            self.lists.make(&parts, self.printed).map_err(Error::Tex)?;
+            let text = self.lists.text(&parts);
+            let references = self.job.references();
+            if before == format!("{text}{references}") {
+                return Ok(true);
+            }
+            if self.runs == MOST_RUNS {
+                return Ok(false);
+            }
+            write_lists(self.job, &text)?;
+            self.run("pages by the lists")?;
+            before = format!("{text}{references}");
+        }
+    }
+}
+
+/// Turns galley by galley, LaTeX's and the list's, and the PDF.
+fn summary(job: &Job, own: &Own, lists: &Lists) -> String {
+    let parts = galleys::read(&job.text(".galley.txt"));
+    let shipped = shipped::read(&job.text(".pages"));
+    let alike = parts.len() == own.0.len();
+    let mut text = format!(
+        "{:>6} {:>6} {:>7} {:>6}  {:<13} {:<13} {}\n",
+        "galley", "lines", "figures", "tables", "LaTeX", "list", "opens with"
+    );
+    for (part, made) in parts.iter().zip(&lists.made) {
+        let before = match alike {
+            true => own.0[part.number - 1].1,
+            false => own.0.iter().find(|(sum, _)| *sum == part.sum).and_then(|(_, turns)| *turns),
+        };
+        let now = shipped.turns(part).filter(|_| made.list.is_some());
+        let told = |turns: Option<Turns>| turns.map_or("-".into(), |turns| turns.to_string());
+        let words: String = part.words.chars().take(30).collect();
+        text += &format!(
+            "{:>6} {:>6} {:>7} {:>6}  {:<13} {:<13} {words}\n",
+            part.number,
+            part.lines(),
+            part.figures(),
+            part.tables(),
+            told(before),
+            told(now)
+        );
+    }
+    let all = |turns: &mut dyn Iterator<Item = Option<Turns>>| -> u32 {
+        turns.flatten().map(|turns| turns.x + turns.y).sum()
+    };
+    let before = all(&mut own.0.iter().map(|(_, turns)| *turns));
+    let now = all(&mut parts.iter().map(|part| shipped.turns(part)));
+    let (pdf, pages) = (job.file(".pdf"), shipped.folios.len());
+    text + &format!("{}: {pages} pages, {now} turns; LaTeX's own pages have {before}\n", pdf.display())
+}

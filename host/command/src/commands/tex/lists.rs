@@ -1,0 +1,245 @@
+//! Page lists for the galleys of a document: galleys that follow on are made as one book.
+
+use super::galleys::{Opens, Part};
+use super::shipped::Shipped;
+use crate::output::{say, watched};
+use barleychime::engine::{self, MakeError, Measure, Memory};
+use barleychime::refusal::{Refusal, RefusalKind};
+use barleychime::{fill, list};
+use std::collections::BTreeSet;
+
+/// What was made of a galley.
+#[derive(Clone, Debug, Default)]
+pub struct Made {
+    /// The folio that it opens on, as far as that can be told before the pages are there.
+    pub folio: u32,
+    /// Its list; none where LaTeX makes its pages.
+    pub list: Option<(Measure, Vec<u32>)>,
+}
+
+/// Pages that are printed and stay as they are: what was shipped then, and the last such page of the PDF.
+pub struct Printed {
+    pub shipped: Shipped,
+    pub last: usize,
+}
+
+/// The lists of a document.
+#[derive(Default)]
+pub struct Lists {
+    pub made: Vec<Made>,
+    /// The barriers that a list let a float pass, so that the galley is to end there.
+    pub barriers: BTreeSet<u32>,
+    /// What was said of galleys before, so that it is said once.
+    said: BTreeSet<String>,
+}
+
+impl Lists {
+    /// Makes the lists anew; barriers stay. Whether a barrier came to them.
+    pub fn make(&mut self, parts: &[Part], printed: Option<&Printed>) -> Result<bool, String> {
+        self.made = Vec::new();
+        while self.made.len() < parts.len() {
+            let at = self.made.len();
+            let folio = self.opening_folio(parts, at);
+            match printed.and_then(|printed| Opening::of(&parts[at], printed)) {
+                Some(opening) => self.keep(&parts[at], folio, &opening)?,
+                None => {
+                    let chain = chain(&parts[at..], printed);
+                    self.make_chain(chain, folio)?;
+                }
+            }
+        }
+        let before = self.barriers.len();
+        for (part, made) in parts.iter().zip(&self.made) {
+            self.barriers.extend(passed(part, made));
+        }
+        Ok(self.barriers.len() > before)
+    }
+
+    /// As JOB.list.
+    pub fn text(&self, parts: &[Part]) -> String {
+        let barriers = self.barriers.iter().map(|number| format!("barrier {number}\n"));
+        let galleys = parts.iter().zip(&self.made).map(|(part, made)| {
+            let words = if part.tables() > 0 { 3 } else { 2 };
+            let list = made.list.as_ref().map_or(String::new(), |(measure, pages)| list::print(*measure, pages, words));
+            format!("galley {} {} {}\n{list}", part.number, part.sum, made.folio)
+        });
+        barriers.chain(galleys).collect()
+    }
+
+    /// The folio that a galley opens on once those before it have their lists.
+    fn opening_folio(&self, parts: &[Part], at: usize) -> u32 {
+        let part = &parts[at];
+        let Some((before, made)) = at.checked_sub(1).map(|at| (&parts[at], &self.made[at])) else { return part.folio };
+        let Some((first, last)) = before.shipped else { return part.folio };
+        let pages = made.list.as_ref().map_or(last - first + 1, |(measure, _)| measure.pages);
+        let now = made.folio + pages;
+        let side = |folio: u32| match part.opens {
+            Opens::Right => folio | 1,
+            Opens::Left => folio + folio % 2,
+            Opens::Anywhere => folio,
+        };
+        match part.folio >= last + 1 {
+            true if part.opens != Opens::Anywhere && part.folio == side(last + 1) => side(now),
+            true if part.opens == Opens::Anywhere => part.folio + now - (last + 1),
+            _ => part.folio, // numbered anew
+        }
+    }
+
+    fn keep(&mut self, part: &Part, folio: u32, opening: &Opening) -> Result<(), String> {
+        let bytes = part.bytes(Some(folio))?;
+        let answer = match opening {
+            Opening::ByLaTeX => return Ok(self.made.push(Made { folio, list: None })),
+            Opening::Whole(list) => {
+                engine::mark(&bytes, list).map(|measure| (measure, list.clone())).map_err(MakeError::from)
+            }
+            Opening::Begun(list) => {
+                Memory::new().make_after(&bytes, list).map(|(measure, pages)| (measure, pages.to_vec()))
+            }
+        };
+        match answer {
+            Ok(made) => self.made.push(Made { folio, list: Some(made) }),
+            Err(error) => {
+                let what = "its printed pages cannot stay";
+                return Err(format!(
+                    "galley {}, {:?}: {what}: {error}; without --after all is made anew",
+                    part.number, part.words
+                ));
+            }
+        }
+        Ok(())
+    }
+
+    /// Galleys that follow on, the first opening on a folio.
+    fn make_chain(&mut self, chain: &[Part], folio: u32) -> Result<(), String> {
+        let wanted = chain.iter().position(Part::has_floats);
+        match wanted {
+            _ if chain.is_empty() => Ok(()),
+            Some(0) => {
+                let last = chain.iter().rposition(Part::has_floats).unwrap_or(0);
+                self.make_book(&chain[..=last], folio)?;
+                chain[last + 1..].iter().for_each(|part| self.leave(part));
+                Ok(())
+            }
+            // LaTeX makes the pages of a galley without floats before the first that has some: one at a time, for the next
+            // folio.
+            _ => {
+                self.made.push(Made { folio, list: None });
+                Ok(())
+            }
+        }
+    }
+
+    /// LaTeX makes the pages of a galley that follows on.
+    fn leave(&mut self, part: &Part) {
+        let folio = match (self.made.last(), part.shipped) {
+            (Some(Made { folio, list: Some((measure, _)) }), _) => folio + measure.pages,
+            _ => part.folio,
+        };
+        self.made.push(Made { folio, list: None });
+    }
+
+    fn make_book(&mut self, chapters: &[Part], folio: u32) -> Result<(), String> {
+        let [first, rest @ ..] = chapters else { return Ok(()) };
+        if rest.is_empty() {
+            return self.make_one(first, folio);
+        }
+        let mut bytes = vec![first.bytes(Some(folio))?];
+        for part in rest {
+            bytes.push(part.bytes(None)?);
+        }
+        if let Ok(book) = engine::make_book(&bytes) {
+            for (part, chapter) in chapters.iter().zip(book.chapters) {
+                let folio = chapter.folio as u32;
+                let measure = engine::mark(&part.bytes(Some(folio))?, &chapter.list);
+                let measure = measure.map_err(|refusal: Refusal| format!("galley {}: {refusal}", part.number))?;
+                self.made.push(Made { folio, list: Some((measure, chapter.list)) });
+            }
+            return Ok(());
+        }
+        // One galley has none, or the sides do not fit: the first by itself, then the rest where that ends.
+        self.make_one(first, folio)?;
+        let pages = match (&self.made[self.made.len() - 1].list, first.shipped) {
+            (Some((measure, _)), _) => measure.pages,
+            (None, Some((first, last))) => last - first + 1,
+            _ => 1,
+        };
+        self.make_book(rest, folio + pages)
+    }
+
+    fn make_one(&mut self, part: &Part, folio: u32) -> Result<(), String> {
+        let bytes = part.bytes(Some(folio))?;
+        let mut memory = Memory::new();
+        let list = match memory.make(&bytes) {
+            Ok((measure, pages)) => Some((measure, pages.to_vec())),
+            Err(error) => {
+                self.advise(part, &bytes, &error, &mut memory);
+                None
+            }
+        };
+        self.made.push(Made { folio, list });
+        Ok(())
+    }
+
+    /// Why a galley has no list, and what would help.
+    fn advise(&mut self, part: &Part, bytes: &[u8], error: &MakeError, memory: &mut Memory) {
+        let name = format!("galley {}, {:?}", part.number, part.words);
+        let mut remarks = vec![format!("{error}; LaTeX makes its pages")];
+        if matches!(error, MakeError::Refused(Refusal { kind: RefusalKind::NoPagination, .. })) {
+            let mut tell = |what: &str| {
+                if watched() {
+                    say(&format!("{name}: {what}"));
+                }
+            };
+            remarks.extend(fill::advice(bytes, &[], memory, &mut tell));
+        }
+        for remark in remarks {
+            let remark = format!("{name}: {remark}");
+            if self.said.insert(remark.clone()) {
+                say(&remark);
+            }
+        }
+    }
+}
+
+/// The first galley and those that follow on from it under the same page specification.
+fn chain<'parts>(parts: &'parts [Part], printed: Option<&Printed>) -> &'parts [Part] {
+    let on = |part: &Part| {
+        part.follows && part.spec == parts[0].spec && printed.is_none_or(|printed| Opening::of(part, printed).is_none())
+    };
+    let length = 1 + parts[1..].iter().take_while(|part| on(part)).count();
+    &parts[..length.min(200)]
+}
+
+/// What of a galley is printed.
+enum Opening {
+    /// All of it, as LaTeX made it; it makes it so again.
+    ByLaTeX,
+    Whole(Vec<u32>),
+    Begun(Vec<u32>),
+}
+
+impl Opening {
+    fn of(part: &Part, printed: &Printed) -> Option<Opening> {
+        let placed = printed.shipped.galleys.get(part.number - 1)?;
+        let ends = placed.ends_up_to(printed.last);
+        let words = if part.tables() > 0 { 3 } else { 2 };
+        let list: Vec<u32> = ends.iter().flat_map(|end| end[..words].to_vec()).collect();
+        match (list.is_empty(), placed.ends_by(printed.last)) {
+            (true, _) => None,
+            (false, true) if !placed.by_list => Some(Opening::ByLaTeX),
+            (false, true) => Some(Opening::Whole(list)),
+            (false, false) => Some(Opening::Begun(list)),
+        }
+    }
+}
+
+/// The barriers of a galley that a float passes in its list: it stands on a later page than the line after the barrier.
+fn passed<'part>(part: &'part Part, made: &'part Made) -> impl Iterator<Item = u32> + 'part {
+    let words = if part.tables() > 0 { 3 } else { 2 };
+    let holds = move |before: [u32; 3]| {
+        let Some((_, pages)) = &made.list else { return true };
+        let page = pages.chunks_exact(words).find(|page| page[0] > before[0]);
+        page.is_none_or(|page| page[1] >= before[1] && page.get(2).copied().unwrap_or(0) >= before[2])
+    };
+    part.barriers.iter().filter(move |barrier| !holds(barrier.before)).map(|barrier| barrier.number)
+}

@@ -1,0 +1,91 @@
+"""`barleychime tex` as a person calls it: what it says, what it leaves, and what it says of what is wrong."""
+import re
+import subprocess
+
+import pages
+
+MAKEFILE = '''all: book.pdf
+book.galley.txt: book.tex
+\tlualatex -interaction=batchmode book
+\tlualatex -interaction=batchmode book
+book.list: book.galley.txt
+\t$(BARLEYCHIME) tex --lists-only book
+book.pdf: book.list
+\tlualatex -interaction=batchmode book
+\t$(BARLEYCHIME) tex --lists-only book
+\tlualatex -interaction=batchmode book
+'''
+
+
+def said(job):
+    """The summary, galley by galley, and the PDF's name."""
+    told = job.barleychime()
+    yield 'tex: exit status and remarks', (told.returncode, told.stderr), (0, '')
+    rows = told.stdout.splitlines()
+    yield 'tex: its first row', rows[0].split(), ['galley', 'lines', 'figures', 'tables', 'LaTeX', 'list', 'opens', 'with']
+    yield 'tex: its last row', bool(re.fullmatch(rf'{job.path.stem}.pdf: \d+ pages, \d+ turns; LaTeX.s own pages have \d+', rows[-1])), True
+    before = job.file('.list').read_text()
+    told = job.barleychime('--lists-only')
+    yield 'lists-only after that: nothing changes', (told.returncode, job.file('.list').read_text()), (0, before)
+
+
+def printed(job):
+    """Pages that are printed stay, and the rest is made."""
+    before = {number: ends for number, ends in pages.lists(job.path).items()}
+    told = job.barleychime('--after', '3')
+    yield 'after 3: exit status and remarks', (told.returncode, told.stderr), (0, '')
+    yield 'after 3: the pages up to 3', pages.lists(job.path)[1][:3], before[1][:3]
+    yield 'after 3: blocks not on the page of the list', pages.misplaced(job.path)[1], 0
+    text = job.path.read_text()
+    at = text.rindex('\n\n')
+    job.path.write_text(text[:at] + '\n\nA paragraph that came after the first sheet was printed.' + text[at:])
+    told = job.barleychime('--after', '3')
+    yield 'after 3, with a new paragraph: the pages up to 3', (told.returncode, pages.lists(job.path)[1][:3]), (0, before[1][:3])
+    told = job.barleychime('--after', '999')
+    yield 'after 999', (told.returncode, 'the PDF had' in told.stderr), (2, True)
+
+
+def wrong(job):
+    source = job.path.read_text()
+    job.path.write_text(source.replace(r'\begin{document}', '\\begin{document}\n\\notacommand'))
+    told = job.barleychime()
+    yield 'an error of TeX', (told.returncode, '! Undefined control sequence.' in told.stderr, r'\notacommand' in told.stderr), (2, True, True)
+    job.path.write_text(re.sub(r'\\usepackage\[[^]]*\]{barleychime}', '', source))
+    told = job.barleychime()
+    yield 'a document without the package', (told.returncode, r'\usepackage{barleychime}' in told.stderr), (2, True)
+    job.path.write_text(source.replace('fill=80', 'fill=much'))
+    told = job.barleychime()
+    yield 'a bad option', (told.returncode, 'option fill=much: a number from 0 to 100 is due' in ' '.join(told.stderr.split())), (2, True)
+    job.path.write_text(source.replace('fill=80', 'fill=100'))
+    told = job.barleychime()
+    yield 'no pagination: exit status', told.returncode, 0
+    yield 'no pagination: the galley by its first line, and advice', bool(re.search(r'galley 1, "Part 1 of the work": .*htMin', told.stderr.replace('\n', ' '))), True
+    yield 'no pagination: LaTeX makes the pages', pages.shipped(job.path)[1][0].by, 'latex'
+
+
+def elsewhere(job):
+    (job.folder / 'out').mkdir()
+    told = job.barleychime('--output-directory', 'out')
+    yield 'another folder: exit status and remarks', (told.returncode, told.stderr), (0, '')
+    out = job.folder / 'out' / job.path.name
+    yield 'another folder: its files', [out.with_suffix(end).exists() for end in ('.pdf', '.list', '.galley.txt')], [True] * 3
+    yield 'another folder: nothing here', [job.file(end).exists() for end in ('.pdf', '.list', '.galley.txt')], [False] * 3
+    yield 'another folder: blocks not on the page of the list', pages.misplaced(out)[1], 0
+
+
+def by_make(job, environment):
+    (job.folder / 'Makefile').write_text(MAKEFILE.replace('book', job.path.stem))
+    done = subprocess.run(['make', '-s'], cwd=job.folder, env={**environment, 'BARLEYCHIME': str(job.program)}, capture_output=True, timeout=120)
+    yield 'make: exit status', done.returncode, 0
+    right, wrong_ = pages.misplaced(job.path)
+    yield 'make: blocks on the page of the list, and not', (right > 100, wrong_), (True, 0)
+
+
+def by_latexmk(job, environment, rules):
+    """With the rule that the manual shows."""
+    (job.folder / '.latexmkrc').write_text(rules)
+    done = subprocess.run(['latexmk', '-silent', job.path.name], cwd=job.folder, capture_output=True, timeout=180,
+                          env={**environment, 'PATH': f'{job.program.parent}:{environment["PATH"]}'})
+    yield 'latexmk: exit status', (done.returncode, done.returncode and done.stderr[-300:]), (0, 0)
+    right, wrong_ = pages.misplaced(job.path)
+    yield 'latexmk: blocks on the page of the list, and not', (right > 100, wrong_), (True, 0)

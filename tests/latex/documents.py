@@ -1,0 +1,101 @@
+"""Small documents for the package's tests: a class, packages, and text with figures and tables that is the same in every run."""
+import random
+
+ADJECTIVES = 'ripe early quiet careful golden steady narrow patient heavy bright level even old warm slow tall short long'.split()
+NOUNS = 'valley street stone chime lantern river bell barley harvest ladder tower field mill printer granary sheaf page spread'.split()
+VERBS = 'follows keeps rests turns meets waits marks carries opens shows leaves reaches moves returns stands'.split()
+
+
+class Prose:
+    """Sentences without an end; every one differs from the others by its number."""
+
+    def __init__(self, seed):
+        self.random = random.Random(seed)
+        self.count = 0
+
+    def sentence(self):
+        self.count += 1
+        one, two = (f'the {self.random.choice(ADJECTIVES)} {self.random.choice(NOUNS)}' for _ in range(2))
+        return f'{one.capitalize()} {self.random.choice(VERBS)} {two} ({self.count}).'
+
+    def paragraph(self, opening=''):
+        return opening + ' '.join(self.sentence() for _ in range(self.random.randint(6, 11)))
+
+
+def figure(number, high, extra='', kind='figure'):
+    inner = rf'\fbox{{\parbox[c][{high}mm][c]{{60mm}}{{\centering drawing number {number}}}}}'
+    if kind == 'table':
+        rows = ''.join(rf'row {row} of table {number} & {row * 7} \\' for row in range(high // 5))
+        inner = rf'\begin{{tabular}}{{lr}}{rows}\end{{tabular}}'
+    return (rf'\begin{{{kind}}}[tbp]\centering {extra}{inner}\caption{{The {kind} of number {number} as it is set.}}'
+            rf'\label{{{kind}:{number}}}\end{{{kind}}}')
+
+
+def body(prose, floats=6, tables=2, command=r'\ref', headings=r'\section', every=4):
+    """Paragraphs with floats among them, each cited before it stands."""
+    rows = []
+    for number in range(1, floats + tables + 1):
+        kind = 'table' if number % 4 == 0 and tables else 'figure'
+        if number % every == 1:
+            rows.append(rf'{headings}{{Part {number} of the work}}')
+        rows += [prose.paragraph(), prose.paragraph(rf'See {command}{{{kind}:{number}}} here. '), figure(number, 30 + 7 * (number % 5), kind=kind),
+                 prose.paragraph(), prose.paragraph()]
+    return rows
+
+
+def document(name, preamble='', rows=None, options='11pt,twoside,a5paper', package='fill=80,trace=true', opening=''):
+    rows = rows or body(Prose(name))
+    return '\n'.join([rf'\documentclass[{options}]{{{name.split("-")[0]}}}', preamble, rf'\usepackage[{package}]{{barleychime}}',
+                      r'\begin{document}', opening, '\n\n'.join(rows), r'\end{document}', ''])
+
+
+def chapters(name, **more):
+    rows = []
+    for chapter in range(3):
+        prose = Prose(f'{name}{chapter}')
+        rows.append(rf'\chapter{{Chapter {chapter}}}')
+        rows += [row.replace(':', f':{chapter}-') for row in body(prose, floats=4, tables=1, every=9)]
+    return document(name, rows=rows, opening=r'\tableofcontents', **more)
+
+
+def with_package(name, preamble, rows=(), at=9, **more):
+    """An article that uses a package: rows of its own stand among the text."""
+    text = body(Prose(name), command=more.pop('command', r'\ref'))
+    return document(f'article-{name}', preamble, text[:at] + list(rows) + text[at:], **more)
+
+
+LONGTABLE = r'\begin{longtable}{lr}' + ''.join(rf'long row {row} & {row} \\' for row in range(60)) + r'\end{longtable}'
+COLUMNS = r'\begin{multicols}{2}' + Prose('columns').paragraph() + r'\end{multicols}'
+WRAPPED = r'\begin{wrapfigure}{r}{40mm}\fbox{\parbox[c][30mm][c]{30mm}{wrapped}}\end{wrapfigure}'
+CONTINUED = '\n\n'.join([figure(90, 25), figure(91, 25, extra=r'\ContinuedFloat ').replace('caption{', r'caption[]{')])
+KEPT = '\n\n'.join([figure(92, 20, extra=r'\KeepWithNextFloat '), figure(93, 20)])
+PANELS = (r'\begin{figure}[tbp]\centering\begin{subfigure}{40mm}\fbox{one}\caption{First panel}\label{panel:1}\end{subfigure}'
+          r'\begin{subfigure}{40mm}\fbox{two}\caption{Second panel}\label{panel:2}\end{subfigure}\caption{Panels}\end{figure}')
+NUMBERED = [r'\footnote{A note at the foot of the page, which is long enough to be read twice by anyone who reads notes.}',
+            r'\pagenumbering{Roman}', r'\thispagestyle{empty}', r'\suppressfloats[t]']
+
+# The documents by name; the text that a run must warn of, for those that LaTeX makes pages of.
+ALL = {
+    'article': document('article', rows=body(Prose('article')) + [r'Text with a note.' + NUMBERED[0]]),
+    'article-late': document('article-late', rows=body(Prose('late'))[:12] + NUMBERED[2:] + body(Prose('later'), floats=3, tables=0)[1:]
+                             ).replace('article-late', 'article'),
+    'report': chapters('report', options='11pt,twoside,a5paper,openany'),
+    'book': chapters('book'),
+    'scrartcl': document('scrartcl', options='11pt,twoside,paper=a5'),
+    'scrbook': chapters('scrbook', options='11pt,twoside,paper=a5'),
+    'memoir': chapters('memoir', options='11pt,twoside,a5paper,openright'),
+    'hyperref': with_package('hyperref', r'\usepackage{hyperref}', [r'\hyperref[figure:6]{a link to the sixth}'], command=r'\autoref'),
+    'cleveref': with_package('cleveref', r'\usepackage{cleveref}', [r'Both \cref{figure:5,figure:6} follow.'], command=r'\cref'),
+    'varioref': with_package('varioref', r'\usepackage{varioref}', command=r'\vref'),
+    'fancyhdr': with_package('fancyhdr', r'\usepackage{fancyhdr}\pagestyle{fancy}\fancyhf{}\fancyhead[LE,RO]{\thepage}\fancyhead[RE]{\leftmark}'),
+    'caption': with_package('caption', r'\usepackage{caption}', [CONTINUED, KEPT]),
+    'subcaption': with_package('subcaption', r'\usepackage{subcaption}', [r'See \subref{panel:1} of \ref{panel:2}.', PANELS]),
+    'wrapfig': with_package('wrapfig', r'\usepackage{wrapfig}', [WRAPPED]),
+    'placeins': with_package('placeins', r'\usepackage{placeins}', [r'\FloatBarrier'], at=8),
+    'longtable': with_package('longtable', r'\usepackage{longtable}', [LONGTABLE]),
+    'multicol': with_package('multicol', r'\usepackage{multicol}', [COLUMNS]),
+    'graphicx': with_package('graphicx', r'\usepackage{graphicx}', [r'\begin{figure}\rotatebox{5}{\scalebox{2}{turned}}\caption{Turned}\end{figure}']),
+    'microtype': with_package('microtype', r'\usepackage{microtype}'),
+    'babel': with_package('babel', r'\usepackage[ngerman]{babel}'),
+}
+WARNED = {'wrapfig': 'wrapfigure: LaTeX makes', 'longtable': 'longtable: LaTeX makes', 'multicol': 'multicols: LaTeX makes'}

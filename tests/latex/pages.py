@@ -1,0 +1,113 @@
+"""What the package leaves beside the PDF, and whether the PDF has the pages of the list: by the attributes of the boxes that were
+shipped (JOB.pages), and by the PDF's text (JOB.text has the letters of every line and float)."""
+import collections
+import re
+import subprocess
+import unicodedata
+
+Galley = collections.namedtuple('Galley', 'number by streams')
+
+
+def shipped(job):
+    """The folios of all pages, and the galleys with the page of every line, figure and table."""
+    folios, galleys = [], []
+    for row in job.with_suffix('.pages').read_text().splitlines():
+        kind, *fields = row.split()
+        if kind == 'folios':
+            folios = list(map(int, fields))
+        elif kind == 'galley':
+            galleys.append(Galley(int(fields[0]), fields[1], []))
+        else:
+            galleys[-1].streams.append(list(map(int, fields)))
+    return folios, galleys
+
+
+def lists(job):
+    """The page ends of every galley that has a list."""
+    ends, path = {}, job.with_suffix('.list')
+    for row in path.read_text().splitlines() if path.exists() else ():
+        fields = row.split()
+        if fields[0] == 'galley':
+            ends[int(fields[1])] = []
+        elif fields[0] != 'barrier':
+            ends[int(number)].append(list(map(int, fields)))
+        number = fields[1] if fields[0] == 'galley' else number
+    return {number: [(*end, 0)[:3] for _, *end in rows[1:]] for number, rows in ends.items() if rows}
+
+
+def blocks(job):
+    """For every galley that is made by a list: each page of the PDF with the numbers of the blocks that it must have."""
+    _, galleys = shipped(job)
+    wanted = lists(job)
+    for galley in galleys:
+        if galley.by == 'list':
+            first = min(page for stream in galley.streams for page in stream)
+            before, pages = (0, 0, 0), []
+            for end in wanted[galley.number]:
+                pages.append([range(a, b) for a, b in zip(before, end)])
+                before = end
+            yield galley, first, pages
+
+
+def misplaced(job):
+    """How many blocks were shipped as the list says, and how many were not."""
+    right = wrong = 0
+    for galley, first, pages in blocks(job):
+        for page, placed in enumerate(pages, first):
+            for stream, numbers in zip(galley.streams, placed):
+                right += sum(stream[number] == page for number in numbers)
+                wrong += sum(stream[number] != page for number in numbers)
+    return right, wrong
+
+
+LIGATURES = {a + b: x for a in '01' for b, x in zip('bcdef', ('ff', 'fi', 'fl', 'ffi', 'ffl'))}
+
+
+def plain(text):
+    text = re.sub('{([01][b-f])}', lambda found: LIGATURES[found[1]], text)  # of old fonts
+    return re.sub('[^A-Za-z]', '', unicodedata.normalize('NFKC', text))
+
+
+def texts(pdf, *how):
+    """The text of every page of a PDF."""
+    out = subprocess.run(['pdftotext', *how, str(pdf), '-'], stdout=subprocess.PIPE, check=True)
+    return out.stdout.decode('utf8', 'replace').split('\f')[:-1]
+
+
+def nearest(text, pages):
+    """The page, from 0, that has most of a text's strings of six letters."""
+    grams = {text[k:k + 6] for k in range(len(text) - 5)}
+    return max(range(len(pages)), key=lambda page: sum(gram in pages[page] for gram in grams))
+
+
+def unlike(job):
+    """Lines and floats of ten letters or more: how many the PDF has on their page, and those that it has not. Where symbols come between
+    (in old mathematical fonts they have the codes of letters) no other page may have more of a text's letters."""
+    pdf = [plain(re.sub('(-|\u00ad|\u2010)\n', '', page)) for page in texts(job.with_suffix('.pdf'), '-raw')]
+    letters = {}
+    for row in job.with_suffix('.text').read_text(errors='replace').splitlines():
+        if row.startswith('galley'):
+            letters[int(row.split()[1])] = streams = ([], [], [])
+        else:
+            streams['lft'.index(row[0])].append(plain(row[2:]))
+    found, missing = 0, []
+    for galley, first, pages in blocks(job):
+        own = pdf[first - 1:first - 1 + len(pages)]
+        for page, placed in enumerate(pages):
+            for stream, numbers in zip(letters[galley.number], placed):
+                for text in (stream[number] for number in numbers if len(stream[number]) >= 10):
+                    if text in own[page] or nearest(text, own) == page:
+                        found += 1
+                    else:
+                        missing.append((first + page, text[:60]))
+    return found, missing
+
+
+HEIGHT = re.compile(r'galley (\d+) page (\d+): ([-\d.]+) to ([-\d.]+) pt\s+high, by\s+the\s+list\s+([-\d.]+)\s+to\s+([-\d.]+)')
+
+
+def heights(job):
+    """For every page by a list: its least and greatest height as TeX has it, and as the model has it."""
+    log = job.with_suffix('.log').read_text(errors='replace')
+    log = re.sub(r'\n\(barleychime\)\s*', ' ', log).replace('\n', '')
+    return [tuple(map(float, found.groups()[2:])) for found in HEIGHT.finditer(log)]
