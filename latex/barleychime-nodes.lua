@@ -83,9 +83,10 @@ function N.penalty(value)
   return n
 end
 
--- Two lists as one, of which head and tail are known; head and tail of the whole.
+-- Two lists as one; head and tail of the whole. The first one's tail is its head if none is given.
 function N.join(head, tail, more)
   if not head then return more, node.tail(more) end
+  tail = tail or head
   tail.next, more.prev = more, tail
   return head, node.tail(more)
 end

@@ -30,6 +30,7 @@ local held, held_tail                   -- the galley that is being collected
 local inside = false                    -- its last items are a float's place
 local passing = false                   -- its rest is LaTeX's own
 local foreign = 0                       -- depth of what has an output routine of its own
+local bound = false                     -- it is LaTeX's own up to the next forced page end
 local taking_back = false               -- what LaTeX has of the page is to be held
 local lists                             -- page lists by galley; nil if there is no JOB.list
 local queue = {}                        -- pages by a list on their way to the page builder
@@ -103,7 +104,7 @@ local function announce(head)
     if n.id == N.PENALTY and n.penalty == N.ASIDE then
       asides[#asides + 1] = run.floats[has(n, N.ANCHOR) or 0] or false
     elseif n.id == N.PENALTY and n.penalty == N.PAUSE then
-      pauses[#pauses + 1] = commands[has(n, N.WAITING) or 0] or "\\bc@lua{take_back()}"
+      pauses[#pauses + 1] = commands[has(n, N.WAITING) or 0] or "\\bc@lua{take_back()}\\bc@back"
     end
   end
 end
@@ -168,24 +169,13 @@ local function cut(head, at)
   return before, after
 end
 
--- What an output routine gave back: it goes to the page, or is held, if so asked.
-local function after_output()
-  if #queue > 0 then tex.set("global", "vsize", MAXDIMEN) end
-  if not taking_back then return end
-  taking_back, passing = false, false
-  held = tex.lists.contrib_head
-  held_tail = held and node.tail(held)
-  tex.lists.contrib_head = held and reminder(held_tail)
-end
-
-local function filter(info)
-  if info == "after_output" then return after_output() end
-  asides, pauses = {}, {}               -- by now all is placed
-  local rest, out, out_tail = tex.lists.contrib_head, nil, nil
+-- What comes up to the next forced page end is held, or passed on as LaTeX's own; there the
+-- galley is closed. What the page builder is to have now.
+local function sort_out(rest)
+  local out, out_tail, last
   local function let_go(list)
     if list then out, out_tail = N.join(out, out_tail, list) end
   end
-  local last
   while rest do
     local stop, before
     stop, last = scan(rest)
@@ -196,11 +186,40 @@ local function filter(info)
     if stop then
       if not passing then let_go(close_galley()) end
       let_go(stop)
-      passing = foreign > 0
+      passing, bound = foreign > 0, false
     end
   end
   if held then let_go(reminder(last)) end
-  tex.lists.contrib_head = out
+  return out
+end
+
+local function page_has_floats()
+  for _, list in ipairs{"@toplist", "@midlist", "@botlist", "@deferlist", "@currlist"} do
+    if token.get_macro(list) ~= "" then return true end
+  end
+  return false
+end
+
+local function calls_output(head)
+  for n in node.traverse_id(N.PENALTY, head) do
+    if n.penalty <= N.FORCED then return true end
+  end
+  return false
+end
+
+local function filter(info)
+  local contributed = tex.lists.contrib_head
+  if info == "after_output" then        -- what an output routine gave back
+    if #queue > 0 then tex.set("global", "vsize", MAXDIMEN) end
+    if not taking_back then return end
+    taking_back, passing = false, false
+  end
+  asides, pauses = {}, {}               -- by now all is placed
+  if passing and foreign == 0 and not bound and contributed and tex.lists.page_head
+     and not calls_output(contributed) and not page_has_floats() then
+    contributed = N.join(N.penalty(N.PAUSE), nil, contributed)
+  end
+  tex.lists.contrib_head = sort_out(contributed)
 end
 
 -- Whether a box with any size is among nodes.
@@ -226,10 +245,10 @@ end
 -- build: the page builder is called, so that \pagetotal says what is on the page.
 function M.hand_over(who, build)
   if not opt then return end
-  foreign = foreign + 1
+  foreign, bound = foreign + 1, bound or not build
+  warn("%s: LaTeX makes the pages up to %s", who, build and "its end" or "the next forced page end")
   if passing then return end
   passing = true
-  warn("%s: LaTeX makes the pages %s", who, build and "up to its end" or "up to the next forced page end")
   if not held then return end
   announce(held)
   local tail = held_tail
@@ -241,22 +260,16 @@ end
 
 function M.hand_back() foreign = max(foreign - 1, 0) end
 
--- Whether the page that LaTeX has begun could be held from here on.
-function M.can_hold() tex.sprint(opt and passing and foreign == 0 and "1 " or "0 ") end
-
 -- What the output routine gives back is held, if no float stands on the page or waits.
-function M.take_back()
-  for _, list in ipairs{"@toplist", "@midlist", "@botlist", "@deferlist"} do
-    if token.get_macro(list) ~= "" then return end
-  end
-  taking_back = true
-end
+function M.take_back() taking_back = not page_has_floats() end
 
 -- ------------------------------------------------------- called by the package
 
 function M.start(told)
   opt = options.check(told)
-  lists = L.read(files.path(opt.job, ".list"))
+  local path = files.path(opt.job, ".list")
+  lists = L.read(path)
+  kpse.record_input_file(path)          -- so that latexmk knows of it
   luatexbase.add_to_callback("buildpage_filter", filter, "barleychime")
 end
 
@@ -358,7 +371,7 @@ function M.wait(command)
   tex.sprint(#commands .. " ")
 end
 
-function M.resume() tell(table.remove(pauses, 1) or "\\relax") end
+function M.resume() tell(table.remove(pauses, 1) or "\\bc@back") end
 function M.pause_next(command) table.insert(pauses, 1, command) end
 
 -- The number of the barrier at hand if it waits like that; 0 if it is to be run now, and -1

@@ -56,7 +56,8 @@ def wrong(job):
     job.path.write_text(source.replace('fill=80', 'fill=much'))
     told = job.barleychime()
     yield 'a bad option', (told.returncode, 'option fill=much: a number from 0 to 100 is due' in ' '.join(told.stderr.split())), (2, True)
-    job.path.write_text(source.replace('fill=80', 'fill=100'))
+    unfit = source.replace('fill=80', 'fill=100').replace(r'\begin{document}', r'\setlength\parskip{0pt}\addtolength\textheight{5pt}\begin{document}')
+    job.path.write_text(unfit)  # no page of lines alone is full
     told = job.barleychime()
     yield 'no pagination: exit status', told.returncode, 0
     yield 'no pagination: the galley by its first line, and advice', bool(re.search(r'galley 1, "Part 1 of the work": .*htMin', told.stderr.replace('\n', ' '))), True

@@ -60,7 +60,7 @@ def chapters(name, **more):
 
 def with_package(name, preamble, rows=(), at=9, **more):
     """An article that uses a package: rows of its own stand among the text."""
-    text = body(Prose(name), command=more.pop('command', r'\ref'))
+    text = body(Prose(name), command=more.pop('command', r'\ref'), floats=more.pop('floats', 6))
     return document(f'article-{name}', preamble, text[:at] + list(rows) + text[at:], **more)
 
 
@@ -91,11 +91,11 @@ ALL = {
     'caption': with_package('caption', r'\usepackage{caption}', [CONTINUED, KEPT]),
     'subcaption': with_package('subcaption', r'\usepackage{subcaption}', [r'See \subref{panel:1} of \ref{panel:2}.', PANELS]),
     'wrapfig': with_package('wrapfig', r'\usepackage{wrapfig}', [WRAPPED]),
-    'placeins': with_package('placeins', r'\usepackage{placeins}', [r'\FloatBarrier'], at=8),
+    'placeins': with_package('placeins', r'\usepackage{placeins}', [r'\FloatBarrier', figure(80, 60), figure(81, 60), r'\FloatBarrier'], at=8),
     'longtable': with_package('longtable', r'\usepackage{longtable}', [LONGTABLE]),
     'multicol': with_package('multicol', r'\usepackage{multicol}', [COLUMNS]),
     'graphicx': with_package('graphicx', r'\usepackage{graphicx}', [r'\begin{figure}\rotatebox{5}{\scalebox{2}{turned}}\caption{Turned}\end{figure}']),
     'microtype': with_package('microtype', r'\usepackage{microtype}'),
-    'babel': with_package('babel', r'\usepackage[ngerman]{babel}'),
+    'babel': with_package('babel', r'\usepackage[english]{babel}'),
 }
 WARNED = {'wrapfig': 'wrapfigure: LaTeX makes', 'longtable': 'longtable: LaTeX makes', 'multicol': 'multicols: LaTeX makes'}

@@ -1,6 +1,7 @@
 """The LaTeX package: documents are set without it, with it, and by lists, and the PDFs are looked into. Where TeX cannot be had the part
 does not run, which with CI=true is a failure."""
 import concurrent.futures
+import functools
 import os
 import pathlib
 import re
@@ -10,10 +11,13 @@ import sys
 import tempfile
 
 ROOT = pathlib.Path(__file__).resolve().parents[2]
-sys.path[:0] = [str(ROOT / 'tests'), str(ROOT / 'tests/host'), str(pathlib.Path(__file__).parent)]
+sys.path[:0] = [str(ROOT / part) for part in ('tests/latex', 'tests', 'tests/host', 'samples/real')]
 
+import called  # noqa: E402
 import documents  # noqa: E402
+import followed  # noqa: E402
 import pages  # noqa: E402
+import sources as real_documents  # noqa: E402
 import tally  # noqa: E402
 from command import Command  # noqa: E402
 
@@ -97,6 +101,74 @@ def turns(stdout):
     return 'no more than LaTeX has' if now <= own else f'{now}, LaTeX has {own}'
 
 
+def lists_tried(folder):
+    """Lists of one document: others than the best, spoilt ones, and one of other text."""
+    source = documents.ALL['article']
+    job, plain = Job(folder / 'tried', 'article', source), Job(folder / 'tried-plain', 'article', without_package(source))
+    plain.tex(2)
+    yield from ((f'tex: {what}', got, due) for what, got, due in [('ends well', job.barleychime().returncode, 0)])
+    yield from followed.heights(job, notes=1)
+    yield from followed.other_lists(job)
+    yield from followed.spoilt_lists(job, pages.texts(plain.file('.pdf')))
+    yield from followed.changed_document(job, plain)
+
+
+def calls(folder):
+    source = documents.ALL['article']
+    job = Job(folder / 'called', 'article', source)
+    yield from called.said(job)
+    yield from called.printed(job)
+    yield from called.wrong(Job(folder / 'wrong', 'article', source))
+
+
+def other_ways(folder):
+    source = documents.ALL['article']
+    yield from called.elsewhere(Job(folder / 'elsewhere', 'article', source))
+    yield from called.by_make(Job(folder / 'make', 'article', source), ENVIRONMENT)
+    rules = (ROOT / 'latex/examples/latexmkrc').read_text()
+    yield from called.by_latexmk(Job(folder / 'latexmk', 'article', source), ENVIRONMENT, rules)
+
+
+def real(folder, name):
+    """A document whose source Debian ships."""
+    plain = prepare_real(folder / 'real-plain', name, package='')
+    made = prepare_real(folder / 'real', name)
+    plain.tex()
+    made.tex()
+    yield f'{name}: text without a list', pages.texts(made.file('.pdf')) == pages.texts(plain.file('.pdf')), True
+    told = made.barleychime()
+    yield f'{name}: the command ends well', told.returncode, 0
+    print(told.stdout, end='')
+    right, wrong = pages.misplaced(made.path)
+    yield f'{name}: blocks on the page of the list, and not', (right > 300, wrong), (True, 0)
+    found, missing = pages.unlike(made.path)
+    yield f'{name}: texts on their page of the PDF, and not', (found > 300, missing), (True, [])
+    yield f'{name}: turns', turns(told.stdout), 'no more than LaTeX has'
+    yield f'{name}: pages higher than the model says', [page for page in pages.heights(made.path) if page[0] > page[2] + 0.2], []
+
+
+def prepare_real(folder, name, **more):
+    job = Job(folder, name, '')
+    real_documents.prepare(name, job.folder, **more)
+    return job
+
+
+def checks(task):
+    """What a task found; an exception is a failure of the task, not of all."""
+    try:
+        return list(task())
+    except Exception as error:  # noqa: BLE001
+        return [(f'{task}', f'{type(error).__name__}: {error}', 'no exception')]
+
+
+def tasks(folder, names):
+    """The longest first."""
+    every = {f'real {name}': functools.partial(real, folder, name) for name in ('mpman', 'mpgraph')}
+    every.update(lists=functools.partial(lists_tried, folder), calls=functools.partial(calls, folder), ways=functools.partial(other_ways, folder))
+    every.update({name: functools.partial(set_both_ways, folder, name, source) for name, source in documents.ALL.items()})
+    return [task for name, task in every.items() if not names or name in names]
+
+
 def main():
     told = tally.Tally()
     if not at_hand():
@@ -107,10 +179,8 @@ def main():
     library = pathlib.Path(os.environ.get('BARLEYCHIME_LIB') or ROOT / 'target/staticlib/libbarleychime.a').resolve()
     Job.program = Command.built(ROOT, library).program
     with tempfile.TemporaryDirectory() as folder, concurrent.futures.ThreadPoolExecutor(os.cpu_count()) as pool:
-        jobs = [pool.submit(lambda item: list(set_both_ways(pathlib.Path(folder), *item)), item) for item in documents.ALL.items()
-                if len(sys.argv) < 2 or item[0] in sys.argv[1:]]
-        for job in jobs:
-            for what, got, due in job.result():
+        for found in pool.map(checks, tasks(pathlib.Path(folder), sys.argv[1:])):
+            for what, got, due in found:
                 told.same(what, got, due)
     told.group('documents set without the package, with it and by lists')
     return told.end()

@@ -78,7 +78,7 @@ impl Lists {
             Opens::Left => folio + folio % 2,
             Opens::Anywhere => folio,
         };
-        match part.folio >= last + 1 {
+        match part.folio > last {
             true if part.opens != Opens::Anywhere && part.folio == side(last + 1) => side(now),
             true if part.opens == Opens::Anywhere => part.folio + now - (last + 1),
             _ => part.folio, // numbered anew
@@ -88,7 +88,10 @@ impl Lists {
     fn keep(&mut self, part: &Part, folio: u32, opening: &Opening) -> Result<(), String> {
         let bytes = part.bytes(Some(folio))?;
         let answer = match opening {
-            Opening::ByLaTeX => return Ok(self.made.push(Made { folio, list: None })),
+            Opening::ByLaTeX => {
+                self.made.push(Made { folio, list: None });
+                return Ok(());
+            }
             Opening::Whole(list) => {
                 engine::mark(&bytes, list).map(|measure| (measure, list.clone())).map_err(MakeError::from)
             }
