@@ -45,11 +45,21 @@ function N.deep(list, visit)
   end
 end
 
+-- Whether a font has symbols where others have letters, as old mathematical ones do.
+local symbols = {}
+local function is_symbols(number)
+  if symbols[number] == nil then
+    local name = (font.getfont(number) or {}).name or ""
+    symbols[number] = name:match("^%a*sy%d+$") ~= nil or name:match("^%a*ex%d+$") ~= nil
+  end
+  return symbols[number]
+end
+
 -- The letters of a box; codes below 32, ligatures of old fonts, as {0b}.
 function N.letters(box)
   local t = {}
   N.deep(box.list, function (n)
-    if n.id == N.GLYPH then
+    if n.id == N.GLYPH and not is_symbols(n.font) then
       t[#t + 1] = n.char < 32 and string.format("{%02x}", n.char) or utf8.char(n.char)
     end
   end)

@@ -37,6 +37,28 @@ local function clear(head, n, box)
   return head
 end
 
+-- Takes out the space after a galley's last line, which vanishes at the page's edge. What stretches
+-- without end stays; the line's depth hangs below the page there, too.
+local function trim(head)
+  local n, endless = node.tail(head), false
+  while n and (n.id == N.GLUE or n.id == N.KERN or n.id == N.PENALTY) do
+    local before = n.prev
+    if n.id == N.GLUE and (n.stretch_order > 0 or n.shrink_order > 0) then endless = true
+    elseif n.id ~= N.PENALTY then
+      head = node.remove(head, n)
+      node.free(n)
+    end
+    n = before
+  end
+  if endless and n and N.is_box(n) then
+    local _, depth = N.size(n)
+    local kern = node.new(N.KERN)
+    kern.kern = -math.min(depth, tex.dimen["@maxdepth"])
+    head = node.insert_after(head, n, kern)
+  end
+  return head
+end
+
 local function floats_of(stream, from, to)
   local t = {}
   for k = from + 1, to do t[#t + 1] = stream[k].float end
@@ -58,7 +80,7 @@ end
 -- The galley's nodes with a page end after each page, and the pages: which floats each
 -- has, whether it has text, and how high the model says that it is.
 function P.in_pages(g, list, head, kludgeins)
-  head = strip(head, kludgeins)
+  head = trim(strip(head, kludgeins))
   local pages, from = {}, {0, 0, 0}
   local at = nil                        -- the node before which the next page opens
   for q, to in ipairs(list) do

@@ -60,7 +60,7 @@ def wrong(job):
     job.path.write_text(unfit)  # no page of lines alone is full
     told = job.barleychime()
     yield 'no pagination: exit status', told.returncode, 0
-    yield 'no pagination: the galley by its first line, and advice', bool(re.search(r'galley 1, "Part 1 of the work": .*htMin', told.stderr.replace('\n', ' '))), True
+    yield 'no pagination: the galley by its first line, and advice', bool(re.search(r'galley 1, "1 ?Part 1 of the work": .*htMin', told.stderr.replace('\n', ' '))), True
     yield 'no pagination: LaTeX makes the pages', pages.shipped(job.path)[1][0].by, 'latex'
 
 
