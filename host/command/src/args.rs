@@ -53,7 +53,7 @@ enum Commands {
     #[command(after_help = help::FOLD)]
     Fold(fold::Args),
     /// A LaTeX document's pages, by LuaLaTeX and the engine in turn
-    #[command(help_template = TEMPLATE)]
+    #[command(after_help = help::TEX)]
     Tex(tex::Args),
     /// Every refusal in words, with who can mend it
     #[command(after_help = help::REFUSALS)]

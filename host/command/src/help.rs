@@ -69,6 +69,12 @@ pub const FOLD: &str = "\
 Sections have 4, 8, ..., 64 pages. A line for each of the nested sheets, the
 outermost first: left and right page of its front, then of its back.";
 
+pub const TEX: &str = "\
+The document says \\usepackage{barleychime}. LuaLaTeX and the engine run by
+turns until nothing changes, at most ten times. Then a line for each galley: X +
+Y of LaTeX's own pages and of the list's; and the PDF. Where no pagination
+exists LaTeX makes the pages, and what would help is said.";
+
 pub const REFUSALS: &str = "\
 A refusal is an answer, `R number place`, and the exit status 1.";
 
