@@ -22,5 +22,6 @@ def check(tally):
     tally.same('version of the header, in figures', stated(header, r'^#define BARLEYCHIME_VERSION_STRING "(.+)"$'), version)
     tally.same('version of the engine', stated('crates/barleychime/src/lib.rt', r'barleychime_version\(\) -> u32\n.*≡ (\d+) '), number)
     tally.same('version of the Python package', stated('python/barleychime/__init__.py', r"^__version__ = '(.+)'$"), version)
+    tally.same('version of the LaTeX package', stated('latex/barleychime.sty', r'^.ProvidesPackage.* v([\d.]+) '), version)
     tally.same('the newest version in CHANGELOG.md', stated('CHANGELOG.md', r'^## ([\d.]+)'), version)
     tally.group('versions')
