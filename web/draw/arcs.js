@@ -64,8 +64,12 @@ export function loudArc(A, i, Z, sheet, where) {
 /** Labels never meet risers: where an arc leaves, where it arrives, and in passing. */
 function label(A, i, Z, y) {
   const id = A.F.id;
-  if (A.i1 === i) return text('lt', Z.x(A.e.folio) + 1, y + 3, A.back ? `${id} too soon` : `${id}  ${plural(A.F.turns, 'turn')}`, 'start');
-  if (A.i0 === i) return text('lt', Z.x(A.p.folio) + Z.PW + 1, y + 3, A.back ? `${id}, cited on p ${A.e.q}` : `${id} → p ${A.e.q}`, 'end');
+  if (A.i1 === i) {
+    return text('lt', Z.x(A.e.folio) + 1, y + 3, A.back ? `${id} too soon` : `${id}  ${plural(A.F.turns, 'turn')}`, 'start');
+  }
+  if (A.i0 === i) {
+    return text('lt', Z.x(A.p.folio) + Z.PW + 1, y + 3, A.back ? `${id}, cited on p ${A.e.q}` : `${id} → p ${A.e.q}`, 'end');
+  }
   return text('lt', Z.out + Z.PW / 2, y + 3, id, 'middle');
 }
 

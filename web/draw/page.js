@@ -74,7 +74,8 @@ export function items(g, L, page, Z, y0, where, moved) {
 function whiteSpace(g, page, Z, x, y0, foot) {
   if (page.last || foot >= Z.H - 0.8) return '';
   const words = length(g, page.white), room = Z.H - foot > 12, at = x + Z.PW * (Z.text === 24 ? 0.16 : 0.5);
-  return `<g>${rect('wh', x, y0 + foot, Z.PW, Z.H - foot)}${room ? text('wn', at, y0 + (foot + Z.H) / 2 + 3, words) : ''}${title(`white space ${words}`)}</g>`;
+  const told = room ? text('wn', at, y0 + (foot + Z.H) / 2 + 3, words) : '';
+  return `<g>${rect('wh', x, y0 + foot, Z.PW, Z.H - foot)}${told}${title(`white space ${words}`)}</g>`;
 }
 
 /** A page that is cut off. */
@@ -134,9 +135,11 @@ export function gauge(g, page, Z, y0) {
   const left = Z.two && page.folio % 2 === 0, x = left ? Z.sheet + 4 : Z.w - Z.sheet - 4, top = Z.H + Z.over;
   const a = Math.min(page.least, g.htMax) * Z.scale, t = Math.min(page.t * Z.scale, top), l = Math.min(page.l * Z.scale, top);
   const misses = page.bad.some(({ rule }) => rule === 15 || rule === 16);
-  const words = `page ${page.q}: tightest ${length(g, page.t)}, loosest ${length(g, page.l)}; allowed ${length(g, page.least)} to ${length(g, g.htMax)}`;
+  const [tight, loose, least, most] = [page.t, page.l, page.least, g.htMax].map((height) => length(g, height));
+  const words = `page ${page.q}: tightest ${tight}, loosest ${loose}; allowed ${least} to ${most}`;
   const beam = `M${n(x - 2.5)} ${n(y0 + t)}h5M${n(x)} ${n(y0 + t)}v${n(Math.max(0.1, l - t))}M${n(x - 2.5)} ${n(y0 + l)}h5`;
-  return `<g class="gg${misses ? ' no' : ''}">${rect('gw', x - 2.5, y0 + a, 5, Math.max(1, Z.H - a))}${path('gb', beam)}${title(words)}</g>`;
+  const marks = rect('gw', x - 2.5, y0 + a, 5, Math.max(1, Z.H - a)) + path('gb', beam) + title(words);
+  return `<g class="gg${misses ? ' no' : ''}">${marks}</g>`;
 }
 
 /** Folio, lines and fill. @param {Galley} g @param {Page} page @param {Size} Z @param {number} y0 */

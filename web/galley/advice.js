@@ -46,7 +46,8 @@ async function lowered(g, exists) {
   if (one !== null) return [told(g, 'htMin', htMin, one) + inVain('lastMin', lastMin)];
   if (two !== null) return [told(g, 'lastMin', lastMin, two) + inVain('htMin', htMin)];
   const low = await greatest(htMin, (h) => exists(h, 0)) ?? 0, last = await greatest(lastMin, (h) => exists(low, h)) ?? 0;
-  return [`neither htMin nor lastMin is low enough by itself; a pagination exists at htMin ${filled(g, low)} and lastMin ${filled(g, last)}`];
+  const both = `htMin ${filled(g, low)} and lastMin ${filled(g, last)}`;
+  return [`neither htMin nor lastMin is low enough by itself; a pagination exists at ${both}`];
 }
 
 /** How many pages of the opening could stay. @param {Galley} g @param {ArrayLike<number>} opening @param {Exists} exists */

@@ -30,7 +30,10 @@ export function broken(g, page, end) {
   else {
     const forbidden = forbiddenEnd(g, end), soon = g.sides === 1 || page.folio % 2 === 1 || page.last ? tooSoon(g, end) : [];
     if (forbidden.length) add(14, forbidden.map((f) => f.numbers), forbidden[0].short);
-    if (page.t > g.htMax) add(15, [`${page.t} is above htMax ${g.htMax} by ${page.t - g.htMax}`], `${length(g, page.t - g.htMax)} over htMax`);
+    if (page.t > g.htMax) {
+      const by = page.t - g.htMax;
+      add(15, [`${page.t} is above htMax ${g.htMax} by ${by}`], `${length(g, by)} over htMax`);
+    }
     if (page.l < page.least) {
       const name = page.last ? 'lastMin' : 'htMin', by = page.least - page.l;
       add(16, [`${page.l} is below ${name} ${page.least} by ${by}`], `${length(g, by)} under ${name}`);
@@ -45,8 +48,9 @@ export function broken(g, page, end) {
 function outOfOrder(g, a, end) {
   const out = [];
   end.forEach((y, s) => {
-    if (y < a[s]) out.push({ numbers: `${KINDS[s]}s placed so far fall from ${a[s]} to ${y}`, short: 'goes backwards' });
-    else if (y > g.count[s]) out.push({ numbers: `it claims ${y} ${KINDS[s]}s, but the galley has ${g.count[s]}`, short: 'goes past the galley' });
+    const kind = `${KINDS[s]}s`;
+    if (y < a[s]) out.push({ numbers: `${kind} placed so far fall from ${a[s]} to ${y}`, short: 'goes backwards' });
+    else if (y > g.count[s]) out.push({ numbers: `it claims ${y} ${kind}, but the galley has ${g.count[s]}`, short: 'goes past the galley' });
   });
   if (end.every((y, s) => y === a[s])) {
     const counts = end.slice(0, g.width).map((y, s) => counted(y, KINDS[s]));
@@ -80,7 +84,10 @@ function tooSoon(g, end) {
 }
 
 /** @param {Galley} g @param {number[]} end */
-const unfinished = (g, end) => `the list ends at ${end.slice(0, g.width).join(' ')}, and everything is placed at ${g.count.slice(0, g.width).join(' ')}`;
+function unfinished(g, end) {
+  const [at, whole] = [end, g.count].map((counts) => counts.slice(0, g.width).join(' '));
+  return `the list ends at ${at}, and everything is placed at ${whole}`;
+}
 
 /** A list whose length alone is refused. @param {Galley} g @param {number} words */
 export function brokenLength(g, words) {
@@ -109,7 +116,8 @@ export function lostWith(g, q, end, before, after) {
   const floats = g.alpha ? after.floats.filter((F, k) => F.turns > before.floats[k].turns).map((F) => F.id) : [];
   const leaves = g.beta ? Math.max(0, after.Y - before.Y) : 0, turns = after.T - before.T;
   const what = [...named(floats), ...(leaves ? [leaves === 1 ? 'a leaf more' : `${leaves} leaves more`] : [])];
-  const words = `page ${q} ends ${end[0] ? `after line ${end[0]}` : 'before any line'}: ${counted(turns, 'turn')} lost for good${what.length ? `, ${joined(what)}` : ''}`;
+  const where = end[0] ? `after line ${end[0]}` : 'before any line', told = what.length ? `, ${joined(what)}` : '';
+  const words = `page ${q} ends ${where}: ${counted(turns, 'turn')} lost for good${told}`;
   return { page: q, line: end[0], turns, floats, leaves, words };
 }
 
@@ -132,7 +140,8 @@ export function whyWaiting(g, L, F) {
     return { page, excess: heights(g, page.a, b)[0] - g.htMax, more: F.k - page.b[F.s] };
   });
   const near = tries.reduce((best, one) => one.excess < best.excess ? one : best);
-  const c = ' FT'[F.s], them = near.more <= 1 ? 'it' : near.more === 2 ? `${c}${F.k - 1} and ${F.id}` : `${c}${F.k - near.more + 1} to ${F.id}`;
+  const c = ' FT'[F.s], several = near.more === 2 ? `${c}${F.k - 1} and ${F.id}` : `${c}${F.k - near.more + 1} to ${F.id}`;
+  const them = near.more <= 1 ? 'it' : several;
   return near.excess > 0 ? `with ${them} page ${near.page.q} would be ${length(g, near.excess)} too high`
     : `page ${near.page.q} has room for ${them} as it stands`;
 }

@@ -55,10 +55,12 @@ export const strip = (g, H, PW) => size(g, { H, PW, out: 26, gut: 40, sheet: 5, 
  * @param {Galley} g @param {number} asked @param {number} room for the two pages of a spread
  */
 export function large(g, asked, room) {
-  const low = g.streams[0].map((line) => line.h).filter(Boolean).sort((a, b) => a - b), typical = low[Math.floor(low.length / 4)] ?? g.htMax;
+  const low = g.streams[0].map((line) => line.h).filter(Boolean).sort((a, b) => a - b);
+  const typical = low[Math.floor(low.length / 4)] ?? g.htMax;
   const H = Math.max(asked, Math.min(2 * asked, 11 * g.htMax / typical)), fits = (room - 60 - (g.sides === 2 ? 44 : 8)) / g.sides;
   const PW = Math.max(130, Math.min(0.63 * H, fits, 440));
-  return size(g, { H, PW, out: 30, gut: 44, sheet: 6, lane: 13, top: 12, foot: 24, text: 16, headroom: 8, most: 9, over: 34, numbered: true });
+  return size(g, { H, PW, out: 30, gut: 44, sheet: 6, lane: 13, top: 12, foot: 24, text: 16, headroom: 8, most: 9, over: 34,
+    numbered: true });
 }
 
 /**

@@ -267,7 +267,8 @@ export class App {
     const book = this.tab === 'book' && this.book, name = book ? 'A book' : this.name;
     byId('title').textContent = name || 'Barleychime';
     document.title = name ? `${name} – Barleychime` : 'Barleychime';
-    byId('spec').textContent = book ? plural(book.chapters.length, 'chapter') : this.g ? specification(this.g) : this.refused ? '' : ABOUT;
+    const about = this.g ? specification(this.g) : this.refused ? '' : ABOUT;
+    byId('spec').textContent = book ? plural(book.chapters.length, 'chapter') : about;
     const views = { open: openView, show: showView, class: classView, book: bookView, desk: () => this.drawDesk() };
     views[this.tab](this);
     if (focused && document.activeElement === document.body) byId(focused)?.focus({ preventScroll: true });
@@ -285,14 +286,18 @@ export class App {
     if (this.refused) return state(`The galley is refused: ${sentence(this.refused)}`);
     if (!this.g) return words('Open a galley first.');
     if (this.making) return words('The best list is being made, and the desk opens on it.');
-    if (this.best && !this.best.ok) return state(sentence(this.best), el('p', {}, 'The desk opens on a list that is accepted, and there is none.'));
-    return words(this.bench.open ? 'The list has one page: there is no end to move.' : 'The desk opens on a list that is accepted: hand one in, or make the best.');
+    const none = el('p', {}, 'The desk opens on a list that is accepted, and there is none.');
+    if (this.best && !this.best.ok) return state(sentence(this.best), none);
+    if (this.bench.open) return words('The list has one page: there is no end to move.');
+    return words('The desk opens on a list that is accepted: hand one in, or make the best.');
   }
 
   /** What can stand above the best: the lists handed in, the one in force at the desk, the layouts. @returns {any[]} */
   comparable() {
-    const { bench } = this, own = bench.open && bench.history.length > 1 ? [{ name: 'at the desk', ends: bench.ends, mark: bench.mark }] : [];
-    return [...this.lists, ...own, ...bench.layouts().map((one) => ({ name: `layout ${one.name}`, ends: toEnds(one.words, this.g.width), mark: { ok: true } }))];
+    const { bench, g } = this, worked = bench.open && bench.history.length > 1;
+    const own = worked ? [{ name: 'at the desk', ends: bench.ends, mark: bench.mark }] : [];
+    const layout = ({ name, words }) => ({ name: `layout ${name}`, ends: toEnds(words, g.width), mark: { ok: true } });
+    return [...this.lists, ...own, ...bench.layouts().map(layout)];
   }
 
   /** @param {{name: string, ends: number[][]}} list @returns {Measured} */
@@ -303,8 +308,8 @@ export class App {
 
   /** @returns {Measured | null} */
   bestMeasured() {
-    const best = this.target();
-    return best?.ok ? this.measured({ name: this.bench.printed ? `best after page ${this.bench.printed}` : 'best', ends: best.ends }) : null;
+    const best = this.target(), name = this.bench?.printed ? `best after page ${this.bench.printed}` : 'best';
+    return best?.ok ? this.measured({ name, ends: best.ends }) : null;
   }
 
   /**
@@ -325,8 +330,8 @@ export class App {
     const { g } = this, key = L.ends.join(' '), words = toWords(L.ends, g.width), asked = !this.lost.has(key);
     this.lost.set(key, 'looking');
     if (asked && !this.quick(PATIENT)) this.draw();
-    const from = this.bench.printed;
-    const lost = await lostForGood(g, L.ends, (q) => this.maker.make(words.subarray(0, Math.max(q, from) * g.width), false), () => this.g === g);
+    const { printed } = this.bench, bestAfter = (q) => this.maker.make(words.subarray(0, Math.max(q, printed) * g.width), false);
+    const lost = await lostForGood(g, L.ends, bestAfter, () => this.g === g);
     if (!lost || this.g !== g) return;
     this.lost.set(key, lost);
     if (this.tab === 'show') this.draw();

@@ -44,16 +44,19 @@ function totals(made) {
 function chapters(app, { chapters: all, made }) {
   let folio = read(all[0].bytes).folio;
   const rows = all.map((chapter, k) => {
-    const from = folio, bytes = k && from <= LAST_FOLIO ? withFolio(chapter.bytes, from) : chapter.bytes, g = read(bytes), ends = toEnds(made.lists[k], g.width);
-    const L = measure(g, ends, chapter.name);
+    const from = folio, bytes = k && from <= LAST_FOLIO ? withFolio(chapter.bytes, from) : chapter.bytes;
+    const g = read(bytes), ends = toEnds(made.lists[k], g.width), L = measure(g, ends, chapter.name);
+    const text = () => madeText({ p: L.p, x: L.X, y: L.Y, t: L.T, w: L.W }, ends, g.width);
     folio += ends.length;
     const open = from <= LAST_FOLIO ? link(chapter.name, () => app.openChapter(chapter.name, bytes, made.lists[k])) : chapter.name;
-    return el('tr', {}, el('td', { class: 'r', 'data-t': 'chapter' }, k + 1), el('th', { scope: 'row' }, open), el('td', { 'data-t': 'folios' }, `${from}–${folio - 1}`),
+    return el('tr', {}, el('td', { class: 'r', 'data-t': 'chapter' }, k + 1), el('th', { scope: 'row' }, open),
+      el('td', { 'data-t': 'folios' }, `${from}–${folio - 1}`),
       [L.p, L.X, L.Y, L.W].map((v, c) => el('td', { class: 'r', 'data-t': ['p', 'X', 'Y', 'W'][c] }, comma(v))),
-      el('td', {}, link('write its list', () => download(`${chapter.name.replace(/\.(galley|txt)$/, '')}.list`, madeText({ p: L.p, x: L.X, y: L.Y, t: L.T, w: L.W }, ends, g.width)))));
+      el('td', {}, link('write its list', () => download(`${chapter.name.replace(/\.(galley|txt)$/, '')}.list`, text()))));
   });
   const heads = [['', 'r'], ['chapter', ''], ['folios', ''], ['p', 'r'], ['X', 'r'], ['Y', 'r'], ['W', 'r'], ['', '']];
-  return el('table', { class: 'led' }, el('thead', {}, el('tr', {}, heads.map(([words, cls]) => el('th', { class: cls || null, scope: 'col' }, words)))), el('tbody', {}, rows));
+  const head = heads.map(([words, cls]) => el('th', { class: cls || null, scope: 'col' }, words));
+  return el('table', { class: 'led' }, el('thead', {}, el('tr', {}, head)), el('tbody', {}, rows));
 }
 
 /** The order of the chapters, to be changed. @param {App} app @param {Book} book */
@@ -66,7 +69,9 @@ function order(app, { chapters: all }) {
   const row = (chapter, k) => el('li', {}, `${chapter.name} `,
     button('↑', () => move(k, k - 1), { disabled: k === 0, 'aria-label': `${chapter.name} one chapter earlier` }), ' ',
     button('↓', () => move(k, k + 1), { disabled: k === all.length - 1, 'aria-label': `${chapter.name} one chapter later` }), ' ',
-    button('✕', () => app.openBook(all.filter((one) => one !== chapter)), { 'aria-label': `leave ${chapter.name} out`, disabled: all.length < 2 }));
-  return el('section', { class: 'noprint' }, el('h2', {}, 'Chapters ', el('small', {}, 'the first opens on its own folio, each later one on the folio after the last')),
+    button('✕', () => app.openBook(all.filter((one) => one !== chapter)),
+      { 'aria-label': `leave ${chapter.name} out`, disabled: all.length < 2 }));
+  return el('section', { class: 'noprint' },
+    el('h2', {}, 'Chapters ', el('small', {}, 'the first opens on its own folio, each later one on the folio after the last')),
     el('ol', { class: 'ui chapters' }, all.map(row)));
 }

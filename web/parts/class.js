@@ -23,8 +23,11 @@ export function classView(app) {
   const best = app.bestMeasured(), rows = rowsOf(app, best), most = Math.max(1, ...rows.map((row) => row.more ?? 0));
   put(root, figures(app, rows, best),
     el('h2', {}, 'Lists ', el('small', {}, 'by turns, then white space; the refused ones last. Each leads to its pages'),
-      el('span', { class: 'tools noprint' }, button('Rows as CSV', () => download(`${app.plainName()}-class.csv`, csv(rows)), { id: 'csv' }), button('Print', () => print()))),
-    el('table', { class: 'rep' }, head(most), el('tbody', {}, best && engineRow(best, most), rows.map((row) => rowOf(app, row, best, most)))),
+      el('span', { class: 'tools noprint' },
+        button('Rows as CSV', () => download(`${app.plainName()}-class.csv`, csv(rows)), { id: 'csv' }),
+        button('Print', () => print()))),
+    el('table', { class: 'rep' }, head(most),
+      el('tbody', {}, best && engineRow(best, most), rows.map((row) => rowOf(app, row, best, most)))),
     best && whereLost(g, rows, best));
 }
 
@@ -35,12 +38,14 @@ export function classView(app) {
 function rowsOf(app, best) {
   const rows = app.lists.map((list) => {
     const L = list.ends.length ? app.measured(list) : null, { mark } = list;
-    const row = { name: list.name, mark, words: list.words, L, more: best && mark.ok ? mark.t - best.T : null, part: best && L ? parting(L.ends, best.ends) : 0, why: '' };
+    const more = best && mark.ok ? mark.t - best.T : null, part = best && L ? parting(L.ends, best.ends) : 0;
+    const row = { name: list.name, mark, words: list.words, L, more, part, why: '' };
     return { ...row, why: mark.ok ? whyMore(app.g, row, best) : whyRefused(app.g, row) };
   });
   const name = (a, b) => a.name < b.name ? -1 : 1;
   const accepted = rows.filter((row) => row.mark.ok).sort((a, b) => a.mark.t - b.mark.t || a.mark.w - b.mark.w || name(a, b));
-  const refused = rows.filter((row) => !row.mark.ok).sort((a, b) => a.mark.number - b.mark.number || a.mark.place - b.mark.place || name(a, b));
+  const refused = rows.filter((row) => !row.mark.ok)
+    .sort((a, b) => a.mark.number - b.mark.number || a.mark.place - b.mark.place || name(a, b));
   return [...accepted, ...refused];
 }
 
@@ -81,24 +86,29 @@ function figures(app, rows, best) {
 function head(most) {
   const column = (words, cls = 'r') => el('th', { class: cls || null, scope: 'col' }, words);
   return el('thead', {}, el('tr', {}, column('list', ''), ['p', 'X', 'Y', 'T', 'W', 'more'].map((k) => column(k)),
-    el('th', { scope: 'col' }, el('span', { class: 'vh' }, 'turns more'), drawn(dotScale(most))), column('as the pages go by', ''), column('parts at page'), column('why', '')));
+    el('th', { scope: 'col' }, el('span', { class: 'vh' }, 'turns more'), drawn(dotScale(most))),
+    column('as the pages go by', ''), column('parts at page'), column('why', '')));
 }
 
 /** @param {Measured} best @param {number} most */
 function engineRow(best, most) {
-  return el('tr', { class: 'eng' }, el('th', { scope: 'row' }, 'the engine'), numbers([best.p, best.X, best.Y, best.T, best.W]), el('td'),
-    el('td', { class: 'dp' }, drawn(dotPlot(0, most))), el('td', { class: 'sp' }), el('td'), el('td', { class: 'why soft' }, 'no list has fewer turns'));
+  return el('tr', { class: 'eng' }, el('th', { scope: 'row' }, 'the engine'),
+    numbers([best.p, best.X, best.Y, best.T, best.W]), el('td'),
+    el('td', { class: 'dp' }, drawn(dotPlot(0, most))), el('td', { class: 'sp' }), el('td'),
+    el('td', { class: 'why soft' }, 'no list has fewer turns'));
 }
 
 /** @param {number[]} values */
-const numbers = (values) => values.map((v, k) => el('td', { class: 'r', 'data-t': 'pXYTW'[k] }, k === 3 ? el('b', {}, comma(v)) : comma(v)));
+const numbers = (values) => values.map((v, k) =>
+  el('td', { class: 'r', 'data-t': 'pXYTW'[k] }, k === 3 ? el('b', {}, comma(v)) : comma(v)));
 
 /** @param {App} app @param {Row} row @param {Measured | null} best @param {number} most */
 function rowOf(app, row, best, most) {
-  const { mark, L, more, part } = row, name = el('th', { scope: 'row' }, link(row.name, () => app.showOnly(row.name), { 'data-show': row.name }));
-  const cells = mark.ok ? [numbers([mark.p, mark.x, mark.y, mark.t, mark.w]), el('td', { class: `r ${more ? 'loud' : 'soft'}`, 'data-t': 'more' }, more === null ? '' : more ? `+${more}` : '0')]
+  const { mark, L, more, part } = row, name = link(row.name, () => app.showOnly(row.name), { 'data-show': row.name });
+  const told = el('td', { class: `r ${more ? 'loud' : 'soft'}`, 'data-t': 'more' }, more === null ? '' : more ? `+${more}` : '0');
+  const cells = mark.ok ? [numbers([mark.p, mark.x, mark.y, mark.t, mark.w]), told]
     : [el('td', { class: 'r', 'data-t': 'p' }, L ? L.p : '–'), el('td', { colspan: 5, class: 'bad' }, 'refused')];
-  return el('tr', {}, name, cells, el('td', { class: 'dp' }, drawn(dotPlot(more, most))),
+  return el('tr', {}, el('th', { scope: 'row' }, name), cells, el('td', { class: 'dp' }, drawn(dotPlot(more, most))),
     el('td', { class: 'sp' }, best && L ? drawn(spark(app.g, L, mark, best, most)) : ''),
     el('td', { class: 'r', 'data-t': 'parts at page' }, part || ''), el('td', { class: mark.ok ? 'why soft' : 'why bad' }, row.why));
 }
@@ -117,12 +127,14 @@ function whereLost(g, rows, best) {
     const more = accepted.map((row) => row.L.floats[k].turns - F.turns).filter((turns) => turns > 0);
     return { F, lists: more.length, turns: more.reduce((a, b) => a + b, 0) };
   }).filter((one) => one.turns).sort((a, b) => b.turns - a.turns);
-  const title = el('h2', {}, 'Where the class loses ', el('small', {}, `floats that stand later than in the engine’s list, over ${plural(accepted.length, 'accepted list')}`));
+  const title = el('h2', {}, 'Where the class loses ',
+    el('small', {}, `floats that stand later than in the engine’s list, over ${plural(accepted.length, 'accepted list')}`));
   if (!lost.length) return [title, el('p', { class: 'sub' }, 'No float stands later than in the engine’s list.')];
   const heads = ['height', 'cited by line', 'lists', 'turns'].map((words) => el('th', { class: 'r', scope: 'col' }, words));
   return [title, el('table', { class: 'led' }, el('thead', {}, el('tr', {}, el('th', { scope: 'col' }, 'float'), heads, el('th'))),
     el('tbody', {}, lost.slice(0, MOST_FLOATS).map(({ F, lists, turns }) => el('tr', {}, el('th', { scope: 'row' }, F.id),
-      el('td', { class: 'r', 'data-t': 'height' }, length(g, F.h)), el('td', { class: 'r', 'data-t': 'cited by line' }, F.cite), el('td', { class: 'r', 'data-t': 'lists' }, lists),
+      el('td', { class: 'r', 'data-t': 'height' }, length(g, F.h)), el('td', { class: 'r', 'data-t': 'cited by line' }, F.cite),
+      el('td', { class: 'r', 'data-t': 'lists' }, lists),
       el('td', { class: 'r', 'data-t': 'turns' }, el('b', {}, turns)), el('td', {}, drawn(bar(turns / lost[0].turns))))))),
   lost.length > MOST_FLOATS && el('p', { class: 'sub' }, `and ${lost.length - MOST_FLOATS} more`)];
 }
@@ -134,7 +146,8 @@ export function csv(rows) {
     return /[",\n\r]/.test(safe) ? `"${safe.replace(/"/g, '""')}"` : safe;
   };
   const line = (row) => {
-    const { mark } = row, told = mark.ok ? [mark.p, mark.x, mark.y, mark.t, mark.w, row.more, '', ''] : [row.L?.p, '', '', '', '', '', mark.number, mark.place];
+    const { mark } = row, refused = [row.L?.p, '', '', '', '', '', mark.number, mark.place];
+    const told = mark.ok ? [mark.p, mark.x, mark.y, mark.t, mark.w, row.more, '', ''] : refused;
     return [row.name, ...told, row.part || '', row.why].map(field).join(',');
   };
   return `${['list,p,X,Y,T,W,more,refusal,place,parts at page,why', ...rows.map(line)].join('\r\n')}\r\n`;

@@ -1,4 +1,4 @@
-// Elements. Words become text nodes and attributes, never markup; only a drawing, which is made of numbers and escaped words, is parsed.
+// Elements. Words become text nodes and attributes, never markup. Only a drawing is parsed: it is made of numbers and escaped words.
 
 /** @typedef {Node | string | number | null | undefined | false | Child[]} Child */
 

@@ -6,8 +6,11 @@ export const LONGEST_FILE = 4e6;
 
 /**
  * @typedef {{name: string, bytes: Uint8Array}} File
- * @typedef {{name: string, kind: 'galley', bytes: Uint8Array} | {name: string, kind: 'list', text: string} | {name: string, kind: 'refused', why: string}} Sorted
- * @typedef {{name: string, about?: string, galley?: string, galleys?: {name: string, galley: string}[], lists: {name: string, text: string}[]}} Sample
+ * @typedef {{name: string, kind: 'galley', bytes: Uint8Array} | {name: string, kind: 'list', text: string}
+ *   | {name: string, kind: 'refused', why: string}} Sorted
+ * @typedef {object} Sample  of a galley, or of several as a book
+ * @property {string} name @property {string} [about] @property {string} [galley] base64 @property {string} [best] as `make` prints it
+ * @property {{name: string, galley: string}[]} [galleys] @property {{name: string, text: string}[]} lists
  */
 
 /** Tells a galley from a list. @param {File} file @returns {Sorted} */

@@ -1,4 +1,4 @@
-// What comes in: files, pasted text, samples, what `barleychime show` put into the page. What cannot be read is said and changes nothing.
+// What comes in: files, pasted text, samples, what `barleychime show` put inside. What cannot be read is said and changes nothing.
 import { recordAt } from '../galley/galley.js';
 import { readList } from '../galley/list.js';
 import { sentence } from '../galley/refusals.js';
@@ -14,7 +14,8 @@ const FEW = 2;
 
 /** @param {App} app @param {import('./files.js').File[]} files */
 export function take(app, files) {
-  const sorted = files.map(sort), galleys = sorted.filter((file) => file.kind === 'galley'), lists = sorted.filter((file) => file.kind === 'list');
+  const sorted = files.map(sort), of = (kind) => /** @type {any[]} */ (sorted.filter((file) => file.kind === kind));
+  const galleys = of('galley'), lists = of('list');
   const fault = faultOf(app, sorted, galleys, lists);
   if (fault) return app.toast(fault);
   if (galleys.length > 1) return app.openBook(galleys);

@@ -29,14 +29,17 @@ export class Keeper {
     clearTimeout(this.timer);
     this.timer = undefined;
     const { app } = this;
-    this.store.keepView({ tab: app.tab, q: app.hand.s.q, chosen: [...app.chosen], key: app.g ? this.store.key : '', ms: app.maker.lastMs });
-    if (app.g && !this.store.keep(this.work())) app.toast('This browser has no room to keep the work: clear what is kept of other galleys (Open).');
+    this.store.keepView({ ...this.view(), key: app.g ? this.store.key : '', ms: app.maker.lastMs });
+    if (app.g && !this.store.keep(this.work())) app.toast('This browser has no room to keep the work: clear what is kept of others (Open).');
   }
+
+  /** What this window shows. */
+  view() { return { tab: this.app.tab, q: this.app.hand.s.q, chosen: [...this.app.chosen] }; }
 
   /** The work as plain data. */
   work() {
-    const { app } = this;
-    return { name: app.name, galley: toBase64(app.bytes), lists: app.lists.map((list) => ({ name: list.name, text: list.words.join(' ') })),
+    const { app } = this, lists = app.lists.map((list) => ({ name: list.name, text: list.words.join(' ') }));
+    return { name: app.name, galley: toBase64(app.bytes), lists,
       best: app.best?.ok ? app.best.list.join(' ') : null, bench: app.bench?.open ? app.bench.keep() : null };
   }
 
@@ -101,9 +104,8 @@ export class Keeper {
 
   /** Another window has kept other work on this galley. */
   contested() {
-    const { app } = this;
     this.notice('Another window works on this galley too and has kept its state. What you do here is not kept until you choose.',
-      button('Take what the other window has', () => this.reopen(this.store.key, { tab: app.tab, chosen: [...app.chosen], q: app.hand.s.q }), { id: 'takeother' }),
+      button('Take what the other window has', () => this.reopen(this.store.key, this.view()), { id: 'takeother' }),
       button('Keep what is here', () => {
         this.store.keep(this.work(), true);
         this.notice(null);

@@ -17,7 +17,8 @@ function files(app) {
   const read = () => app.take([{ name: 'pasted', bytes: new TextEncoder().encode(paste.value) }]);
   return el('section', {},
     el('h2', {}, 'A galley, and lists for it'),
-    el('div', { class: 'drop' }, el('p', {}, 'Drop files here, or'), el('p', {}, el('label', { class: 'btn ui' }, 'choose files', choose)),
+    el('div', { class: 'drop' }, el('p', {}, 'Drop files here, or'),
+      el('p', {}, el('label', { class: 'btn ui' }, 'choose files', choose)),
       el('p', { class: 'sub' }, 'A galley in bytes or in text; lists as ', el('code', {}, 'make'), ' prints them, plain lines or CSV. ',
         'Many lists at once are a class, several galleys a book. Nothing leaves this page.')),
     el('h2', {}, 'Or paste one'), paste, el('p', {}, button('Read it', read, { id: 'readpaste' })));
@@ -48,7 +49,8 @@ function kept(app) {
   const all = app.store.all();
   if (!all.length) return null;
   const row = ({ key, name, at, lists: count }) => el('li', {},
-    link(name, () => app.reopen(key)), ' ', el('span', { class: 'soft' }, `${plural(count, 'list')}, ${new Date(at).toLocaleString()}`), ' ',
+    link(name, () => app.reopen(key)), ' ',
+    el('span', { class: 'soft' }, `${plural(count, 'list')}, ${new Date(at).toLocaleString()}`), ' ',
     link('clear', () => app.clearKept(key), { 'aria-label': `clear what is kept of ${name}` }));
   return el('section', {}, el('h2', {}, 'Kept in this browser'), el('ul', { class: 'ui kept' }, all.map(row)),
     el('p', { class: 'sub' }, link('Clear everything that is kept', () => app.clearKept(null), { id: 'forget' })));

@@ -66,7 +66,8 @@ export class Store {
   all() {
     return allowed(() => Object.keys(localStorage), []).filter((key) => key.startsWith(WORK)).map((key) => {
       const work = parsed(allowed(() => localStorage.getItem(key), null));
-      return { key: key.slice(WORK.length), name: String(work?.name ?? '?'), at: Number(work?.at ?? 0), lists: work?.lists?.length ?? 0 };
+      const { name = '?', at = 0, lists = [] } = work ?? {};
+      return { key: key.slice(WORK.length), name: String(name), at: Number(at), lists: lists.length };
     }).sort((a, b) => b.at - a.at);
   }
 

@@ -1,7 +1,7 @@
-// The desk without its looks: the list in force, one trial, printed pages, undo, layouts. It is the engine's own desk where the list has
-// at most 64 pages; above that each list is marked, and `marking` says so.
+// The desk without its looks: the list in force, one trial, printed pages, undo, layouts. It is the engine's own desk where the
+// list has at most 64 pages; above that each list is marked, and `marking` says so.
 import { Desk, DESK_PAGES, DESK_WORDS, LONGEST_NAME } from '../../engine/desk.js';
-import { refused } from '../../engine/engine.js';
+import { impossible, refused } from '../../engine/engine.js';
 import { sameEnd, toEnds, toWords } from '../../galley/list.js';
 import { measure } from '../../galley/measure.js';
 import { pairs, scan } from './ends.js';
@@ -227,11 +227,11 @@ export class Bench {
   /** A list of the history, by asks and commits where one end differs or two that are neighbours. @param {number} to */
   go(to) {
     const { words } = this.history[to], { what } = this.history[Math.max(to, this.at)], ends = toEnds(words, this.g.width);
-    const other = ends.length === this.p ? ends.map((end, k) => sameEnd(end, this.ends[k]) ? -1 : k).filter((k) => k >= 0) : [-1, -1, -1];
+    const other = ends.map((end, k) => this.ends[k] && sameEnd(end, this.ends[k]) ? -1 : k).filter((k) => k >= 0);
+    const like = ends.length === this.p, near = like && (other.length === 1 || (other.length === 2 && other[1] === other[0] + 1));
     this.at = to;
-    const near = other.length === 1 || (other.length === 2 && other[1] === other[0] + 1);
     if (near) this.alter(other.map((k) => [k + 1, ends[k]]), words.slice());
-    else if (other.length) this.place(words);
+    else if (!like || other.length) this.place(words);
     return { what, page: near ? other[0] + 1 : 0 };
   }
 
@@ -269,7 +269,7 @@ export class Bench {
   back(name) {
     const layout = this.layouts().find((one) => one.name === name);
     if (!layout) return refused(26, 0);
-    if (!this.keepsPrinted(layout.words)) return { ok: false, number: 0, place: 0, why: `${name} has other pages than the ${this.printed} that are printed.` };
+    if (!this.keepsPrinted(layout.words)) return impossible(`${name} has other pages than the ${this.printed} that are printed.`);
     const { sheet } = layout;
     if (sheet.desk) {
       const back = sheet.desk.back(name);
@@ -283,7 +283,8 @@ export class Bench {
 
   /** What survives a reload: a desk is plain data. */
   keep() {
-    const sheet = (one) => one.desk ? { desk: trimmed(one.desk.words).join(' ') } : { words: spaced(one.words), kept: [...one.kept].map(([name, words]) => [name, spaced(words)]) };
+    const marked = (one) => ({ words: spaced(one.words), kept: [...one.kept].map(([name, words]) => [name, spaced(words)]) });
+    const sheet = (one) => one.desk ? { desk: spaced(trimmed(one.desk.words)) } : marked(one);
     return { at: this.at, printed: this.printed, sheet: this.sheets.indexOf(this.sheet),
       history: this.history.map(({ what, words }) => ({ what, words: spaced(words) })), sheets: this.sheets.map(sheet) };
   }
@@ -307,7 +308,8 @@ export class Bench {
   /** @param {any} one */
   restoreSheet(one) {
     if (!one.desk) {
-      this.sheets.push({ desk: null, words: wordsOf(one.words), kept: new Map(one.kept.map(([name, words]) => [name, wordsOf(words)])) });
+      const kept = new Map(one.kept.map(([name, words]) => [String(name), wordsOf(words)]));
+      this.sheets.push({ desk: null, words: wordsOf(one.words), kept });
       return true;
     }
     const words = new Uint32Array(DESK_WORDS);

@@ -8,8 +8,9 @@ import { closesLeaf, citedBy, couldBePage, heights, mayEnd } from '../../galley/
  *   an accepted end; second: that of the next page, where both are moved
  * @typedef {{i: number, number: number, place: number}} Asked  an end with its answer, 0 where it is accepted
  * @typedef {{j: number, d: number, ends: Asked[], accepted: Candidate[]}} Row  of equal floats
- * @typedef {{rows: Map<string, Row>, asked: number, best: Candidate | null, byLine: Map<number, Candidate[]>, refused: Map<number, number>}} Scan
- *   refused: how often by which rule
+ * @typedef {object} Scan
+ * @property {Map<string, Row>} rows @property {number} asked @property {Candidate | null} best
+ * @property {Map<number, Candidate[]>} byLine @property {Map<number, number>} refused how often by which rule
  * @typedef {{accepted: Candidate[], asked: number, best: Candidate | null, byLine: Map<number, Candidate[]>}} Pairs
  */
 
@@ -20,6 +21,13 @@ const MOST_PAIRS = 6000;
 
 /** @param {Candidate} a @param {Candidate | null} b */
 const better = (a, b) => !b || a.t < b.t || (a.t === b.t && a.w < b.w);
+
+/** The one that is before all others. @param {Candidate[]} ends @param {(one: Candidate, best: Candidate | null) => boolean} before */
+function chosen(ends, before) {
+  let best = /** @type {Candidate | null} */ (null);
+  for (const one of ends) if (before(one, best)) best = one;
+  return best;
+}
 
 /** @param {Map<number, Candidate[]>} byLine @param {Candidate} one */
 function putLine(byLine, one) {
@@ -92,7 +100,8 @@ export function pairs(bench, q) {
  */
 export function fitRow(row, near) {
   const far = (one) => Math.abs(one.i - near);
-  return (row?.accepted ?? []).reduce((best, one) => better(one, best) || (one.t === best.t && one.w === best.w && far(one) < far(best)) ? one : best, /** @type {Candidate | null} */ (null));
+  const fitter = (one, best) => better(one, best) || (one.t === best.t && one.w === best.w && far(one) < far(best));
+  return chosen(row?.accepted ?? [], fitter);
 }
 
 /**
@@ -101,7 +110,8 @@ export function fitRow(row, near) {
  */
 export function fitLine(ends, near) {
   const far = (one) => Math.abs(one.j - near[1]) + Math.abs(one.d - near[2]);
-  return ends.reduce((best, one) => !best || one.t < best.t || (one.t === best.t && (far(one) < far(best) || (far(one) === far(best) && one.w < best.w))) ? one : best, /** @type {Candidate | null} */ (null));
+  const nearer = (one, best) => far(one) < far(best) || (far(one) === far(best) && one.w < best.w);
+  return chosen(ends, (one, best) => !best || one.t < best.t || (one.t === best.t && nearer(one, best)));
 }
 
 /**

@@ -33,7 +33,8 @@ export class DeskHand {
     this.root = root;
     this.view = new DeskView(root, this);
     /** @type {Sitting} */
-    this.s = { bench: null, q: 1, pair: false, best: null, bestEnds: null, gains: new Map(), losses: new Map(), rests: [], busy: false, slow: 0, making: false, scanned: false };
+    this.s = { bench: null, q: 1, pair: false, best: null, bestEnds: null, making: false, gains: new Map(), losses: new Map(),
+      rests: [], busy: false, slow: 0, scanned: false };
     this.version = 0;                       // of the list in force
     this.run = 0;                           // of what is worked out while the hand rests
     this.fresh = true;                      // until the hand does something, the desk may go where turns are lost
@@ -196,7 +197,8 @@ export class DeskHand {
   /** Undo, or redo. @param {boolean} redo */
   step(redo) {
     const { bench } = this, step = redo ? bench.redo() : bench.undo();
-    if (!step) return this.app.toast(redo ? 'Nothing to redo.' : bench.printed && bench.at > 0 ? 'What came before has other printed pages.' : 'Nothing to undo.');
+    const held = bench.printed && bench.at > 0 ? 'What came before has other printed pages.' : 'Nothing to undo.';
+    if (!step) return this.app.toast(redo ? 'Nothing to redo.' : held);
     if (step.page && step.page < bench.p) this.s.q = step.page;
     this.view.fit(bench.g);
     this.changed(true);
@@ -214,7 +216,11 @@ export class DeskHand {
     this.tryList(made.list, `Best after page ${q}`);
   }
 
-  makeBest() { if (this.s.best?.ok) this.tryList(this.s.best.list, this.bench.printed ? `Best after the ${this.bench.printed} printed pages` : 'The best list'); }
+  /** The best list, or the best after the printed pages, as a trial. */
+  makeBest() {
+    const { printed } = this.bench, what = printed ? `Best after page ${printed}, the last that is printed` : 'The best list';
+    if (this.s.best?.ok) this.tryList(this.s.best.list, what);
+  }
 
   /** Another list altogether is a trial too. @param {ArrayLike<number>} list @param {string} what */
   tryList(list, what) {
@@ -231,7 +237,7 @@ export class DeskHand {
     if (!pages) {
       this.app.setPrinted(0);
       this.app.toast('No page is printed any more.');
-    } else if (pages >= bench.p - 1) this.app.toast('The pages up to the last but one cannot all be printed: there would be no end to move.');
+    } else if (pages >= bench.p - 1) this.app.toast('With all pages but the last printed there would be no end to move.');
     else {
       this.app.setPrinted(pages);
       this.app.toast(`Pages 1 to ${pages} are printed and stay. Make best makes the rest after them.`);

@@ -106,7 +106,8 @@ function listenToButtons(hand) {
  * @param {DeskHand} hand @param {number} y @param {boolean} alone
  */
 function dragTo(hand, y, alone) {
-  const { drag, bench } = hand, { q, pair } = hand.s, [heights, least] = bench.g.sums[0], at = (i) => (heights[i] + least[i]) * hand.view.Z.scale;
+  const { drag, bench } = hand, { q, pair } = hand.s, [heights, least] = bench.g.sums[0];
+  const at = (i) => (heights[i] + least[i]) * hand.view.Z.scale;
   const want = at(drag.end[0]) + (y - drag.y), { a, c } = bench.bounds(q), { byLine } = pair ? bench.pairs(q) : bench.scan(q);
   let i = a[0], near = 4;
   while (i < c[0] && Math.abs(at(i + 1) - want) <= Math.abs(at(i) - want)) i++;
@@ -163,7 +164,7 @@ function listenToFilm(hand) {
     const target = /** @type {Element} */ (event.target), flip = target.closest('.flip'), hit = target.closest('.hit');
     if (hit) return hand.toLine(Number(hit.getAttribute('data-i')), !event.altKey);
     if (!flip) return;
-    const s = Number(flip.getAttribute('data-s')), k = Number(flip.getAttribute('data-f')), there = flip.getAttribute('data-side') === '1';
+    const [s, k, side] = ['data-s', 'data-f', 'data-side'].map((name) => Number(flip.getAttribute(name))), there = side === 1;
     const { a, c } = hand.bench.bounds(hand.s.q);
     let to = there ? k : k - 1;
     while (to > a[s] && to < c[s] && !hand.bench.g.streams[s][to - 1].end) to += there ? 1 : -1;

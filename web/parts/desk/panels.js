@@ -27,7 +27,8 @@ const heading = (title, told) => el('h3', {}, `${title} `, el('small', {}, told)
  * @param {Bench} bench @param {number} q @param {Candidate} one @param {number[] | null} star @param {Pick} pick
  */
 function chip(bench, q, one, star, pick) {
-  const end = [one.i, one.j, one.d], force = bench.ends[q - 1], now = bench.trial?.end ?? force, next = bench.trial?.second ?? bench.ends[q];
+  const { trial } = bench, end = [one.i, one.j, one.d], force = bench.ends[q - 1];
+  const now = trial?.end ?? force, next = trial?.second ?? bench.ends[q];
   const was = sameEnd(end, force) && !one.second, on = sameEnd(end, now) && (!one.second || sameEnd(one.second, next));
   const told = was ? 'in force' : signed(one.change), floats = floatsBetween(bench.bounds(q).a, end);
   const label = [`end after line ${one.i}`, one.second && `the next page after line ${one.second[0]}`,
@@ -60,7 +61,8 @@ export function endsPanel(bench, q, star, pick) {
     .sort((x, y) => gain(x) - gain(y) || far(x) - far(y) || x.j - y.j || x.d - y.d);
   const total = rows.reduce((sum, row) => sum + row.accepted.length, 0);
   const why = [...found.refused].sort((x, y) => y[1] - x[1]).map(([rule, count]) => `${comma(count)} by rule ${rule}`).join(', ');
-  const chips = (row) => row.accepted.length ? row.accepted.map((one) => chip(bench, q, one, star, pick)) : none('no line end is accepted so');
+  const all = (row) => row.accepted.map((one) => chip(bench, q, one, star, pick));
+  const chips = (row) => row.accepted.length ? all(row) : none('no line end is accepted so');
   return [
     heading(`Ends of page ${q}`, `${plural(total, 'end')} accepted of ${comma(found.asked)} asked${why ? `; refused: ${why}` : ''}`),
     rows.map((row) => el('div', { class: `row${on(row) ? ' on' : ''}` },
@@ -106,7 +108,7 @@ function restChip(bench, q, { end, made }, pick) {
   const attributes = {
     type: 'button', class: `chip rest ${tone(change)}${sameEnd(end, now) ? ' on' : ''}`, 'data-rest': end.join(' '),
     title: `p ${made.p}, X ${made.x}, Y ${made.y}, T ${made.t}, W ${comma(made.w)}`, onclick: () => pick(end),
-    'aria-label': `end page ${q} after line ${end[0]}${floats ? ` with ${floats}` : ''} and make the rest best: ${signed(change)} turns`,
+    'aria-label': `end page ${q} after line ${end[0]}${floats && ` with ${floats}`} and make the rest best: ${signed(change)} turns`,
   };
   return el('button', attributes, end[0] || '–', floats && el('u', {}, floats), el('i', {}, signed(change)));
 }

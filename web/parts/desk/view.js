@@ -1,7 +1,7 @@
 // The desk on the screen: score, overview, film strip, sentence and panels. It is told what to show, and draws what has changed.
 import { grip, overlay, tone } from '../../draw/handle.js';
 import { staff } from '../../draw/staff.js';
-import { text } from '../../draw/svg.js';
+import { drawing, path, text } from '../../draw/svg.js';
 import { leafOf } from '../../galley/page.js';
 import { leafWord, plural, signed } from '../../galley/words.js';
 import { lanes, n, overview, staffHeights, strip } from '../../layout/layout.js';
@@ -147,7 +147,8 @@ export class DeskView {
   moved() {
     const { bench } = this.state, { trial } = bench;
     if (!trial || trial.whole) return null;
-    const floats = new Set(), pairs = [[bench.ends[trial.q - 1], trial.end], ...(trial.second ? [[bench.ends[trial.q], trial.second]] : [])];
+    const floats = new Set(), pairs = [[bench.ends[trial.q - 1], trial.end]];
+    if (trial.second) pairs.push([bench.ends[trial.q], trial.second]);
     const lines = pairs.map(([was, is]) => {
       for (const s of [1, 2]) for (let k = Math.min(was[s], is[s]) + 1; k <= Math.max(was[s], is[s]); k++) floats.add(' FT'[s] + k);
       return /** @type {[number, number]} */ ([Math.min(was[0], is[0]), Math.max(was[0], is[0])]);
@@ -158,14 +159,17 @@ export class DeskView {
   /** Handles at rest, of the other pages of a leaf. @param {number} i */
   grips(i) {
     const { q, gains, pair, bench } = this.state, other = (page) => !page.last && page.q !== q && page.q > bench.printed;
-    return (this.M.byLeaf.get(i) ?? []).filter(other).map((page) => grip(this.g, page, this.Z, this.H.y0, gains.get(page.q) ?? 0, pair && page.q === q + 1)).join('');
+    const drawGrip = (page) => grip(this.g, page, this.Z, this.H.y0, gains.get(page.q) ?? 0, pair && page.q === q + 1);
+    return (this.M.byLeaf.get(i) ?? []).filter(other).map(drawGrip).join('');
   }
 
   drawOver() {
-    const { M, Z, H, g } = this, { bench, q, bestEnds } = this.state, { trial } = bench, a = leafOf(g, q), w = (leafOf(g, q + 1) - a + 1) * Z.w;
+    const { M, Z, H, g } = this, { bench, q, bestEnds } = this.state, { trial } = bench;
+    const a = leafOf(g, q), w = n((leafOf(g, q + 1) - a + 1) * Z.w), h = n(H.total);
     this.over.style.left = `${this.pad + (a - M.leaf0) * Z.w}px`;
-    for (const [name, value] of [['width', n(w)], ['height', n(H.total)], ['viewBox', `0 0 ${n(w)} ${n(H.total)}`]]) this.over.setAttribute(name, value);
-    const state = { ok: !trial || trial.answer.ok, change: trial ? trial.change : 0, trial: !!trial, whole: !!trial?.whole, force: bench.ends[q - 1], star: bestEnds?.[q - 1] ?? null };
+    for (const [name, value] of [['width', w], ['height', h], ['viewBox', `0 0 ${w} ${h}`]]) this.over.setAttribute(name, value);
+    const state = { ok: !trial || trial.answer.ok, change: trial ? trial.change : 0, trial: !!trial, whole: !!trial?.whole,
+      force: bench.ends[q - 1], star: bestEnds?.[q - 1] ?? null };
     const marks = q <= bench.printed ? '' : overlay(g, M, Z, H.y0, q, this.accepted(q), state);
     this.over.replaceChildren(...drawn(`<svg>${marks}</svg>`).childNodes);
   }
@@ -189,14 +193,17 @@ export class DeskView {
     }
     for (let i = M.leaf0; i <= M.leaf1; i++) {
       const column = this.columns.get(i) ?? this.newColumn(i), marks = this.mapMarks(i, Z, gains, losses);
-      const sum = `${leafSum(M, ways, i)} ${this.mapRows} ${bench.printed} ${[q, q + 1].filter((one) => leafOf(g, one) === i)} ${marks}`;
+      const focus = [q, q + 1].filter((one) => leafOf(g, one) === i);
+      const sum = `${leafSum(M, ways, i)} ${this.mapRows} ${bench.printed} ${focus} ${marks}`;
       if (sum === column.svg) continue;
       column.svg = sum;
-      const { svg } = staff(g, M, ways, i, Z, { rows: this.mapRows, focus: [q, q + 1], printed: bench.printed });
-      column.el.replaceChildren(drawn(svg), drawn(`<svg class="gl" width="${n(Z.w)}" height="17" aria-hidden="true">${marks}</svg>`), el('i', {}, i));
+      const { svg } = staff(g, M, ways, i, Z, { rows: this.mapRows, focus, printed: bench.printed });
+      column.el.replaceChildren(drawn(svg), drawn(drawing('gl', Z.w, 17, marks)), el('i', {}, i));
     }
     const here = this.columns.get(leafOf(g, q));
-    if (this.mapAt !== q && here && map.scrollWidth > map.clientWidth) map.scrollLeft = here.el.offsetLeft - map.offsetLeft - map.clientWidth / 2 + Z.w;
+    if (this.mapAt !== q && here && map.scrollWidth > map.clientWidth) {
+      map.scrollLeft = here.el.offsetLeft - map.offsetLeft - map.clientWidth / 2 + Z.w;
+    }
     this.mapAt = q;
     this.drawLegend();
   }
@@ -206,7 +213,8 @@ export class DeskView {
     const column = { el: el('a', { href: '#film', tabindex: -1, 'data-leaf': i, 'aria-label': `${leafWord(this.g)} ${i}` }), svg: '' };
     column.el.addEventListener('click', (event) => {
       event.preventDefault();
-      const pages = this.M.byLeaf.get(i) ?? [], box = column.el.getBoundingClientRect(), right = event.clientX > box.left + box.width / 2;
+      const pages = this.M.byLeaf.get(i) ?? [], box = column.el.getBoundingClientRect();
+      const right = event.clientX > box.left + box.width / 2;
       if (pages.length) this.hand.select(Math.min(this.hand.bench.p - 1, (right ? pages[pages.length - 1] : pages[0]).q));
     });
     byId('deskmap').append(column.el);
@@ -218,7 +226,8 @@ export class DeskView {
   mapMarks(i, Z, gains, losses) {
     return (this.M.byLeaf.get(i) ?? []).map((page) => {
       const x = Z.x(page.folio) + Z.PW / 2, lost = losses.get(page.q);
-      return (gains.get(page.q) < 0 ? `<path class="gn" d="M${n(x - 3.5)} 7l3.5 -6l3.5 6z"/>` : '') + (lost ? text('ls', x, 16, `+${lost.turns}`) : '');
+      const gain = gains.get(page.q) < 0 ? path('gn', `M${n(x - 3.5)} 7l3.5 -6l3.5 6z`) : '';
+      return gain + (lost ? text('ls', x, 16, `+${lost.turns}`) : '');
     }).join('');
   }
 
@@ -228,13 +237,15 @@ export class DeskView {
     if (sum === this.legend) return;
     this.legend = sum;
     const page = (q) => link(`page ${q}`, () => hand.select(q), { 'data-go': q });
-    const better = [...gains].filter(([, change]) => change < 0).map(([q]) => q), lost = [...losses.values()], most = 8;
-    const rest = (count) => count > most ? ` and ${count - most} more` : '';
-    const comma = (nodes) => nodes.flatMap((node, k) => k ? [', ', node] : [node]);
-    const gain = better.length ? [el('b', { class: 'g' }, '▲'), ' another end has fewer turns: ', comma(better.slice(0, most).map(page)), rest(better.length)]
-      : scanned ? 'No other end of one page alone has fewer turns' : 'Trying every end of every page…';
-    const loss = lost.length ? [' · turns lost for good: ', comma(lost.slice(0, most).map((one) => [el('b', { class: 'l' }, `+${one.turns}`), ' with the end of ', page(one.page)])), rest(lost.length)]
-      : slow && best?.ok && bench.mark.t > best.t ? [' · ', link('find where turns are lost for good', () => hand.findLosses(true), { 'data-find': 1 }), slow > 1 ? ` (${(slow / 1000).toFixed(1)} s a step)` : ''] : '';
+    const more = (all) => all.length > 8 ? ` and ${all.length - 8} more` : '';
+    const some = (all, told) => [all.slice(0, 8).flatMap((one, k) => [k ? ', ' : '', told(one)]), more(all)];
+    const better = [...gains].filter(([, change]) => change < 0).map(([q]) => q), lost = [...losses.values()];
+    const none = scanned ? 'No other end of one page alone has fewer turns' : 'Trying every end of every page…';
+    const gain = better.length ? [el('b', { class: 'g' }, '▲'), ' another end has fewer turns: ', some(better, page)] : none;
+    const time = slow > 1 ? ` (${(slow / 1000).toFixed(1)} s a step)` : '', find = slow && best?.ok && bench.mark.t > best.t;
+    const ask = find ? [' · ', link('find where turns are lost for good', () => hand.findLosses(true), { 'data-find': 1 }), time] : '';
+    const told = (one) => [el('b', { class: 'l' }, `+${one.turns}`), ' with the end of ', page(one.page)];
+    const loss = lost.length ? [' · turns lost for good: ', some(lost, told)] : ask;
     put(byId('legend'), gain, loss, ` · a column is a ${leafWord(this.g)}`);
   }
 
@@ -262,11 +273,13 @@ export class DeskView {
     const { bench, q, pair, bestEnds } = s, { hand } = this, star = bestEnds?.[q - 1] ?? null, pick = (one) => hand.pick(one);
     put(byId('ends'), pair ? pairsPanel(bench, q, star, pick) : endsPanel(bench, q, star, pick));
     put(byId('rests'), restPanel(bench, q, s.rests, s.busy, s.slow, (end) => hand.rest(end)));
-    byId('lmode').textContent = bench.marking ? `${bench.p} pages: above the 64 of the engine’s desk, so each list is marked` : `${bench.p} pages, on the engine’s desk`;
+    const desk = bench.marking ? ': above the 64 of the engine’s desk, so each list is marked' : ', on the engine’s desk';
+    byId('lmode').textContent = `${bench.p} pages${desk}`;
     byId('undo').disabled = !bench.canUndo;
     byId('redo').disabled = !bench.canRedo;
     byId('print').setAttribute('aria-pressed', String(bench.printed > 0));
-    byId('printed').textContent = bench.printed ? `${plural(bench.printed, 'page')} printed: the desk does not touch them.` : 'No page is printed.';
+    const fixed = `${plural(bench.printed, 'page')} printed: the desk does not touch them.`;
+    byId('printed').textContent = bench.printed ? fixed : 'No page is printed.';
     const used = new Set(bench.layouts().map((one) => one.name));
     let k = 1;
     while (used.has(`list-${String(k).padStart(2, '0')}`)) k++;
@@ -276,7 +289,8 @@ export class DeskView {
 
   /** While a hand moves only the chip that is on changes. @param {Sitting} s */
   markChips({ bench, q }) {
-    const { trial } = bench, end = (trial ? trial.end : bench.ends[q - 1]).join(' '), both = trial?.second ? `${end} ${trial.second.join(' ')}` : end;
+    const { trial } = bench, end = (trial?.end ?? bench.ends[q - 1]).join(' ');
+    const both = trial?.second ? `${end} ${trial.second.join(' ')}` : end;
     for (const chip of this.root.querySelectorAll('.chip')) {
       const own = chip.getAttribute('data-end') ?? chip.getAttribute('data-rest');
       chip.classList.toggle('on', own === end || own === both);

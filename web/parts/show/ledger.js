@@ -16,12 +16,14 @@ const MANY = 14;
 export function ledger(app, { g, hand, order }) {
   const rows = order[0].floats.map((F) => order.map((L) => L.byId.get(F.id))).filter((floats) => floats.some((F) => F.turns !== 0));
   if (!rows.length) {
-    const why = g.count[1] + g.count[2] ? `Every figure and table stands on the ${leafWord(g)} of its citation` : 'The galley has no figures or tables';
+    const any = g.count[1] + g.count[2] > 0;
+    const why = any ? `Every figure and table stands on the ${leafWord(g)} of its citation` : 'The galley has no figures or tables';
     return el('p', { class: 'sub' }, `${why}: all turns are leafing.`);
   }
   const told = hand.length === 1 ? hand[0] : order.length === 1 ? order[0] : null, lost = told ? app.lostOf(told) : null;
   const with_ = Array.isArray(lost) ? new Map(lost.flatMap((one) => one.floats.map((id) => [id, one.page]))) : new Map();
-  const head = el('tr', {}, el('th', { scope: 'col' }, 'float'), el('th', { class: 'r', scope: 'col' }, 'height'), el('th', { class: 'r', scope: 'col' }, 'cited by line'),
+  const head = el('tr', {}, el('th', { scope: 'col' }, 'float'), el('th', { class: 'r', scope: 'col' }, 'height'),
+    el('th', { class: 'r', scope: 'col' }, 'cited by line'),
     order.map((L) => el('th', { colspan: 2, scope: 'col' }, L.name)), told && el('th', { scope: 'col' }, 'where it is cited'),
     with_.size > 0 && el('th', { scope: 'col' }, 'lost for good'));
   const row = (floats) => el('tr', { 'data-k': floats[0].id },

@@ -1,5 +1,4 @@
 // With which page end turns are lost for good: often far from where the float waits.
-import { plural } from '../../galley/words.js';
 import { leafOf } from '../../galley/page.js';
 import { button, el } from '../dom.js';
 
@@ -14,7 +13,8 @@ export function lostBox(app, { g, hand, best }) {
   const dear = best ? hand.filter((L) => L.ok && L.T > best.T) : [];
   if (!dear.length) return null;
   return el('section', { id: 'lost' }, el('h2', {}, 'Lost for good ',
-    el('small', {}, 'after this page end even the best list has more turns: often far from where the float waits')), dear.map((L) => ofList(app, g, L, dear.length > 1)));
+    el('small', {}, 'after this page end even the best list has more turns: often far from where the float waits')),
+  dear.map((L) => ofList(app, g, L, dear.length > 1)));
 }
 
 /** @param {App} app @param {any} g @param {Measured} L @param {boolean} named */
@@ -31,5 +31,5 @@ function ofList(app, g, L, named) {
   };
   return [name && el('p', {}, name), el('ul', { class: 'lost' }, lost.map((one) => el('li', {},
     el('a', { href: `#s${leafOf(g, one.page)}` }, one.words), waits(one.floats)))),
-  lost.length === 0 && el('p', {}, plural(0, 'turn'), ' lost.')];
+  lost.length === 0 && el('p', {}, 'Nothing is lost.')];
 }

@@ -17,16 +17,18 @@ export function overviewOf(app, scene) {
   const { g, hand, best, order, lo, hi, part, leaves } = scene;
   if (hi - lo + 1 <= (g.sides === 2 ? 4 : 7)) return null;
   const Z = overview(g, hi - lo + 1), ways = order.map((L) => lanes(L, Z)), one = hand.length === 1 ? hand[0] : null;
-  const steps = best && one && countable(one) ? against(g, one, best, hi) : null, most = steps ? Math.max(1, ...steps.map(Math.abs)) : 1;
+  const steps = best && one && countable(one) ? against(g, one, best, hi) : null;
+  const most = steps ? Math.max(1, ...steps.map(Math.abs)) : 1;
   const lost = one ? lostByLeaf(g, app.lostOf(one)) : new Map();
   const column = (i) => {
-    const turns = lost.get(i) ?? 0;
-    return el('a', { href: `#s${i}`, 'data-leaf': i, class: i === part ? 'part' : null, 'aria-label': `${leafWord(g)} ${i}${turns ? `, ${plural(turns, 'turn')} lost for good` : ''}` },
+    const turns = lost.get(i) ?? 0, label = `${leafWord(g)} ${i}${turns ? `, ${plural(turns, 'turn')} lost for good` : ''}`;
+    return el('a', { href: `#s${i}`, 'data-leaf': i, class: i === part ? 'part' : null, 'aria-label': label },
       order.map((L, c) => drawn(staff(g, L, ways[c], i, Z, c ? { rows: ways[c].lanes } : {}).svg)),
       steps && drawn(stair(steps[i - lo], i > lo ? steps[i - lo - 1] : 0, Z.w, most)),
       lost.size > 0 && el('b', { class: 'gone' }, turns ? `+${turns}` : '\u00a0'), el('i', {}, i));
   };
-  const told = `a column is a ${leafWord(g)}${steps ? '; the steps below count the turns lost to the best so far' : ''}${lost.size ? ', the figures those lost for good' : ''}`;
+  const below = steps ? '; the steps below count the turns lost to the best so far' : '';
+  const told = `a column is a ${leafWord(g)}${below}${lost.size ? ', the figures those lost for good' : ''}`;
   return [el('h2', {}, 'Overview ', el('small', {}, told)), el('nav', { class: 'map', 'aria-label': 'Overview' }, leaves.map(column))];
 }
 

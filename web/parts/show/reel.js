@@ -37,8 +37,10 @@ export function reelOf(app, scene) {
     col.addEventListener('keydown', (event) => { if (event.key === 'Enter') open(); });
     return col;
   };
-  const columns = leaves.flatMap((i, k) => k && leaves[k - 1] < i - 1 ? [gap(scene, leaves[k - 1] + 1, i - 1), column(i)] : [column(i)]);
-  const told = 'figures are drawn at the head and tables at the foot; a list says only on which page they stand. Choose one to see it large';
+  const left = (i, k) => k && leaves[k - 1] < i - 1 ? gap(scene, leaves[k - 1] + 1, i - 1) : null;
+  const columns = leaves.map((i, k) => [left(i, k), column(i)]);
+  const told = 'figures are drawn at the head and tables at the foot; a list says only on which page they stand. '
+    + 'Choose one to see it large';
   return [el('h2', {}, `${word}s `, el('small', {}, told)),
     el('ul', { class: 'key', 'aria-label': 'Key' }, key(g, order).map(({ svg, words }) => el('li', {}, drawn(svg), words))),
     watched(el('div', { class: 'reel', id: 'reel' }, columns))];
@@ -47,7 +49,9 @@ export function reelOf(app, scene) {
 /** Marks in the overview what is in view of the reel. @param {HTMLElement} reel */
 function watched(reel) {
   const seen = new IntersectionObserver((entries) => {
-    for (const { target, isIntersecting } of entries) document.querySelector(`#view-show .map a[href="#${target.id}"]`)?.classList.toggle('here', isIntersecting);
+    for (const { target, isIntersecting } of entries) {
+      document.querySelector(`#view-show .map a[href="#${target.id}"]`)?.classList.toggle('here', isIntersecting);
+    }
   });
   for (const column of reel.querySelectorAll('.col')) seen.observe(column);
   return reel;
@@ -66,7 +70,8 @@ function caption(L, c, i, word, came, part, lost) {
 
 /** Leaves that are left out. @param {Scene} scene @param {number} from @param {number} to */
 function gap({ g, order }, from, to) {
-  const turns = order.map((L) => L.floats.reduce((sum, F) => sum + (F.turns > 0 ? Math.max(0, Math.min(F.fp.leaf, to) - Math.max(F.cp.leaf, from - 1)) : 0), 0));
+  const within = (F) => F.turns > 0 ? Math.max(0, Math.min(F.fp.leaf, to) - Math.max(F.cp.leaf, from - 1)) : 0;
+  const turns = order.map((L) => L.floats.reduce((sum, F) => sum + within(F), 0));
   return el('section', { class: 'gap' }, el('p', {}, `${leafWord(g)}s ${from} to ${to} are left out`),
     order.map((L, k) => el('p', { class: 'soft' }, `${L.name}: ${plural(turns[k], 'turn')}`)));
 }

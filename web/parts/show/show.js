@@ -14,8 +14,10 @@ import { summary } from './summary.js';
 /**
  * @typedef {import('../app.js').App} App
  * @typedef {import('../../galley/measure.js').Measured} Measured
- * @typedef {{g: import('../../galley/galley.js').Galley, hand: Measured[], best: Measured | null, order: Measured[], lo: number, hi: number,
- *   part: number, leaves: number[]}} Scene  what is drawn: lists handed in, the best below them, leaves from lo to hi
+ * @typedef {object} Scene  what is drawn
+ * @property {import('../../galley/galley.js').Galley} g @property {Measured[]} hand the lists handed in @property {Measured | null} best
+ * @property {Measured[]} order all of them, the best last @property {number} lo @property {number} hi the first leaf and the last
+ * @property {number} part the leaf on which the first list parts from the best, or 0 @property {number[]} leaves that are drawn
  */
 
 const MOST_LEAVES = 400;
@@ -85,10 +87,12 @@ function partings({ g, hand, best }) {
 /** What a list never places; and, where that is all that is wrong, the rest of the pages. @param {App} app @param {Measured} L */
 function neverPlaced(app, L) {
   if (!L.rest) return null;
-  const { g } = app, what = ['line', 'figure', 'table'].map((one, s) => g.count[s] > L.rest[s] ? plural(g.count[s] - L.rest[s], one) : '');
+  const left = (one, s) => app.g.count[s] > L.rest[s] ? plural(app.g.count[s] - L.rest[s], one) : '';
+  const what = ['line', 'figure', 'table'].map(left).filter(Boolean).join(', ');
   const whole = L.pages.every((page) => page.bad.every(({ rule }) => rule === 18));
-  return el('div', { class: 'state card' }, el('p', {}, el('b', {}, 'Never placed'), ` by ${L.name} (18): ${what.filter(Boolean).join(', ')}.`),
-    whole && el('p', {}, link('Take its pages as printed, and make the rest after them', () => app.makeAfterList(L.name, L.ends))));
+  const make = link('Take its pages as printed, and make the rest after them', () => app.makeAfterList(L.name, L.ends));
+  return el('div', { class: 'state card' }, el('p', {}, el('b', {}, 'Never placed'), ` by ${L.name} (18): ${what}.`),
+    whole && el('p', {}, make));
 }
 
 /** @param {any} g */

@@ -20,10 +20,12 @@ export function makingBox(app) {
     return state('Making was stopped.', el('p', {}, button('Make the best list', () => app.makeBest(), { id: 'makeagain' })));
   }
   if (!app.making) return null;
-  const known = `At most ${comma(app.forecast.ceiling)} pages are weighed, in a work area of ${comma(Math.ceil(app.forecast.work / 250000))} MB. `;
+  const { ceiling, work } = app.forecast, area = comma(Math.ceil(work / 250000));
+  const known = `At most ${comma(ceiling)} pages are weighed, in a work area of ${area} MB. `;
   return el('div', { class: 'state busy', role: 'status' },
     el('p', {}, el('b', {}, 'The best list is being made. '), el('span', { id: 'elapsed', class: 'num' }, elapsed(app))),
-    el('p', { class: 'sub' }, known, 'A chapter takes well under a second, the largest handbook some seconds. Lists can be marked meanwhile.'),
+    el('p', { class: 'sub' }, known, 'A chapter takes well under a second, the largest handbook some seconds. ',
+      'Lists can be marked meanwhile.'),
     el('p', {}, button('Stop', () => app.stopMaking(), { id: 'stop' })));
 }
 
@@ -39,5 +41,6 @@ export function noPagination(app) {
   const told = advice === null ? el('p', {}, button('What would have to give?', () => app.advise(), { id: 'advise' }))
     : typeof advice === 'string' ? el('p', { class: 'soft' }, advice)
       : el('ul', { id: 'advice' }, advice.map((remark) => el('li', {}, remark, '.')));
-  return state(`${sentence(best)}`, el('p', {}, 'There is no best list to compare with. What would have to give is the designer’s to decide:'), told);
+  return state(sentence(best),
+    el('p', {}, 'There is no best list to compare with. What would have to give is the designer’s to decide:'), told);
 }

@@ -13,22 +13,26 @@ import { el, link } from '../dom.js';
 const HEADS = [['p', 'pages'], ['X', 'turns from citations to their floats'], ['Y', 'turns from the first page to the last'],
   ['T', 'weighted sum of X and Y'], ['W', 'white space']];
 
+const FEWEST = 'the fewest turns that the specification allows, and of those the least white space';
+
 /** @param {App} app @param {Scene} scene */
 export function summary(app, scene) {
   const heads = HEADS.map(([k, t]) => el('th', { class: 'r', scope: 'col' }, el('abbr', { title: t }, k)));
   return [el('table', { class: 'sum' },
-    el('thead', {}, el('tr', {}, el('th', { scope: 'col' }, 'list'), heads, el('th', { class: 'r', scope: 'col' }, 'more'), el('th', { scope: 'col' }, 'verdict'))),
+    el('thead', {}, el('tr', {}, el('th', { scope: 'col' }, 'list'), heads,
+      el('th', { class: 'r', scope: 'col' }, 'more'), el('th', { scope: 'col' }, 'verdict'))),
     el('tbody', {}, scene.order.map((L) => row(app, scene, L)))), scene.hand.map((L) => faults(L))];
 }
 
 /** @param {App} app @param {Scene} scene @param {Measured} L */
 function row(app, { g, best }, L) {
-  const value = (k, v) => L.ok || k === 'p' ? el('b', {}, comma(v)) : el('span', { class: 'soft' }, countable(L) ? `(${comma(v)})` : '–');
+  const counted = (v) => el('span', { class: 'soft' }, countable(L) ? `(${comma(v)})` : '–');
+  const value = (k, v) => L.ok || k === 'p' ? el('b', {}, comma(v)) : counted(v);
   const numbers = [L.p, L.X, L.Y, L.T, L.W].map((v, k) => el('td', { class: 'r', 'data-t': HEADS[k][0] }, value(HEADS[k][0], v)));
   const more = best && L !== best && L.ok ? L.T - best.T : null, own = app.lists.some((list) => list.name === L.name);
   return el('tr', {}, el('th', { scope: 'row' }, L.name), numbers,
     el('td', { class: `r ${more ? 'loud' : 'soft'}`, 'data-t': 'more' }, more === null ? '' : more ? `+${more}` : '0'),
-    el('td', { class: 'say' }, L === best ? 'the fewest turns that the specification allows, and of those the least white space' : verdict(g, L, best),
+    el('td', { class: 'say' }, L === best ? FEWEST : verdict(g, L, best),
       ' ', L !== best && L.ok && own && link('To the desk', () => app.toDesk(L.name), { 'data-desk': L.name })));
 }
 
@@ -48,7 +52,8 @@ function refusedWords(L, best) {
   const words = rule === 18 ? [`the list ends after page ${page} before everything is placed.`] : [`${meaningOf(rule)} (${short}).`];
   if (rule !== 18 && others > 0) words.push(others === 1 ? 'One more page breaks a rule.' : `${others} more pages break a rule.`);
   if (countable(L) && best) {
-    const d = L.T - best.T, than = d === 0 ? 'as many as the best' : d > 0 ? `${d} more than the best` : `${-d} fewer than any list that keeps the rules`;
+    const d = L.T - best.T, other = d > 0 ? `${d} more than the best` : `${-d} fewer than any list that keeps the rules`;
+    const than = d === 0 ? 'as many as the best' : other;
     words.push(`Counted all the same it has ${plural(L.T, 'turn')}, ${than}.`);
   }
   return [el('span', { class: 'bad' }, `Refused, rule ${rule} on page ${page}: `), words.join(' ')];
@@ -59,5 +64,6 @@ function faults(L) {
   const all = L.pages.flatMap((page) => page.bad);
   if (!all.length) return null;
   return el('details', { class: 'faults' }, el('summary', {}, `${L.name} breaks ${plural(all.length, 'rule')}, each with its numbers`),
-    el('ul', {}, all.map(({ page, rule, numbers }) => el('li', {}, el('b', {}, `page ${page}, rule ${rule}`), `: ${numbers.join('; ')}`))));
+    el('ul', {}, all.map(({ page, rule, numbers }) =>
+      el('li', {}, el('b', {}, `page ${page}, rule ${rule}`), `: ${numbers.join('; ')}`))));
 }
