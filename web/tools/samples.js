@@ -1,4 +1,4 @@
-// The samples that go inside the page: galleys of the project with their lists, and a class for two of them.
+// The samples that go inside the page: galleys of the project with their lists, a class for two of them, and a book.
 // A class is drawn from a seed: accepted lists with more turns than need be, made by ending pages elsewhere and making the rest best, and
 // lists with a mistake.
 import fs from 'node:fs';
@@ -21,6 +21,8 @@ const SMALL = [
   ['full-close', 'close', 'a chapter that may not close on two lines'],
   ['white-space', 'white', 'equal turns, other white space'],
 ];
+const MOST_MOVED = 50;                            // lines that may take the room of a float
+const BOOKS = [['mpman', 'a book: a manual and its appendix of tables, which has no pagination by itself', ['mpman-p003', 'mpman-p081']]];
 
 /** Numbers from a seed, the same everywhere: n gives one of 0 to n - 1. @param {number} seed */
 function drawn(seed) {
@@ -35,6 +37,20 @@ function galleyOf(file) {
   const packed = pack(raw.toString());
   if (!packed.ok) throw new Error(`${file}: ${packed.why}`);
   return packed.bytes;
+}
+
+/** A list with one page end moved so that a float goes to the next page: accepted, with more turns; none where there is no such end. */
+function moved(engine, bytes, width, from) {
+  for (let q = from.p - 1; q > 0; q--) {
+    for (let more = 0; more < MOST_MOVED * (width - 1); more++) {
+      const list = from.list.slice(), at = (q - 1) * width;
+      list[at] += Math.floor(more / (width - 1));             // lines fill the room of the float
+      list[at + 1 + more % (width - 1)] -= 1;
+      const mark = engine.mark(bytes, list);
+      if (mark.ok && mark.t > from.t) return { ...mark, list };
+    }
+  }
+  return null;
 }
 
 /** An accepted list with up to `more` turns above the best: some pages end elsewhere, and the rest is made best after them. */
@@ -71,16 +87,23 @@ function plain(list, width) {
   return text;
 }
 
-/** The lists of a class. @returns {{name: string, text: string}[]} */
+/** The lists of a class: the first has an end that would gain a turn, where there is one. @returns {{name: string, text: string}[]} */
 function classOf(engine, bytes, accepted, refused) {
-  const best = engine.make(bytes), width = engine.width(bytes), random = drawn(7), seen = new Set([best.list.join()]), texts = [];
-  for (let tries = 0; texts.length < accepted && tries < 60 * accepted; tries++) {
-    const made = dearer(engine, bytes, width, best, 1 + texts.length, random);
-    if (seen.has(made.list.join())) continue;
+  const best = engine.make(bytes), width = engine.width(bytes), random = drawn(7), seen = new Set([best.list.join()]), lists = [];
+  const add = (made) => {
+    if (!made || seen.has(made.list.join())) return;
     seen.add(made.list.join());
-    texts.push(plain(made.list, width));
+    lists.push(made);
+  };
+  add(moved(engine, bytes, width, best));
+  for (let tries = 0; lists.length < accepted && tries < 40 * accepted; tries++) {
+    const made = dearer(engine, bytes, width, best, 1 + lists.length, random);
+    if (tries < 20 * accepted && made.t === best.t) continue;  // as few turns as the engine have few of a class
+    add(moved(engine, bytes, width, made));
+    if (lists.length < accepted) add(made);
   }
-  for (let kind = 0; kind < refused; kind++) texts.splice(random(texts.length + 1), 0, plain(mistaken(engine, bytes, width, best, kind, random), width));
+  const texts = lists.map((made) => plain(made.list, width));
+  for (let kind = 0; kind < refused; kind++) texts.splice(1 + random(texts.length), 0, plain(mistaken(engine, bytes, width, best, kind, random), width));
   return texts.map((text, k) => ({ name: `list-${String(k + 1).padStart(2, '0')}`, text }));
 }
 
@@ -100,5 +123,6 @@ export function gather(wasm, folder) {
     const lists = names.map((file) => ({ name: file.replace('.list', ''), text: fs.readFileSync(path.join(folder, 'lists', file), 'utf8') }));
     out.push({ name, about, galley: base64(galleyOf(path.join(folder, `${name}.txt`))), lists });
   }
+  for (const [name, about, chapters] of BOOKS) out.push({ name, about, galleys: chapters.map((one) => ({ name: one, galley: base64(galleyOf(real(one, 'galley'))) })), lists: [] });
   return out;
 }
