@@ -1,7 +1,7 @@
 //! The arguments of the command.
 
 use crate::commands::{
-    book, completions, desk, explain, fold, forecast, make, man, mark, pack, refusals, report, tex, unpack,
+    book, completions, desk, explain, fold, forecast, make, man, mark, pack, refusals, report, show, tex, unpack,
 };
 use crate::error::Error;
 use crate::output::{self, Output};
@@ -40,6 +40,9 @@ enum Commands {
     /// Page ends tried on a page list, call by call
     #[command(after_help = help::DESK)]
     Desk(desk::Args),
+    /// The pages to look at and to work on, as one file
+    #[command(after_help = help::SHOW)]
+    Show(show::Args),
     /// A galley written as text, as a galley file
     #[command(after_help = help::PACK)]
     Pack(pack::Args),
@@ -140,6 +143,7 @@ impl Commands {
             Commands::Mark(args) => mark::run(args, output),
             Commands::Explain(args) => explain::run(args, output),
             Commands::Desk(args) => desk::run(args, output),
+            Commands::Show(args) => show::run(args, output),
             Commands::Pack(args) => pack::run(args, output),
             Commands::Unpack(args) => unpack::run(args, output),
             Commands::Report(args) => report::run(args, output),
@@ -152,10 +156,13 @@ impl Commands {
     }
 }
 
-/// How many arguments of the command that is called are `-`.
+/// How many arguments of the command that is called are `-`; after --out that is standard output.
 fn names_of_standard_input(matches: &clap::ArgMatches) -> usize {
     let Some((_, matches)) = matches.subcommand() else { return 0 };
-    let raw = matches.ids().filter_map(|id| matches.try_get_raw(id.as_str()).ok().flatten());
+    let raw = matches
+        .ids()
+        .filter(|id| id.as_str() != "out")
+        .filter_map(|id| matches.try_get_raw(id.as_str()).ok().flatten());
     raw.flatten().filter(|&value| value == "-").count()
 }
 

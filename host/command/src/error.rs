@@ -15,6 +15,8 @@ pub enum Error {
     Usage(String),
     /// A file or standard input cannot be read.
     Read { name: FileName, error: io::Error },
+    /// A file cannot be written.
+    Write { name: FileName, error: io::Error },
     /// A file is longer than anything of its kind.
     TooLong { name: FileName },
     /// A file is a galley where a text is wanted.
@@ -54,7 +56,7 @@ impl fmt::Display for Error {
     fn fmt(&self, out: &mut fmt::Formatter) -> fmt::Result {
         match self {
             Error::Usage(what) | Error::Tex(what) => write!(out, "{what}"),
-            Error::Read { name, error } => write!(out, "{name}: {error}"),
+            Error::Read { name, error } | Error::Write { name, error } => write!(out, "{name}: {error}"),
             Error::TooLong { name } => write!(out, "{name}: too long for a text of a galley, of a list or of marks"),
             Error::Galley { name } => write!(out, "{name}: line 1: a galley file stands where a text is wanted"),
             Error::NotText { name, line } => write!(out, "{name}: line {line}: not text in UTF-8"),
@@ -74,7 +76,9 @@ impl fmt::Display for Error {
 impl std::error::Error for Error {
     fn source(&self) -> Option<&(dyn std::error::Error + 'static)> {
         match self {
-            Error::Read { error, .. } | Error::Calls(error) | Error::Output(error) => Some(error),
+            Error::Read { error, .. } | Error::Write { error, .. } | Error::Calls(error) | Error::Output(error) => {
+                Some(error)
+            }
             Error::Text { error, .. } => Some(error),
             Error::List { error, .. } => Some(error),
             Error::Marks { error, .. } => Some(error),

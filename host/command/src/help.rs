@@ -42,6 +42,12 @@ Reads calls from standard input, a line each, and answers each with a line;
 in force, `list` prints the list in force. A refusal is `R number place`, a
 line that is no call is answered by `?`, with the reason on standard error.";
 
+pub const SHOW: &str = "\
+Writes one HTML file that needs no network: the galley, its lists and the
+engine are inside, so that it can be mailed, looked at, worked on and printed.
+Three lists and more open as the report on a class. Without --out it is written
+beside the galley, with .html for its ending.";
+
 pub const PACK: &str = "\
 A record a line, in this order; lengths are in hundredths of a point:
   GS htMin htMax sMin sMax sides alpha beta   the page specification

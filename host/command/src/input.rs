@@ -3,7 +3,7 @@
 use crate::error::Error;
 use barleychime::list::{self, Extent, List};
 use barleychime::record::Record;
-use std::ffi::OsString;
+use std::ffi::{OsStr, OsString};
 use std::fmt;
 use std::fs::File;
 use std::io::{self, Read};
@@ -38,6 +38,10 @@ impl fmt::Display for FileName {
 impl FileName {
     pub fn is_standard_input(&self) -> bool {
         self.0 == "-"
+    }
+
+    pub fn os(&self) -> &OsStr {
+        &self.0
     }
 
     pub fn bytes(&self) -> &[u8] {
