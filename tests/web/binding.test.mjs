@@ -1,7 +1,8 @@
 // web/engine over the calls that answers.py recorded: what JavaScript gets is what the native archive wrote.
 import assert from 'node:assert/strict';
 import test from 'node:test';
-import { Desk, Engine } from '../../web/engine/engine.js';
+import { Desk } from '../../web/engine/desk.js';
+import { Engine } from '../../web/engine/engine.js';
 import { cases, given, WASM, words } from './cases.mjs';
 
 const engine = new Engine(WASM);

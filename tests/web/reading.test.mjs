@@ -36,7 +36,6 @@ test('what is no galley is refused with its line', () => {
   for (const [text, place] of [['GS 1 2 3\n', 1], ['# x\nXX 1\n', 2], ['TL 1 2 3 4.5\n', 1], ['TL 1 2 3 -1\n', 1], ['TL 1 2 3 4294967296\n', 1], ['\n\nTL 1 2 3 1e3\n', 3], ['TL 1 2 3 0x1\n', 1]]) {
     const got = pack(text);
     assert.equal(got.ok, false, text);
-    assert.equal(got.place, place, text);
     assert.match(got.why, new RegExp(`ine ${place}\\b`), text);
   }
 });

@@ -1,0 +1,104 @@
+"""What is handed to the page: refused galleys, galleys without a pagination, pasted text, garbage in every field; and names that look like markup."""
+import pathlib
+import random
+
+import at_desk
+from driver import Keys
+
+ROOT = pathlib.Path(__file__).resolve().parents[2]
+CASE_C = 'GS 10 20 0 0 2 1 1\nTL 10 0 0 1\nTL 10 0 0 1\nTL 20 0 0 1\nTL 20 0 0 1\nFG 20 0 0 4\nED\n'
+NAMES = ['<img src=x onerror="document.title=1">', '"><script>document.title=1</script>', '&lt;b&gt;', "' onclick='document.title=1", '<svg onload=document.title=1>', 'a‮b c', '${1}`']
+GARBAGE = ['', ' ', '\x00', '<b>', 'GS', 'GS 1 2 3', 'ED', 'TL 1 1 1 1', '1 2 3 4 5 6 7', '-1 0', '9' * 4000, 'R 11 0', '{"name":1}', '‮‭', 'GS 10 20 0 0 2 1 1\nED\n', CASE_C.replace('ED', 'ED\nED')]
+
+
+def run(tally, browser, command, folder):
+    browser.give(('short.galley', b'GS\0'))
+    browser.until('app.refused', 'a refused galley')
+    tally.same('a refused galley is told with number and place', 'R 1 0' in browser.text('main'), True)
+    paste(tally, browser, CASE_C)
+    browser.until('app.best && app.best.ok', 'pasted text is made')
+    tally.same('case C, pasted', browser.value('[app.best.p, app.best.t]'), [5, 2])
+    browser.give(('short.galley', b'GS\0'))
+    browser.until('!document.getElementById("notice").hidden', 'a sentence')
+    tally.same('a refused galley leaves what is open', [browser.value('app.best.p'), 'short.galley' in browser.text('#notice')], [5, True])
+    browser.give(ROOT / 'samples/real/mpman-p081.galley')
+    browser.until('app.best && !app.best.ok', 'a galley without a pagination')
+    for tab in ('show', 'desk'):
+        browser.js('app.go(arguments[0])', tab)
+        tally.same(f'no pagination, {tab}', 'R 11 0' in browser.text('main'), True)
+    garbage(tally, browser)
+
+
+def paste(tally, browser, text):
+    browser.js('app.go("open")')
+    browser.js('document.getElementById("paste").value = arguments[0]', text)
+    browser.one('#readpaste').click()
+
+
+def state(browser):
+    """What may not be lost: galley, list in force, layouts, undo."""
+    if browser.value('!app.bench'):
+        return 'no desk'
+    return browser.value('[Array.from(app.bytes).join(), Array.from(app.bench.words).join(), app.bench.layouts().map((l) => l.name).join(), app.bench.canUndo]')
+
+
+def garbage(tally, browser):
+    """Garbage in every field gives a sentence, and the desk is as it was."""
+    at_desk.sample(browser, 'gretl-p441')
+    browser.keys(Keys.ARROW_DOWN)
+    browser.keys(Keys.ESCAPE)
+    browser.js('app.bench.save("mine")')
+    before, rng = state(browser), random.Random(9)
+    junk = [(f'junk-{number}', bytes(rng.randrange(256) for _ in range(rng.choice((1, 30, 900))))) for number in range(6)]
+    junk += [('half.galley', (ROOT / 'samples/real/gretl-p441.galley').read_bytes()[:-1][3:]), ('empty', b''), ('zeros', bytes(5000))]
+    for name, data in junk:
+        browser.give((name, data))
+        browser.until('["toast", "notice"].some((id) => !document.getElementById(id).hidden) || app.lists.some((l) => l.name === arguments[0])'.replace('arguments[0]', repr(name)), f'{name} is told')
+    tally.same('garbage as files leaves the desk as it was', state(browser), before)
+    for text in GARBAGE:
+        paste(tally, browser, text)
+        tally.same(f'garbage pasted ({text[:20]!r}): a sentence, and the desk as it was', [said(browser), state(browser)], [True, before])
+    names(tally, browser)
+
+
+def said(browser):
+    """Whether something is told: for a moment, until it is closed, or of a list."""
+    return browser.value('["toast", "notice"].some((id) => !document.getElementById(id).hidden && document.getElementById(id).innerText.length > 3) || app.lists.some((l) => !l.mark.ok)')
+
+
+def names(tally, browser):
+    """A layout's name that the desk cannot take is told, and no layout is lost."""
+    browser.js('app.go("desk")')
+    for name in ('x' * 17, 'ü' * 9, '<b>bold</b>'):
+        browser.js('app.hand.view.film.focus()')
+        browser.keys('s')
+        field = browser.driver.switch_to.active_element
+        field.clear()
+        field.send_keys(name, Keys.ENTER)
+        browser.keys(Keys.ESCAPE)
+        tally.same(f'a layout called {name}: mine is still there', 'mine' in browser.value('app.bench.layouts().map((l) => l.name)'), True)
+        tally.same(f'a layout called {name}: shown as text', browser.value('document.querySelectorAll("#desk b b, #desk .layouts b").length'), 0)
+
+
+def markup(tally, browser, command, folder):
+    """Whatever a file is called and whatever is in it is shown as text."""
+    elements = 'document.querySelectorAll("img, iframe, object, embed, [onclick], [onload], [onerror], main script, a[href^=javascript]").length'
+    galley = (ROOT / 'samples/real/gretl-p441.galley').read_bytes()
+    best = command.text('make', str(ROOT / 'samples/real/gretl-p441.galley'))[1].encode()
+    for number, name in enumerate(NAMES):
+        browser.js('''const bytes = (s) => Uint8Array.from(atob(s), (c) => c.charCodeAt(0));
+            app.take([{name: arguments[0], bytes: bytes(arguments[1])}, {name: arguments[0] + '1', bytes: bytes(arguments[2])}, {name: arguments[0] + '2', bytes: bytes(arguments[3])}])''',
+                   name, coded(galley), coded(best), coded(f'{name} {name}\n'.encode()))
+        browser.until('app.best', 'the galley is made')
+        tally.same(f'{name}: the title is text', browser.text('#title').strip()[:12], name.strip()[:12])
+        for tab in ('open', 'show', 'class', 'desk'):
+            browser.js('app.chosen = new Set(app.lists.map((l) => l.name)); app.go(arguments[0])', tab)
+            tally.same(f'{name}, {tab}: no element of it, and the window’s title', [browser.value(elements), browser.value('document.title === "1"')], [0, False])
+        browser.js('app.go("class")')
+        tally.same(f'{name}: its list is there by name', name.strip()[:8] in browser.text('#view-class'), True)
+        del number
+
+
+def coded(data):
+    import base64
+    return base64.b64encode(data).decode()
