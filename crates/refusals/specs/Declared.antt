@@ -10,7 +10,8 @@ use lib.Dec.{eqb}
 use Rattle.model.specs.Gather.{pick}
 use Rattle.galley.specs.Word.{markAt}
 use Rattle.galley.specs.Place.{GS, G2, FO, TL, FG, FK, TB, ED, specSize, kindOf}
-use Rattle.galley.specs.Record.{citeAt, lineOf, floatOf, isKept, recordAt}
+use Rattle.galley.specs.Range.{specInRange, folioInRange, blockInRange, lineInRange}
+use Rattle.galley.specs.Record.{specOf, openingFolio, blockOf, citeAt, lineOf, floatOf, isKept, recordAt}
 use Rattle.galley.specs.Block.{fieldOf}
 use Rattle.galley.specs.Sound.{Reads, SoundCitations}
 use Rattle.galley.specs.Write.{Stated, unstated, stated, folioOf}
@@ -152,9 +153,19 @@ StopsShort bytes at =
 abbrev pub UnknownMark : List ℕ → ℕ → Type 0
 UnknownMark bytes at = (b : Start) × Marked bytes at b × (mayFollow b (markAt bytes at) ≡ false)
 
+-- The fields after a mark are in their ranges; the end has none (document 01, "The galley file"; document 02, S-1 and S-11).
+unfoldable pub inRange : ℕ → List ℕ → ℕ → Bool
+inRange mark bytes at =
+    pick (eqb mark GS || eqb mark G2) (specInRange (specOf (eqb mark G2) bytes at))
+    (pick (eqb mark FO) (folioInRange (openingFolio bytes at))
+    (pick (eqb mark TL) (lineInRange (lineOf bytes at))
+    (pick (eqb mark ED) true
+    (blockInRange (blockOf bytes at)))))
+
 -- 3: the mark fits and the record is whole, and a field is out of its range.
 abbrev pub BadField : List ℕ → ℕ → Type 0
-BadField bytes at = (b : Start) × Fitting bytes at b × (recordAt bytes at ≡ found.Refused 3 at)
+BadField bytes at =
+    (b : Start) × Fitting bytes at b × (at + kindOf (markAt bytes at) .size ≤ length bytes) × (inRange (markAt bytes at) bytes at ≡ false)
 
 -- 4: the mark may follow, and there are as many of its kind as there may be.
 abbrev pub TooMany : List ℕ → ℕ → Type 0

@@ -10,7 +10,7 @@ use lib.Dec.{ltb, eqb}
 use borrow.Author.Tests.{lt-ltb, le-ltb, eq-eqb, ne-eqb}
 use Rattle.galley.specs.Word.{markAt}
 use Rattle.galley.specs.Place.{FG, TB, ED, kindOf}
-use Rattle.galley.specs.Record.{recordAt}
+use Rattle.galley.specs.Record.{fieldsOf, recordAt}
 use Rattle.galley.specs.Whole.{moved, cited, closed, after, stepFrom, galleySoFar, galleyOf}
 use Rattle.galley.specs.Write.{Stated}
 use Rattle.galley.specs.laws.Place.{figure-kind}
@@ -26,11 +26,21 @@ use Rattle.galley.specs.declared.Reading.{Reading}
 use Rattle.galley.specs.declared.Reading.the-variants as reads
 use Rattle.galley.specs.declared.Sofar.{Sofar}
 use Rattle.galley.specs.declared.Step.the-variants.{Done}
-use Rattle.refusals.specs.Declared.{Start, begun, galleyIn, Begins, mayFollow, early, crowded, fits, linesIn, figuresIn, tablesIn, lastCited, FloatAt, Upto, IsGalley}
+use Rattle.refusals.specs.Declared.{Start, begun, galleyIn, Begins, mayFollow, early, crowded, fits, linesIn, figuresIn, tablesIn, lastCited, FloatAt, Upto, IsGalley, inRange}
 use Rattle.refusals.specs.laws.Told.{Says}
-use Rattle.refusals.specs.laws.State.{stateOf, state-at, state-lines, state-galley, turned, unfit-told, figure-last, table-last}
-use Rattle.refusals.specs.laws.Fit.{fits-turned, figure-fits, table-fits}
+use Rattle.refusals.specs.laws.State.{stateOf, state-at, state-lines, state-galley, turned, unfit-told, all-marks, figure-last, table-last}
+use Rattle.refusals.specs.laws.Fit.{fits-turned, figure-fits, table-fits, unknown-unfit}
 use Rattle.refusals.specs.laws.Reach.{fits-state, reach, begins-few}
+
+-- Fields out of range are 3.
+fields-bad : (b : Start) (bytes : List ℕ) (at mark : ℕ) → fits b mark ≡ true → inRange mark bytes at ≡ false
+    → fieldsOf mark bytes at ≡ found.Refused 3 at
+unfolding fieldsOf inRange
+fields-bad b bytes at =
+    all-marks (λ mark. fits b mark ≡ true → inRange mark bytes at ≡ false → fieldsOf mark bytes at ≡ found.Refused 3 at)
+    (λ _ bad. rw bad refl) (λ _ bad. rw bad refl) (λ _ bad. rw bad refl) (λ _ bad. rw bad refl) (λ _ bad. rw bad refl)
+    (λ _ bad. rw bad refl) (λ _ bad. rw bad refl) (λ _ bad. let z : _≡_ {A = ℕ} 0 1 = cc in absurd (omega arith))
+    (λ mark u fit bad. unknown-unfit b mark u fit)
 
 module _ (bytes : List ℕ) where
   -- How the next step goes, where these records stand.
@@ -75,6 +85,15 @@ module _ (bytes : List ℕ) where
     short-record there fit short =
         refused-record there fit 1 (so .at)
         (rw (le-ltb (length bytes - so .at) 2 (omega arith), lt-ltb (length bytes - so .at) (kindOf mark .size) (omega arith)) refl)
+
+    -- A record out of range.
+    bad-record : so .at + 2 ≤ length bytes → fits b mark ≡ true → so .at + kindOf mark .size ≤ length bytes
+        → inRange mark bytes (so .at) ≡ false → galleyOf bytes ≡ reads.Refused 3 (so .at)
+    unfolding recordAt
+    bad-record there fit whole bad =
+        refused-record there fit 3 (so .at)
+        (rw (le-ltb (length bytes - so .at) 2 (omega arith), le-ltb (length bytes - so .at) (kindOf mark .size) (omega arith))
+        (fields-bad b bytes (so .at) mark fit bad))
 
     followed : mayFollow b mark ≡ false → turned b mark ≡ 2
     followed e = rw e refl
@@ -173,11 +192,11 @@ module _ (bytes : List ℕ) where
       let u = m .upto in
       subst (λ p. p + 2 ≤ length bytes → mayFollow b (markAt bytes p) ≡ false → galleyOf bytes ≡ reads.Refused 2 p) (at-place u)
       (λ there none. turned-away b (u .begins) there 2 (omega arith) (followed b (u .begins) none)) (m .mark) none
-  says-exact (suc (suc (suc zero))) at (b, f, bad) =
+  says-exact (suc (suc (suc zero))) at (b, f, whole, bad) =
       let u = f .marked .upto in
-      subst (λ p. p + 2 ≤ length bytes → fits b (markAt bytes p) ≡ true → recordAt bytes p ≡ found.Refused 3 p
-      → galleyOf bytes ≡ reads.Refused 3 p) (at-place u)
-      (λ there fit e. refused-record b (u .begins) there fit 3 _ e) (f .marked .mark) (f .fit) bad
+      subst (λ p. p + 2 ≤ length bytes → fits b (markAt bytes p) ≡ true → p + kindOf (markAt bytes p) .size ≤ length bytes
+      → inRange (markAt bytes p) bytes p ≡ false → galleyOf bytes ≡ reads.Refused 3 p) (at-place u) (bad-record b (u .begins)) (f .marked .mark)
+      (f .fit) whole bad
   says-exact (suc (suc (suc (suc zero)))) at (b, m, may, late, full) =
       let u = m .upto in
       subst (λ p. p + 2 ≤ length bytes → mayFollow b (markAt bytes p) ≡ true → early b (markAt bytes p) ≡ false

@@ -34,7 +34,7 @@ use Rattle.galley.specs.declared.Record.the-variants as found
 use Rattle.galley.specs.declared.Sofar.{Sofar}
 use Rattle.galley.specs.declared.Step.{Step}
 use Rattle.galley.specs.declared.Step.the-variants.{On, Done}
-use Rattle.refusals.specs.Declared.{Start, nothing, begun, headOf, galleyIn, dueAt, FolioAt, Begun, Begins, mayFollow, early, crowded, fits, linesIn, figuresIn, tablesIn, lastCited, FloatAt, Upto, Marked, Fitting, Ended}
+use Rattle.refusals.specs.Declared.{Start, nothing, begun, headOf, galleyIn, dueAt, FolioAt, Begun, Begins, mayFollow, early, crowded, fits, linesIn, figuresIn, tablesIn, lastCited, FloatAt, Upto, Marked, Fitting, Ended, inRange}
 use Rattle.refusals.specs.laws.Told.{Says, Told}
 use Rattle.refusals.specs.laws.State.{stateOf, state-at, state-lines, state-galley, turned, unfit-told, all-marks, spec-more, folio-more, line-more, figure-more, table-more}
 use Rattle.refusals.specs.laws.Fit.{turned-fits, spec-fits, folio-fits, line-fits, figure-fits, table-fits, end-fits, unknown-unfit}
@@ -51,21 +51,21 @@ numberOf (found.Table f) = 0
 numberOf found.End = 0
 numberOf (found.Refused number place) = number
 
--- If the record is refused, then by 3.
-unfoldable Three : Record → Type 0
-Three r = 1 ≤ numberOf r → numberOf r ≡ 3
+-- If the record is refused, then by 3, and a field is out of range.
+unfoldable Three : Bool → Record → Type 0
+Three fine r = 1 ≤ numberOf r → (numberOf r ≡ 3) × (fine ≡ false)
 
-ranged-three : (fine : Bool) (r : Record) (at : ℕ) → numberOf r ≡ 0 → Three (ranged fine r at)
+ranged-three : (fine : Bool) (r : Record) (at : ℕ) → numberOf r ≡ 0 → Three fine (ranged fine r at)
 unfolding Three
 ranged-three true r at none some = absurd (omega arith)
-ranged-three false r at none some = refl
+ranged-three false r at none some = (refl, refl)
 
 module _ (bytes : List ℕ) where
   -- A record whose mark fits and which is whole is refused by 3 alone.
-  fields-three : (b : Start) (at mark : ℕ) → fits b mark ≡ true → Three (fieldsOf mark bytes at)
-  unfolding fieldsOf
+  fields-three : (b : Start) (at mark : ℕ) → fits b mark ≡ true → Three (inRange mark bytes at) (fieldsOf mark bytes at)
+  unfolding fieldsOf inRange
   fields-three b at =
-      all-marks (λ mark. fits b mark ≡ true → Three (fieldsOf mark bytes at))
+      all-marks (λ mark. fits b mark ≡ true → Three (inRange mark bytes at) (fieldsOf mark bytes at))
       (λ _. ranged-three (specInRange (specOf false bytes at)) (found.Spec (specOf false bytes at)) at refl)
       (λ _. ranged-three (specInRange (specOf true bytes at)) (found.Spec (specOf true bytes at)) at refl)
       (λ _. ranged-three (folioInRange (openingFolio bytes at)) (found.Folio (openingFolio bytes at)) at refl)
@@ -75,17 +75,24 @@ module _ (bytes : List ℕ) where
       (λ _. ranged-three (blockInRange (blockOf bytes at)) (found.Table (floatOf false bytes at)) at refl)
       (λ _. unfold Three in λ some. absurd (omega arith)) (λ mark u fit. unknown-unfit b mark u fit)
 
+  -- A record whose mark fits is refused where it is cut off, by 1, or where a field is out of range.
+  abbrev Cut : ℕ → ℕ → Type 0
+  Cut at n =
+      ((n ≡ 1) × (length bytes < at + kindOf (markAt bytes at) .size))
+      ⊎ ((n ≡ 3) × (at + kindOf (markAt bytes at) .size ≤ length bytes) × (inRange (markAt bytes at) bytes at ≡ false))
+
   refused-record : (b : Start) (at n : ℕ) → at + 2 ≤ length bytes → fits b (markAt bytes at) ≡ true → 1 ≤ n → numberOf (recordAt bytes at) ≡ n
-      → ((n ≡ 1) × (length bytes < at + kindOf (markAt bytes at) .size)) ⊎ (n ≡ 3)
+      → Cut at n
   unfolding recordAt Three
   refused-record b at n there fit some e =
       go (ltb (length bytes - at) (kindOf (markAt bytes at) .size)) refl (rw (le-ltb (length bytes - at) 2 (omega arith)) at e)
     where
       go : (short : Bool) → ltb (length bytes - at) (kindOf (markAt bytes at) .size) ≡ short
-          → numberOf (pick short (found.Refused 1 at) (fieldsOf (markAt bytes at) bytes at)) ≡ n
-          → ((n ≡ 1) × (length bytes < at + kindOf (markAt bytes at) .size)) ⊎ (n ≡ 3)
+          → numberOf (pick short (found.Refused 1 at) (fieldsOf (markAt bytes at) bytes at)) ≡ n → Cut at n
       go true t e = inl (sym e, let h = ltb-true (length bytes - at) (kindOf (markAt bytes at) .size) t in omega arith)
-      go false t e = inr (sym e ∙ fields-three b at (markAt bytes at) fit (omega arith))
+      go false t e =
+          let (three, bad) = fields-three b at (markAt bytes at) fit (omega arith) in
+          inr (sym e ∙ three, let h = ltb-false (length bytes - at) (kindOf (markAt bytes at) .size) t in omega arith, bad)
 
   -- The specification is the one at the start.
   abbrev Of : Start → Type 0
@@ -134,13 +141,11 @@ module _ (bytes : List ℕ) where
         unfolding Found
         refused-told n place e =
             let h = rw e at (found-at bytes (so .at)) in
-            go (refused-record b (so .at) n there fit (h .low) (ap numberOf e)) (h .here)
+            go (refused-record b (so .at) n there fit (h .low) (ap numberOf e))
           where
-            go : ((n ≡ 1) × (length bytes < so .at + kindOf mark .size)) ⊎ (n ≡ 3) → place ≡ so .at → Says n bytes (so .at)
-            go (inl (one, short)) here = subst (λ n. Says n bytes (so .at)) (sym one) (inr (b, fitting, short))
-            go (inr three) here =
-                let is : recordAt bytes (so .at) ≡ found.Refused 3 (so .at) = e ∙ ap (λ n. found.Refused n place) three ∙ ap (found.Refused 3) here in
-                subst (λ n. Says n bytes (so .at)) (sym three) (b, fitting, is)
+            go : Cut (so .at) n → Says n bytes (so .at)
+            go (inl (one, short)) = subst (λ n. Says n bytes (so .at)) (sym one) (inr (b, fitting, short))
+            go (inr (three, whole, bad)) = subst (λ n. Says n bytes (so .at)) (sym three) (b, fitting, whole, bad)
 
         -- A specification, a folio or a line more.
         abbrev kind : Kind
