@@ -10,7 +10,7 @@ use lib.Dec.{ltb, eqb}
 use borrow.Author.Tests.{lt-ltb, le-ltb, eq-eqb, ne-eqb}
 use Rattle.galley.specs.Word.{markAt}
 use Rattle.galley.specs.Place.{FG, TB, ED, kindOf}
-use Rattle.galley.specs.Record.{fieldsOf, recordAt}
+use Rattle.galley.specs.Record.{recordAt}
 use Rattle.galley.specs.Whole.{moved, cited, closed, after, stepFrom, galleySoFar, galleyOf}
 use Rattle.galley.specs.Write.{Stated}
 use Rattle.galley.specs.laws.Place.{figure-kind}
@@ -28,19 +28,10 @@ use Rattle.galley.specs.declared.Sofar.{Sofar}
 use Rattle.galley.specs.declared.Step.the-variants.{Done}
 use Rattle.refusals.specs.Declared.{Start, begun, galleyIn, Begins, mayFollow, early, crowded, fits, linesIn, figuresIn, tablesIn, lastCited, FloatAt, Upto, IsGalley, inRange}
 use Rattle.refusals.specs.laws.Told.{Says}
-use Rattle.refusals.specs.laws.State.{stateOf, state-at, state-lines, state-galley, turned, unfit-told, all-marks, figure-last, table-last}
-use Rattle.refusals.specs.laws.Fit.{fits-turned, figure-fits, table-fits, unknown-unfit}
+use Rattle.refusals.specs.laws.State.{stateOf, state-at, state-lines, state-galley, turned, unfit-told, figure-last, table-last}
+use Rattle.refusals.specs.laws.Fit.{fits-turned, figure-fits, table-fits}
+use Rattle.refusals.specs.laws.Fields.{fields-bad}
 use Rattle.refusals.specs.laws.Reach.{fits-state, reach, begins-few}
-
--- Fields out of range are 3.
-fields-bad : (b : Start) (bytes : List ℕ) (at mark : ℕ) → fits b mark ≡ true → inRange mark bytes at ≡ false
-    → fieldsOf mark bytes at ≡ found.Refused 3 at
-unfolding fieldsOf inRange
-fields-bad b bytes at =
-    all-marks (λ mark. fits b mark ≡ true → inRange mark bytes at ≡ false → fieldsOf mark bytes at ≡ found.Refused 3 at)
-    (λ _ bad. rw bad refl) (λ _ bad. rw bad refl) (λ _ bad. rw bad refl) (λ _ bad. rw bad refl) (λ _ bad. rw bad refl)
-    (λ _ bad. rw bad refl) (λ _ bad. rw bad refl) (λ _ bad. let z : _≡_ {A = ℕ} 0 1 = cc in absurd (omega arith))
-    (λ mark u fit bad. unknown-unfit b mark u fit)
 
 module _ (bytes : List ℕ) where
   -- How the next step goes, where these records stand.

@@ -12,8 +12,7 @@ use Rattle.model.specs.Gather.{pick}
 use Rattle.model.specs.laws.Gather.{or-cases}
 use Rattle.galley.specs.Word.{wordAt, markAt}
 use Rattle.galley.specs.Place.{specMark, specSize, FO, TL, FG, TB, spec, kindOf, unfit}
-use Rattle.galley.specs.Record.{isSecond, citeAt, specOf, openingFolio, blockOf, lineOf, floatOf, isKept, ranged, fieldsOf, recordAt}
-use Rattle.galley.specs.Range.{specInRange, folioInRange, blockInRange, lineInRange}
+use Rattle.galley.specs.Record.{isSecond, citeAt, specOf, lineOf, floatOf, isKept, fieldsOf, recordAt}
 use Rattle.galley.specs.Whole.{moved, withFolio, withLine, withFigure, withTable, cited, closed, after, stepFrom, galleySoFar, galleyOf}
 use Rattle.galley.specs.Block.{fieldOf, offset}
 use Rattle.galley.specs.Sound.{Reads, SoundCitations, Opening}
@@ -36,45 +35,13 @@ use Rattle.galley.specs.declared.Step.{Step}
 use Rattle.galley.specs.declared.Step.the-variants.{On, Done}
 use Rattle.refusals.specs.Declared.{Start, nothing, begun, headOf, galleyIn, dueAt, FolioAt, Begun, Begins, mayFollow, early, crowded, fits, linesIn, figuresIn, tablesIn, lastCited, FloatAt, Upto, Marked, Fitting, Ended, inRange}
 use Rattle.refusals.specs.laws.Told.{Says, Told}
-use Rattle.refusals.specs.laws.State.{stateOf, state-at, state-lines, state-galley, turned, unfit-told, all-marks, spec-more, folio-more, line-more, figure-more, table-more}
-use Rattle.refusals.specs.laws.Fit.{turned-fits, spec-fits, folio-fits, line-fits, figure-fits, table-fits, end-fits, unknown-unfit}
+use Rattle.refusals.specs.laws.State.{stateOf, state-at, state-lines, state-galley, turned, unfit-told, spec-more, folio-more, line-more, figure-more, table-more}
+use Rattle.refusals.specs.laws.Fit.{turned-fits, spec-fits, folio-fits, line-fits, figure-fits, table-fits, end-fits}
+use Rattle.refusals.specs.laws.Fields.{numberOf, fields-three}
 use Rattle.refusals.specs.laws.Reach.{begins-few}
 use Rattle.refusals.specs.laws.Exact.{figure-marked, table-marked}
 
--- The number of a record that is refused, 0 of any other.
-abbrev numberOf : Record → ℕ
-numberOf (found.Spec g) = 0
-numberOf (found.Folio f) = 0
-numberOf (found.Line l) = 0
-numberOf (found.Figure f) = 0
-numberOf (found.Table f) = 0
-numberOf found.End = 0
-numberOf (found.Refused number place) = number
-
--- If the record is refused, then by 3, and a field is out of range.
-unfoldable Three : Bool → Record → Type 0
-Three fine r = 1 ≤ numberOf r → (numberOf r ≡ 3) × (fine ≡ false)
-
-ranged-three : (fine : Bool) (r : Record) (at : ℕ) → numberOf r ≡ 0 → Three fine (ranged fine r at)
-unfolding Three
-ranged-three true r at none some = absurd (omega arith)
-ranged-three false r at none some = (refl, refl)
-
 module _ (bytes : List ℕ) where
-  -- A record whose mark fits and which is whole is refused by 3 alone.
-  fields-three : (b : Start) (at mark : ℕ) → fits b mark ≡ true → Three (inRange mark bytes at) (fieldsOf mark bytes at)
-  unfolding fieldsOf inRange
-  fields-three b at =
-      all-marks (λ mark. fits b mark ≡ true → Three (inRange mark bytes at) (fieldsOf mark bytes at))
-      (λ _. ranged-three (specInRange (specOf false bytes at)) (found.Spec (specOf false bytes at)) at refl)
-      (λ _. ranged-three (specInRange (specOf true bytes at)) (found.Spec (specOf true bytes at)) at refl)
-      (λ _. ranged-three (folioInRange (openingFolio bytes at)) (found.Folio (openingFolio bytes at)) at refl)
-      (λ _. ranged-three (lineInRange (lineOf bytes at)) (found.Line (lineOf bytes at)) at refl)
-      (λ _. ranged-three (blockInRange (blockOf bytes at)) (found.Figure (floatOf false bytes at)) at refl)
-      (λ _. ranged-three (blockInRange (blockOf bytes at)) (found.Figure (floatOf true bytes at)) at refl)
-      (λ _. ranged-three (blockInRange (blockOf bytes at)) (found.Table (floatOf false bytes at)) at refl)
-      (λ _. unfold Three in λ some. absurd (omega arith)) (λ mark u fit. unknown-unfit b mark u fit)
-
   -- A record whose mark fits is refused where it is cut off, by 1, or where a field is out of range.
   abbrev Cut : ℕ → ℕ → Type 0
   Cut at n =
@@ -83,7 +50,7 @@ module _ (bytes : List ℕ) where
 
   refused-record : (b : Start) (at n : ℕ) → at + 2 ≤ length bytes → fits b (markAt bytes at) ≡ true → 1 ≤ n → numberOf (recordAt bytes at) ≡ n
       → Cut at n
-  unfolding recordAt Three
+  unfolding recordAt
   refused-record b at n there fit some e =
       go (ltb (length bytes - at) (kindOf (markAt bytes at) .size)) refl (rw (le-ltb (length bytes - at) 2 (omega arith)) at e)
     where
@@ -91,7 +58,7 @@ module _ (bytes : List ℕ) where
           → numberOf (pick short (found.Refused 1 at) (fieldsOf (markAt bytes at) bytes at)) ≡ n → Cut at n
       go true t e = inl (sym e, let h = ltb-true (length bytes - at) (kindOf (markAt bytes at) .size) t in omega arith)
       go false t e =
-          let (three, bad) = fields-three b at (markAt bytes at) fit (omega arith) in
+          let (three, bad) = fields-three b bytes at (markAt bytes at) fit (omega arith) in
           inr (sym e ∙ three, let h = ltb-false (length bytes - at) (kindOf (markAt bytes at) .size) t in omega arith, bad)
 
   -- The specification is the one at the start.
