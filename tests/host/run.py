@@ -24,6 +24,7 @@ sys.path.insert(0, str(ROOT / 'tests' / 'host'))
 
 import advised  # noqa: E402
 import archive  # noqa: E402
+import bad_input  # noqa: E402
 import bound  # noqa: E402
 import c_interface  # noqa: E402
 import command_line  # noqa: E402
@@ -60,6 +61,7 @@ def main():
         command_line.run(tally, command, ROOT, folder)
         refusal_table.run(tally, command, ROOT)
         options.run(tally, command, ROOT, folder)
+        bad_input.run(tally, command, folder)
         advised.run(tally, command, folder)
         round_trips.run(tally, command, ROOT, folder)
         explained.run(tally, command, folder)
