@@ -99,7 +99,7 @@ def at_terminal(tally, command, folder):
 
 
 def samples(tally, command, root, folder):
-    """The small book of README.md, whose better choice takes the worse first chapter; and real manuals."""
+    """The small book of the manual, whose better choice takes the worse first chapter; and real manuals."""
     texts = [root / f'samples/books/sides-{number}.txt' for number in (1, 2)]
     tally.same('every book has its answer', sorted((root / 'samples/books').iterdir()), texts)
     data = [command.run('pack', text)[1] for text in texts]
@@ -108,9 +108,9 @@ def samples(tally, command, root, folder):
     galleys = tuple(read(chapter)[1] for chapter in data)
     done = subprocess.run([command.program, 'book', 'one.galley', 'two.galley'], cwd=folder, capture_output=True, text=True)
     choice = book.best(galleys)
-    tally.same('the book of README.md', done.stdout, printed(galleys, choice, ('one.galley', 'two.galley')))
+    tally.same('the book of the manual', done.stdout, printed(galleys, choice, ('one.galley', 'two.galley')))
     block = ''.join(f'    {line}\n' for line in done.stdout.splitlines())
-    tally.same('book in README.md', f'\n\n{block}\n' in (root / 'README.md').read_text(), True)
+    tally.same('book in the manual', f'\n\n{block}\n' in (root / 'docs/COMMAND.md').read_text(), True)
     alone = command.text('make', folder / 'one.galley')[1].split()
     tally.same('its first chapter is worse', (alone[3], book.measure(galleys[:1], choice[:1])[3]), ('0', 1))
     for name, chapters in REAL.items():

@@ -94,18 +94,18 @@ def series(tally, what, source, command, root, _library, folder, _galley):
 
 
 def shown(tally, command, root, galley):
-    """What README.md shows of the command's output is what it prints; a.galley is case A."""
-    readme = (root / 'README.md').read_text()
+    """What the manual shows of the command's output is what it prints; a.galley is case A."""
+    manual = (root / 'docs/COMMAND.md').read_text()
     for arguments in (('make', galley), ('make', '--after', root / 'samples/openings/a-lines-first.list', galley),
                       ('forecast', root / 'samples/real/mpman-p003.galley'), ('fold', '8')):
         _, output, _ = command.text(*arguments)
         block = ''.join(f'    {line}\n' for line in output.splitlines())
-        tally.same(f'{arguments[0]} in README.md', f'\n\n{block}\n' in readme, True)
+        tally.same(f'{arguments[0]} in the manual', f'\n\n{block}\n' in manual, True)
 
 
 def ignored(tally, root):
-    """What the commands of README.md and docs/EMBEDDING.md write is not offered to git."""
-    documents = ''.join((root / name).read_text() for name in ('README.md', 'docs/EMBEDDING.md'))
+    """What the commands of README.md, docs/COMMAND.md and docs/EMBEDDING.md write is not offered to git."""
+    documents = ''.join((root / name).read_text() for name in ('README.md', 'docs/COMMAND.md', 'docs/EMBEDDING.md'))
     plain = re.sub(r'^```.*?^```$', '', documents, flags=re.M | re.S)
     commands = re.findall(r'^ {4}(.*)$', plain, re.M)
     written = {name for line in commands for name in re.findall(r'(?:> |-o )(\S+)', line)}

@@ -129,7 +129,7 @@ def tabs(tally, command, names):
 def documented(tally, command, root, folder, schemas):
     """Every object in the manual is what the call before it prints."""
     manual = (root / 'docs/COMMAND.md').read_text()
-    examples = re.findall(r'^ {4}(barleychime \w+ .*--json.*)\n\n```json\n(.*?)^```$', manual, re.M | re.S)
+    examples = re.findall(r'^ {4}(barleychime \w+ [^\n]*--json[^\n]*)\n\n```json\n(.*?)^```$', manual, re.M | re.S)
     path = f'{command.program.parent}{os.pathsep}{os.environ["PATH"]}'
     work = folder / 'manual'
     work.mkdir()

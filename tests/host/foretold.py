@@ -64,8 +64,8 @@ def several(tally, command, folder):
 
 
 def series(tally, command, root, folder):
-    """README.md's command line that sorts a series: the galley with the most to weigh comes first."""
-    [text] = re.findall(r'^    (barleychime forecast --lines .*)$', (root / 'README.md').read_text(), re.M)
+    """The manual's command line that sorts a series: the galley with the most to weigh comes first."""
+    [text] = re.findall(r'^    (barleychime forecast --lines .*)$', (root / 'docs/COMMAND.md').read_text(), re.M)
     folder = folder / 'sorted'
     (folder / 'series').mkdir(parents=True)
     some = list(enumerate(sample.galleys(143, 12, 9, 4)))

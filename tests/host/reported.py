@@ -135,8 +135,8 @@ def turned_away(tally, command, folder):
 
 
 def many_galleys(tally, command, root, folder):
-    """README.md's command line for a term: the marks of two galleys' lists in one report, a refused list among them."""
-    [lines] = re.findall(r'^    for galley in term/.*?^    done .*?\n', (root / 'README.md').read_text(), re.M | re.S)
+    """The manual's command line for a term: the marks of two galleys' lists in one report, a refused list among them."""
+    [lines] = re.findall(r'^    for galley in term/.*?^    done .*?\n', (root / 'docs/COMMAND.md').read_text(), re.M | re.S)
     term, marks = folder / 'term', []
     for name, galley, lists in [('case a', cases.A, [(1, 1, 3, 1), (3, 0, 3, 1), (2, 1, 3, 1)]),
                                 ('case c', cases.C, [(2, 0, 3, 0, 4, 0, 4, 1)])]:

@@ -31,6 +31,7 @@ import command_line  # noqa: E402
 import examples  # noqa: E402
 import explained  # noqa: E402
 import folding  # noqa: E402
+import for_programs  # noqa: E402
 import foretold  # noqa: E402
 import options  # noqa: E402
 import printed  # noqa: E402
@@ -62,6 +63,7 @@ def main():
         refusal_table.run(tally, command, ROOT)
         options.run(tally, command, ROOT, folder)
         bad_input.run(tally, command, folder)
+        for_programs.run(tally, command, ROOT, folder)
         advised.run(tally, command, folder)
         round_trips.run(tally, command, ROOT, folder)
         explained.run(tally, command, folder)

@@ -231,11 +231,11 @@ def seen(terminal):
 
 
 def documented(tally, command, root, folder):
-    """README's command lines, and the calls that are there to try."""
-    readme = (root / 'README.md').read_text()
-    [typed, piped] = re.findall(r'^    (barleychime desk .*)$', readme, re.M)
+    """The manual's command lines, and the calls that are there to try."""
+    manual = (root / 'docs/COMMAND.md').read_text()
+    [typed, piped] = re.findall(r'^    (barleychime desk .*)$', manual, re.M)
     tally.same('the calls are for the same desk', piped, f'{typed} < samples/close.calls')
-    [packed] = re.findall(r'^    (barleychime pack .* > close.galley)$', readme, re.M)
+    [packed] = re.findall(r'^    (barleychime pack .* > close.galley)$', manual, re.M)
     path = f'{command.program.parent}{os.pathsep}{os.environ["PATH"]}'
     work = folder / 'documented'
     work.mkdir()
