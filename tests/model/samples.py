@@ -2,8 +2,8 @@
 
 The definitions are mathematics, so they are run by the checker: a table of random galleys, with what the reference answers
 for each, takes the place of the table of cases, and must agree with the definitions in the same way. Lists are chosen so that
-the sample has every kind of answer, counted by sidedness and by the parity of the first folio, and those of tables by themselves; a
-kind that is missing fails. As a check that the table can disagree, one answer is then falsified.
+the sample has every kind of answer, counted by sidedness and by the parity of the first folio, and those of tables, of openings and of
+books by themselves; a kind that is missing fails. As a check that the table can disagree, one answer of each question is then falsified.
 """
 import collections
 import pathlib
@@ -15,6 +15,7 @@ import definitions
 
 sys.path.insert(0, str(definitions.ROOT / 'tests'))
 import kinds as kinds_of  # noqa: E402
+import afterwards  # noqa: E402
 from reference import beforehand, marking, sample, search  # noqa: E402
 
 GALLEYS, LEFT, LINES, FIGURES, LISTS, DRAWN, SEED = 120, 12, 5, 2, 5, 40, 20261115
@@ -160,12 +161,16 @@ OF_TABLES = [*(f'marked: {number}' for number in (*range(12, 19), 'accepted')), 
 HEAD = '''use mathlib.Core.Bool.{true, false}
 use mathlib.Core.List.{List, [], _∷_}
 use Rattle.model.specs.Galley.{single, double}
-use Rattle.cases.specs.Case.{Case, making, marking, weighing, galleyOf, makes, marks, refuses, counts, asks}
+use Rattle.cases.specs.Case.{Case, making, marking, weighing, making-after, weighing-after, binding, galleyOf, makes, marks, refuses, counts, asks}
 use Rattle.cases.specs.Galleys.{tabling}
 
 unfoldable pub table : List Case
 table =
 '''
+
+
+FALSIFIED = [('(marking', '(marks '), (' making ', '(makes '), (' weighing ', '(counts '), ('(making-after', '(makes '),
+             ('(weighing-after', '(counts '), ('(binding', '(makes ')]
 
 
 def agrees(table):
@@ -180,24 +185,34 @@ def agrees(table):
 def missing(seen):
     """Prints how many answers of each kind there are, and counts the kinds that are missing."""
     due = [(bound, kind) for bound in (SINGLE, ODD, EVEN) for kind in kinds(bound)] + [(WITH, kind) for kind in OF_TABLES]
+    due += afterwards.DUE
     for bound, kind in due:
         print(f'{bound}, {kind}: {seen[bound, kind] or "MISSING"}')
     return sum(not seen[each] for each in due)
 
 
+def falsified(table, question, answer):
+    """The table with one answer to such a question falsified, and nothing else of it."""
+    row = next(row for row in table if question in row and answer in row)
+    return [row.replace(answer, f'{answer}1', 1)]
+
+
 def main():
     seen = collections.Counter()
     table = list(rows(SEED, seen))
+    drawn = len(table)
+    table += afterwards.rows(SEED, seen, galley_text)
     lacking = missing(seen)
     right = agrees(table)
-    print(f'{len(table)} answers of {GALLEYS + LEFT + TABLED[0]} galleys: ' + ('agree' if right[1] else f'DISAGREE, {right}'))
-    at = next(i for i, row in enumerate(table) if '(marks ' in row)
-    table[at] = table[at].replace('(marks ', '(marks 1', 1)
-    wrong = agrees(table)
-    caught = wrong[0] and not wrong[1] and wrong[2] and 'Agrees' in wrong[2]
-    print('one answer falsified: ' + ('caught' if caught else f'NOT CAUGHT, {wrong}'))
-    failed = lacking + (not right[1]) + (not caught)
-    print(f'{(len(table) if right[1] else 0) + bool(caught)} passed, {failed} failed')
+    print(f'{drawn} answers of {GALLEYS + LEFT + TABLED[0]} galleys, {len(table) - drawn} of openings and books: ' + ('agree' if right[1] else f'DISAGREE, {right}'))
+    caught = 0
+    for question, answer in FALSIFIED:
+        wrong = agrees(falsified(table, question, answer))
+        found = wrong[0] and not wrong[1] and wrong[2] and all('Agrees' in error for error in wrong[2])
+        print(f'one answer of {question} falsified: ' + ('caught' if found else f'NOT CAUGHT, {wrong}'))
+        caught += bool(found)
+    failed = lacking + (not right[1]) + len(FALSIFIED) - caught
+    print(f'{(len(table) if right[1] else 0) + caught} passed, {failed} failed')
     return 0 if failed == 0 else 1
 
 

@@ -18,7 +18,9 @@ books =
     ∷ asks (galleyT (line 20 true ∷ line 20 true ∷ []) []) (binding (galleyT (line 10 true ∷ []) (figure 20 1 ∷ []) ∷ [])) (refuses 11 0)
     -- a tie decided in the first chapter, by the later start of its second page
     ∷ asks (galleyP (double 1) 1) (binding (galleyU (double 1) 1 ∷ [])) (makes 3 0 1 1 0 (4 ∷ 0 ∷ 5 ∷ 0 ∷ 1 ∷ 0 ∷ []))
-    -- Y has no weight: the last chapter's even last folio before the first chapter's; and white before both
+    -- Y has no weight: the last chapter's even last folio before the first chapter's, and before the later starts of its pages; where these
+    -- go together, both; and white before all of them
+    ∷ asks (galleyP (double 2) 0) (binding (galleyU (double 1) 0 ∷ [])) (makes 3 0 1 0 0 (4 ∷ 0 ∷ 5 ∷ 0 ∷ 1 ∷ 0 ∷ []))
     ∷ asks (galleyP (double 1) 0) (binding (galleyU (double 1) 0 ∷ [])) (makes 4 0 2 0 0 (2 ∷ 0 ∷ 4 ∷ 0 ∷ 5 ∷ 0 ∷ 1 ∷ 0 ∷ []))
     ∷ asks (galleyD (double 1) 0) (binding (galleyU (double 1) 0 ∷ [])) (makes 3 0 1 0 0 (2 ∷ 0 ∷ 3 ∷ 0 ∷ 1 ∷ 0 ∷ []))
     -- single-sided, each page is turned to but the first, between chapters too; white is that of both chapters

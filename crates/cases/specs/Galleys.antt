@@ -178,3 +178,7 @@ keeping k g =
 -- A galley under the second edition, which holds its last page to a height.
 unfoldable pub closing : ℕ → Galley → Galley
 closing least g = respecified (g .spec .htmin) (g .spec .sides) least g
+
+-- A galley of another sidedness.
+unfoldable pub sided : Sides → Galley → Galley
+sided sides g = respecified (g .spec .htmin) sides (g .spec .lastmin) g

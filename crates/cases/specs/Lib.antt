@@ -9,5 +9,6 @@ pub mod Weighings
 pub mod Openings
 pub mod Whites
 pub mod Books
+pub mod Meetings
 pub mod Table
 pub mod Agrees
