@@ -53,13 +53,19 @@ def refused(tally, command, galley, folder):
     tally.same('the galley is as it was', galley.read_bytes(), GALLEY.read_bytes())
 
 
-def largest(tally, command, folder):
-    """A galley of 4,000 lines, 200 figures and 50 tables with two lists is under 1 MB."""
+def largest_galley(command, folder):
+    """A galley of 4,000 lines, 200 figures and 50 tables."""
     rows = ['GS 40000 60000 600 1200 2 1 1', *['TL 1000 200 300 1'] * 4000]
     rows += [f'FG {5000 + 97 * k % 9000} 300 900 {1 + 20 * k}' for k in range(200)] + [f'TB {4000 + 89 * k % 7000} 300 900 {1 + 80 * k}' for k in range(50)]
     (folder / 'largest.txt').write_text('\n'.join([*rows, 'ED', '']))
     galley = folder / 'largest.galley'
     galley.write_bytes(command.run('pack', str(folder / 'largest.txt'))[1])
+    return galley
+
+
+def largest(tally, command, folder):
+    """With two lists its page is under 1 MB."""
+    galley = largest_galley(command, folder)
     lists = []
     for number in range(2):
         lists.append(folder / f'largest-{number}.list')
