@@ -87,7 +87,8 @@ staged: command $(SHARED)
 	@cp -R samples $(STAGE)/share/barleychime/samples
 	@if [ -f target/web/barleychime.html ]; then install -m 644 target/web/barleychime.html $(STAGE)/share/barleychime/; fi
 	@$(if $(LATEX),install -D -m 644 -t $(STAGE)/share/texmf/tex/lualatex/barleychime $(LATEX))
-	@install -m 644 README.md CHANGELOG.md docs/COMMAND.md docs/EMBEDDING.md $(STAGE)/share/doc/barleychime/
+	@cp -R README.md CHANGELOG.md docs $(STAGE)/share/doc/barleychime/
+	@ln -s ../../barleychime/samples $(STAGE)/share/doc/barleychime/samples
 	@sed -n '/^```c$$/,/^```$$/p' docs/EMBEDDING.md | sed '/^```/d' > $(STAGE)/share/doc/barleychime/pages.c
 	@cd $(STAGE) && touch $(FILES) && find . \( -type f -o -type l \) -printf '%P\n' | LC_ALL=C sort > $(FILES)
 	@echo 'all is built; `make install` installs it below $(PREFIX)'
