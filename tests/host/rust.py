@@ -15,7 +15,7 @@ from tally import Tally  # noqa: E402
 
 LINTED = ['host/library', 'host/command', 'bench', 'bench/native', 'tests/host/standin']
 # The crates that have tests, and how many at least: doc tests of the library among them.
-TESTED = {'host/library': 12, 'host/command': 2}
+TESTED = {'host/library': 12, 'host/command': 8}
 
 
 def cargo(folder, *arguments):

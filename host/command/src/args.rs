@@ -185,3 +185,21 @@ fn named(arguments: &[OsString]) -> Option<String> {
     let first = arguments.get(1)?.to_str()?;
     command().get_subcommands().find(|command| command.get_name() == first).map(|_| first.to_owned())
 }
+
+#[cfg(test)]
+mod tests {
+    use super::*;
+
+    #[test]
+    fn the_definitions_are_sound() {
+        command().debug_assert();
+    }
+
+    #[test]
+    fn the_command_that_is_meant_is_found() {
+        let arguments = |words: &[&str]| words.iter().map(OsString::from).collect::<Vec<_>>();
+        assert_eq!(named(&arguments(&["barleychime", "make", "--mend"])).as_deref(), Some("make"));
+        assert_eq!(named(&arguments(&["barleychime", "mend"])), None);
+        assert_eq!(named(&arguments(&["barleychime"])), None);
+    }
+}

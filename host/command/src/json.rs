@@ -113,3 +113,25 @@ impl From<&UnlikeHead> for Head {
         Head { line: unlike.line, name: unlike.name, said: unlike.said, counted: unlike.counted }
     }
 }
+
+#[cfg(test)]
+mod tests {
+    use super::*;
+    use std::ffi::OsString;
+
+    #[test]
+    fn pages_have_tables_where_there_are_none() {
+        let told = serde_json::to_string(&pages(&[2, 1, 3, 1], 2)).expect("JSON");
+        let page = |page: u32, lines: u32| format!("{{\"page\":{page},\"lines\":{lines},\"figures\":1,\"tables\":0}}");
+        assert_eq!(told, format!("[{},{}]", page(1, 2), page(2, 3)));
+        assert_eq!(pages(&[2, 1, 5], 3)[0].tables, 5);
+    }
+
+    #[cfg(unix)]
+    #[test]
+    fn a_name_that_is_no_text_is_shown() {
+        use std::os::unix::ffi::OsStringExt;
+        let name = FileName::from(OsString::from_vec(b"a\xff\"b".to_vec()));
+        assert_eq!(serde_json::to_string(&name).expect("JSON"), "\"a\u{fffd}\\\"b\"");
+    }
+}

@@ -120,3 +120,24 @@ pub fn hint_at_pack(name: &FileName, bytes: &[u8], refusal: Refusal) {
         say(&format!("{name}: this is a text; `barleychime pack` makes a galley of one"));
     }
 }
+
+#[cfg(test)]
+mod tests {
+    use super::wrapped;
+
+    #[test]
+    fn lines_have_80_columns_at_most() {
+        let text = "a word and ".repeat(30);
+        let lines: Vec<String> = wrapped(&text, 6).lines().map(str::to_owned).collect();
+        assert!(lines.len() > 3);
+        assert!(lines[1..].iter().all(|line| line.starts_with("      a") || line.starts_with("      w")));
+        assert!(lines.iter().all(|line| line.len() <= 80), "{lines:?}");
+        assert_eq!(lines.join(" ").split_whitespace().collect::<Vec<_>>(), text.split_whitespace().collect::<Vec<_>>());
+    }
+
+    #[test]
+    fn a_word_that_is_too_long_has_a_line_of_its_own() {
+        let long = "x".repeat(90);
+        assert_eq!(wrapped(&format!("a {long} b"), 2), format!("a\n  {long}\n  b"));
+    }
+}
