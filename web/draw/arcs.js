@@ -27,7 +27,8 @@ export function quietArc(F, c, f, Z, many) {
   return `<g class="qa${many ? ' mq' : ''}" data-k="${F.id}">${path('qp', d)}${circle('qs', x, c.y, 1.5)}</g>`;
 }
 
-/** The height of a lane. @param {Size} Z @param {number} sheet @param {number} lane */
+/** The height of a lane.
+ * @param {Size} Z @param {number} sheet @param {number} lane */
 export const laneHeight = (Z, sheet, lane) => sheet - Z.headroom / 2 - (lane + 0.5) * Z.lane;
 
 /**
@@ -73,7 +74,8 @@ function label(A, i, Z, y) {
   return text('lt', Z.out + Z.PW / 2, y + 3, id, 'middle');
 }
 
-/** What the bundle lane holds. @param {Arc[]} bundle @param {number} i @param {Size} Z @param {number} sheet */
+/** What the bundle lane holds.
+ * @param {Arc[]} bundle @param {number} i @param {Size} Z @param {number} sheet */
 export function bundleLabel(bundle, i, Z, sheet) {
   if (!bundle.length) return '';
   const y = laneHeight(Z, sheet, Z.most) + 3, came = bundle.filter((A) => A.i0 < i).length;

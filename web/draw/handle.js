@@ -18,7 +18,8 @@ import { circle, path, rect, text, title } from './svg.js';
  *   a page, with where its lines begin and end
  */
 
-/** How a change in turns is coloured; each also has its sign in words. @param {number | null} d */
+/** How a change in turns is coloured; each also has its sign in words.
+ * @param {number | null} d */
 export const tone = (d) => d === null ? 'no' : d < 0 ? 'good' : d > 0 ? 'more' : 'same';
 
 /** @param {Galley} g @param {Page} page @param {Size} Z @param {number} x @returns {Side} */
@@ -30,13 +31,15 @@ function sideOf(g, page, Z, x) {
     bottom: Math.min(limit, last ? last.y + last.h : head) };
 }
 
-/** Floats that move with an end: F6← comes back on the page, F6→ goes to the next. @param {number[]} from @param {Accepted} to */
+/** Floats that move with an end: F6← comes back on the page, F6→ goes to the next.
+ * @param {number[]} from @param {Accepted} to */
 function floatsMoved(from, to) {
   const moved = (s, a, b) => b > a ? `${floatRange(s, a, b)}←` : b < a ? `${floatRange(s, b, a)}→` : '';
   return [moved(1, from[1], to.j), moved(2, from[2], to.d)].filter(Boolean).join(' ');
 }
 
-/** Where the page would end after line i, as drawn now. @param {Side[]} sides @param {number} i */
+/** Where the page would end after line i, as drawn now.
+ * @param {Side[]} sides @param {number} i */
 function spot([here, next], i) {
   const { page } = here;
   if (i === page.b[0]) return { x: here.x, y: here.bottom };
@@ -109,14 +112,16 @@ function bars(sides, Z, y0, end, state) {
   }).join('');
 }
 
-/** A click below a line ends the page there. @param {Side[]} sides @param {Size} Z @param {number} y0 */
+/** A click below a line ends the page there.
+ * @param {Side[]} sides @param {Size} Z @param {number} y0 */
 function hits(sides, Z, y0) {
   const hit = (side, it) => `<rect class="hit" data-i="${it.k}" x="${n(side.x)}" y="${n(y0 + it.y)}" width="${n(Z.PW)}" `
     + `height="${n(Math.max(2, it.h + 1))}"/>`;
   return sides.flatMap((side) => side.lines.filter((it) => it.y <= Z.H + Z.over).map((it) => hit(side, it))).join('');
 }
 
-/** Where the end in force is, while another is tried. @param {Side[]} sides @param {Size} Z @param {number} y0 @param {number} line */
+/** Where the end in force is, while another is tried.
+ * @param {Side[]} sides @param {Size} Z @param {number} y0 @param {number} line */
 function inForce(sides, Z, y0, line) {
   const at = spot(sides, line);
   if (!at || at.y > Z.H + Z.over) return '';

@@ -21,7 +21,16 @@ const NUMBERED = 9.5;
 class Lines {
   /** @param {number} x @param {number} y0 @param {Size} Z @param {Measured} L @param {Moved | null} moved */
   constructor(x, y0, Z, L, moved) {
-    Object.assign(this, { x, y0, Z, L, moved, bars: '', dark: '', tint: '', ties: '', texts: '' });
+    this.x = x;
+    this.y0 = y0;
+    this.Z = Z;
+    this.L = L;
+    this.moved = moved;
+    this.bars = '';
+    this.dark = '';
+    this.tint = '';
+    this.ties = '';
+    this.texts = '';
   }
 
   /** @param {Galley} g @param {Item} it @param {Item | undefined} next @param {number} limit */
@@ -110,7 +119,8 @@ function floatBox(g, L, page, Z, x, y0, { s, k, y, h }, moved) {
   return `<g class="fl ${kind}${state}" data-k="${id}">${marks}${title(floatWords(g, L.byId.get(id)))}</g>`;
 }
 
-/** Floats too thin for labels of their own share one. @param {Item[]} floats @returns {Item[][]} */
+/** Floats too thin for labels of their own share one.
+ * @param {Item[]} floats @returns {Item[][]} */
 function together(floats) {
   const runs = /** @type {Item[][]} */ ([]);
   for (const it of floats) {
@@ -142,7 +152,8 @@ export function gauge(g, page, Z, y0) {
   return `<g class="gg${misses ? ' no' : ''}">${marks}</g>`;
 }
 
-/** Folio, lines and fill. @param {Galley} g @param {Page} page @param {Size} Z @param {number} y0 */
+/** Folio, lines and fill.
+ * @param {Galley} g @param {Page} page @param {Size} Z @param {number} y0 */
 export function pageFoot(g, page, Z, y0) {
   const x = Z.x(page.folio), left = !Z.two || page.folio % 2 === 0, over = page.t * Z.scale > Z.H + 1 ? Z.over : 0;
   const y = y0 + Z.H + Z.text + over, [a, b] = [page.a[0] + 1, page.b[0]];

@@ -15,7 +15,8 @@ export function stair(d, before, w, most) {
   return drawing('plot', w, 31, marks);
 }
 
-/** Where the gridlines of a scale from 0 stand. @param {number} most @returns {number[]} */
+/** Where the gridlines of a scale from 0 stand.
+ * @param {number} most @returns {number[]} */
 export function ticks(most) {
   const step = [1, 2, 5, 10, 20, 50, 100, 200, 500, 1000, 1e9].find((s) => most / s <= 6), out = [];
   for (let v = 0; v <= most; v += step) out.push(v);
@@ -27,7 +28,8 @@ const WIDE = 200;
 /** @param {number} most */
 const scaled = (most) => (v) => 8 + (WIDE - 16) * v / most;
 
-/** Turns more than the engine, as a dot on the scale that all rows share. @param {number | null} more @param {number} most */
+/** Turns more than the engine, as a dot on the scale that all rows share.
+ * @param {number | null} more @param {number} most */
 export function dotPlot(more, most) {
   const x = scaled(most);
   let marks = ticks(most).map((v) => path(v ? 'ax' : 'ax0', `M${n(x(v))} 0v30`)).join('');
@@ -35,7 +37,8 @@ export function dotPlot(more, most) {
   return drawing('plot', WIDE, 30, marks);
 }
 
-/** The scale above the dots. @param {number} most */
+/** The scale above the dots.
+ * @param {number} most */
 export function dotScale(most) {
   return drawing('plot', WIDE, 16, ticks(most).map((v) => text('axt', scaled(most)(v), 11, v ? `+${v}` : 0)).join(''));
 }

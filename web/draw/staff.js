@@ -20,7 +20,8 @@ import { drawing, path, rect, text } from './svg.js';
 /** More quiet arcs than this in a leaf are drawn thin. */
 const MANY = 24;
 
-/** The paper of a page. @param {Page} page @param {Size} Z @param {ReturnType<typeof staffHeights>} H @param {boolean} printed */
+/** The paper of a page.
+ * @param {Page} page @param {Size} Z @param {ReturnType<typeof staffHeights>} H @param {boolean} printed */
 function paper(page, Z, H, printed) {
   const x = !Z.two || page.folio % 2 === 0 ? Z.sheet : Z.w / 2, w = Z.two ? Z.w / 2 - Z.sheet : Z.w - 2 * Z.sheet;
   const over = page.t * Z.scale > Z.H + 1 ? H.over : 0, sheet = rect(printed ? 'pp pd' : 'pp', x, H.sheet, w, H.paper + over);
@@ -44,7 +45,8 @@ function fault(L, page, Z, H) {
 const focusMark = (page, Z, y0) => rect('at', Z.x(page.folio) - 1.5, y0 - 1.5, Z.PW + 3, Z.H + 3);
 
 /**
- * The drawing of leaf i of a list. @param {Galley} g @param {Measured} L @param {Lanes} ways @param {number} i @param {Size} Z
+ * The drawing of leaf i of a list.
+ * @param {Galley} g @param {Measured} L @param {Lanes} ways @param {number} i @param {Size} Z
  * @param {Options} [options] @returns {{svg: string, height: number}}
  */
 export function staff(g, L, ways, i, Z, options = {}) {

@@ -38,20 +38,23 @@ export class Desk {
     return e.answer();
   }
 
-  /** Puts in force what is pending. @returns {Mark | Refusal} */
+  /** Puts in force what is pending.
+   * @returns {Mark | Refusal} */
   commit() {
     this.engine.calls.barleychime_desk_commit(this.at, this.engine.answerAt);
     return this.engine.answer();
   }
 
-  /** The list in force. @returns {Uint32Array} */
+  /** The list in force.
+   * @returns {Uint32Array} */
   list() {
     const e = this.engine;
     e.calls.barleychime_desk_list(this.at, e.listAt, e.answerAt);
     return e.words(e.listAt, e.words(e.answerAt, 9)[2] * e.words(this.at, 2)[1]).slice();
   }
 
-  /** A call that takes a name. @param {string} call @param {string} name @returns {Mark | Refusal} */
+  /** A call that takes a name.
+   * @param {string} call @param {string} name @returns {Mark | Refusal} */
   named(call, name) {
     const e = this.engine, bytes = utf8.encode(name).subarray(0, LONGEST_NAME + 1);
     new Uint8Array(e.memory.buffer).set(bytes, e.nameAt);
@@ -68,7 +71,8 @@ export class Desk {
   /** @param {string} name */
   drop(name) { return this.named('barleychime_desk_drop', name); }
 
-  /** The layouts held, read from the desk's words. @returns {{name: string, list: Uint32Array}[]} */
+  /** The layouts held, read from the desk's words.
+   * @returns {{name: string, list: Uint32Array}[]} */
   layouts() {
     const words = this.words, size = words[0] * words[1], out = [];
     for (let k = 0; k < MOST_LAYOUTS; k++) {

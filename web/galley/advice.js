@@ -50,7 +50,8 @@ async function lowered(g, exists) {
   return [`neither htMin nor lastMin is low enough by itself; a pagination exists at ${both}`];
 }
 
-/** How many pages of the opening could stay. @param {Galley} g @param {ArrayLike<number>} opening @param {Exists} exists */
+/** How many pages of the opening could stay.
+ * @param {Galley} g @param {ArrayLike<number>} opening @param {Exists} exists */
 async function shortened(g, opening, exists) {
   const pages = Math.floor(opening.length / g.width);
   if (pages === 0) return [];

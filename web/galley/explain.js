@@ -15,7 +15,8 @@ import { endWords, leafWord, length, plural } from './words.js';
 
 const KINDS = ['line', 'figure', 'table'];
 
-/** A count as the command writes it. @param {number} n @param {string} what */
+/** A count as the command writes it.
+ * @param {number} n @param {string} what */
 const counted = (n, what) => `${n} ${what}${n === 1 ? '' : 's'}`;
 
 /**
@@ -44,7 +45,8 @@ export function broken(g, page, end) {
   return out;
 }
 
-/** How a page goes backwards, past what there is, or nowhere. @param {Galley} g @param {number[]} a @param {number[]} end */
+/** How a page goes backwards, past what there is, or nowhere.
+ * @param {Galley} g @param {number[]} a @param {number[]} end */
 function outOfOrder(g, a, end) {
   const out = [];
   end.forEach((y, s) => {
@@ -89,13 +91,15 @@ function unfinished(g, end) {
   return `the list ends at ${at}, and everything is placed at ${whole}`;
 }
 
-/** A list whose length alone is refused. @param {Galley} g @param {number} words */
+/** A list whose length alone is refused.
+ * @param {Galley} g @param {number} words */
 export function brokenLength(g, words) {
   const most = g.width * g.count.reduce((a, b) => a + b, 0), asked = g.width === 2 ? 'an even number' : 'a multiple of three';
   return `it has ${counted(words, 'word')}; ${g.width} to ${most} and ${asked} are asked`;
 }
 
-/** F2 to F4, T1 and T2: floats in their order, three and more that follow each other as a range. @param {string[]} ids */
+/** F2 to F4, T1 and T2: floats in their order, three and more that follow each other as a range.
+ * @param {string[]} ids */
 export function named(ids) {
   const runs = /** @type {string[][]} */ ([]);
   for (const id of ids) {
@@ -130,7 +134,8 @@ export function floatWords(g, F) {
   return F.turns === null ? t : F.turns === 0 ? `${t}: no turn` : F.turns < 0 ? `${t}: too soon` : `${t}: ${plural(F.turns, 'turn')}`;
 }
 
-/** Why a float waits: how near it came on the leaf that cites it. @param {Galley} g @param {Measured} L @param {Float} F */
+/** Why a float waits: how near it came on the leaf that cites it.
+ * @param {Galley} g @param {Measured} L @param {Float} F */
 export function whyWaiting(g, L, F) {
   if (!F.cp || !F.turns || F.turns < 0) return '';
   const pages = L.byLeaf.get(F.cp.leaf).slice().sort((A, B) => Number(B === F.cp) - Number(A === F.cp));
@@ -146,7 +151,8 @@ export function whyWaiting(g, L, F) {
     : `page ${near.page.q} has room for ${them} as it stands`;
 }
 
-/** Where a list parts from the best one. @param {Galley} g @param {Measured} L @param {Measured} best */
+/** Where a list parts from the best one.
+ * @param {Galley} g @param {Measured} L @param {Measured} best */
 export function partingWords(g, L, best) {
   const q = parting(L.ends, best.ends);
   if (!q) return 'It is the best list, page for page.';

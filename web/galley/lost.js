@@ -11,7 +11,8 @@ import { measure } from './measure.js';
 
 /**
  * The best never gets better as more pages are kept, so where it is equal at both ends of a stretch it is equal between, and halving
- * finds every page that loses. @param {Galley} g @param {number[][]} ends of an accepted list
+ * finds every page that loses.
+ * @param {Galley} g @param {number[][]} ends of an accepted list
  * @param {(pages: number) => Promise<Answer>} bestAfter the best list that begins with so many of its pages
  * @param {() => boolean} [wanted] @returns {Promise<Lost[] | null>} null where it is not wanted any more
  */

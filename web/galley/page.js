@@ -11,13 +11,16 @@
  * @property {number} white
  */
 
-/** The leaf of a page: its spread in double-sided work, else itself. @param {Galley} g @param {number} q */
+/** The leaf of a page: its spread in double-sided work, else itself.
+ * @param {Galley} g @param {number} q */
 export const leafOf = (g, q) => g.sides === 1 ? q : Math.floor((g.folio + q - 1) / 2) + 1;
 
-/** Whether page q closes its leaf. @param {Galley} g @param {number} q */
+/** Whether page q closes its leaf.
+ * @param {Galley} g @param {number} q */
 export const closesLeaf = (g, q) => g.sides === 1 || (g.folio + q - 1) % 2 === 1;
 
-/** Tightest and loosest height of what lies between two ends. @param {Galley} g @param {number[]} a @param {number[]} b */
+/** Tightest and loosest height of what lies between two ends.
+ * @param {Galley} g @param {number[]} a @param {number[]} b */
 export function heights(g, a, b) {
   let t = 0, l = 0, kinds = 0;
   for (let s = 0; s < 3; s++) {
@@ -32,10 +35,12 @@ export function heights(g, a, b) {
   return [t + separations * g.sMin, l + separations * g.sMax];
 }
 
-/** Whether a page may end behind this many of a stream. @param {Galley} g @param {number} s @param {number} placed */
+/** Whether a page may end behind this many of a stream.
+ * @param {Galley} g @param {number} s @param {number} placed */
 export const mayEnd = (g, s, placed) => placed === 0 || placed === g.count[s] || g.streams[s][placed - 1].end;
 
-/** Whether the last float placed of each kind is cited by line i or before. @param {Galley} g @param {number[]} end */
+/** Whether the last float placed of each kind is cited by line i or before.
+ * @param {Galley} g @param {number[]} end */
 export const citedBy = (g, end) => [1, 2].every((s) => end[s] === 0 || g.streams[s][end[s] - 1].cite <= end[0]);
 
 /**

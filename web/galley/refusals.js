@@ -53,13 +53,16 @@ const TABLE = [
 /** @type {ReadonlyMap<number, RefusalKind>} */
 export const REFUSALS = new Map(TABLE.map(([number, name, place, mender, words]) => [number, { number, name, place, words, mender }]));
 
-/** The name of a refusal, alike in all languages. @param {number} number */
+/** The name of a refusal, alike in all languages.
+ * @param {number} number */
 export const nameOf = (number) => REFUSALS.get(number)?.name ?? 'Unknown';
 
-/** What a refusal of this number says, without its place. @param {number} number */
+/** What a refusal of this number says, without its place.
+ * @param {number} number */
 export const meaningOf = (number) => REFUSALS.get(number)?.words ?? 'this refusal is not known to this version of the page';
 
-/** Its place in words, with what follows it. @param {string} place @param {number} count */
+/** Its place in words, with what follows it.
+ * @param {string} place @param {number} count */
 function placeWords(place, count) {
   switch (place) {
     case RECORD: case 'byte offset of what follows': return `at byte ${count}: `;

@@ -33,10 +33,12 @@ function size(g, sizes) {
   return Z;
 }
 
-/** The reel. @param {Galley} g */
+/** The reel.
+ * @param {Galley} g */
 export const detail = (g) => size(g, { H: 200, PW: 126, out: 24, gut: 36, sheet: 5, lane: 11, top: 9, foot: 19, headroom: 6, most: 7 });
 
-/** The overview; f grows it where there are few leaves. @param {Galley} g @param {number} leaves @param {number} [greatest] */
+/** The overview; f grows it where there are few leaves.
+ * @param {Galley} g @param {number} leaves @param {number} [greatest] */
 export function overview(g, leaves, greatest = 2.4) {
   const f = Math.min(greatest, Math.max(1, (g.sides === 2 ? 36 : 63) / leaves)), r = Math.sqrt(f);
   return size(g, { small: true, f, H: 20 * f, PW: 13 * f, out: 4 * f, gut: 3 * f, sheet: 1.5 * f, lane: 3.2 * r, top: 2 * f,
@@ -87,7 +89,8 @@ export function setPage(g, page, Z) {
   return { items, foot: y * Z.scale };
 }
 
-/** The floats that wait, or stand too soon, by where they start. @param {Measured} L @param {Size} Z @returns {Arc[]} */
+/** The floats that wait, or stand too soon, by where they start.
+ * @param {Measured} L @param {Size} Z @returns {Arc[]} */
 function arcsOf(L, Z) {
   /** @type {Arc[]} */ const arcs = [];
   for (const F of L.floats) {
@@ -99,7 +102,8 @@ function arcsOf(L, Z) {
   return arcs.sort((A, B) => A.x0 - B.x0 || A.F.cite - B.F.cite || A.F.s - B.F.s || A.F.k - B.F.k);
 }
 
-/** Arcs that overlap. @param {Arc[]} arcs @returns {Arc[][]} */
+/** Arcs that overlap.
+ * @param {Arc[]} arcs @returns {Arc[][]} */
 function groupsOf(arcs) {
   const groups = [];
   let reach = -Infinity;
@@ -114,7 +118,8 @@ function groupsOf(arcs) {
   return groups;
 }
 
-/** Lanes for a group, from the top down in turn; as many as overlap at once. @param {Arc[]} group @returns {number} how many */
+/** Lanes for a group, from the top down in turn; as many as overlap at once.
+ * @param {Arc[]} group @returns {number} how many */
 function giveLanes(group) {
   let open = [], count = 0;
   for (const A of group) {
@@ -184,7 +189,8 @@ export function staffHeights(Z, rows, anyBad, anyOver) {
   return { sheet, y0, over, paper: Z.top + Z.H + Z.foot, total: y0 + Z.H + over + Z.foot + (anyBad && !Z.small ? 12 : 0) };
 }
 
-/** A polyline with round corners, as a path. @param {number[][]} points @param {number} r */
+/** A polyline with round corners, as a path.
+ * @param {number[][]} points @param {number} r */
 export function rounded(points, r) {
   let d = `M${n(points[0][0])} ${n(points[0][1])}`;
   for (let k = 1; k < points.length - 1; k++) {
@@ -197,5 +203,6 @@ export function rounded(points, r) {
   return `${d}L${n(x)} ${n(y)}`;
 }
 
-/** A coordinate: one decimal at most. @param {number} x */
+/** A coordinate: one decimal at most.
+ * @param {number} x */
 export const n = (x) => String(Math.round(x * 10) / 10);

@@ -73,7 +73,8 @@ export class App {
     this.measures = new WeakMap();
   }
 
-  /** Another galley. @param {string} name @param {Uint8Array} bytes @param {ArrayLike<number> | null} [best] where it is known */
+  /** Another galley.
+   * @param {string} name @param {Uint8Array} bytes @param {ArrayLike<number> | null} [best] where it is known */
   openGalley(name, bytes, best = null) {
     this.times.open = performance.now();
     this.keeper.flush();
@@ -133,7 +134,8 @@ export class App {
   /** What a list at the desk is held to: the best list, or the best after the printed pages. */
   target() { return this.bench?.printed ? this.after : this.best; }
 
-  /** Fixes pages up to one as printed, or none, and makes what follows best. @param {number} pages */
+  /** Fixes pages up to one as printed, or none, and makes what follows best.
+   * @param {number} pages */
   async setPrinted(pages) {
     const { bench } = this;
     bench.setPrinted(pages);
@@ -149,7 +151,8 @@ export class App {
     this.keep();
   }
 
-  /** The pages of an unfinished list as printed, and the rest made after them. @param {string} name @param {number[][]} ends */
+  /** The pages of an unfinished list as printed, and the rest made after them.
+   * @param {string} name @param {number[][]} ends */
   async makeAfterList(name, ends) {
     const made = await this.maker.make(toWords(ends, this.g.width));
     if (!made.ok) return this.toast(made.number === 11 ? `No list begins with the pages of ${name}.` : sentence(made));
@@ -176,26 +179,30 @@ export class App {
     this.draw();
   }
 
-  /** A list that is handed in. @param {string} name @param {string} text */
+  /** A list that is handed in.
+   * @param {string} name @param {string} text */
   addList(name, text) {
     const list = readList(text, this.g.width), words = list.ok ? list.words : new Uint32Array(0);
-    const mark = list.ok ? this.engine.mark(this.bytes, words) : list;
+    const mark = /** @type {any} */ (list.ok ? this.engine.mark(this.bytes, words) : list);
     this.lists = this.lists.filter((one) => one.name !== name);
     this.lists.push({ name, words, ends: mark.number === 12 ? [] : toEnds(words, this.g.width), mark });
     if (this.chosen.size < 1) this.chosen.add(name);
     return mark;
   }
 
-  /** Files that were dropped, chosen or pasted. @param {import('./files.js').File[]} files */
+  /** Files that were dropped, chosen or pasted.
+   * @param {import('./files.js').File[]} files */
   take(files) { take(this, files); }
 
   /** @param {FileList | null} list */
   files(list) { return readFiles(this, list); }
 
-  /** A sample, or what `barleychime show` put into the file. @param {import('./files.js').Sample} sample */
+  /** A sample, or what `barleychime show` put into the file.
+   * @param {import('./files.js').Sample} sample */
   sample(sample) { openSample(this, sample); }
 
-  /** Several galleys as a book. @param {{name: string, bytes: Uint8Array}[]} chapters */
+  /** Several galleys as a book.
+   * @param {{name: string, bytes: Uint8Array}[]} chapters */
   async openBook(chapters) {
     const book = { chapters, made: null };
     this.book = book;
@@ -292,7 +299,8 @@ export class App {
     return words('The desk opens on a list that is accepted: hand one in, or make the best.');
   }
 
-  /** What can stand above the best: the lists handed in, the one in force at the desk, the layouts. @returns {any[]} */
+  /** What can stand above the best: the lists handed in, the one in force at the desk, the layouts.
+   * @returns {any[]} */
   comparable() {
     const { bench, g } = this, worked = bench.open && bench.history.length > 1;
     const own = worked ? [{ name: 'at the desk', ends: bench.ends, mark: bench.mark }] : [];
@@ -337,7 +345,8 @@ export class App {
     if (this.tab === 'show') this.draw();
   }
 
-  /** Whether making is so quick that it may be done unasked. @param {number} [ms] */
+  /** Whether making is so quick that it may be done unasked.
+   * @param {number} [ms] */
   quick(ms = QUICK) { return this.maker.lastMs ? this.maker.lastMs < ms : !!this.forecast && this.forecast.work < SHORT; }
 
   plainName() { return this.name.replace(/\.(galley|txt)$/, '') || 'galley'; }

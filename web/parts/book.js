@@ -40,7 +40,8 @@ function totals(made) {
     el('li', { class: 'soft' }, 'the fewest turns of all choices of a list for each chapter, and of those the least white space'));
 }
 
-/** The chapters with the folios on which they open. @param {App} app @param {Book} book */
+/** The chapters with the folios on which they open.
+ * @param {App} app @param {Book} book */
 function chapters(app, { chapters: all, made }) {
   let folio = read(all[0].bytes).folio;
   const rows = all.map((chapter, k) => {
@@ -59,7 +60,8 @@ function chapters(app, { chapters: all, made }) {
   return el('table', { class: 'led' }, el('thead', {}, el('tr', {}, head)), el('tbody', {}, rows));
 }
 
-/** The order of the chapters, to be changed. @param {App} app @param {Book} book */
+/** The order of the chapters, to be changed.
+ * @param {App} app @param {Book} book */
 function order(app, { chapters: all }) {
   const move = (k, to) => {
     const next = all.slice();

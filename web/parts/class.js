@@ -120,7 +120,8 @@ function spark(g, L, mark, best, most) {
   return staircase(turnsByLeaf(g, L, to).map((turns, k) => turns - other[k]), most, cross);
 }
 
-/** Floats by the turns that the class loses with them. @param {any} g @param {Row[]} rows @param {Measured} best */
+/** Floats by the turns that the class loses with them.
+ * @param {any} g @param {Row[]} rows @param {Measured} best */
 function whereLost(g, rows, best) {
   const accepted = rows.filter((row) => row.mark.ok);
   const lost = best.floats.map((F, k) => {
@@ -139,7 +140,8 @@ function whereLost(g, rows, best) {
   lost.length > MOST_FLOATS && el('p', { class: 'sub' }, `and ${lost.length - MOST_FLOATS} more`)];
 }
 
-/** The rows for a spreadsheet. A field that could be taken for a formula is quoted with a blank before it. @param {Row[]} rows */
+/** The rows for a spreadsheet. A field that could be taken for a formula is quoted with a blank before it.
+ * @param {Row[]} rows */
 export function csv(rows) {
   const field = (x) => {
     const text = String(x ?? ''), safe = /^[=+\-@\t\r]/.test(text) && !/^-?\d+$/.test(text) ? ` ${text}` : text;

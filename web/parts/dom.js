@@ -1,6 +1,6 @@
 // Elements. Words become text nodes and attributes, never markup. Only a drawing is parsed: it is made of numbers and escaped words.
 
-/** @typedef {Node | string | number | null | undefined | false | Child[]} Child */
+/** @typedef {Node | string | number | null | undefined | false | any[]} Child */
 
 /**
  * An element; attributes that are null or false are left out, `onclick` and the like are listeners.
@@ -17,7 +17,8 @@ export function el(tag, attributes = {}, ...children) {
   return element;
 }
 
-/** Puts children in place of what an element has. @param {Element} element @param {...Child} children */
+/** Puts children in place of what an element has.
+ * @param {Element} element @param {...Child} children */
 export function put(element, ...children) {
   const all = /** @type {any[]} */ (children.flat(/** @type {any} */ (Infinity)));
   element.replaceChildren(...all.filter((c) => c !== null && c !== undefined && c !== false && c !== '')
@@ -26,7 +27,8 @@ export function put(element, ...children) {
 
 const mould = typeof document === 'undefined' ? null : document.createElement('template');
 
-/** A drawing as an element. @param {string} svg made by draw/ @returns {any} */
+/** A drawing as an element.
+ * @param {string} svg made by draw/ @returns {any} */
 export function drawn(svg) {
   mould.innerHTML = svg;
   return mould.content.firstElementChild;
@@ -35,16 +37,19 @@ export function drawn(svg) {
 /** @param {string} id @returns {any} */
 export const byId = (id) => document.getElementById(id);
 
-/** A button that reads like a link. @param {Child} words @param {() => void} does @param {Record<string, any>} [attributes] */
+/** A button that reads like a link.
+ * @param {Child} words @param {() => void} does @param {Record<string, any>} [attributes] */
 export const link = (words, does, attributes = {}) => el('button', { type: 'button', class: 'link', onclick: does, ...attributes }, words);
 
 /** @param {Child} words @param {() => void} does @param {Record<string, any>} [attributes] */
 export const button = (words, does, attributes = {}) => el('button', { type: 'button', onclick: does, ...attributes }, words);
 
-/** A box that says what went wrong. @param {Child} head @param {...Child} body */
+/** A box that says what went wrong.
+ * @param {Child} head @param {...Child} body */
 export const state = (head, ...body) => el('div', { class: 'state', role: 'status' }, el('p', {}, el('b', {}, head)), ...body);
 
-/** Hands a file to the person. @param {string} name @param {string} text */
+/** Hands a file to the person.
+ * @param {string} name @param {string} text */
 export function download(name, text) {
   const a = el('a', { href: URL.createObjectURL(new Blob([text], { type: 'text/plain' })), download: name });
   a.click();

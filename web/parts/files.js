@@ -13,19 +13,21 @@ export const LONGEST_FILE = 4e6;
  * @property {{name: string, galley: string}[]} [galleys] @property {{name: string, text: string}[]} lists
  */
 
-/** Tells a galley from a list. @param {File} file @returns {Sorted} */
+/** Tells a galley from a list.
+ * @param {File} file @returns {Sorted} */
 export function sort({ name, bytes }) {
   if (bytes.length > LONGEST_FILE) return { name, kind: 'refused', why: 'it is longer than any galley or list' };
   if (looksPacked(bytes)) return { name, kind: 'galley', bytes };
   const text = new TextDecoder().decode(bytes);
   if (!looksLikeGalley(text)) return { name, kind: 'list', text };
   const packed = pack(text);
-  return packed.ok ? { name, kind: 'galley', bytes: packed.bytes } : { name, kind: 'refused', why: packed.why };
+  return packed.ok === true ? { name, kind: 'galley', bytes: packed.bytes } : { name, kind: 'refused', why: packed.why };
 }
 
-/** Samples that the build put inside, gzipped. @param {string} base64 @returns {Promise<Sample[]>} */
+/** Samples that the build put inside, gzipped.
+ * @param {string} base64 @returns {Promise<Sample[]>} */
 export async function samples(base64) {
-  const stream = new Blob([fromBase64(base64)]).stream().pipeThrough(new DecompressionStream('gzip'));
+  const stream = new Blob([fromBase64(base64)]).stream().pipeThrough(new (/** @type {any} */ (globalThis).DecompressionStream)('gzip'));
   return JSON.parse(await new Response(stream).text());
 }
 

@@ -36,7 +36,7 @@ function faultOf(app, sorted, galleys, lists) {
   if (!galleys.length && !app.g) return 'First a galley, then lists for it.';
   if (galleys.length || lists.length !== 1) return '';
   const list = readList(lists[0].text, app.g.width);
-  return list.ok ? '' : `${lists[0].name} is neither a galley nor a list. ${list.why}`;
+  return list.ok === true ? '' : `${lists[0].name} is neither a galley nor a list. ${list.why}`;
 }
 
 /**

@@ -43,7 +43,8 @@ export class Keeper {
       best: app.best?.ok ? app.best.list.join(' ') : null, bench: app.bench?.open ? app.bench.keep() : null };
   }
 
-  /** After a galley was opened: takes up what is kept of it. @returns {boolean} whether there was a desk */
+  /** After a galley was opened: takes up what is kept of it.
+   * @returns {boolean} whether there was a desk */
   resume() {
     const { app } = this, work = this.store.read(sumOf(app.bytes));
     this.resumed = false;
@@ -64,7 +65,8 @@ export class Keeper {
     return true;
   }
 
-  /** Opens a galley that is kept. @param {string} key @param {any} [view] @returns {boolean} */
+  /** Opens a galley that is kept.
+   * @param {string} key @param {any} [view] @returns {boolean} */
   reopen(key, view = null) {
     const { app } = this, work = this.store.read(key);
     if (!work?.galley) return false;
@@ -79,14 +81,16 @@ export class Keeper {
     return true;
   }
 
-  /** What this window showed before a reload, or what was worked on last. @returns {boolean} */
+  /** What this window showed before a reload, or what was worked on last.
+   * @returns {boolean} */
   restore() {
     const view = this.store.view();
     if (view && !view.key) return false;
     return this.reopen(view?.key || this.store.last(), view);
   }
 
-  /** Forgets a galley, or all. @param {string | null} key */
+  /** Forgets a galley, or all.
+   * @param {string | null} key */
   clear(key) {
     const { app } = this, now = this.store.key;
     if (key) this.store.drop(key); else this.store.dropAll();
@@ -112,7 +116,8 @@ export class Keeper {
       }, { id: 'keephere' }));
   }
 
-  /** Says something that stays until it is answered. @param {string | null} words @param {...HTMLElement} buttons */
+  /** Says something that stays until it is answered.
+   * @param {string | null} words @param {...HTMLElement} buttons */
   notice(words, ...buttons) {
     const box = byId('notice');
     box.hidden = words === null;

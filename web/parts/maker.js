@@ -17,7 +17,8 @@ export class Maker {
     this.reset(null);
   }
 
-  /** Another galley: whatever runs is ended. @param {Uint8Array | null} bytes */
+  /** Another galley: whatever runs is ended.
+   * @param {Uint8Array | null} bytes */
   reset(bytes) {
     this.stop();
     this.bytes = bytes;
@@ -36,7 +37,8 @@ export class Maker {
   }
 
   /**
-   * The best list that begins with an opening. @param {ArrayLike<number>} opening @param {boolean} [urgent]
+   * The best list that begins with an opening.
+   * @param {ArrayLike<number>} opening @param {boolean} [urgent]
    * @returns {Promise<(Made & {ms: number}) | Refusal>}
    */
   make(opening = [], urgent = true) {
@@ -52,7 +54,8 @@ export class Maker {
       { galley, opening: Array.from(opening) }, false);
   }
 
-  /** The best book. @param {Uint8Array[]} galleys @returns {Promise<any>} */
+  /** The best book.
+   * @param {Uint8Array[]} galleys @returns {Promise<any>} */
   book(galleys) { return this.ask('book', { book: galleys }, true); }
 
   /** @param {string} key @param {any} request @param {boolean} urgent @returns {Promise<any>} */
@@ -80,7 +83,7 @@ export class Maker {
   /** The latest urgent job, else the first. */
   next() {
     if (this.running || !this.jobs.length) return;
-    const urgent = this.jobs.findLastIndex((job) => job.urgent);
+    const urgent = this.jobs.map((job) => job.urgent).lastIndexOf(true);
     const [job] = this.jobs.splice(Math.max(0, urgent), 1);
     this.running = job;
     if (!this.worker) {

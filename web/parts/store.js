@@ -3,7 +3,8 @@
 
 const WORK = 'barleychime.work.', LAST = 'barleychime.last', VIEW = 'barleychime.view';
 
-/** A sum of bytes, 53 bits, as hexadecimal digits. @param {Uint8Array} bytes */
+/** A sum of bytes, 53 bits, as hexadecimal digits.
+ * @param {Uint8Array} bytes */
 export function sumOf(bytes) {
   let a = 0xdeadbeef, b = 0x41c6ce57;
   for (const byte of bytes) {
@@ -15,7 +16,8 @@ export function sumOf(bytes) {
   return (4294967296 * (2097151 & b) + (a >>> 0)).toString(16).padStart(14, '0');
 }
 
-/** A browser may forbid its storage; then nothing is kept. @template T @param {() => T} does @param {T} otherwise */
+/** A browser may forbid its storage; then nothing is kept.
+ * @template T @param {() => T} does @param {T} otherwise */
 function allowed(does, otherwise) {
   try { return does(); } catch { return otherwise; }
 }
@@ -36,7 +38,8 @@ export class Store {
     });
   }
 
-  /** The work that is kept on a galley. @param {string} key @returns {any} */
+  /** The work that is kept on a galley.
+   * @param {string} key @returns {any} */
   read(key) {
     this.key = key;
     this.contested = false;
@@ -62,7 +65,8 @@ export class Store {
     }, false);
   }
 
-  /** The galleys on which work is kept, newest first. @returns {{key: string, name: string, at: number, lists: number}[]} */
+  /** The galleys on which work is kept, newest first.
+   * @returns {{key: string, name: string, at: number, lists: number}[]} */
   all() {
     return allowed(() => Object.keys(localStorage), []).filter((key) => key.startsWith(WORK)).map((key) => {
       const work = parsed(allowed(() => localStorage.getItem(key), null));
@@ -79,10 +83,12 @@ export class Store {
 
   dropAll() { for (const { key } of this.all()) this.drop(key); }
 
-  /** The galley last worked on. @returns {string} */
+  /** The galley last worked on.
+   * @returns {string} */
   last() { return allowed(() => localStorage.getItem(LAST), null) ?? ''; }
 
-  /** This window's view. @returns {any} */
+  /** This window's view.
+   * @returns {any} */
   view() { return parsed(allowed(() => sessionStorage.getItem(VIEW), null)); }
 
   /** @param {any} view */

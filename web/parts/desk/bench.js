@@ -53,7 +53,8 @@ export class Bench {
   /** Gives its desks back. */
   close() { for (const sheet of this.sheets) sheet.desk?.close(); }
 
-  /** The first list on an empty bench. @param {ArrayLike<number>} words @param {string} what */
+  /** The first list on an empty bench.
+   * @param {ArrayLike<number>} words @param {string} what */
   begin(words, what) {
     this.history = [];
     this.at = -1;
@@ -61,7 +62,8 @@ export class Bench {
     return this.put(words, what);
   }
 
-  /** Another list in force, on a desk of its own. @param {ArrayLike<number>} words @param {string} what */
+  /** Another list in force, on a desk of its own.
+   * @param {ArrayLike<number>} words @param {string} what */
   put(words, what) {
     const placed = this.place(words);
     if (placed.ok) this.remember(what);
@@ -113,35 +115,41 @@ export class Bench {
     this.at = this.history.length - 1;
   }
 
-  /** Pages up to this one are printed: no end of theirs moves any more. @param {number} pages */
+  /** Pages up to this one are printed: no end of theirs moves any more.
+   * @param {number} pages */
   setPrinted(pages) {
     this.printed = Math.max(0, Math.min(pages, this.p - 1));
     this.trial = null;
   }
 
-  /** Whether a list begins with the printed pages. @param {ArrayLike<number>} words */
+  /** Whether a list begins with the printed pages.
+   * @param {ArrayLike<number>} words */
   keepsPrinted(words) {
     const length = this.printed * this.g.width;
     for (let k = 0; k < length; k++) if (words[k] !== this.words[k]) return false;
     return true;
   }
 
-  /** The bounds of a page's end: what is placed before the page, and with the next one. @param {number} q */
+  /** The bounds of a page's end: what is placed before the page, and with the next one.
+   * @param {number} q */
   bounds(q) { return { a: q > 1 ? this.ends[q - 2] : [0, 0, 0], c: this.ends[q] }; }
 
-  /** Every end of page q, marked. @param {number} q */
+  /** Every end of page q, marked.
+   * @param {number} q */
   scan(q) {
     if (!this.scans.has(q)) this.scans.set(q, scan(this, q));
     return this.scans.get(q);
   }
 
-  /** Every end of page q together with one of the next page, marked. @param {number} q */
+  /** Every end of page q together with one of the next page, marked.
+   * @param {number} q */
   pairs(q) {
     if (!this.paired.has(q)) this.paired.set(q, pairs(this, q));
     return this.paired.get(q);
   }
 
-  /** Asks about another end. The end in force clears the trial. @param {number} q @param {number[]} end */
+  /** Asks about another end. The end in force clears the trial.
+   * @param {number} q @param {number[]} end */
   try(q, end) {
     const { a, c } = this.bounds(q), e = end.map((x, s) => Math.max(a[s], Math.min(c[s], x)));
     this.trial = null;
@@ -197,7 +205,8 @@ export class Bench {
 
   /**
    * Alters ends of the list in force by the engine's own asks and commits, in whichever order it accepts them; where it accepts
-   * neither alone, a desk is opened on the whole list. @param {any[][]} moves page and end @param {Uint32Array} words of all
+   * neither alone, a desk is opened on the whole list.
+   * @param {any[][]} moves page and end @param {Uint32Array} words of all
    */
   alter(moves, words) {
     const { desk } = this.sheet;
@@ -224,7 +233,8 @@ export class Bench {
   undo() { return this.canUndo ? this.go(this.at - 1) : null; }
   redo() { return this.canRedo ? this.go(this.at + 1) : null; }
 
-  /** A list of the history, by asks and commits where one end differs or two that are neighbours. @param {number} to */
+  /** A list of the history, by asks and commits where one end differs or two that are neighbours.
+   * @param {number} to */
   go(to) {
     const { words } = this.history[to], { what } = this.history[Math.max(to, this.at)], ends = toEnds(words, this.g.width);
     const other = ends.map((end, k) => this.ends[k] && sameEnd(end, this.ends[k]) ? -1 : k).filter((k) => k >= 0);
@@ -235,13 +245,15 @@ export class Bench {
     return { what, page: near ? other[0] + 1 : 0 };
   }
 
-  /** All layouts, of every sheet. @returns {{name: string, words: Uint32Array, sheet: Sheet}[]} */
+  /** All layouts, of every sheet.
+   * @returns {{name: string, words: Uint32Array, sheet: Sheet}[]} */
   layouts() {
     return this.sheets.flatMap((sheet) => sheet.desk ? sheet.desk.layouts().map((one) => ({ name: one.name, words: one.list, sheet }))
       : [...sheet.kept].map(([name, words]) => ({ name, words, sheet })));
   }
 
-  /** Saves the list in force. A name is used once, whatever sheet it is on. @param {string} name */
+  /** Saves the list in force. A name is used once, whatever sheet it is on.
+   * @param {string} name */
   save(name) {
     const bytes = new TextEncoder().encode(name).length;
     if (bytes < 1 || bytes > LONGEST_NAME) return refused(25, 0);
@@ -265,7 +277,8 @@ export class Bench {
     return layout ? this.dropFrom(layout.sheet, name) : refused(26, 0);
   }
 
-  /** Comes back to a layout. @param {string} name @returns {any} */
+  /** Comes back to a layout.
+   * @param {string} name @returns {any} */
   back(name) {
     const layout = this.layouts().find((one) => one.name === name);
     if (!layout) return refused(26, 0);
@@ -289,7 +302,8 @@ export class Bench {
       history: this.history.map(({ what, words }) => ({ what, words: spaced(words) })), sheets: this.sheets.map(sheet) };
   }
 
-  /** Comes back from `keep`; every list is marked again before it is shown. @param {any} kept @returns {boolean} */
+  /** Comes back from `keep`; every list is marked again before it is shown.
+   * @param {any} kept @returns {boolean} */
   restore(kept) {
     const accepted = (words) => this.engine.mark(this.g.bytes, words).ok;
     try {
@@ -321,7 +335,8 @@ export class Bench {
   }
 }
 
-/** Words without the zeros at their end. @param {Uint32Array} words */
+/** Words without the zeros at their end.
+ * @param {Uint32Array} words */
 function trimmed(words) {
   let length = words.length;
   while (length > 1 && !words[length - 1]) length--;

@@ -22,7 +22,8 @@ const MOST_PAIRS = 6000;
 /** @param {Candidate} a @param {Candidate | null} b */
 const better = (a, b) => !b || a.t < b.t || (a.t === b.t && a.w < b.w);
 
-/** The one that is before all others. @param {Candidate[]} ends @param {(one: Candidate, best: Candidate | null) => boolean} before */
+/** The one that is before all others.
+ * @param {Candidate[]} ends @param {(one: Candidate, best: Candidate | null) => boolean} before */
 function chosen(ends, before) {
   let best = /** @type {Candidate | null} */ (null);
   for (const one of ends) if (before(one, best)) best = one;
@@ -35,12 +36,14 @@ function putLine(byLine, one) {
   if (had) had.push(one); else byLine.set(one.i, [one]);
 }
 
-/** The ends between two, line by line. @param {number[]} a @param {number[]} c */
+/** The ends between two, line by line.
+ * @param {number[]} a @param {number[]} c */
 function* between(a, c) {
   for (let d = a[2]; d <= c[2]; d++) for (let j = a[1]; j <= c[1]; j++) for (let i = a[0]; i <= c[0]; i++) yield [i, j, d];
 }
 
-/** Every end of page q, in rows of equal floats. @param {Bench} bench @param {number} q @returns {Scan} */
+/** Every end of page q, in rows of equal floats.
+ * @param {Bench} bench @param {number} q @returns {Scan} */
 export function scan(bench, q) {
   const { g } = bench, { a, c } = bench.bounds(q), ends = [];
   const many = (c[0] - a[0] + 1) * (c[1] - a[1] + 1) * (c[2] - a[2] + 1) > MOST_ASKED;

@@ -39,12 +39,14 @@ export class DeskHand {
     this.run = 0;                           // of what is worked out while the hand rests
     this.fresh = true;                      // until the hand does something, the desk may go where turns are lost
     this.askMs = 0;
+    /** @type {{y: number, end: number[], last: number, alone: boolean, frame: number} | null} */ this.drag = null;
     listenTo(this);
   }
 
   get bench() { return this.s.bench; }
 
-  /** Another bench, or the window has another size. @param {Bench} bench @param {number} [q] */
+  /** Another bench, or the window has another size.
+   * @param {Bench} bench @param {number} [q] */
   show(bench, q = 0) {
     this.s.bench = bench;
     this.fresh = !q;
@@ -71,7 +73,8 @@ export class DeskHand {
     this.idle();
   }
 
-  /** The list in force is another one. @param {boolean} [center] */
+  /** The list in force is another one.
+   * @param {boolean} [center] */
   changed(center = false) {
     const { s } = this;
     s.q = this.within(s.q);
@@ -118,7 +121,8 @@ export class DeskHand {
     if (before[1] !== now[1] || before[2] !== now[2]) this.view.drawPanels(this.s); else this.view.markChips(this.s);
   }
 
-  /** An accepted end. @param {Candidate} one */
+  /** An accepted end.
+   * @param {Candidate} one */
   pick(one) {
     this.view.film.focus({ preventScroll: true });
     this.try([one.i, one.j, one.d], one.second);
@@ -135,7 +139,8 @@ export class DeskHand {
   /** @param {number} step @param {boolean} follow */
   lines(step, follow) { this.toLine(this.now()[0] + step, follow); }
 
-  /** To the next line after which some end is accepted. @param {number} step */
+  /** To the next line after which some end is accepted.
+   * @param {number} step */
   hop(step) {
     const { pair, q } = this.s, at = this.now()[0], { byLine } = pair ? this.bench.pairs(q) : this.bench.scan(q);
     const lines = [...byLine.keys()].filter((i) => step > 0 ? i > at : i < at);
@@ -194,7 +199,8 @@ export class DeskHand {
     this.view.drawPanels(this.s);
   }
 
-  /** Undo, or redo. @param {boolean} redo */
+  /** Undo, or redo.
+   * @param {boolean} redo */
   step(redo) {
     const { bench } = this, step = redo ? bench.redo() : bench.undo();
     const held = bench.printed && bench.at > 0 ? 'What came before has other printed pages.' : 'Nothing to undo.';
@@ -205,7 +211,8 @@ export class DeskHand {
     this.app.toast(`${redo ? 'Redone' : 'Undone'}: ${step.what}.`);
   }
 
-  /** Keeps the pages up to this end and makes the rest best. @param {number[]} [end] */
+  /** Keeps the pages up to this end and makes the rest best.
+   * @param {number[]} [end] */
   async rest(end = this.now()) {
     const { bench, version } = this, { q } = this.s, opening = toWords([...bench.ends.slice(0, q - 1), end], bench.g.width);
     if (this.s.slow) this.app.toast('Making…');
@@ -222,7 +229,8 @@ export class DeskHand {
     if (this.s.best?.ok) this.tryList(this.s.best.list, what);
   }
 
-  /** Another list altogether is a trial too. @param {ArrayLike<number>} list @param {string} what */
+  /** Another list altogether is a trial too.
+   * @param {ArrayLike<number>} list @param {string} what */
   tryList(list, what) {
     this.fresh = false;
     this.bench.tryList(this.s.q, list, what);
@@ -314,7 +322,8 @@ export class DeskHand {
     this.restSoon();
   }
 
-  /** Where turns are lost for good; where making is slow only when it is asked for. @param {boolean} asked */
+  /** Where turns are lost for good; where making is slow only when it is asked for.
+   * @param {boolean} asked */
   async findLosses(asked) {
     const { s, bench, run } = this, { maker } = this.app, words = bench.words.slice(), { width } = bench.g;
     s.slow = this.app.quick() ? 0 : Math.max(1, maker.lastMs);

@@ -29,7 +29,8 @@ export function keysOf() {
   byId('dialog').showModal();
 }
 
-/** What a key does, or nothing. @param {DeskHand} hand @param {KeyboardEvent} event @returns {(() => void) | undefined} */
+/** What a key does, or nothing.
+ * @param {DeskHand} hand @param {KeyboardEvent} event @returns {(() => void) | undefined} */
 function action(hand, event) {
   const { key, shiftKey, altKey } = event, { q } = hand.s, stream = shiftKey ? 2 : 1;
   if (event.ctrlKey || event.metaKey) {
@@ -189,7 +190,6 @@ function listenToFilm(hand) {
 
 /** @param {DeskHand} hand */
 export function listenTo(hand) {
-  /** @type {any} */ (hand).drag = null;
   listenToButtons(hand);
   listenToKeys(hand);
   listenToDrag(hand);

@@ -13,7 +13,8 @@ import { el } from '../dom.js';
 
 const MOST_PAIRS_SHOWN = 40, MOST_RESTS_SHOWN = 12;
 
-/** The figures and tables between two ends. @param {number[]} from @param {number[]} to */
+/** The figures and tables between two ends.
+ * @param {number[]} from @param {number[]} to */
 const floatsBetween = (from, to) => [1, 2].map((s) => floatRange(s, from[s], to[s])).filter(Boolean).join(' ');
 
 /** @param {string} words */
@@ -42,7 +43,8 @@ function chip(bench, q, one, star, pick) {
     el('i', {}, told), star && sameEnd(end, star) && el('i', { class: 'star', title: 'as in the best list' }, '★'));
 }
 
-/** Which floats a row has on the page, and which on the next one. @param {Bench} bench @param {number} q @param {Row} row */
+/** Which floats a row has on the page, and which on the next one.
+ * @param {Bench} bench @param {number} q @param {Row} row */
 function placing(bench, q, row) {
   const { a, c } = bench.bounds(q), end = [0, row.j, row.d], here = floatsBetween(a, end), next = floatsBetween(end, c);
   if (!here && !next) return 'after line';
@@ -113,7 +115,8 @@ function restChip(bench, q, { end, made }, pick) {
   return el('button', attributes, end[0] || '–', floats && el('u', {}, floats), el('i', {}, signed(change)));
 }
 
-/** Layouts to come back to. @param {Bench} bench @param {(name: string) => void} back @param {(name: string) => void} drop */
+/** Layouts to come back to.
+ * @param {Bench} bench @param {(name: string) => void} back @param {(name: string) => void} drop */
 export function layoutsPanel(bench, back, drop) {
   const all = bench.layouts();
   if (!all.length) return el('p', { class: 'sub' }, 'None yet.');

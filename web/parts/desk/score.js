@@ -14,7 +14,8 @@ import { el } from '../dom.js';
 
 const MOST_DOTS = 24, MOST_CHANGES = 5;
 
-/** p X Y T W. @param {any} m */
+/** p X Y T W.
+ * @param {any} m */
 function cells(m) {
   const told = [['p', m.p], ['X', m.x], ['Y', m.y], ['T', m.t], ['W', m.w]];
   return told.map(([name, value]) => el('span', { class: name }, el('i', {}, name), el('b', {}, comma(value))));
@@ -26,7 +27,8 @@ const box = (cls, head, ...body) => el('div', { class: `sc ${cls}` }, el('em', {
 /** @param {string} words */
 const note = (words) => el('span', { class: 'ref' }, words);
 
-/** In force, trial, best, and how far above. @param {Bench} bench @param {any} best @param {boolean} making */
+/** In force, trial, best, and how far above.
+ * @param {Bench} bench @param {any} best @param {boolean} making */
 export function score(bench, best, making) {
   const name = bench.printed ? `Best after page ${bench.printed}` : 'Best';
   return [
@@ -45,7 +47,8 @@ function trialBox(trial) {
   return box('try no', 'Trial', note(`refused, rule ${answer.number}${answer.place ? ` on page ${answer.place}` : ''}`));
 }
 
-/** Turns above the best, a dot each; hollow where the trial takes one away. @param {Bench} bench @param {any} best */
+/** Turns above the best, a dot each; hollow where the trial takes one away.
+ * @param {Bench} bench @param {any} best */
 function above({ mark, trial }, best) {
   const m = trial?.answer.ok ? trial.answer : mark, is = m.t - best.t, was = mark.t - best.t;
   const equal = m.w > best.w ? 'As few turns as the best' : 'As good as the best';
@@ -56,7 +59,8 @@ function above({ mark, trial }, best) {
     el('span', { class: 'dots', 'aria-hidden': 'true' }, all));
 }
 
-/** What the trial does, or where the page ends. @param {Galley} g @param {Bench} bench @param {number} q */
+/** What the trial does, or where the page ends.
+ * @param {Galley} g @param {Bench} bench @param {number} q */
 export function sentence(g, bench, q) {
   const { trial } = bench;
   if (!trial) return `Page ${q} ends ${endWords(g, bench.ends[q - 1])}${q <= bench.printed ? '; it is printed and stays' : ''}.`;
@@ -89,7 +93,8 @@ function gainWords(g, bench, trial) {
 /** @param {number} d */
 const turnsWords = (d) => d === 0 ? 'As many turns' : `${plural(Math.abs(d), 'turn')} ${d < 0 ? 'fewer' : 'more'}`;
 
-/** Another list altogether. @param {Bench} bench @param {Trial} trial */
+/** Another list altogether.
+ * @param {Bench} bench @param {Trial} trial */
 function wholeWords(bench, trial) {
   const q = parting(bench.measured.ends, trial.measured.ends), { p } = trial.answer;
   if (!q) return `${trial.what}: it is the list in force, page for page.`;

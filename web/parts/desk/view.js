@@ -35,7 +35,8 @@ export class DeskView {
     this.times = { draw: 0, n: 0, worst: 0 };
   }
 
-  /** Sizes for this galley and window; everything is drawn again. @param {any} g */
+  /** Sizes for this galley and window; everything is drawn again.
+   * @param {any} g */
   fit(g) {
     this.g = g;
     const width = this.film.clientWidth || 1000, tall = innerWidth <= PHONE ? 330 : Math.max(250, Math.min(430, innerHeight - 560));
@@ -51,7 +52,8 @@ export class DeskView {
     put(byId('deskmap'));
   }
 
-  /** The boundary between pages q and q + 1, from the left of the film. @param {any} M @param {number} q */
+  /** The boundary between pages q and q + 1, from the left of the film.
+   * @param {any} M @param {number} q */
   boundary(M, q) {
     const page = M.pages[q - 1], left = (page.leaf - M.leaf0) * this.Z.w;
     return this.pad + left + (page.leaf === M.pages[q]?.leaf ? this.Z.w / 2 : this.Z.w);
@@ -81,7 +83,8 @@ export class DeskView {
     this.times = { draw: ms, n: this.times.n + 1, worst: Math.max(this.times.worst, ms) };
   }
 
-  /** The list in force in place of the trial, while it is asked for. @param {boolean} on */
+  /** The list in force in place of the trial, while it is asked for.
+   * @param {boolean} on */
   flick(on) {
     if (!this.state) return;
     const { bench } = this.state, { trial } = bench;
@@ -96,7 +99,8 @@ export class DeskView {
     }
   }
 
-  /** The leaves in view, and one on each side. @returns {[number, number]} */
+  /** The leaves in view, and one on each side.
+   * @returns {[number, number]} */
   inView() {
     const { M, Z } = this, from = Math.max(M.leaf0, M.leaf0 + Math.floor((this.film.scrollLeft - this.pad) / Z.w) - 1);
     return [from, Math.min(M.leaf1, from + Math.ceil(this.width / Z.w) + 2)];
@@ -156,7 +160,8 @@ export class DeskView {
     return { lines, floats };
   }
 
-  /** Handles at rest, of the other pages of a leaf. @param {number} i */
+  /** Handles at rest, of the other pages of a leaf.
+   * @param {number} i */
   grips(i) {
     const { q, gains, pair, bench } = this.state, other = (page) => !page.last && page.q !== q && page.q > bench.printed;
     const drawGrip = (page) => grip(this.g, page, this.Z, this.H.y0, gains.get(page.q) ?? 0, pair && page.q === q + 1);
@@ -174,7 +179,8 @@ export class DeskView {
     this.over.replaceChildren(...drawn(`<svg>${marks}</svg>`).childNodes);
   }
 
-  /** One accepted end a line: that with the fewest turns. @param {number} q */
+  /** One accepted end a line: that with the fewest turns.
+   * @param {number} q */
   accepted(q) {
     const { bench, pair } = this.state, now = bench.trial && !bench.trial.whole ? bench.trial.end : bench.ends[q - 1];
     const { byLine } = pair ? bench.pairs(q) : bench.scan(q);
@@ -268,7 +274,8 @@ export class DeskView {
     for (const [name, value] of Object.entries(told)) this.film.setAttribute(`aria-${name}`, String(value));
   }
 
-  /** What does not change while a hand moves. @param {Sitting} s */
+  /** What does not change while a hand moves.
+   * @param {Sitting} s */
   drawPanels(s) {
     const { bench, q, pair, bestEnds } = s, { hand } = this, star = bestEnds?.[q - 1] ?? null, pick = (one) => hand.pick(one);
     put(byId('ends'), pair ? pairsPanel(bench, q, star, pick) : endsPanel(bench, q, star, pick));
@@ -287,7 +294,8 @@ export class DeskView {
     put(byId('lays'), layoutsPanel(bench, (name) => hand.back(name), (name) => hand.drop(name)));
   }
 
-  /** While a hand moves only the chip that is on changes. @param {Sitting} s */
+  /** While a hand moves only the chip that is on changes.
+   * @param {Sitting} s */
   markChips({ bench, q }) {
     const { trial } = bench, end = (trial?.end ?? bench.ends[q - 1]).join(' ');
     const both = trial?.second ? `${end} ${trial.second.join(' ')}` : end;
@@ -307,7 +315,8 @@ function sized(element, side, size) {
   if (element.style[side] !== value) element.style[side] = value;
 }
 
-/** What the overview of a leaf depends on. @param {any} M @param {any} ways @param {number} i */
+/** What the overview of a leaf depends on.
+ * @param {any} M @param {any} ways @param {number} i */
 function leafSum(M, ways, i) {
   const pages = (M.byLeaf.get(i) ?? []).map((page) => `${page.q} ${page.a} ${page.b} ${page.bad.length}`);
   const arcs = (ways.over.get(i) ?? []).map((A) => `${A.F.id} ${A.lane} ${A.i0} ${A.i1}`);

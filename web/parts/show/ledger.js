@@ -36,7 +36,8 @@ export function ledger(app, { g, hand, order }) {
   return el('details', {}, el('summary', {}, `${plural(rows.length, 'float')} that cost turns, each with its pages`), table);
 }
 
-/** The pages and turns of a float in one list. @param {Float} F @param {string} name */
+/** The pages and turns of a float in one list.
+ * @param {Float} F @param {string} name */
 function cells(F, name) {
   if (F.turns === null) return el('td', { colspan: 2, class: 'bad', 'data-t': name }, 'not placed');
   const turns = F.turns < 0 ? 'too soon' : F.turns ? `${'●'.repeat(Math.min(9, F.turns))} ${F.turns}` : '0';

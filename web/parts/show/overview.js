@@ -38,7 +38,8 @@ function against(g, L, best, to) {
   return turnsByLeaf(g, L, to).map((turns, k) => turns - other[k]);
 }
 
-/** Turns lost for good, by leaf. @param {any} g @param {any} lost */
+/** Turns lost for good, by leaf.
+ * @param {any} g @param {any} lost */
 export function lostByLeaf(g, lost) {
   const out = new Map();
   for (const one of Array.isArray(lost) ? lost : []) out.set(leafOf(g, one.page), (out.get(leafOf(g, one.page)) ?? 0) + one.turns);

@@ -46,7 +46,8 @@ export function reelOf(app, scene) {
     watched(el('div', { class: 'reel', id: 'reel' }, columns))];
 }
 
-/** Marks in the overview what is in view of the reel. @param {HTMLElement} reel */
+/** Marks in the overview what is in view of the reel.
+ * @param {HTMLElement} reel */
 function watched(reel) {
   const seen = new IntersectionObserver((entries) => {
     for (const { target, isIntersecting } of entries) {
@@ -68,7 +69,8 @@ function caption(L, c, i, word, came, part, lost) {
     c === 0 && lost > 0 && el('em', {}, ` · ${lost} lost for good`));
 }
 
-/** Leaves that are left out. @param {Scene} scene @param {number} from @param {number} to */
+/** Leaves that are left out.
+ * @param {Scene} scene @param {number} from @param {number} to */
 function gap({ g, order }, from, to) {
   const within = (F) => F.turns > 0 ? Math.max(0, Math.min(F.fp.leaf, to) - Math.max(F.cp.leaf, from - 1)) : 0;
   const turns = order.map((L) => L.floats.reduce((sum, F) => sum + within(F), 0));

@@ -62,7 +62,8 @@ function leavesOf(order, lo, hi, part) {
   return [...keep].sort((a, b) => a - b);
 }
 
-/** Which lists stand above the best. @param {App} app */
+/** Which lists stand above the best.
+ * @param {App} app */
 function chooser(app) {
   const all = app.comparable();
   if (!all.length) return null;
@@ -77,14 +78,16 @@ function listRefused(g, list) {
   return el('div', { class: 'state' }, el('p', {}, el('b', {}, list.name), ' is refused, R 12 0: ', why));
 }
 
-/** Where each list parts from the best. @param {Scene} scene */
+/** Where each list parts from the best.
+ * @param {Scene} scene */
 function partings({ g, hand, best }) {
   if (!best || !hand.length) return null;
   if (hand.length === 1) return el('p', { class: 'verdict' }, partingWords(g, hand[0], best));
   return hand.map((L) => el('p', { class: 'sub' }, el('b', {}, L.name), ': ', partingWords(g, L, best)));
 }
 
-/** What a list never places; and, where that is all that is wrong, the rest of the pages. @param {App} app @param {Measured} L */
+/** What a list never places; and, where that is all that is wrong, the rest of the pages.
+ * @param {App} app @param {Measured} L */
 function neverPlaced(app, L) {
   if (!L.rest) return null;
   const left = (one, s) => app.g.count[s] > L.rest[s] ? plural(app.g.count[s] - L.rest[s], one) : '';

@@ -6,7 +6,8 @@ import { button, el, state } from '../dom.js';
 
 /** @typedef {import('../app.js').App} App */
 
-/** A galley that the engine refuses. @param {App} app */
+/** A galley that the engine refuses.
+ * @param {App} app */
 export function galleyRefused(app) {
   const { refused } = app;
   return state(`The galley is refused: ${sentence(refused)}`,
@@ -14,7 +15,8 @@ export function galleyRefused(app) {
     el('p', {}, 'Nothing can be drawn of it.'));
 }
 
-/** The best list is being made, or was stopped. @param {App} app */
+/** The best list is being made, or was stopped.
+ * @param {App} app */
 export function makingBox(app) {
   if (app.stopped) {
     return state('Making was stopped.', el('p', {}, button('Make the best list', () => app.makeBest(), { id: 'makeagain' })));
@@ -32,7 +34,8 @@ export function makingBox(app) {
 /** @param {App} app */
 export const elapsed = (app) => `${((performance.now() - app.makingSince) / 1000).toFixed(1)} s so far.`;
 
-/** There is no best list. @param {App} app */
+/** There is no best list.
+ * @param {App} app */
 export function noPagination(app) {
   const { best } = app;
   if (!best || best.ok) return null;

@@ -59,7 +59,8 @@ function refusedWords(L, best) {
   return [el('span', { class: 'bad' }, `Refused, rule ${rule} on page ${page}: `), words.join(' ')];
 }
 
-/** Every rule that every page breaks, where there is more than one. @param {Measured} L */
+/** Every rule that every page breaks, where there is more than one.
+ * @param {Measured} L */
 function faults(L) {
   const all = L.pages.flatMap((page) => page.bad);
   if (!all.length) return null;
