@@ -81,7 +81,7 @@ def one(tally, browser, command, galley, folder):
     command.run('show', str(galley), str(GALLEY.with_suffix('.latex')), '--out', str(folder / 'one.html'))
     browser.open(folder / 'one.html')
     browser.until('app.best', 'the galley is made')
-    tally.same('one list: galley, list and view', browser.value('[app.name, app.lists.map((l) => l.name).join(), app.tab]'), ['chapter', 'gretl-p441', 'show'])
+    tally.same('one list: galley, list and view', browser.value('[app.name, app.lists.map((l) => l.name).join(), app.tab]'), ['chapter', 'gretl-p441.latex', 'show'])
     tally.same('one list: the best', native.best(browser), native.made(command, galley))
     said = native.marked(command, galley, GALLEY.with_suffix('.latex').read_text(), folder).split()
     tally.same('one list: its mark', browser.value('(({mark: m}) => m.ok ? [m.p, m.x, m.y, m.t, m.w].join(" ") : `R ${m.number} ${m.place}`)(app.lists[0])'), ' '.join(said))

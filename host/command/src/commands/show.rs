@@ -122,9 +122,11 @@ fn keep_inputs(args: &Args, out: &Path) -> Result<(), Error> {
     }
 }
 
-/// A file's name without folders and without its last ending.
+/// A file's name without folders, and without the ending that galleys and lists have.
 fn stem(name: &FileName) -> String {
-    let stem = Path::new(name.os()).file_stem().unwrap_or(name.os());
+    let file = Path::new(name.os());
+    let usual = file.extension().is_some_and(|ending| ending == "galley" || ending == "list");
+    let stem = if usual { file.file_stem() } else { file.file_name() }.unwrap_or(name.os());
     if name.is_standard_input() {
         "galley".into()
     } else {
