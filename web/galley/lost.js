@@ -23,9 +23,12 @@ export async function lostForGood(g, ends, bestAfter, wanted = () => true) {
     if (!known.has(q)) known.set(q, q === p ? measure(g, ends) : await bestMeasured(q));
     return known.get(q);
   };
+  let broken = false;
   const bestMeasured = async (q) => {
     const made = await bestAfter(q);
-    return made.ok ? measure(g, toEnds(made.list, g.width)) : null;
+    if (made.ok) return measure(g, toEnds(made.list, g.width));
+    broken = true;                      // the list itself begins so: only what was stopped has no answer
+    return null;
   };
   const out = /** @type {Lost[]} */ ([]);
   const between = async (low, high) => {
@@ -40,5 +43,5 @@ export async function lostForGood(g, ends, bestAfter, wanted = () => true) {
     await between(middle, high);
   };
   await between(0, p);
-  return wanted() ? out : null;
+  return wanted() && !broken ? out : null;
 }

@@ -155,11 +155,20 @@ export class App {
    * @param {string} name @param {number[][]} ends */
   async makeAfterList(name, ends) {
     const made = await this.maker.make(toWords(ends, this.g.width));
-    if (!made.ok) return this.toast(made.number === 11 ? `No list begins with the pages of ${name}.` : sentence(made));
+    if (made.number === 11) return this.adviseOpening(name, toWords(ends, this.g.width));
+    if (!made.ok) return this.toast(sentence(made));
     this.bench.put(made.list, `${name}, and the rest made after it`);
     this.go('desk');
     this.hand.show(this.bench, Math.min(ends.length + 1, this.bench.p - 1));
     this.setPrinted(ends.length);
+  }
+
+  /** What would have to give where no list begins with an opening.
+   * @param {string} name @param {Uint32Array} opening */
+  async adviseOpening(name, opening) {
+    this.keeper.notice(`No list begins with the pages of ${name} (11). Looking for what would have to give…`);
+    const { g } = this, remarks = await advice(g, opening, async (bytes, words) => (await this.maker.tryBytes(bytes, words)).ok);
+    if (this.g === g) this.keeper.notice(`No list begins with the pages of ${name} (11): ${remarks.join('; ')}.`);
   }
 
   /** What would have to give where no pagination exists. */
@@ -340,8 +349,8 @@ export class App {
     if (asked && !this.quick(PATIENT)) this.draw();
     const { printed } = this.bench, bestAfter = (q) => this.maker.make(words.subarray(0, Math.max(q, printed) * g.width), false);
     const lost = await lostForGood(g, L.ends, bestAfter, () => this.g === g);
-    if (!lost || this.g !== g) return;
-    this.lost.set(key, lost);
+    if (this.g !== g) return;
+    if (lost) this.lost.set(key, lost); else this.lost.delete(key);
     if (this.tab === 'show') this.draw();
   }
 

@@ -89,6 +89,16 @@ export class Keeper {
     return this.reopen(view?.key || this.store.last(), view);
   }
 
+  /** What this window showed of the galley at hand before a reload. */
+  restoreView() {
+    const { app } = this, view = this.store.view();
+    if (!app.g || view?.key !== this.store.key || view.tab === 'book') return;
+    app.chosen = new Set(view.chosen ?? []);
+    if (view.ms) app.maker.lastMs = Number(view.ms);
+    app.go(view.tab);
+    if (app.tab === 'desk' && app.bench?.open) app.hand.show(app.bench, view.q);
+  }
+
   /** Forgets a galley, or all.
    * @param {string | null} key */
   clear(key) {
