@@ -248,7 +248,8 @@ export class DeskHand {
     } else if (pages >= bench.p - 1) this.app.toast('With all pages but the last printed there would be no end to move.');
     else {
       this.app.setPrinted(pages);
-      this.app.toast(`Pages 1 to ${pages} are printed and stay. Make best makes the rest after them.`);
+      const what = pages === 1 ? 'Page 1 is printed and stays' : `Pages 1 to ${pages} are printed and stay`;
+      this.app.toast(`${what}. Make best makes the rest after that.`);
     }
     this.s.q = this.within(this.s.q);
     this.paint(true);
