@@ -1,5 +1,6 @@
 //! What can keep the command from its work. A refusal is none: it is an answer.
 
+use crate::commands::tex::Failure;
 use crate::input::FileName;
 use barleychime::engine::MakeError;
 use barleychime::list::ListError;
@@ -39,8 +40,8 @@ pub enum Error {
     LongCall { line: usize },
     /// The engine refuses what it has answered before.
     Unlike(Refusal),
-    /// TeX cannot be run, or stops at an error, or its files are not there: what is said of that.
-    Tex(String),
+    /// A document cannot be paged.
+    Tex(Failure),
     /// Standard output cannot be written.
     Output(io::Error),
 }
@@ -55,7 +56,8 @@ impl Error {
 impl fmt::Display for Error {
     fn fmt(&self, out: &mut fmt::Formatter) -> fmt::Result {
         match self {
-            Error::Usage(what) | Error::Tex(what) => write!(out, "{what}"),
+            Error::Usage(what) => write!(out, "{what}"),
+            Error::Tex(failure) => write!(out, "{failure}"),
             Error::Read { name, error } | Error::Write { name, error } => write!(out, "{name}: {error}"),
             Error::TooLong { name } => write!(out, "{name}: too long for a text of a galley, of a list or of marks"),
             Error::Galley { name } => write!(out, "{name}: line 1: a galley file stands where a text is wanted"),
@@ -79,6 +81,7 @@ impl std::error::Error for Error {
             Error::Read { error, .. } | Error::Write { error, .. } | Error::Calls(error) | Error::Output(error) => {
                 Some(error)
             }
+            Error::Tex(failure) => Some(failure),
             Error::Text { error, .. } => Some(error),
             Error::List { error, .. } => Some(error),
             Error::Marks { error, .. } => Some(error),

@@ -1,5 +1,6 @@
 //! `barleychime tex`: from a document to its pages. LuaLaTeX and the engine run by turns until nothing changes.
 
+mod failure;
 mod galleys;
 mod lists;
 mod runs;
@@ -8,6 +9,7 @@ mod shipped;
 use crate::error::Error;
 use crate::output::{say, watched, Output};
 use crate::Outcome;
+pub use failure::Failure;
 use galleys::Part;
 use lists::{Lists, Printed};
 use runs::{Job, TeX};
@@ -57,11 +59,8 @@ pub fn run(args: &Args, output: &mut Output) -> Result<Outcome, Error> {
 fn pages_printed(job: &Job, last: usize) -> Result<Printed, Error> {
     let shipped = shipped::read(&job.text(".pages"));
     match shipped.folios.len() {
-        0 => Err(Error::Tex(format!(
-            "{}: not there; --after needs it from the run whose pages were printed",
-            job.file(".pages").display()
-        ))),
-        pages if last > pages => Err(Error::Tex(format!("--after {last}: the PDF had {pages} pages"))),
+        0 => Err(Error::Tex(Failure::NoPages(job.file(".pages")))),
+        pages if last > pages => Err(Error::Tex(Failure::TooFewPages { last, pages })),
         _ => Ok(Printed { shipped, last }),
     }
 }
@@ -69,15 +68,14 @@ fn pages_printed(job: &Job, last: usize) -> Result<Printed, Error> {
 fn read_galleys(job: &Job) -> Result<Vec<Part>, Error> {
     let parts = galleys::read(&job.text(".galley.txt"));
     if parts.is_empty() && !job.file(".galley.txt").is_file() {
-        let what = "not written; does the document say \\usepackage{barleychime}, in one column?";
-        return Err(Error::Tex(format!("{}: {what}", job.file(".galley.txt").display())));
+        return Err(Error::Tex(Failure::NoGalleys(job.file(".galley.txt"))));
     }
     Ok(parts)
 }
 
 fn write_lists(job: &Job, text: &str) -> Result<(), Error> {
     let path = job.file(".list");
-    fs::write(&path, text).map_err(|error| Error::Tex(format!("{}: {error}", path.display())))
+    fs::write(&path, text).map_err(|error| Error::Tex(Failure::Lists { path, error }))
 }
 
 /// Lists for the galleys that are there. Barriers of the lists before stay; a file that would not change is left as it is, so

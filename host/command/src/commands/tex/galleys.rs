@@ -1,5 +1,6 @@
 //! JOB.galley.txt, which the LaTeX package writes: the galleys of a document, each with remarks that are no part of it.
 
+use super::Failure;
 use barleychime::text;
 
 /// The side that a galley opens on: that of the next page, or one for which a blank page is left.
@@ -87,10 +88,11 @@ impl Part {
     }
 
     /// The galley's bytes, opened on a folio, or without one as a later chapter of a book.
-    pub fn bytes(&self, folio: Option<u32>) -> Result<Vec<u8>, String> {
+    pub fn bytes(&self, folio: Option<u32>) -> Result<Vec<u8>, Failure> {
         let folio = folio.map_or(String::new(), |folio| format!("FO {folio}\n"));
         let text = format!("{}\n{folio}{}\n", self.spec, self.records.join("\n"));
-        text::pack(&text).map(|packed| packed.bytes).map_err(|what| format!("galley {}: {what}", self.number))
+        let packed = text::pack(&text).map_err(|error| Failure::Galley { number: self.number, error });
+        packed.map(|packed| packed.bytes)
     }
 
     fn remark(&mut self, words: &str) {

@@ -2,6 +2,7 @@
 
 use super::galleys::{Opens, Part};
 use super::shipped::Shipped;
+use super::Failure;
 use crate::output::{say, watched};
 use barleychime::engine::{self, MakeError, Measure, Memory};
 use barleychime::refusal::{Refusal, RefusalKind};
@@ -35,7 +36,7 @@ pub struct Lists {
 
 impl Lists {
     /// Makes the lists anew; barriers stay. Whether a barrier came to them.
-    pub fn make(&mut self, parts: &[Part], printed: Option<&Printed>) -> Result<bool, String> {
+    pub fn make(&mut self, parts: &[Part], printed: Option<&Printed>) -> Result<bool, Failure> {
         self.made = Vec::new();
         while self.made.len() < parts.len() {
             let at = self.made.len();
@@ -85,7 +86,7 @@ impl Lists {
         }
     }
 
-    fn keep(&mut self, part: &Part, folio: u32, opening: &Opening) -> Result<(), String> {
+    fn keep(&mut self, part: &Part, folio: u32, opening: &Opening) -> Result<(), Failure> {
         let bytes = part.bytes(Some(folio))?;
         let answer = match opening {
             Opening::ByLaTeX => {
@@ -102,18 +103,14 @@ impl Lists {
         match answer {
             Ok(made) => self.made.push(Made { folio, list: Some(made) }),
             Err(error) => {
-                let what = "its printed pages cannot stay";
-                return Err(format!(
-                    "galley {}, {:?}: {what}: {error}; without --after all is made anew",
-                    part.number, part.words
-                ));
+                return Err(Failure::Printed { number: part.number, words: part.words.clone(), error });
             }
         }
         Ok(())
     }
 
     /// Galleys that follow on, the first opening on a folio.
-    fn make_chain(&mut self, chain: &[Part], folio: u32) -> Result<(), String> {
+    fn make_chain(&mut self, chain: &[Part], folio: u32) -> Result<(), Failure> {
         let wanted = chain.iter().position(Part::has_floats);
         match wanted {
             _ if chain.is_empty() => Ok(()),
@@ -141,7 +138,7 @@ impl Lists {
         self.made.push(Made { folio, list: None });
     }
 
-    fn make_book(&mut self, chapters: &[Part], folio: u32) -> Result<(), String> {
+    fn make_book(&mut self, chapters: &[Part], folio: u32) -> Result<(), Failure> {
         let [first, rest @ ..] = chapters else { return Ok(()) };
         if rest.is_empty() {
             return self.make_one(first, folio);
@@ -154,7 +151,7 @@ impl Lists {
             for (part, chapter) in chapters.iter().zip(book.chapters) {
                 let folio = chapter.folio as u32;
                 let measure = engine::mark(&part.bytes(Some(folio))?, &chapter.list);
-                let measure = measure.map_err(|refusal: Refusal| format!("galley {}: {refusal}", part.number))?;
+                let measure = measure.map_err(|refusal| Failure::Unlike { number: part.number, refusal })?;
                 self.made.push(Made { folio, list: Some((measure, chapter.list)) });
             }
             return Ok(());
@@ -169,7 +166,7 @@ impl Lists {
         self.make_book(rest, folio + pages)
     }
 
-    fn make_one(&mut self, part: &Part, folio: u32) -> Result<(), String> {
+    fn make_one(&mut self, part: &Part, folio: u32) -> Result<(), Failure> {
         let bytes = part.bytes(Some(folio))?;
         let mut memory = Memory::new();
         let list = match memory.make(&bytes) {

@@ -1,5 +1,6 @@
 //! Runs of LuaLaTeX.
 
+use super::Failure;
 use std::ffi::OsString;
 use std::path::{Path, PathBuf};
 use std::process::{Command, Stdio};
@@ -25,12 +26,12 @@ pub struct Job {
 }
 
 impl Job {
-    pub fn new(document: &Path, folder: Option<&Path>) -> Result<Job, String> {
+    pub fn new(document: &Path, folder: Option<&Path>) -> Result<Job, Failure> {
         let name = match document.extension() {
             Some(extension) if extension == "tex" => document.file_stem(),
             _ => document.file_name(),
         };
-        let name = name.ok_or_else(|| format!("{}: no document has this name", document.display()))?.to_owned();
+        let name = name.ok_or_else(|| Failure::NoDocument(document.into()))?.to_owned();
         Ok(Job { document: document.into(), folder: folder.unwrap_or(Path::new("")).into(), name })
     }
 
@@ -64,12 +65,12 @@ pub struct TeX {
 
 impl TeX {
     /// The package that comes with the command is used only where TeX finds none.
-    pub fn new() -> Result<TeX, String> {
+    pub fn new() -> Result<TeX, Failure> {
         let found = Command::new("kpsewhich").arg("barleychime.sty").stderr(Stdio::null()).output();
         match found {
             Ok(answer) if answer.status.success() => Ok(TeX { inputs: None, folder: None }),
-            Ok(_) => TeX::with_package().map_err(|error| format!("the package cannot be written for TeX: {error}")),
-            Err(error) => Err(format!("kpsewhich: {error}; is TeX installed? `packages/install latex` installs it")),
+            Ok(_) => TeX::with_package().map_err(Failure::NoPackage),
+            Err(error) => Err(Failure::NoProgram { program: "kpsewhich", error }),
         }
     }
 
@@ -87,7 +88,7 @@ impl TeX {
     }
 
     /// One run. An error is what TeX shows of it.
-    pub fn run(&self, job: &Job) -> Result<(), String> {
+    pub fn run(&self, job: &Job) -> Result<(), Failure> {
         let mut command = Command::new("lualatex");
         command.args(["-interaction=nonstopmode", "-halt-on-error"]);
         if !job.folder.as_os_str().is_empty() {
@@ -99,10 +100,10 @@ impl TeX {
             command.env("TEXINPUTS", inputs);
         }
         let answer = command.arg(&job.document).stdin(Stdio::null()).output();
-        let answer = answer.map_err(|error| format!("lualatex: {error}; `packages/install latex` installs it"))?;
+        let answer = answer.map_err(|error| Failure::NoProgram { program: "lualatex", error })?;
         match answer.status.success() {
             true => Ok(()),
-            false => Err(shown(&String::from_utf8_lossy(&answer.stdout), job)),
+            false => Err(Failure::Stopped(shown(&String::from_utf8_lossy(&answer.stdout), job))),
         }
     }
 }
