@@ -1,11 +1,12 @@
 """The built page in Debian's Chromium, without a window: what a person does, and what can be seen of it."""
-import os
+import base64
 import pathlib
 import shutil
 import tempfile
 import time
 
 from selenium import webdriver
+from selenium.common.exceptions import StaleElementReferenceException
 from selenium.webdriver import ActionChains
 from selenium.webdriver.chrome.options import Options
 from selenium.webdriver.chrome.service import Service
@@ -84,8 +85,14 @@ class Browser:
     def one(self, selector):
         return self.driver.find_element(By.CSS_SELECTOR, selector)
 
-    def all(self, selector):
-        return self.driver.find_elements(By.CSS_SELECTOR, selector)
+    def click(self, selector):
+        """Clicks an element, which the page may just have drawn anew."""
+        for _ in range(50):
+            try:
+                return self.one(selector).click()
+            except StaleElementReferenceException:
+                time.sleep(0.05)
+        return self.one(selector).click()
 
     def text(self, selector):
         return self.value('document.querySelector(arguments[0]).innerText', selector)
@@ -121,13 +128,4 @@ class Browser:
 
     def printed(self):
         """The page on paper, as a PDF."""
-        import base64
         return base64.b64decode(self.driver.execute_cdp_cmd('Page.printToPDF', {'preferCSSPageSize': True})['data'])
-
-
-def there():
-    """Whether there is a browser to be driven."""
-    return bool(shutil.which('chromium') and shutil.which('chromedriver'))
-
-
-__all__ = ['ActionChains', 'Browser', 'By', 'Keys', 'PAGE', 'ROOT', 'os', 'there']

@@ -1,4 +1,5 @@
 """What is handed to the page: refused galleys, galleys without a pagination, pasted text, garbage in every field; and names that look like markup."""
+import base64
 import pathlib
 import random
 
@@ -32,7 +33,7 @@ def run(tally, browser, command, folder):
 def paste(tally, browser, text):
     browser.js('app.go("open")')
     browser.js('document.getElementById("paste").value = arguments[0]', text)
-    browser.one('#readpaste').click()
+    browser.click('#readpaste')
 
 
 def state(browser):
@@ -85,7 +86,7 @@ def markup(tally, browser, command, folder):
     elements = 'document.querySelectorAll("img, iframe, object, embed, [onclick], [onload], [onerror], main script, a[href^=javascript]").length'
     galley = (ROOT / 'samples/real/gretl-p441.galley').read_bytes()
     best = command.text('make', str(ROOT / 'samples/real/gretl-p441.galley'))[1].encode()
-    for number, name in enumerate(NAMES):
+    for name in NAMES:
         browser.js('''const bytes = (s) => Uint8Array.from(atob(s), (c) => c.charCodeAt(0));
             app.take([{name: arguments[0], bytes: bytes(arguments[1])}, {name: arguments[0] + '1', bytes: bytes(arguments[2])}, {name: arguments[0] + '2', bytes: bytes(arguments[3])}])''',
                    name, coded(galley), coded(best), coded(f'{name} {name}\n'.encode()))
@@ -96,9 +97,21 @@ def markup(tally, browser, command, folder):
             tally.same(f'{name}, {tab}: no element of it, and the window’s title', [browser.value(elements), browser.value('document.title === "1"')], [0, False])
         browser.js('app.go("class")')
         tally.same(f'{name}: its list is there by name', name.strip()[:8] in browser.text('#view-class'), True)
-        del number
 
 
 def coded(data):
-    import base64
     return base64.b64encode(data).decode()
+
+
+def sealed(tally, browser, command, folder):
+    """Nothing leaves the page, and nothing runs in it but its own script."""
+    policy = browser.value('document.querySelector("meta[http-equiv=Content-Security-Policy]").content')
+    tally.same('the policy allows nothing that it does not name', [policy.startswith("default-src 'none';"), 'http' in policy, 'unsafe-inline' in policy], [True, False, False])
+    fetched = browser.driver.execute_async_script('const done = arguments[arguments.length - 1]; fetch("http://127.0.0.1:9/").then(() => done("fetched"), (error) => done(error.name))')
+    tally.same('nothing is fetched', fetched, 'TypeError')
+    browser.js('const s = document.createElement("script"); s.textContent = "document.title = 1"; document.body.append(s); document.body.insertAdjacentHTML("beforeend", "<img src=x onerror=\\"document.title = 1\\">")')
+    tally.same('no other script runs', browser.value('document.title === "1"'), False)
+    forbidden = browser.errors()
+    tally.same('and the policy is what forbade them', len([line for line in forbidden if 'Content Security Policy' in line]) >= 3, True)
+    loaded = browser.value('performance.getEntriesByType("resource").filter((one) => !one.name.startsWith("blob:") && !one.name.includes("127.0.0.1:9")).map((one) => one.name)')
+    tally.same('the page loads no other file', [name for name in loaded if not name.endswith('/x')], [])

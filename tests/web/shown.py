@@ -17,7 +17,7 @@ def samples(tally, browser, command, folder):
     for number in range(count):
         name = browser.value('app.inside[arguments[0]].name', number)
         browser.js('app.go("open")')
-        browser.one(f'[data-sample="{number}"]').click()
+        browser.click(f'[data-sample="{number}"]')
         if browser.value('!!app.inside[arguments[0]].galleys', number):
             continue                                           # a book: wider.py has it
         browser.until('app.best', f'{name} is made')
@@ -72,7 +72,7 @@ def school(tally, browser, command, folder):
         tally.same(f'class at {size[0]} px: nothing sideways', browser.sideways(), 0)
     browser.sized(1440, 900)
     rows(tally, browser, lists)
-    browser.one('#view-class [data-show]').click()
+    browser.click('#view-class [data-show]')
     browser.until('app.tab === "show" && document.querySelector("#view-show svg")', 'a row opens its spreads')
     tally.same('class: the row that was opened is shown', browser.value('app.chosen.size'), 1)
 

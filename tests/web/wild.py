@@ -1,7 +1,7 @@
 """Any galley and any keys: no error, and the list in force is always accepted and never better than the best."""
 import random
 
-from driver import Keys
+from driver import ActionChains, Keys
 
 ROUNDS, PRESSES = 24, 30
 PRESS = [Keys.ARROW_UP, Keys.ARROW_DOWN, Keys.ARROW_LEFT, Keys.ARROW_RIGHT, 'b', 'n', 'r', '[', ']', Keys.ENTER, Keys.ENTER, Keys.ESCAPE, Keys.HOME, Keys.END, Keys.PAGE_UP, ' ']
@@ -39,7 +39,6 @@ def run(tally, browser, command, folder):
 
 
 def press(browser, rng):
-    from driver import ActionChains
     actions = ActionChains(browser.driver)
     for _ in range(PRESSES):
         hold, key = rng.choice([None, None, None, Keys.SHIFT, Keys.ALT]), rng.choice(PRESS)
