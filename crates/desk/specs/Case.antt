@@ -1,5 +1,6 @@
--- Two sittings computed: every row is a call, its answer, and the list in force after it. The rows are worked out by hand from document 02
--- (S-7 and S-8); tests/desk puts the calls of the first to the compiled desk.
+-- Two sittings computed: every row is a call, its answer, and the list in force after it. The rows of the first are worked out by hand from
+-- document 02 (S-7 and S-8), as those are that tests/desk puts to the compiled desk; those of the second are what the reference in Python
+-- answers.
 use Prim.Native.Nat.{ℕ, zero, suc}
 use mathlib.Core.Bool.{true}
 use mathlib.Core.List.{List, [], _∷_, _++_, map}
