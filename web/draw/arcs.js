@@ -29,7 +29,7 @@ export function quietArc(F, c, f, Z, many) {
 
 /** The height of a lane.
  * @param {Size} Z @param {number} sheet @param {number} lane */
-export const laneHeight = (Z, sheet, lane) => sheet - Z.headroom / 2 - (lane + 0.5) * Z.lane;
+const laneHeight = (Z, sheet, lane) => sheet - Z.headroom / 2 - (lane + 0.5) * Z.lane;
 
 /**
  * The corners of an arc within leaf i.

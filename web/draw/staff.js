@@ -73,7 +73,7 @@ export function staff(g, L, ways, i, Z, options = {}) {
  * A leaf for a screen reader.
  * @param {Galley} g @param {Measured} L @param {number} i @param {string} label @param {number} printed
  */
-export function leafWords(g, L, i, label, printed) {
+function leafWords(g, L, i, label, printed) {
   const pages = L.byLeaf.get(i) ?? [], told = label ? `${label}, ` : '';
   if (!pages.length) return `${told}no page here`;
   const words = pages.map((page) => {

@@ -3,13 +3,10 @@ import { large, lanes } from '../../layout/layout.js';
 import { staff } from '../../draw/staff.js';
 import { byId, drawn, el, put } from '../dom.js';
 
-/**
- * @typedef {import('../app.js').App} App
- * @typedef {import('./show.js').Scene} Scene
- */
+/** @typedef {import('./show.js').Scene} Scene */
 
-/** @param {App} app @param {Scene} scene @param {number} leaf */
-export function openLarge(app, scene, leaf) {
+/** @param {Scene} scene @param {number} leaf */
+export function openLarge(scene, leaf) {
   const dialog = byId('large'), { g, order, leaves } = scene, beside = innerWidth > 900 ? order.length : 1;
   const Z = large(g, Math.max(420, innerHeight - 190), (innerWidth - 80) / beside);
   const ways = order.map((L) => lanes(L, Z)), word = g.sides === 2 ? 'Spread' : 'Page';

@@ -32,7 +32,7 @@ export function reelOf(app, scene) {
     const col = el('section', { class: 'col', id: `s${i}`, tabindex: 0, 'aria-label': `${word} ${i}: Enter shows it large` }, cells);
     col.style.width = `${Z.w}px`;
     col.style.containIntrinsicSize = `${Z.w}px ${Math.ceil(height)}px`;
-    const open = () => openLarge(app, scene, i);
+    const open = () => openLarge(scene, i);
     col.addEventListener('click', open);
     col.addEventListener('keydown', (event) => { if (event.key === 'Enter') open(); });
     return col;
