@@ -1,8 +1,10 @@
 """Books through the command: what is printed of cases, of books drawn at random, of refused ones and of the samples, against the
 reference; what is told beforehand, and on a terminal."""
 
+import re
 import subprocess
 import sys
+from dataclasses import replace
 from pathlib import Path
 
 sys.path.insert(0, str(Path(__file__).resolve().parents[1] / 'book'))
@@ -10,8 +12,8 @@ sys.path.insert(0, str(Path(__file__).resolve().parents[1] / 'book'))
 import faults  # noqa: E402
 from advised import on_terminal  # noqa: E402
 from command_line import file  # noqa: E402
-from foretold import told_in_words  # noqa: E402
-from reference import beforehand, book, cases, marking, sample  # noqa: E402
+from foretold import shown, time_of_chapter, told_in_words  # noqa: E402
+from reference import book, cases, marking, sample, search  # noqa: E402
 from reference.galley import read, write  # noqa: E402
 
 REAL = {'gretl': ('gretl-p046', 'gretl-p441'), 'mpman': ('mpman-p003', 'mpman-p081')}
@@ -32,10 +34,12 @@ def printed(galleys, choice, names):
 
 def in_words(galleys):
     """What is told of a book beforehand."""
-    searches = [2 if number == 0 or galley.spec.sides == 1 else 3 for number, galley in enumerate(galleys)]
-    steps = sum(times * (beforehand.ceiling(galley) // (beforehand.most_together(galley, galley.lines) + 1))
-                for times, galley in zip(searches, galleys))
-    return told_in_words(*book.forecast(galleys), steps)
+    return told_in_words(*book.forecast(galleys), *time_of_all(galleys))
+
+
+def time_of_all(galleys):
+    times = [time_of_chapter(galley, number == 0) for number, galley in enumerate(galleys)]
+    return [sum(each) for each in zip(*times)]
 
 
 def made(tally, command, folder):
@@ -84,7 +88,54 @@ def refused(tally, command, folder):
                 tally.same(f'{name}, why', (own, why), (number, True))
             else:
                 tally.same(f'{name}, who', 'whoever bound the book can mend it' in remarks, True)
+            if number in (28, 29):
+                due = f'there are {len(names)}' if number == 28 else unlike(names[0].read_bytes(), names[place - 1].read_bytes())
+                tally.same(f'{name}, which', remarks.endswith(f' ({due})\n'), True)
     tally.group('command: refused books')
+
+
+def unlike(first, chapter):
+    """What is told of 29: every field of a specification that differs."""
+    (there, one), (here, two) = ((data[:2].decode(), read(data)[1].spec) for data in (first, chapter))
+    names = ('htMin', 'htMax', 'sMin', 'sMax', 'sides', 'alpha', 'beta', 'lastMin')
+    told = [f'its mark is {here}, and there {there}'] if here != there else []
+    return '; '.join(told + [f'its {name} is {b}, and there {a}' for name, a, b in zip(names, one, two) if a != b and None not in (a, b)])
+
+
+def checked(tally, command, folder, name, paths, galleys, choice):
+    """Every chapter of a book is accepted as it stands, on the folio that the book gives it: marked, explained and at the desk."""
+    for path, (galley, words), number in zip(paths, book.opened_chapters(galleys, choice), range(1, len(paths) + 1)):
+        ends = marking.places(galley, words)
+        listing = file(folder, 'chapter.list', ''.join(' '.join(map(str, end)) + '\n' for end in ends).encode())
+        due = ' '.join(map(str, marking.mark(galley, words)[1:]))
+        what, folio = f'{name}, chapter {number} on folio {galley.folio}', str(galley.folio)
+        tally.same(f'{what}, marked', command.text('mark', '--folio', folio, path, listing), (0, f'{due}\n', ''))
+        status, text, _ = command.text('explain', f'--folio={folio}', path, listing)
+        headed = re.findall(r'^page (\d+)(?:, folio (\d+))?,', text, re.M)
+        numbered = [(str(q), str(galley.folio + q - 1) if galley.folio > 1 else '') for q in range(1, len(ends) + 1)]
+        tally.same(f'{what}, explained', (status, headed), (0, numbered))
+        status, text, _ = command.text('desk', path, listing, '--folio', folio)
+        tally.same(f'{what}, at the desk', (status, text), (0, f'{due}\n'))
+
+
+def folios(tally, command, folder):
+    """A folio in place of one that is stated, one that is too high to be stated, and those that are none."""
+    for stated in (None, 7):
+        path = file(folder, 'c.galley', write(replace(cases.C, stated=stated)))
+        for folio in (1, 2, 9_999, 10_000, 12_345):
+            galley = replace(cases.C, stated=folio)
+            words = search.best(galley)
+            listing = file(folder, 'c.list', ''.join(' '.join(map(str, end)) + '\n' for end in marking.places(galley, words)).encode())
+            due = ' '.join(map(str, marking.mark(galley, words)[1:]))
+            tally.same(f'folio {folio} for {stated}', command.text('mark', '--folio', str(folio), path, listing), (0, f'{due}\n', ''))
+            text = command.text('explain', '--folio', str(folio), path, listing)[1]
+            tally.same(f'folio {folio} is named', f'page 2, folio {folio + 1}, spread {(folio + 1) // 2 + 1}, ' in text, folio > 1)
+    for folio in ('0', '-1', 'x', '4294967296'):
+        status, output, remarks = command.text('mark', f'--folio={folio}', path, listing)
+        tally.same(f'folio {folio} is none', (status, output, '--folio' in remarks), (2, '', True))
+    cut = file(folder, 'cut.galley', write(cases.C)[:-1])
+    tally.same('a refused galley is refused as without', command.text('mark', '--folio', '3', cut, listing)[1], f'R 1 {len(write(cases.C)) - 2}\n')
+    tally.group('command: chapters on another folio')
 
 
 def at_terminal(tally, command, folder):
@@ -92,8 +143,10 @@ def at_terminal(tally, command, folder):
     _, galleys, choice, _ = cases.BOUND[0]
     names = files(folder, map(write, galleys))
     status, output, said = on_terminal(command, 'book', *names)
-    due = [*(f'barleychime: {name}: chapter {number} of 2, under 0.01 s' for number, name in enumerate(names, 1)),
-           'barleychime: 2 chapters, under 0.01 s for all of them']
+    told = lambda times: 'about {}, at most {}'.format(*map(shown, times))
+    due = [*(f'barleychime: {name}: chapter {number} of 2, {told(time_of_chapter(galley, number == 1))}'
+             for number, (name, galley) in enumerate(zip(names, galleys), 1)),
+           f'barleychime: 2 chapters, {told(time_of_all(galleys))} for all of them']
     tally.same('on a terminal', (status, output, said), (0, printed(galleys, choice, names), due))
     tally.group('command: a book on a terminal')
 
@@ -108,6 +161,7 @@ def samples(tally, command, root, folder):
     galleys = tuple(read(chapter)[1] for chapter in data)
     done = subprocess.run([command.program, 'book', 'one.galley', 'two.galley'], cwd=folder, capture_output=True, text=True)
     choice = book.best(galleys)
+    checked(tally, command, folder, 'sides', [folder / 'one.galley', folder / 'two.galley'], galleys, choice)
     tally.same('the book of the manual', done.stdout, printed(galleys, choice, ('one.galley', 'two.galley')))
     block = ''.join(f'    {line}\n' for line in done.stdout.splitlines())
     tally.same('book in the manual', f'\n\n{block}\n' in (root / 'docs/COMMAND.md').read_text(), True)
@@ -121,6 +175,7 @@ def samples(tally, command, root, folder):
         tally.same(f'{name} measured', (status, output), (0, printed(galleys, choice, paths)))
         valid = [marking.mark(*chapter)[0] for chapter in book.opened_chapters(galleys, choice)]
         tally.same(f'{name} is valid', valid, ['accepted'] * len(chapters))
+        checked(tally, command, folder, name, paths, galleys, choice)
         if name == 'gretl':  # small enough for the reference
             tally.same(f'{name} best', choice, book.best_by_sides(galleys))
     tally.group('books among the samples')
@@ -139,5 +194,6 @@ def parsed(galleys, output):
 def run(tally, command, root, folder):
     made(tally, command, folder)
     refused(tally, command, folder)
+    folios(tally, command, folder)
     at_terminal(tally, command, folder)
     samples(tally, command, root, folder)

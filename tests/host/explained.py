@@ -158,11 +158,18 @@ def run(tally, command, folder):
                 right = accepted(galley, words, text) and text.endswith(f'\n{more}\n{lost}')
                 tally.same(f'{words} for {galley}', (status, right, remarks), (0, True, ''))
                 due = lost or 'no turn is lost for good\n'
+                column = ','.join(f'{page}:{turns}' for page, _, turns, *_ in explanations.lost(galley, words)) or '-'
+                row = ' '.join(map(str, marked[1:])) + f' {column}\n'
+                told = ''.join(f'barleychime: standard input: {line}\n' for line in lost.splitlines())
+                tally.same(f'mark --why {words} for {galley}', command.text('mark', '--why', path, '-', given=listed(galley, words)), (0, row, told))
                 tally.same(f'why {words} for {galley}', command.text('explain', '--why', path, '-', given=listed(galley, words)), (0, due, ''))
             else:
                 told = (f'refused, R {marked[1]} {marked[2]}: ' in text and refused(galley, words, *marked[1:], text)
                         and 'whoever handed in the list can mend it' in text)
                 tally.same(f'{words} for {galley}: {text}', (status, told, remarks), (1, True, ''))
+                _, row, said = command.text('mark', path, '-', given=listed(galley, words))
+                numbers = '; '.join(line.strip() for line in text.split('\nrefused, R ')[1].splitlines()[1:] if line.startswith('    '))
+                tally.same('marked with the same numbers', (row, said.endswith(f' ({numbers})\n')), (f'R {marked[1]} {marked[2]}\n', True))
     tally.same('rules explained', met, {0, *range(12, 19), *kinds.OF_REFUSALS, 'fewest', 'whitest', 'whiter', 'lost'})
     tally.group('lists explained')
     cases(tally, command, folder)

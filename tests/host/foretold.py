@@ -1,27 +1,65 @@
 """The command's forecasts, in words and as lines, and what `make --verbose` says was weighed, against the reference."""
 
+import math
 import os
 import re
 import subprocess
+from itertools import accumulate, takewhile
 
 from command_line import file
 from reference import beforehand, cases, refusals, sample
 from reference.galley import write
 
-RATE = 30  # million steps a second, as the command states it
+PLACE, START = 3, 25  # nanoseconds, as the command states them
 
 
 def in_words(galley):
     """The lines due for a galley."""
     _, _, work, listed, ceiling = beforehand.forecast(('galley', galley))
-    return told_in_words(work, listed, ceiling, ceiling // (beforehand.most_together(galley, galley.lines) + 1))
+    return told_in_words(work, listed, ceiling, *time_of_making(galley))
 
 
-def told_in_words(work, listed, ceiling, steps):
-    seconds = steps / (RATE * 1_000_000)
-    time = 'under 0.01 s' if seconds < 0.01 else f'about {seconds:.2f} s'
+def told_in_words(work, listed, ceiling, likely, most):
     return (f'work area: {work} words, {work * 4 / 1e6:.3f} MB\npage list: {listed} words, {listed * 4 / 1e6:.3f} MB\n'
-            f'pages weighed: at most {ceiling}\ntime: {time} at {RATE} million steps a second\n')
+            f'pages weighed: at most {ceiling}\ntime: about {shown(likely)}, at most {shown(most)}, at {PLACE} ns a place and {START} ns a start\n')
+
+
+def time_of_making(galley):
+    """Nanoseconds, as docs/PERFORMANCE.md has the formula: as a rule, and at most."""
+    places, (lines, figures, tables), starts = reach(galley)
+    height = sum(block.height + block.least for stream in galley.streams for block in stream)
+    pages = max(1, height / galley.spec.htmax)
+    columns = (len(galley.figures) + 1) * min(len(galley.tables) + 1, 2 * tables + 1)
+    looked_at = columns * min(len(galley.lines) + 1, 30 * lines) * min(max(1, figures), pages) * min(max(1, tables), pages)
+    return PLACE * places + START * min(looked_at, starts), 2 * (PLACE * places + START * starts)
+
+
+def time_of_chapter(galley, first):
+    """The same for a chapter of a book, whose table is filled whole, for each side that it may open on and once more."""
+    places, (_, figures, tables), starts = reach(galley)
+    searches = 3 if galley.spec.sides == 2 and not first else 2
+    return searches * (PLACE * places + START * places * max(1, figures) * max(1, tables)), searches * (PLACE * places + START * starts)
+
+
+def reach(galley):
+    """Places; the mean rows of lines, figures and tables that fit a page; starts of all places."""
+    rows = [[row(galley, stream[first:]) for first in range(len(stream))] for stream in (galley.lines, galley.figures, galley.tables)]
+    places = math.prod(len(stream) + 1 for stream in (galley.lines, galley.figures, galley.tables))
+    means = [sum(each) / len(each) if each else 0 for each in rows]
+    return places, means, places * math.prod(max(each, default=0) + 1 for each in rows[1:])
+
+
+def row(galley, blocks):
+    """How many of the first blocks fit a page by themselves, at their tightest."""
+    heights = accumulate(block.height + (before.least if before else 0) for before, block in zip((None, *blocks), blocks))
+    return sum(1 for _ in takewhile(lambda height: height <= galley.spec.htmax, heights))
+
+
+def shown(nanoseconds):
+    for unit, size, more in (('µs', 1e3, 1e6), ('ms', 1e6, 1e9), ('s', 1e9, math.inf)):
+        if nanoseconds < more:
+            value = nanoseconds / size
+            return f'{value:.1f} {unit}' if value < 9.95 else f'{value:.0f} {unit}' if value < 99.5 else f'{math.floor(value / 10 + 0.5) * 10} {unit}'
 
 
 def line(galley, name):

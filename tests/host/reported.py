@@ -9,7 +9,7 @@ from decimal import ROUND_HALF_UP, Decimal
 from fractions import Fraction
 
 from command_line import file
-from reference import cases, marking, refusals, report, sample, search
+from reference import cases, explanations, marking, refusals, report, sample, search
 from reference.galley import write
 
 LABELS = ['papers', 'sum of p (pages)', 'sum of X (turns to figures and tables)', 'sum of Y (turns from first page to last)',
@@ -78,8 +78,17 @@ def lists_of_galleys(tally, command, folder):
         tally.same(f'{galley} reported on', (status, output, remarks.count('\n')),
                    (0, in_words(marks) + refused_lists(refused), len(refused)))
         kinds.update(['papers'] * (len(marks) > 1), refused=len(refused))
+        rows = [f'{" ".join(map(str, answer[1:]))} {lost(galley, words)} {name}\n'
+                for answer, words, name in zip(marked, lists, names) if answer[0] == 'accepted']
+        tally.same(f'{galley} reported on, and why', command.text('report', '--why', folder / 'r.galley', *names)[:2],
+                   (0, output + ''.join(rows)))
     tally.same('every kind of list', all(kinds[kind] > 10 for kind in ('papers', 'refused', 'none')), True)
     tally.group('command: reports on lists')
+
+
+def lost(galley, words):
+    """The column of what is lost for good."""
+    return ','.join(f'{page}:{turns}' for page, _, turns, *_ in explanations.lost(galley, words)) or '-'
 
 
 def marks_as_text(tally, command, folder):

@@ -33,6 +33,7 @@ import explained  # noqa: E402
 import folding  # noqa: E402
 import for_programs  # noqa: E402
 import foretold  # noqa: E402
+import in_series  # noqa: E402
 import options  # noqa: E402
 import printed  # noqa: E402
 import refusal_table  # noqa: E402
@@ -68,6 +69,7 @@ def main():
         round_trips.run(tally, command, ROOT, folder)
         explained.run(tally, command, folder)
         foretold.run(tally, command, ROOT, folder)
+        in_series.run(tally, command, folder)
         printed.run(tally, command, folder)
         bound.run(tally, command, ROOT, folder)
         reported.run(tally, command, ROOT, folder)

@@ -7,14 +7,18 @@ import random
 import re
 import select
 import subprocess
+from dataclasses import replace
+from itertools import product
 
 from command_line import file
 from reference import cases, desk, marking, refusals, sample, search
-from reference.galley import write
+from reference.galley import Table, write
 
 # Lines that are no calls, for a galley without tables, and a part of the remark.
 NO_CALLS = [('mend', '`mend` is no call'), ('ask', 'three numbers are wanted (ask PAGE I J), not 0'), ('ask 1 2', 'not 2'),
             ('ask 1 2 3 4', 'not 4'), ('ask one 2 3', 'field 1: `one`'), ('ask 1 -2 3', 'field 2: `-2`'),
+            ('ends', 'one number is wanted (ends PAGE), not 0'), ('ends 1 2', 'not 2'), ('ends x', 'field 1: `x`'), ('write', 'a file is wanted (write FILE)'),
+            ('undo 2', '`2` stands after `undo`'), ('undo', 'nothing is left to be taken back'), ('write /nowhere/x', '/nowhere/x cannot be written: '),
             ('ask 1 2 4294967296', 'field 3: `4294967296`'), ('commit 1', '`1` stands after `commit`'), ('list all', '`all` stands'),
             ('quit now', '`now` stands after `quit`'), ('layouts all', '`all` stands'), ('save \x1b[2J', '`?[2J` has characters'), ('ASK 1 2 3', '`ASK` is no call'), ('ask 1 2 \x1b[2J', 'field 3: `?[2J`')]
 NAMED = {'save': desk.saved, 'back': desk.come_back, 'drop': desk.dropped}
@@ -40,7 +44,8 @@ class Script:
 
     def __init__(self, galley, words):
         self.read, self.calls, self.numbers, self.junk = ('galley', galley), [], [], False
-        self.marked, self.desk = desk.opened(desk.Desk(), self.read, words)
+        self.marked, self.desk = desk.marked(self.read, words), desk.Desk(tuple(marking.places(galley, words)))
+        self.before = []  # the desks before each call that changed something, and their marks
         self.output = ' '.join(map(str, self.marked[1:])) + '\n'
 
     def told(self, line, answer=None, text=None):
@@ -61,9 +66,30 @@ class Script:
 
     def done(self, line, answer, after):
         """A call is answered by what the list in force comes to afterwards."""
+        self.before += [(self.desk, self.marked)] if answer == desk.DONE else []
         self.desk = after
         self.told(line, self.measured(after.force) if answer == desk.DONE else answer)
         self.marked = self.measured(after.force)
+
+    def undo(self):
+        if not self.before:
+            return self.no_call('undo')
+        self.desk, marked = self.before.pop()
+        self.told('undo', marked)
+        self.marked = marked
+
+    def ends(self, page):
+        """Every end of a page that an ask accepts, each asked."""
+        if not 1 <= page < len(self.desk.force):
+            return self.told(f'ends {page}', ('refused', 23, page))
+        places = product(*(range(size + 1) for size in self.read[1].sizes))
+        asked = [(end, desk.asked(self.desk, self.read, page, end)[0]) for end in places]
+        rows = [f'{" ".join(map(str, end))}: {printed(answer, self.marked[4])}\n' for end, answer in asked if answer[0] == 'accepted']
+        self.told(f'ends {page}', text=''.join([f'{len(rows)}\n', *rows]))
+
+    def write(self, path):
+        self.told(f'write {path}', text=printed(self.marked, self.marked[4]) + '\n')
+        return listed(self.marked, self.desk.force)
 
     def measured(self, pages):
         return desk.marked(self.read, [word for end in pages for word in end])
@@ -99,10 +125,14 @@ class Script:
             elif chance < 0.8:
                 self.named(rng.choice(('save', 'save', 'save', 'save', 'back', 'drop')),
                            rng.choice(NAMES if rng.random() < 0.9 else BAD_NAMES))
-            elif chance < 0.85:
+            elif chance < 0.83:
                 self.layouts()
-            elif chance < 0.9:
+            elif chance < 0.86:
                 self.list()
+            elif chance < 0.89:
+                self.undo()
+            elif chance < 0.9:
+                self.ends(rng.randint(0, len(self.desk.force) + 1))
             elif chance < 0.93:
                 self.no_call(rng.choice(('ask 1', 'commits', 'ask 1 x 0 0', '?')))
             else:
@@ -143,9 +173,9 @@ def openings(tally, command, folder):
         tally.same(f'desk on {name}', (status, output, f'{bad}: {due}: ' in remarks), (1, f'{due}\n', True))
     high = file(folder, 'high.list', b'2 1\n3 1\n')
     status, output, remarks = command.text('desk', galley, high, given=b'list\n')
-    told = [f'barleychime: {high}: R 22 0: ' in remarks, f'barleychime: {high}: R 15 1: page 1: ' in remarks]
-    tally.same('desk on a refused list', (status, output, told), (1, 'R 22 0\n', [True, True]))
-    for pages, due in ((64, (0, '64 0 63 63000 63\n', 0)), (65, (1, 'R 22 0\n', 1))):
+    told = [f'barleychime: {high}: R 22 0: ' in remarks, f'barleychime: {high}: R 15 1: page 1: ' in remarks, remarks.endswith(' (40 is above htMax 30 by 10)\n')]
+    tally.same('desk on a refused list', (status, output, told), (1, 'R 22 0\n', [True, True, True]))
+    for pages, due in ((64, (0, '64 0 63 63000 63\n', 0)), (65, (0, '65 0 64 64000 64\n', 1))):
         lines = cases.plain(cases.LONGEST.spec, pages * (0,), [])
         path = file(folder, 'long.galley', write(lines))
         listing = file(folder, 'long.list', ''.join(f'{page} 0\n' for page in range(1, pages + 1)).encode())
@@ -179,12 +209,62 @@ def lines(tally, command, folder):
     tally.same('no calls', command.text('desk', galley, best), (0, '2 0 1 1 0\n', ''))
     tally.same('quit', command.text('desk', galley, best, given=b'quit\nmend\n'), (0, '2 0 1 1 0\n', ''))
     status, output, remarks = command.text('desk', galley, best, given=b'help\n')
-    tally.same('help', (status, [line.split()[0] for line in output.splitlines()[1:]], remarks),
-               (0, ['ask', 'commit', 'list', 'save', 'back', 'drop', 'layouts', 'quit'], ''))
+    tally.same('help', (status, [line.split()[0] for line in output.splitlines()[1:] if line[0] != ' '], remarks),
+               (0, ['ask', 'commit', 'ends', 'list', 'write', 'save', 'back', 'drop', 'layouts', 'undo', 'quit'], ''))
     shell = f'yes ask 1 3 0 | {command.program} desk {galley} {best} | head -n 2'
     done = subprocess.run(shell, shell=True, capture_output=True, check=False)
     tally.same('a closed output', (done.stdout, done.stderr), (b'2 0 1 1 0\n2 1 1 2 0 +1\n', b''))
     tally.group('command: lines at the desk')
+
+
+def long_lists(tally, command, folder):
+    """Lists of more pages than the engine's desk takes: the same answers, and it is said that each ask is a marking."""
+    rng, met = random.Random(152), set()
+    for number in range(6):
+        tabled = number % 2
+        spec = cases.LONGEST.spec._replace(htmin=0, htmax=20, sides=1 + number // 3, alpha=1, beta=1)
+        galley = cases.plain(spec, 90 * (10,), [(10, cite) for cite in (3, 30, 31, 60)])
+        words = tuple(word for page in range(1, 91) for word in (page, sum(figure.cite <= page for figure in galley.figures)))
+        if tabled:
+            galley = replace(galley, streams=(*galley.streams, (Table(5, 0, 0, 40),)))
+            words = tuple(word for page, place in enumerate(marking.places(galley_without_tables(galley), words), 1) for word in (*place, int(page >= 40)))
+        script = Script(galley, words)
+        tally.same('accepted', script.marked[0], 'accepted')
+        for _ in range(60):
+            script.ask(*script.end(rng))
+            script.drawn(rng, 3)
+        path, listing = file(folder, 'long.galley', write(galley)), file(folder, 'long.list', listed(script.marked, marking.places(galley, words)).encode())
+        listing.write_text(''.join(' '.join(map(str, end)) + '\n' for end in marking.places(galley, words)))
+        status, output, remarks = command.text('desk', path, listing, given='\n'.join(script.calls).encode())
+        tally.same(f'long list {number}', (status, output), (script.status, script.output))
+        tally.same('it is said', f"{listing}: 90 pages, and the engine's desk takes 64: each ask is a marking\n" in remarks, True)
+        met.update(script.numbers)
+    tally.same('refusals met', {13, 15, 17, 23, 24, 25, 26} <= met, True)
+    tally.group('command: lists of more than 64 pages at the desk')
+
+
+def galley_without_tables(galley):
+    return replace(galley, streams=galley.streams[:2])
+
+
+def written(tally, command, folder):
+    """What is written is what `list` prints, whole, and nothing else is left beside it."""
+    galley, best, place = file(folder, 'a.galley', write(cases.A)), file(folder, 'best.list', b'1 1\n3 1\n'), folder / 'written'
+    place.mkdir()
+    target = place / 'a list'
+    target.write_text('what was there before\n' * 100)
+    given = f'ask 1 3 0\ncommit\nwrite {target}\nundo\nlist\n'.encode()
+    due = '2 0 1 1 0\n2 1 1 2 0 +1\n2 1 1 2 0 +1\n2 1 1 2 0 +0\n2 0 1 1 0 -1\n2 0 1 1 0\n1 1 1\n2 3 1\n'
+    tally.same('written and taken back', command.text('desk', galley, best, given=given), (0, due, ''))
+    tally.same('what is written', (target.read_text(), [path.name for path in place.iterdir()]), ('2 1 1 2 0\n1 3 0\n2 3 1\n', ['a list']))
+    tally.same('it is accepted', command.text('mark', galley, target), (0, '2 1 1 2 0\n', ''))
+    status, output, _ = command.text('desk', galley, best, given=f'write {place}\n'.encode())
+    tally.same('a folder is no file', (status, output, [path.name for path in place.iterdir()]), (2, '2 0 1 1 0\n?\n', ['a list']))
+    flat = cases.plain(cases.LONGEST.spec._replace(htmin=0, htmax=20), 200 * (0,), [(0, 1)] * 60)
+    path, listing = file(folder, 'flat.galley', write(flat)), file(folder, 'flat.list', b'100 30\n200 60\n')
+    status, output, remarks = command.text('desk', path, listing, given=b'ends 1\n')
+    tally.same('more ends than anybody reads', (status, output.split()[-1], 'may end in more than 10000 ways' in remarks), (2, '?', True))
+    tally.group('command: lists written at the desk')
 
 
 def call_by_call(tally, command, folder):
@@ -205,29 +285,36 @@ def call_by_call(tally, command, folder):
 
 
 def at_terminal(tally, command, folder):
-    """A person: every call after a prompt, the answer before the next one; the end of the input is typed."""
+    """A person: every call after a prompt, the answer before the next one; lines are edited and come back; the end is typed."""
     galley, best = file(folder, 'a.galley', write(cases.A)), file(folder, 'best.list', b'1 1\n3 1\n')
     ours, theirs = pty.openpty()
-    with subprocess.Popen([command.program, 'desk', galley, best], stdin=theirs, stdout=theirs, stderr=theirs) as process:
+    with subprocess.Popen([command.program, 'desk', galley, best], stdin=theirs, stdout=theirs, stderr=theirs,
+                          env={**os.environ, 'TERM': 'xterm'}) as process:
         os.close(theirs)
         tally.same('opened', 'barleychime: the list is in force; `help` names the calls' in seen(ours), True)
-        for call, due in [('ask 1 3 0', '2 1 1 2 0 +1\r\n'), ('commit', '2 1 1 2 0 +1\r\n'), ('ask 1 2 1', 'by 10)\r\n'),
-                          ('', ''), ('mend', '?\r\nbarleychime: `mend` is no call'), ('list', '1 3 0\r\n2 3 1\r\n'),
-                          ('save it', '2 1 1 2 0 +0\r\n'), ('layouts', '1\r\n2 1 1 2 0 +0 it\r\n'), ('help', 'commit  ')]:
-            os.write(ours, f'{call}\n'.encode())
-            tally.same(f'{call} at a terminal', due in seen(ours), True)
+        for typed, due in [('ask 1 3 0', '2 1 1 2 0 +1\r\n'), ('commit', '2 1 1 2 0 +1\r\n'), ('ask 1 2 1', 'by 10)\r\n'),
+                           ('', ''), ('mend', '?\r\nbarleychime: `mend` is no call'), ('list', '1 3 0\r\n2 3 1\r\n'),
+                           ('save it', '2 1 1 2 0 +0\r\n'), ('layouts', '1\r\n2 1 1 2 0 +0 it\r\n'), ('help', 'commit  '),
+                           ('undo', '2 1 1 2 0 +0\r\n'), ('layouts', '\n0\r\n'), ('\x1b[A\x1b[A', '2 0 1 1 0 -1\r\n'),
+                           ('ends 1', '\n2\r\n1 1: 2 0 1 1 0 +0\r\n3 0: 2 1 1 2 0 +1\r\n'), ('ist\x01l', '1 1 1\r\n2 3 1\r\n'),
+                           ('mend\x03layouts', '\n0\r\n')]:
+            os.write(ours, f'{typed}\r'.encode())
+            shown = seen(ours, 1 + typed.count('\x03'))
+            tally.same(f'{typed!r} at a terminal: {shown!r}', due in shown, True)
         os.write(ours, b'\x04')
         tally.same('the end', process.wait(30), 2)
     os.close(ours)
     tally.group('command: a terminal')
 
 
-def seen(terminal):
-    """What a terminal shows up to the next prompt."""
-    text = ''
-    while not text.endswith('desk> ') and select.select([terminal], [], [], 30)[0]:
+def seen(terminal, prompts=1):
+    """What a terminal shows up to the next prompt, or so many; what it is told to do besides is left out."""
+    text, shown = '', ''
+    while len(re.findall(r'^desk> $', shown, re.M)) < prompts and select.select([terminal], [], [], 30)[0]:
         text += os.read(terminal, 4_096).decode()
-    return text
+        lines = re.sub(r'\x1b\[[0-9;?]*[A-Za-z]', '', text).replace('\r\n', '\n')
+        shown = re.sub(r'^.*\r(?!\n)', '', lines, flags=re.M)
+    return re.sub(r'\x1b\[[0-9;?]*[A-Za-z]', '', text)
 
 
 def documented(tally, command, root, folder):
@@ -249,6 +336,8 @@ def run(tally, command, root, folder):
     openings(tally, command, folder)
     lines(tally, command, folder)
     scripts(tally, command, folder)
+    long_lists(tally, command, folder)
+    written(tally, command, folder)
     call_by_call(tally, command, folder)
     at_terminal(tally, command, folder)
     documented(tally, command, root, folder)

@@ -1,5 +1,5 @@
 //! What is asked at the desk, a line each: `ask PAGE I J`, or `ask PAGE I J D` where the galley has tables, `commit`, `list`,
-//! `save NAME`, `back NAME`, `drop NAME`, `layouts`, `help`, `quit`.
+//! `ends PAGE`, `write FILE`, `save NAME`, `back NAME`, `drop NAME`, `layouts`, `undo`, `help`, `quit`.
 
 use barleychime::field::{numbers, shown};
 
@@ -11,11 +11,18 @@ pub enum Call {
         end: [u32; 3],
     },
     Commit,
+    /// Every end of a page that would be accepted.
+    Ends {
+        page: u32,
+    },
     List,
+    /// The list in force to a file of this name.
+    Write(String),
     Save(String),
     Back(String),
     Drop(String),
     Layouts,
+    Undo,
     Help,
     Quit,
 }
@@ -29,6 +36,9 @@ pub fn parse(line: &str, page_words: usize) -> Result<Option<Call>, String> {
     let call = match name {
         "ask" => return ask(rest, page_words).map(Some),
         "commit" => Call::Commit,
+        "ends" => return ends(rest).map(Some),
+        "write" => return written(line),
+        "undo" => Call::Undo,
         "list" => Call::List,
         "save" => return named(line, Call::Save),
         "back" => return named(line, Call::Back),
@@ -41,6 +51,21 @@ pub fn parse(line: &str, page_words: usize) -> Result<Option<Call>, String> {
     match rest.first() {
         None => Ok(Some(call)),
         Some(field) => Err(format!("{} stands after `{name}`, which is a call by itself", shown(field))),
+    }
+}
+
+/// The call that writes the list, to a file that has a name.
+fn written(line: &str) -> Result<Option<Call>, String> {
+    match named(line, Call::Write)? {
+        Some(Call::Write(name)) if name.is_empty() => Err("a file is wanted (write FILE)".into()),
+        call => Ok(call),
+    }
+}
+
+fn ends(fields: &[&str]) -> Result<Call, String> {
+    match numbers(fields).map_err(|error| error.to_string())?.as_slice() {
+        &[page] => Ok(Call::Ends { page }),
+        numbers => Err(format!("one number is wanted (ends PAGE), not {}", numbers.len())),
     }
 }
 

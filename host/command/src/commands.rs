@@ -12,6 +12,7 @@ pub mod mark;
 pub mod pack;
 pub mod refusals;
 pub mod report;
+pub mod series;
 pub mod show;
 pub mod tex;
 pub mod unpack;

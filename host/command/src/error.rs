@@ -18,6 +18,8 @@ pub enum Error {
     Read { name: FileName, error: io::Error },
     /// A file cannot be written.
     Write { name: FileName, error: io::Error },
+    /// A galley needs more memory than a series may take.
+    Bounded { name: FileName, bytes: u64, memory: u64 },
     /// A file is longer than anything of its kind.
     TooLong { name: FileName },
     /// A file is a galley where a text is wanted.
@@ -58,7 +60,12 @@ impl fmt::Display for Error {
         match self {
             Error::Usage(what) => write!(out, "{what}"),
             Error::Tex(failure) => write!(out, "{failure}"),
-            Error::Read { name, error } | Error::Write { name, error } => write!(out, "{name}: {error}"),
+            Error::Read { name, error } => write!(out, "{name}: {error}"),
+            Error::Write { name, error } => write!(out, "{name} cannot be written: {error}"),
+            Error::Bounded { name, bytes, memory } => {
+                let [needed, memory] = [*bytes, *memory].map(|bytes| bytes.div_ceil(1_000_000));
+                write!(out, "{name}: making needs {needed} MB of memory, and --memory allows {memory}")
+            }
             Error::TooLong { name } => write!(out, "{name}: too long for a text of a galley, of a list or of marks"),
             Error::Galley { name } => write!(out, "{name}: line 1: a galley file stands where a text is wanted"),
             Error::NotText { name, line } => write!(out, "{name}: line {line}: not text in UTF-8"),

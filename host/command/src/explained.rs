@@ -6,7 +6,7 @@ use barleychime::engine::MakeError;
 use barleychime::galley::Galley;
 use barleychime::page::{folio, spread, white, Page};
 use barleychime::rules::{self, Broken};
-use barleychime::why::{Finder, Loss};
+use barleychime::why::Finder;
 use serde::Serialize;
 
 /// A list that is explained: its row, its pages, every rule that they break, and where its turns are lost for good.
@@ -17,7 +17,7 @@ pub struct Explained<'a> {
     best: Option<json::Measure>,
     pages: Vec<ToldPage>,
     broken: Vec<ToldBroken>,
-    lost: Vec<ToldLoss>,
+    lost: Vec<json::Loss>,
 }
 
 /// A page: what it holds and its heights, which are null where it goes backwards, past the galley or nowhere.
@@ -41,16 +41,6 @@ struct ToldBroken {
     numbers: Vec<String>,
 }
 
-#[derive(Serialize)]
-struct ToldLoss {
-    page: usize,
-    line: usize,
-    turns: u32,
-    floats: Vec<String>,
-    leaves: usize,
-    words: String,
-}
-
 impl<'a> Explained<'a> {
     /// Explains a list that was marked; of one that cannot be read there is nothing to explain.
     pub fn of(marked: &Marked<'a>, galley: &Galley, finder: &mut Finder) -> Result<Self, MakeError> {
@@ -61,7 +51,7 @@ impl<'a> Explained<'a> {
         match marked.answer {
             Answer::Accepted(measure) => {
                 explained.best = Some(finder.best()?.measure.into());
-                explained.lost = finder.losses(list, measure)?.into_iter().map(ToldLoss::from).collect();
+                explained.lost = finder.losses(list, measure)?.into_iter().map(Into::into).collect();
             }
             Answer::Refused(_) => {
                 let broken = rules::broken(galley, list).into_iter();
@@ -71,14 +61,6 @@ impl<'a> Explained<'a> {
             Answer::Unreadable(_) => {}
         }
         Ok(explained)
-    }
-}
-
-impl From<Loss> for ToldLoss {
-    fn from(loss: Loss) -> Self {
-        let words = loss.in_words();
-        let Loss { page, line, turns, floats, leaves } = loss;
-        ToldLoss { page, line, turns, floats, leaves, words }
     }
 }
 

@@ -1,12 +1,15 @@
 //! Files and standard input.
 
 use crate::error::Error;
+use barleychime::engine;
+use barleychime::galley::Galley;
 use barleychime::list::{self, Extent, List};
-use barleychime::record::Record;
+use barleychime::record::{opened_on, Record};
 use std::ffi::{OsStr, OsString};
 use std::fmt;
 use std::fs::File;
 use std::io::{self, Read};
+use std::path::Path;
 
 /// No galley has more bytes: a specification in its second edition, a folio, 4,000 lines, 200 figures, 50 tables and the
 /// end.
@@ -48,10 +51,31 @@ impl FileName {
         self.0.as_encoded_bytes()
     }
 
+    /// Where the file is; standard input is nowhere.
+    pub fn path(&self) -> Option<&Path> {
+        (!self.is_standard_input()).then_some(Path::new(&self.0))
+    }
+
     /// The bytes of a galley. Every refusal is decided within one byte more than the longest galley has, so that an endless
     /// input is refused, too, and no more than that is read.
     pub fn galley(&self) -> Result<Vec<u8>, Error> {
         self.read(LONGEST_GALLEY + 1)
+    }
+
+    /// The bytes of a galley that opens on another folio, if one is named; one that is refused is left as it is.
+    pub fn galley_on(&self, folio: Option<u32>) -> Result<Vec<u8>, Error> {
+        let bytes = self.galley()?;
+        match folio {
+            Some(folio) if engine::read(&bytes).is_ok() => Ok(opened_on(&bytes, folio)),
+            _ => Ok(bytes),
+        }
+    }
+
+    /// What a galley holds that is not refused; on another folio, if one is named.
+    pub fn decoded(&self, bytes: &[u8], folio: Option<u32>) -> Result<Galley, Error> {
+        let mut galley = Galley::decode(bytes).ok_or_else(|| Error::NotDecoded { name: self.clone() })?;
+        galley.folio = folio.map_or(galley.folio, |folio| folio as usize);
+        Ok(galley)
     }
 
     /// A text of a galley or of a list.

@@ -6,6 +6,7 @@ use crate::Outcome;
 use barleychime::engine::{self, BookMeasure};
 use barleychime::list::UnlikeHead;
 use barleychime::refusal;
+use barleychime::why;
 use serde::{Serialize, Serializer};
 
 /// The answer of a command: which it was, how it ended, and what else it tells.
@@ -111,6 +112,25 @@ pub struct Head {
 impl From<&UnlikeHead> for Head {
     fn from(unlike: &UnlikeHead) -> Self {
         Head { line: unlike.line, name: unlike.name, said: unlike.said, counted: unlike.counted }
+    }
+}
+
+/// A page end with which turns are lost for good.
+#[derive(Serialize)]
+pub struct Loss {
+    pub page: usize,
+    pub line: usize,
+    pub turns: u32,
+    pub floats: Vec<String>,
+    pub leaves: usize,
+    pub words: String,
+}
+
+impl From<why::Loss> for Loss {
+    fn from(loss: why::Loss) -> Self {
+        let words = loss.in_words();
+        let why::Loss { page, line, turns, floats, leaves } = loss;
+        Loss { page, line, turns, floats, leaves, words }
     }
 }
 

@@ -10,6 +10,7 @@ mod explained;
 mod help;
 mod input;
 mod json;
+mod lines;
 mod marked;
 mod output;
 mod rows;

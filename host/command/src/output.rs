@@ -6,8 +6,11 @@ use crate::input::FileName;
 use crate::Outcome;
 use barleychime::refusal::Refusal;
 use serde::Serialize;
+use std::ffi::OsString;
 use std::fmt::Display;
+use std::fs;
 use std::io::{self, IsTerminal, Write};
+use std::path::Path;
 
 /// Standard output.
 pub struct Output(io::StdoutLock<'static>);
@@ -119,6 +122,20 @@ pub fn hint_at_pack(name: &FileName, bytes: &[u8], refusal: Refusal) {
     if refusal.kind.is_of_galley() && std::str::from_utf8(bytes).is_ok_and(is_text) {
         say(&format!("{name}: this is a text; `barleychime pack` makes a galley of one"));
     }
+}
+
+/// Writes a file whole or not at all: under a name of its own first, then in place of what was there.
+pub fn write_whole(path: &Path, contents: &[u8]) -> Result<(), Error> {
+    let mut own = OsString::from(".");
+    own.push(path.file_name().unwrap_or_default());
+    own.push(format!(".{}.part", std::process::id()));
+    let part = path.with_file_name(own);
+    let written = fs::write(&part, contents).and_then(|()| fs::rename(&part, path));
+    written.map_err(|error| {
+        // It may not be there.
+        let _ = fs::remove_file(&part);
+        Error::Write { name: path.to_owned().into_os_string().into(), error }
+    })
 }
 
 #[cfg(test)]

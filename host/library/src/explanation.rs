@@ -98,6 +98,17 @@ pub fn broken_opening(galley: &Galley, opening: &[u32], page: usize) -> Option<S
     Some(format!("page {page} breaks rule {rule}, {}: {}", RefusalKind::of(*rule).words(), numbers.join("; ")))
 }
 
+/// How the page specification of a chapter is unlike that of the first: every field that differs.
+pub fn unlike_first(first: &[u8], chapter: &[u8]) -> Option<String> {
+    let (first, chapter) = (Record::take(first)?.0, Record::take(chapter)?.0);
+    let mark = (first.kind != chapter.kind)
+        .then(|| format!("its mark is {}, and there {}", chapter.kind.mark, first.kind.mark));
+    let fields = chapter.kind.fields.iter().zip(chapter.fields.iter().zip(&first.fields));
+    let unlike = fields.filter(|(_, (here, there))| here != there);
+    let told = unlike.map(|(name, (here, there))| format!("its {name} is {here}, and there {there}"));
+    Some(mark.into_iter().chain(told).collect::<Vec<_>>().join("; "))
+}
+
 /// A galley that is refused itself: the record, and its field if one is at fault.
 pub fn refused_galley(bytes: &[u8], refusal: Refusal) -> String {
     let record = bytes.get(refusal.place as usize..).and_then(Record::take);

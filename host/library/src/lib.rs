@@ -20,3 +20,4 @@ pub mod refusal;
 pub mod rules;
 pub mod text;
 pub mod why;
+pub mod worktable;

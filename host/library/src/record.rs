@@ -79,3 +79,42 @@ impl Record {
         Some((at, format!("{} to {}", ranges[at].0, ranges[at].1)))
     }
 }
+
+/// The highest folio that a first page can state.
+const HIGHEST_FOLIO: u32 = 9_999;
+
+/// The bytes of a galley that opens on another folio: with an `FO` in place of its own, or put in where it has none. Which pages face
+/// each other hangs on whether the folio is even; so a folio that is too high to be stated is stated as the highest like it.
+pub fn opened_on(galley: &[u8], folio: u32) -> Vec<u8> {
+    let Some((spec, rest)) = Record::take(galley) else { return galley.to_vec() };
+    let rest = match Record::take(rest) {
+        Some((stated, after)) if *stated.kind == FOLIO => after,
+        _ => rest,
+    };
+    let folio = if folio > HIGHEST_FOLIO { HIGHEST_FOLIO - 1 + folio % 2 } else { folio };
+    let mut bytes = Vec::new();
+    spec.put(&mut bytes);
+    Record { kind: &FOLIO, fields: vec![folio] }.put(&mut bytes);
+    bytes.extend_from_slice(rest);
+    bytes
+}
+
+#[cfg(test)]
+mod tests {
+    use super::*;
+    use crate::text::{pack, unpack};
+
+    #[test]
+    fn a_galley_opens_on_another_folio() {
+        let text = |folio: &str| format!("GS 30 30 0 0 1 1 1\n{folio}TL 10 0 0 1\nED\n");
+        let opened = |stated: &str, folio: u32| {
+            let bytes = pack(&text(stated)).expect("a galley").bytes;
+            unpack(&opened_on(&bytes, folio)).0
+        };
+        assert_eq!(opened("", 38), text("FO 38\n"));
+        assert_eq!(opened("FO 7\n", 38), text("FO 38\n"));
+        assert_eq!(opened("", 10_000), text("FO 9998\n"));
+        assert_eq!(opened("", 12_345), text("FO 9999\n"));
+        assert_eq!(opened_on(b"no galley", 3), b"no galley");
+    }
+}

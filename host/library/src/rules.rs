@@ -79,7 +79,7 @@ fn order(galley: &Galley, page: &Page) -> Vec<String> {
 }
 
 /// What forbids a page end after line i and figure j: either or both.
-fn forbidden_end(galley: &Galley, [i, j, _]: Place) -> Vec<String> {
+pub fn forbidden_end(galley: &Galley, [i, j, _]: Place) -> Vec<String> {
     let line = (0 < i && i < galley.lines.len() && !galley.lines[i - 1].page_end)
         .then(|| format!("line {i} forbids a page end in the space after it"));
     let figure = kept_with(&galley.figures, j).map(|next| format!("figure {j} is kept with figure {next}"));

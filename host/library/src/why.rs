@@ -181,6 +181,15 @@ impl Loss {
     }
 }
 
+/// Where turns are lost in one word, for a row among others: `4:2,9:1` is 2 turns with the end of page 4 and one with that of page 9, and
+/// `-` is none.
+pub fn column(losses: &[Loss]) -> String {
+    match losses {
+        [] => "-".into(),
+        _ => losses.iter().map(|loss| format!("{}:{}", loss.page, loss.turns)).collect::<Vec<_>>().join(","),
+    }
+}
+
 /// Names in order, with three or more of one kind in a row as `F2 to F5`.
 fn runs(names: &[String]) -> Vec<String> {
     let numbered = |name: &String| name[1..].parse::<usize>().unwrap_or(0);
@@ -239,5 +248,6 @@ mod tests {
         let loss = Loss { page: 4, line: 0, turns: 9, floats, leaves: 2 };
         let words = "page 4 ends before any line: 9 turns lost for good, F2 to F4, F6, F7, T1 and 2 leaves more";
         assert_eq!(loss.in_words(), words);
+        assert_eq!((column(&[loss.clone(), Loss { page: 7, ..loss }]), column(&[])), ("4:9,7:9".into(), "-".into()));
     }
 }

@@ -7,10 +7,11 @@ use crate::output::{hint_at_pack, say, say_why, watched, Format, Output};
 use crate::rows;
 use crate::Outcome;
 use barleychime::engine::{self, Book, Chapter, MakeError, Memory};
+use barleychime::explanation;
 use barleychime::galley::Galley;
 use barleychime::list::{pages, spaced};
-use barleychime::needs;
-use barleychime::record::Record;
+use barleychime::needs::{self, Time};
+use barleychime::record::opened_on;
 use barleychime::refusal::{Refusal, RefusalKind};
 use serde::Serialize;
 
@@ -71,7 +72,7 @@ pub fn run(args: &Args, output: &mut Output) -> Result<Outcome, Error> {
 pub fn foretell(names: &[FileName], output: &mut Output) -> Result<Outcome, Error> {
     let chapters = read(names)?;
     match engine::forecast_book(&chapters) {
-        Ok(told) => output.print(needs::in_words(&told, all_steps(&chapters))).map(|()| Outcome::Success),
+        Ok(told) => output.print(needs::in_words(&told, time_of_all(&chapters))).map(|()| Outcome::Success),
         Err(refusal) => refuse(names, &chapters, refusal, Format::default(), output),
     }
 }
@@ -83,26 +84,25 @@ fn read(names: &[FileName]) -> Result<Vec<Vec<u8>>, Error> {
     for (number, name) in (1..).zip(names) {
         let bytes = name.galley()?;
         if watched() {
-            let time = needs::time(steps(number, &bytes));
+            let time = time(number, &bytes).in_words();
             say(&format!("{name}: chapter {number} of {}, {time}", names.len()));
         }
         chapters.push(bytes);
     }
     if watched() {
-        say(&format!("{} chapters, {} for all of them", names.len(), needs::time(all_steps(&chapters))));
+        say(&format!("{} chapters, {} for all of them", names.len(), time_of_all(&chapters).in_words()));
     }
     Ok(chapters)
 }
 
-/// Steps of a chapter: it is searched once for each side that it may open on, and once more for its pages.
-fn steps(number: usize, bytes: &[u8]) -> u64 {
-    let (Ok(told), Some(galley)) = (engine::forecast(bytes), Galley::decode(bytes)) else { return 0 };
-    let searches = if number > 1 && galley.spec.double_sided { 3 } else { 2 };
-    searches * needs::steps(&told, &galley)
+/// How long a chapter takes; none that is refused.
+fn time(number: usize, bytes: &[u8]) -> Time {
+    let read = engine::read(bytes).ok().and_then(|()| Galley::decode(bytes));
+    read.map_or(Time::default(), |galley| Time::of_chapter(&galley, number == 1))
 }
 
-fn all_steps(chapters: &[Vec<u8>]) -> u64 {
-    (1..).zip(chapters).map(|(number, bytes)| steps(number, bytes)).sum()
+fn time_of_all(chapters: &[Vec<u8>]) -> Time {
+    (1..).zip(chapters).map(|(number, bytes)| time(number, bytes)).sum()
 }
 
 fn tell(names: &[FileName], made: Result<&Book, Refusal>, output: &mut Output) -> Result<(), Error> {
@@ -162,8 +162,13 @@ fn refuse(
             say_why(name, own);
             hint_at_pack(name, bytes, own);
         }
-        (Some(name), _) if matches!(refusal.kind, RefusalKind::UnlikeFirst | RefusalKind::FolioStated) => {
-            say_why(name, refusal)
+        (Some(name), Some(bytes)) if refusal.kind == RefusalKind::UnlikeFirst => {
+            let fields = explanation::unlike_first(&chapters[0], bytes).unwrap_or_default();
+            say(&format!("{name}: {refusal} ({fields})"));
+        }
+        (Some(name), _) if refusal.kind == RefusalKind::FolioStated => say_why(name, refusal),
+        _ if refusal.kind == RefusalKind::BadChapters => {
+            say(&format!("the book: {refusal} (there are {})", chapters.len()));
         }
         _ if refusal.kind == RefusalKind::NoPagination => {
             say(&format!("the book: {}: {NO_CHOICE}; {} can mend it", refusal.code(), refusal.kind.mender()))
@@ -183,7 +188,7 @@ fn blame(names: &[FileName], chapters: &[Vec<u8>]) {
     for (number, (name, bytes)) in names.iter().zip(chapters).enumerate() {
         let exists = match number {
             0 => memory.make(bytes).is_ok(),
-            _ => [1, 2].iter().any(|&folio| memory.make(&opened(bytes, folio)).is_ok()),
+            _ => [1, 2].iter().any(|&folio| memory.make(&opened_on(bytes, folio)).is_ok()),
         };
         if !exists {
             let on_either = if number == 0 { "" } else { ", whichever side it opens on" };
@@ -194,10 +199,4 @@ fn blame(names: &[FileName], chapters: &[Vec<u8>]) {
     if !found {
         say("every chapter has a pagination, but not on the sides that the chapters before it close on");
     }
-}
-
-/// A later chapter with the folio that it is tried on.
-fn opened(bytes: &[u8], folio: u32) -> Vec<u8> {
-    let end = Record::take(bytes).map_or(0, |(_, rest)| bytes.len() - rest.len());
-    [&bytes[..end], b"FO", &folio.to_be_bytes(), &bytes[end..]].concat()
 }

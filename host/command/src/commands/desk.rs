@@ -4,14 +4,16 @@ use super::Outcomes;
 use crate::call::{self, Call};
 use crate::error::Error;
 use crate::input::FileName;
-use crate::output::{refuse_galley, say, say_why, Format, Output};
+use crate::lines::Lines;
+use crate::output::{refuse_galley, say, say_why, write_whole, Format, Output};
 use crate::Outcome;
-use barleychime::engine::{self, Desk, Measure};
+use barleychime::engine::{self, Measure};
+use barleychime::explanation;
 use barleychime::galley::Galley;
-use barleychime::list::Extent;
-use barleychime::refusal::{Refusal, RefusalKind};
-use barleychime::{explanation, list};
-use std::io::{self, BufRead, IsTerminal, Read, Write};
+use barleychime::list::{self, spaced, Extent};
+use barleychime::refusal::Refusal;
+use barleychime::worktable::{self, Worktable, MOST_PAGES};
+use std::path::Path;
 
 #[derive(clap::Args)]
 pub struct Args {
@@ -19,128 +21,180 @@ pub struct Args {
     pub galley: FileName,
     /// A page list for it, which the marking accepts
     pub list: FileName,
+    /// Open the galley on folio N, where it stands in a book
+    #[arg(long, value_name = "N", value_parser = clap::value_parser!(u32).range(1..))]
+    pub folio: Option<u32>,
 }
 
-/// More than any call that can be of use.
-const LONGEST_LINE: u64 = 4_096;
+/// So many calls can be undone.
+const MOST_UNDONE: usize = 100;
+/// More ends of a page than anybody looks at.
+const MOST_ENDS: usize = 10_000;
 
 /// What `help` says.
 const CALLS: &str = "\
-ask PAGE I J     tries another end of PAGE: lines and figures placed so far (ask PAGE I J D with tables)
-commit           puts in force what was asked last, if it was accepted
-list             prints the list in force
-save NAME        keeps the list in force under a name
-back NAME        puts in force what was saved under a name
-drop NAME        frees a name
-layouts          prints what is saved, and the change in turns of each against the list in force
-quit             ends
+ask PAGE I J   tries another end of PAGE, lines and figures placed so far; where
+               the galley has tables it is ask PAGE I J D
+commit         puts in force what was asked last, if it was accepted
+ends PAGE      every end of PAGE that is accepted: p X Y T W and change in turns
+list           the list in force
+write FILE     writes the list in force to a file
+save NAME      keeps the list in force under a name
+back NAME      puts in force what was saved under a name
+drop NAME      frees a name
+layouts        what is saved, each with its change in turns
+undo           takes back the last commit, save, back or drop
+quit           ends
 ";
 
 /// Opens a desk on a galley and a list, and answers calls from standard input until there are no more.
 pub fn run(args: &Args, output: &mut Output) -> Result<Outcome, Error> {
-    let Args { galley, list } = args;
-    if galley.is_standard_input() || list.is_standard_input() {
+    if args.galley.is_standard_input() || args.list.is_standard_input() {
         return Err(Error::Usage("standard input has the calls, and can be no file here".into()));
     }
-    let bytes = galley.galley()?;
+    let bytes = args.galley.galley_on(args.folio)?;
     let words = match engine::page_words(&bytes) {
-        Ok(words) => list.list(words, Extent::Whole)?.words,
-        Err(refusal) => return refuse_galley(galley, &bytes, refusal, Format::default(), output),
+        Ok(words) => args.list.list(words, Extent::Whole)?.words,
+        Err(refusal) => return refuse_galley(&args.galley, &bytes, refusal, Format::default(), output),
     };
-    let (desk, in_force) = match Desk::open(&bytes, &words) {
+    let galley = args.galley.decoded(&bytes, args.folio)?;
+    let (desk, in_force) = match Worktable::open(&bytes, &words) {
         Ok(opened) => opened,
-        Err(refusal) => {
-            output.print_row(refusal.code(), None)?;
-            say_why(list, refusal);
-            if let (RefusalKind::NotForDesk, Err(marked)) = (refusal.kind, engine::mark(&bytes, &words)) {
-                say_why(list, marked);
-            }
-            return Ok(Outcome::Refused);
-        }
+        Err(refusal) => return refuse(&args.list, &bytes, &galley, &words, refusal, output),
     };
     output.print_row(list::measure_line(in_force), None)?;
-    let at_terminal = io::stdin().is_terminal() && io::stderr().is_terminal();
-    let page_words = words.len() / in_force.pages as usize;
-    let sitting =
-        Sitting { galley: &bytes, page_words, desk, in_force, at_terminal, line: 0, outcomes: Outcomes::default() };
-    sitting.answer_all(output)
+    if desk.is_marked() {
+        let pages = in_force.pages;
+        say(&format!("{}: {pages} pages, and the engine's desk takes {MOST_PAGES}: each ask is a marking", args.list));
+    }
+    let (lines, outcomes) = (Lines::new(), Outcomes::default());
+    Sitting { bytes: &bytes, galley, desk, in_force, done: vec![], lines, outcomes }.answer_all(output)
+}
+
+/// A list that no desk opens on: which rule it breaks.
+fn refuse(
+    name: &FileName,
+    bytes: &[u8],
+    galley: &Galley,
+    words: &[u32],
+    refusal: Refusal,
+    output: &mut Output,
+) -> Result<Outcome, Error> {
+    output.print_row(refusal.code(), None)?;
+    say_why(name, refusal);
+    if let Err(marked) = engine::mark(bytes, words) {
+        say(&format!("{name}: {marked} ({})", explanation::in_numbers(galley, words)));
+    }
+    Ok(Outcome::Refused)
 }
 
 /// A desk with somebody at it.
 struct Sitting<'galley> {
-    galley: &'galley [u8],
-    page_words: usize,
-    desk: Desk<'galley>,
+    bytes: &'galley [u8],
+    galley: Galley,
+    desk: Worktable<'galley>,
     /// What the list in force comes to.
     in_force: Measure,
-    at_terminal: bool,
-    /// The line that was read last, counted from 1.
-    line: usize,
+    /// The desk, and what was in force, before each call that changed it; the last ones.
+    done: Vec<(Worktable<'galley>, Measure)>,
+    lines: Lines,
     outcomes: Outcomes,
 }
 
 impl Sitting<'_> {
     fn answer_all(mut self, output: &mut Output) -> Result<Outcome, Error> {
-        if self.at_terminal {
+        if self.lines.are_typed() {
             say("the list is in force; `help` names the calls, `quit` ends");
         }
-        while let Some(line) = self.next_line()? {
-            let parsed = line.and_then(|line| call::parse(&line, self.page_words));
-            match parsed {
+        while let Some(line) = self.lines.next()? {
+            match line.and_then(|line| call::parse(&line, self.galley.page_words())) {
                 Ok(None) => {}
                 Ok(Some(Call::Quit)) => break,
-                Ok(Some(call)) => self.answer(call, output)?,
-                // Whoever sent the line waits for an answer.
-                Err(what) => {
-                    output.print("?\n")?;
-                    self.remark(&what);
-                    self.outcomes.failed = true;
-                }
+                Ok(Some(call)) => self.answer(&call, output)?,
+                Err(what) => self.is_no_call(&what, output)?,
             }
         }
         Ok(self.outcomes.whole())
     }
 
-    /// The next line, or why it cannot be read as one; none at the end.
-    fn next_line(&mut self) -> Result<Option<Result<String, String>>, Error> {
-        if self.at_terminal {
-            // A prompt is no answer, and need not be seen.
-            let _ = write!(io::stderr(), "desk> ");
-        }
-        let mut line = Vec::new();
-        let read = io::stdin().lock().take(LONGEST_LINE + 1).read_until(b'\n', &mut line);
-        self.line += 1;
-        match read.map_err(Error::Calls)? {
-            0 => {
-                if self.at_terminal {
-                    let _ = writeln!(io::stderr());
-                }
-                Ok(None)
-            }
-            bytes if bytes as u64 > LONGEST_LINE => Err(Error::LongCall { line: self.line }),
-            _ => Ok(Some(String::from_utf8(line).map_err(|_| "not text".into()))),
-        }
+    /// Whoever sent the line waits for an answer.
+    fn is_no_call(&mut self, what: &str, output: &mut Output) -> Result<(), Error> {
+        output.print("?\n")?;
+        self.remark(what);
+        self.outcomes.failed = true;
+        Ok(())
     }
 
-    fn answer(&mut self, call: Call, output: &mut Output) -> Result<(), Error> {
+    fn answer(&mut self, call: &Call, output: &mut Output) -> Result<(), Error> {
         let answered = match call {
-            Call::Ask { page, end } => self.desk.ask(page, end),
-            Call::Commit => self.desk.commit().and_then(|()| self.measured()),
-            Call::Save(ref name) => self.desk.save(name.as_bytes()).map(|()| self.in_force),
-            Call::Back(ref name) => self.desk.back(name.as_bytes()).and_then(|()| self.measured()),
-            Call::Drop(ref name) => self.desk.drop_name(name.as_bytes()).map(|()| self.in_force),
-            Call::List => return output.print(list::print(self.in_force, &self.desk.list(), self.page_words)),
+            Call::Ask { page, end } => self.desk.ask(*page, *end).map(|measure| (measure, self.in_force)),
+            Call::Commit => self.change(|desk| desk.commit()),
+            Call::Save(name) => self.change(|desk| desk.save(name.as_bytes())),
+            Call::Back(name) => self.change(|desk| desk.back(name.as_bytes())),
+            Call::Drop(name) => self.change(|desk| desk.drop_name(name.as_bytes())),
+            Call::Undo => match self.done.pop() {
+                Some((desk, measure)) => {
+                    self.desk = desk;
+                    Ok((measure, measure))
+                }
+                None => return self.is_no_call("nothing is left to be taken back", output),
+            },
+            Call::Ends { page } => return self.ends(*page, output),
+            Call::List => return output.print(self.list()),
+            Call::Write(name) => return self.write(name, output),
             Call::Layouts => return output.print(self.layouts()?),
             Call::Help | Call::Quit => return output.print(CALLS),
         };
         match answered {
-            Ok(measure) => output.print_row(self.line_of(measure), None)?,
-            Err(refusal) => self.refuse(&call, refusal, output)?,
+            Ok((measure, in_force)) => {
+                output.print_row(self.line_of(measure), None)?;
+                self.in_force = in_force;
+                Ok(())
+            }
+            Err(refusal) => self.refuse(call, refusal, output),
         }
-        if let (Call::Commit | Call::Back(_), Ok(measure)) = (call, answered) {
-            self.in_force = measure;
+    }
+
+    /// Does what can be undone: what the list in force comes to then, twice, as the answer and as what is in force.
+    fn change<Change>(&mut self, change: Change) -> Result<(Measure, Measure), Refusal>
+    where
+        Change: FnOnce(&mut Worktable) -> Result<(), Refusal>,
+    {
+        let before = (self.desk.clone(), self.in_force);
+        change(&mut self.desk)?;
+        let measure = engine::mark(self.bytes, &self.desk.list())?;
+        if self.done.len() == MOST_UNDONE {
+            self.done.remove(0);
         }
-        Ok(())
+        self.done.push(before);
+        Ok((measure, measure))
+    }
+
+    /// The list in force, as `make` prints one.
+    fn list(&self) -> String {
+        list::print(self.in_force, &self.desk.list(), self.galley.page_words())
+    }
+
+    /// Writes the list in force to a file, whole or not at all.
+    fn write(&mut self, name: &str, output: &mut Output) -> Result<(), Error> {
+        match write_whole(Path::new(name), self.list().as_bytes()) {
+            Ok(()) => output.print_row(self.line_of(self.in_force), None),
+            Err(error) => self.is_no_call(&error.to_string(), output),
+        }
+    }
+
+    /// How many ends of a page would be accepted, and a line for each: the end, what the list comes to, and the change in turns.
+    fn ends(&mut self, page: u32, output: &mut Output) -> Result<(), Error> {
+        match worktable::ends(&self.galley, self.bytes, &self.desk.list(), page, MOST_ENDS) {
+            Ok(Some(ends)) => {
+                let words = self.galley.page_words();
+                let row =
+                    |end: &worktable::End| format!("{}: {}\n", spaced(&end.place[..words]), self.line_of(end.measure));
+                output.print(format!("{}\n{}", ends.len(), ends.iter().map(row).collect::<String>()))
+            }
+            Ok(None) => self.is_no_call(&format!("page {page} may end in more than {MOST_ENDS} ways"), output),
+            Err(refusal) => self.refuse(&Call::Ends { page }, refusal, output),
+        }
     }
 
     /// How many layouts are held, and a line for each: its measure, the change in turns, and its name.
@@ -148,15 +202,10 @@ impl Sitting<'_> {
         let held = self.desk.layouts();
         let mut text = format!("{}\n", held.len());
         for (name, list) in held {
-            let measure = engine::mark(self.galley, &list).map_err(Error::Unlike)?;
+            let measure = engine::mark(self.bytes, &list).map_err(Error::Unlike)?;
             text += &format!("{} {}\n", self.line_of(measure), String::from_utf8_lossy(&name));
         }
         Ok(text)
-    }
-
-    /// What the list in force comes to, as the marking has it.
-    fn measured(&self) -> Result<Measure, Refusal> {
-        engine::mark(self.galley, &self.desk.list())
     }
 
     /// The measure of a list, and its change in turns against the list that was in force.
@@ -174,22 +223,13 @@ impl Sitting<'_> {
 
     /// The numbers by which the list that was asked about breaks a rule; nothing of other calls and refusals.
     fn in_numbers(&self, call: &Call, refusal: Refusal) -> String {
-        let (Call::Ask { page, end }, true, Some(galley)) =
-            (call, refusal.kind.is_of_list(), Galley::decode(self.galley))
-        else {
-            return String::new();
-        };
-        let mut altered = self.desk.list();
-        let at = self.page_words * (*page as usize - 1);
-        altered[at..at + self.page_words].copy_from_slice(&end[..self.page_words]);
-        format!(" ({})", explanation::in_numbers(&galley, &altered))
+        let (Call::Ask { page, end }, true) = (call, refusal.kind.is_of_list()) else { return String::new() };
+        let altered = worktable::altered(&self.desk.list(), self.galley.page_words(), *page, *end);
+        altered.map_or(String::new(), |altered| format!(" ({})", explanation::in_numbers(&self.galley, &altered)))
     }
 
-    /// A remark on the line that was read last; who types it sees which one.
+    /// A remark on the line that was read last.
     fn remark(&self, what: &str) {
-        match self.at_terminal {
-            true => say(what),
-            false => say(&format!("line {}: {what}", self.line)),
-        }
+        say(&format!("{}{what}", self.lines.place()));
     }
 }

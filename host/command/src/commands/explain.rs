@@ -23,6 +23,9 @@ pub struct Args {
     /// Page lists for it
     #[arg(required = true, value_name = "LIST")]
     pub lists: Vec<FileName>,
+    /// Open the galley on folio N, as a chapter of a book
+    #[arg(long, value_name = "N", value_parser = clap::value_parser!(u32).range(1..))]
+    pub folio: Option<u32>,
     /// Say only with which page ends turns are lost for good
     #[arg(long)]
     pub why: bool,
@@ -41,7 +44,7 @@ struct Told<'a> {
 
 /// Explains each list; one that cannot be read does not keep the others from being explained.
 pub fn run(args: &Args, output: &mut Output) -> Result<Outcome, Error> {
-    let bytes = args.galley.galley()?;
+    let bytes = args.galley.galley_on(args.folio)?;
     if args.json {
         return tell(args, &bytes, output);
     }
@@ -50,7 +53,7 @@ pub fn run(args: &Args, output: &mut Output) -> Result<Outcome, Error> {
         hint_at_pack(&args.galley, &bytes, refusal);
         return Ok(Outcome::Refused);
     }
-    let galley = Galley::decode(&bytes).ok_or_else(|| Error::NotDecoded { name: args.galley.clone() })?;
+    let galley = args.galley.decoded(&bytes, args.folio)?;
     let unmade = |error| Error::Make { name: args.galley.clone(), error };
     let mut finder = Finder::new(&bytes, &galley);
     let mut outcomes = Outcomes::default();
@@ -84,16 +87,16 @@ pub fn run(args: &Args, output: &mut Output) -> Result<Outcome, Error> {
 fn tell(args: &Args, bytes: &[u8], output: &mut Output) -> Result<Outcome, Error> {
     let mut outcomes = Outcomes::default();
     let mut told = Told { galley: &args.galley, refusal: None, lists: vec![] };
-    match (engine::read(bytes), Galley::decode(bytes)) {
-        (Err(refusal), _) => {
+    match engine::read(bytes) {
+        Err(refusal) => {
             told.refusal = Some(refusal.into());
             outcomes.refused = true;
         }
-        (Ok(()), None) => return Err(Error::NotDecoded { name: args.galley.clone() }),
-        (Ok(()), Some(galley)) => {
+        Ok(()) => {
+            let galley = args.galley.decoded(bytes, args.folio)?;
             let mut finder = Finder::new(bytes, &galley);
             for name in &args.lists {
-                let marked = Marked::of(name, bytes, galley.page_words());
+                let marked = Marked::of(name, bytes, &galley);
                 outcomes.count(&marked);
                 let explained = Explained::of(&marked, &galley, &mut finder);
                 told.lists.push(explained.map_err(|error| Error::Make { name: args.galley.clone(), error })?);

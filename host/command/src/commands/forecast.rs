@@ -5,8 +5,9 @@ use crate::error::Error;
 use crate::input::FileName;
 use crate::output::{hint_at_pack, say_why, Output};
 use crate::Outcome;
+use barleychime::engine;
 use barleychime::galley::Galley;
-use barleychime::{engine, needs};
+use barleychime::needs::{self, Time};
 
 #[derive(clap::Args)]
 pub struct Args {
@@ -38,7 +39,7 @@ pub fn run(args: &Args, output: &mut Output) -> Result<Outcome, Error> {
                 if several {
                     output.print([name.bytes(), b":\n"].concat())?;
                 }
-                output.print(needs::in_words(&told, needs::steps(&told, &galley)))?;
+                output.print(needs::in_words(&told, Time::of_making(&galley)))?;
             }
             (Ok(_), None) => return Err(Error::NotDecoded { name: name.clone() }),
             (Err(refusal), _) => {

@@ -1,5 +1,6 @@
 //! `barleychime make`: the best page list of a galley.
 
+use super::series;
 use crate::error::Error;
 use crate::input::FileName;
 use crate::json;
@@ -12,11 +13,19 @@ use barleychime::list::{self, Extent};
 use barleychime::refusal::{Refusal, RefusalKind};
 use barleychime::{explanation, fill};
 use serde::Serialize;
+use std::path::PathBuf;
 
 #[derive(clap::Args)]
 pub struct Args {
-    /// The galley
-    pub galley: FileName,
+    /// The galley; with --out any number of them
+    #[arg(required = true, value_name = "GALLEY")]
+    pub galleys: Vec<FileName>,
+    /// Make many on all cores, NAME.galley into DIR/NAME.list
+    #[arg(long, value_name = "DIR", conflicts_with_all = ["after", "advise", "verbose", "json", "tsv"])]
+    pub out: Option<PathBuf>,
+    /// Memory for --out, as 500M or 8G; half of the machine's
+    #[arg(long, value_name = "SIZE", requires = "out", value_parser = series::bytes)]
+    pub memory: Option<u64>,
     /// Keep the pages of LIST, which are printed, and make the rest
     #[arg(long, value_name = "LIST")]
     pub after: Option<FileName>,
@@ -42,9 +51,21 @@ struct Told<'a> {
     remarks: Vec<String>,
 }
 
-/// Makes a galley; what was weighed is said as far as the galley reads.
 pub fn run(args: &Args, output: &mut Output) -> Result<Outcome, Error> {
-    let name = &args.galley;
+    match (&args.out, args.galleys.as_slice()) {
+        (Some(folder), galleys) => {
+            let memory = args.memory.or_else(series::half_of_memory);
+            let memory = memory
+                .ok_or_else(|| Error::Usage("--memory is wanted: this machine does not say how much it has".into()))?;
+            series::run(galleys, folder, memory, output)
+        }
+        (None, [galley]) => one(galley, args, output),
+        (None, _) => Err(Error::Usage("several galleys want a folder for their lists: --out DIR".into())),
+    }
+}
+
+/// Makes a galley; what was weighed is said as far as the galley reads.
+fn one(name: &FileName, args: &Args, output: &mut Output) -> Result<Outcome, Error> {
     let bytes = name.galley()?;
     let opening = match (&args.after, engine::page_words(&bytes)) {
         (None, _) => vec![],
@@ -53,7 +74,7 @@ pub fn run(args: &Args, output: &mut Output) -> Result<Outcome, Error> {
         (Some(_), Err(_)) => vec![],
     };
     if args.format.json {
-        return tell(args, &bytes, &opening, output);
+        return tell(name, args, &bytes, &opening, output);
     }
     let mut memory = Memory::new();
     let refusal = match memory.make_after(&bytes, &opening) {
@@ -77,7 +98,7 @@ pub fn run(args: &Args, output: &mut Output) -> Result<Outcome, Error> {
         (Some(refusal), _) => {
             let outcome = refuse_galley(name, &bytes, refusal, args.format, output)?;
             if refusal.kind == RefusalKind::NoPagination {
-                advise(args, &bytes, &opening, &mut memory);
+                advise(name, args.advise, &bytes, &opening, &mut memory);
             }
             outcome
         }
@@ -88,18 +109,11 @@ pub fn run(args: &Args, output: &mut Output) -> Result<Outcome, Error> {
     Ok(outcome)
 }
 
-fn tell(args: &Args, bytes: &[u8], opening: &[u32], output: &mut Output) -> Result<Outcome, Error> {
+fn tell(name: &FileName, args: &Args, bytes: &[u8], opening: &[u32], output: &mut Output) -> Result<Outcome, Error> {
     let mut memory = Memory::new();
     let ceiling = engine::forecast(bytes).ok().map(|told| told.ceiling);
-    let mut told = Told {
-        galley: &args.galley,
-        refusal: None,
-        measure: None,
-        pages: vec![],
-        weighed: 0,
-        ceiling,
-        remarks: vec![],
-    };
+    let mut told =
+        Told { galley: name, refusal: None, measure: None, pages: vec![], weighed: 0, ceiling, remarks: vec![] };
     let mut outcome = Outcome::Success;
     match memory.make_after(bytes, opening) {
         Ok((measure, pages)) => {
@@ -110,7 +124,7 @@ fn tell(args: &Args, bytes: &[u8], opening: &[u32], output: &mut Output) -> Resu
             outcome = Outcome::Refused;
             told.refusal = Some(refusal.into());
         }
-        Err(error) => return Err(Error::Make { name: args.galley.clone(), error }),
+        Err(error) => return Err(Error::Make { name: name.clone(), error }),
     }
     told.weighed = memory.weighed();
     match told.refusal.as_ref().map(|refusal| (RefusalKind::of(refusal.number), refusal.place)) {
@@ -160,12 +174,12 @@ pub const ADVICE: &str = "`barleychime make --advise` tries lower least heights 
 
 /// What would help where no pagination exists, if that is asked for. It takes a making for each trial, so a person at a
 /// terminal is told what is tried.
-fn advise(args: &Args, bytes: &[u8], opening: &[u32], memory: &mut Memory) {
-    let remark = |what: &str| say(&format!("{}: {what}", args.galley));
+fn advise(name: &FileName, is_asked: bool, bytes: &[u8], opening: &[u32], memory: &mut Memory) {
+    let remark = |what: &str| say(&format!("{name}: {what}"));
     if !opening.is_empty() {
         remark("11 is here about the paginations that begin with the opening");
     }
-    if !args.advise {
+    if !is_asked {
         remark(ADVICE);
         return;
     }

@@ -4,12 +4,13 @@ use super::Outcomes;
 use crate::error::Error;
 use crate::input::FileName;
 use crate::json;
-use crate::marked::{Marked, Row, COLUMNS};
+use crate::marked::{columns, Marked, Row};
 use crate::output::{refuse_galley, Format, Output};
 use crate::rows;
 use crate::Outcome;
 use barleychime::engine;
 use barleychime::refusal::Refusal;
+use barleychime::why::Finder;
 use serde::Serialize;
 
 #[derive(clap::Args)]
@@ -19,6 +20,12 @@ pub struct Args {
     /// Page lists for it
     #[arg(required = true, value_name = "LIST")]
     pub lists: Vec<FileName>,
+    /// Open the galley on folio N, as a chapter of a book
+    #[arg(long, value_name = "N", value_parser = clap::value_parser!(u32).range(1..))]
+    pub folio: Option<u32>,
+    /// Add with which page ends turns are lost for good: `4:2` is 2 with page 4
+    #[arg(long)]
+    pub why: bool,
     #[command(flatten)]
     pub format: Format,
 }
@@ -33,21 +40,25 @@ struct Told<'a> {
 
 /// Marks each list, a row each; one that cannot be read is a row with `?`.
 pub fn run(args: &Args, output: &mut Output) -> Result<Outcome, Error> {
-    let bytes = args.galley.galley()?;
-    let words = match engine::page_words(&bytes) {
-        Ok(words) => words,
-        Err(refusal) => return refuse(args, &bytes, refusal, output),
-    };
+    let bytes = args.galley.galley_on(args.folio)?;
+    if let Err(refusal) = engine::read(&bytes) {
+        return refuse(args, &bytes, refusal, output);
+    }
+    let galley = args.galley.decoded(&bytes, args.folio)?;
+    let mut finder = args.why.then(|| Finder::new(&bytes, &galley));
     let (mut outcomes, mut told) = (Outcomes::default(), Vec::new());
     if args.format.tsv {
-        rows::heading(output, &COLUMNS)?;
+        rows::heading(output, columns(args.why))?;
     }
     for name in &args.lists {
-        let marked = Marked::of(name, &bytes, words);
+        let mut marked = Marked::of(name, &bytes, &galley);
+        if let Some(finder) = &mut finder {
+            marked.find_losses(finder).map_err(|error| Error::Make { name: args.galley.clone(), error })?;
+        }
         outcomes.count(&marked);
         match args.format {
             Format { json: true, .. } => told.push(marked.json()),
-            Format { tsv: true, .. } => marked.print_tsv(output)?,
+            Format { tsv: true, .. } => marked.print_tsv(args.why, output)?,
             _ => {
                 output.print_row(marked.line(), Some(name).filter(|_| args.lists.len() > 1))?;
                 marked.say();

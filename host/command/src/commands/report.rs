@@ -4,13 +4,14 @@ use super::make;
 use crate::error::Error;
 use crate::input::FileName;
 use crate::json;
-use crate::marked::{Answer, Marked, Row, COLUMNS};
+use crate::marked::{columns, Answer, Marked, Row};
 use crate::output::{refuse_galley, say, say_why, Format, Output};
 use crate::rows;
 use crate::Outcome;
-use barleychime::engine::{self, MakeError, Mark, Measure, Memory, Report};
+use barleychime::engine::{self, MakeError, Mark, Measure, Report};
 use barleychime::marks;
 use barleychime::refusal::{Refusal, RefusalKind};
+use barleychime::why::Finder;
 use serde::Serialize;
 use std::fmt::Display;
 
@@ -25,6 +26,9 @@ pub struct Args {
     /// Report on marks as text, a line `p X Y T E` for each paper
     #[arg(long, value_name = "FILE", conflicts_with_all = ["galley", "lists", "tsv"])]
     pub marks: Option<FileName>,
+    /// Add a row for each paper, with the page ends that lose turns for good
+    #[arg(long, conflicts_with = "marks")]
+    pub why: bool,
     #[command(flatten)]
     pub format: Format,
 }
@@ -73,32 +77,46 @@ pub fn run(args: &Args, output: &mut Output) -> Result<Outcome, Error> {
 /// as such.
 fn on_lists(galley: &FileName, args: &Args, output: &mut Output) -> Result<Outcome, Error> {
     let bytes = galley.galley()?;
-    let best = match Memory::new().make(&bytes) {
-        Ok((measure, _)) => measure,
+    if let Err(refusal) = engine::read(&bytes) {
+        return refuse_whole(galley, &bytes, args.format, refusal, output);
+    }
+    let decoded = galley.decoded(&bytes, None)?;
+    let unmade = |error| Error::Make { name: galley.clone(), error };
+    let mut finder = Finder::new(&bytes, &decoded);
+    let best = match finder.best() {
+        Ok(best) => best.measure,
         Err(MakeError::Refused(refusal)) => return refuse_whole(galley, &bytes, args.format, refusal, output),
-        Err(error) => return Err(Error::Make { name: galley.clone(), error }),
+        Err(error) => return Err(unmade(error)),
     };
-    let words = engine::page_words(&bytes).map_err(Error::Unlike)?;
-    let marked: Vec<Marked> = args.lists.iter().map(|name| Marked::of(name, &bytes, words)).collect();
+    let mut marked: Vec<Marked> = args.lists.iter().map(|name| Marked::of(name, &bytes, &decoded)).collect();
+    if args.why {
+        marked.iter_mut().try_for_each(|marked| marked.find_losses(&mut finder)).map_err(unmade)?;
+    }
     let report = engine::report(&papers(&marked, best));
     match args.format {
         Format { json: true, .. } => tell(galley, best, &marked, report, output),
         Format { tsv: true, .. } => {
-            rows::heading(output, &COLUMNS)?;
-            marked.iter().try_for_each(|marked| marked.print_tsv(output))?;
+            rows::heading(output, columns(args.why))?;
+            marked.iter().try_for_each(|marked| marked.print_tsv(args.why, output))?;
             Ok(outcome(&marked))
         }
         _ => {
             marked.iter().for_each(Marked::say);
             match report {
-                Ok(told) => {
-                    output.print(marks::in_words(&told) + &marks::no_papers(&refused(&marked), unreadable(&marked)))?;
-                    Ok(outcome(&marked))
-                }
+                Ok(told) => print(&told, &marked, output),
                 Err(refusal) => refuse("the lists", refusal, output),
             }
         }
     }
+}
+
+/// The report in words, and a row for each paper whose losses were found.
+fn print(told: &Report, marked: &[Marked], output: &mut Output) -> Result<Outcome, Error> {
+    output.print(marks::in_words(told) + &marks::no_papers(&refused(marked), unreadable(marked)))?;
+    for paper in marked.iter().filter(|marked| marked.losses.is_some()) {
+        output.print_row(paper.line(), Some(paper.name))?;
+    }
+    Ok(outcome(marked))
 }
 
 /// A galley that has no list of the engine's to compare with.
