@@ -68,10 +68,10 @@ def turned_away(tally, command, folder):
             ('one of them without its end', ('--out', out, one, plain), 'would both be made into'),
             ('a list in place of a galley', ('--out', work, two, inner), f'the list of {two} would take the place of the galley {inner}; nothing is made'),
             ('standard input', ('--out', out, '-'), 'standard input has no name'),
-            ('no folder', (one, two), 'several galleys want a folder for their lists: --out DIR'),
+            ('no folder', (one, two), 'several galleys want a folder for their lists, --out DIR'),
             ('no amount', ('--out', out, '--memory', 'much', one), 'no amount of memory'),
             ('memory without a folder', ('--memory', '1G', one), '--out'),
-            ('an opening', ('--out', out, '--after', one, two), '--out <DIR> cannot stand beside another')]:
+            ('an opening', ('--out', out, '--after', one, two), '--out DIR cannot stand beside --after LIST')]:
         status, output, remarks = command.text('make', *arguments)
         tally.same(f'{what}: {remarks}', (status, output, told in remarks, out.exists()), (2, '', True, False))
     status, output, remarks = command.text('make', '--out', out, one, nowhere, work / 'other', two)

@@ -12,7 +12,7 @@ from reference.galley import write
 # A wrong call, and what is said to be wrong.
 WRONG = [
     ((), 'a command is wanted'), (('mrk',), 'mrk: no such command, perhaps mark is meant'), (('--mend',), '--mend: no such option'),
-    (('make',), 'make: GALLEY is wanted'), (('make', 'a', 'b'), 'make: b: one argument too many'),
+    (('make',), 'make: GALLEY... is wanted'), (('make', 'a', 'b'), 'make: several galleys want a folder for their lists, --out DIR'),
     (('make', '--verbos', 'a'), 'make: --verbos: no such option, perhaps --verbose is meant'),
     (('make', '--after'), 'make: --after LIST: its value is missing'), (('make', '--advise=3', 'a'), 'make: --advise takes no value, and 3 is one'),
     (('make', '--after=a', '--after=b', 'c'), 'make: --after LIST can stand only once'),
@@ -20,7 +20,7 @@ WRONG = [
     (('report', '--marks', 'a', 'b'), 'report: '), (('fold', '4', '8'), 'fold: 8: one argument too many'), (('fold', '-4'), 'fold: -4: no such option'),
     (('fold', 'x'), 'fold: SIZE: `x` is no whole number of 32 bits'), (('fold', '4294967296'), 'the greatest is 4294967295'),
     (('completions',), 'completions: SHELL is wanted'), (('completions', 'bsh'), 'bsh is none of bash, zsh, fish, perhaps bash is meant'),
-    (('mark', '-', '-'), 'standard input can be read only once'), (('make', '\x1b[2J', 'b'), 'make: b: one argument'), (('\x1b[2J',), 'no such command'),
+    (('mark', '-', '-'), 'standard input can be read only once'), (('make', '\x1b[2J', 'b'), 'make: several galleys'), (('\x1b[2J',), 'no such command'),
 ]
 
 

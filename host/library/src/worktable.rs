@@ -19,7 +19,7 @@ pub enum Worktable<'galley> {
     /// The engine's own.
     Engine(Box<Desk<'galley>>),
     /// Lists that are marked, since they are too long for that.
-    Marked(Marked<'galley>),
+    Marked(Box<Marked<'galley>>),
 }
 
 /// A desk whose asks are markings.
@@ -109,7 +109,7 @@ impl<'galley> Worktable<'galley> {
     /// marking does not accept.
     pub fn open(galley: &'galley [u8], list: &[u32]) -> Result<(Self, Measure), Refusal> {
         match Marked::open(galley, list) {
-            Ok((marked, measure)) if measure.pages > MOST_PAGES => Ok((Worktable::Marked(marked), measure)),
+            Ok((marked, measure)) if measure.pages > MOST_PAGES => Ok((Worktable::Marked(Box::new(marked)), measure)),
             _ => Desk::open(galley, list).map(|(desk, measure)| (Worktable::Engine(Box::new(desk)), measure)),
         }
     }
@@ -265,7 +265,7 @@ mod tests {
         let (mut engines, measure) = Worktable::open(&bytes, &LIST).expect("an accepted list");
         let (marked, same) = Marked::open(&bytes, &LIST).expect("an accepted list");
         assert!(!engines.is_marked() && measure == same);
-        let (mut marked, mut number, mut kinds) = (Worktable::Marked(marked), 1_u32, Vec::new());
+        let (mut marked, mut number, mut kinds) = (Worktable::Marked(Box::new(marked)), 1_u32, Vec::new());
         for _ in 0..20_000 {
             number = number.wrapping_mul(1_664_525).wrapping_add(1_013_904_223);
             let (due, got) = (told(&mut engines, number >> 8), told(&mut marked, number >> 8));

@@ -60,7 +60,9 @@ pub fn run(args: &Args, output: &mut Output) -> Result<Outcome, Error> {
             series::run(galleys, folder, memory, output)
         }
         (None, [galley]) => one(galley, args, output),
-        (None, _) => Err(Error::Usage("several galleys want a folder for their lists: --out DIR".into())),
+        (None, _) => Err(Error::Usage(
+            "make: several galleys want a folder for their lists, --out DIR; `barleychime help make` says more".into(),
+        )),
     }
 }
 
