@@ -59,7 +59,7 @@ def on_terminal(command, *arguments):
     said, end = b'', b'that is all'
     script = f'"$@"; status=$?; printf "{end.decode()}" >&2; exit $status'
     with subprocess.Popen(['sh', '-c', script, 'sh', command.program, *arguments], stdin=subprocess.DEVNULL,
-                          stdout=subprocess.PIPE, stderr=theirs) as running:
+                          stdout=subprocess.PIPE, stderr=theirs, env={**os.environ, 'NO_COLOR': '1'}) as running:
         while not said.endswith(end):
             said += os.read(ours, 4_096)
         output, _ = running.communicate()

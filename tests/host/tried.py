@@ -307,13 +307,15 @@ def at_terminal(tally, command, folder):
     tally.group('command: a terminal')
 
 
+# An empty prompt, as it is drawn before anything is typed.
+PROMPT = 'desk> \r\x1b[6C'
+
+
 def seen(terminal, prompts=1):
-    """What a terminal shows up to the next prompt, or so many; what it is told to do besides is left out."""
-    text, shown = '', ''
-    while len(re.findall(r'^desk> $', shown, re.M)) < prompts and select.select([terminal], [], [], 30)[0]:
+    """What a terminal shows up to the next empty prompt, or so many of them; what it is told to do besides is left out."""
+    text = ''
+    while text.count(PROMPT) < prompts and select.select([terminal], [], [], 30)[0]:
         text += os.read(terminal, 4_096).decode()
-        lines = re.sub(r'\x1b\[[0-9;?]*[A-Za-z]', '', text).replace('\r\n', '\n')
-        shown = re.sub(r'^.*\r(?!\n)', '', lines, flags=re.M)
     return re.sub(r'\x1b\[[0-9;?]*[A-Za-z]', '', text)
 
 
