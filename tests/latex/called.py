@@ -4,19 +4,6 @@ import subprocess
 
 import pages
 
-MAKEFILE = '''all: book.pdf
-book.galley.txt: book.tex
-\tlualatex -interaction=batchmode book
-\tlualatex -interaction=batchmode book
-book.list: book.galley.txt
-\t$(BARLEYCHIME) tex --lists-only book
-book.pdf: book.list
-\tlualatex -interaction=batchmode book
-\t$(BARLEYCHIME) tex --lists-only book
-\tlualatex -interaction=batchmode book
-'''
-
-
 def said(job):
     """The summary, galley by galley, and the PDF's name."""
     told = job.barleychime()
@@ -74,8 +61,8 @@ def elsewhere(job):
     yield 'another folder: blocks not on the page of the list', pages.misplaced(out)[1], 0
 
 
-def by_make(job, environment):
-    (job.folder / 'Makefile').write_text(MAKEFILE.replace('book', job.path.stem))
+def by_make(job, environment, rules):
+    (job.folder / 'Makefile').write_text(rules.replace('small', job.path.stem))
     done = subprocess.run(['make', '-s'], cwd=job.folder, env={**environment, 'BARLEYCHIME': str(job.program)}, capture_output=True, timeout=120)
     yield 'make: exit status', done.returncode, 0
     right, wrong_ = pages.misplaced(job.path)

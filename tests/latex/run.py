@@ -124,9 +124,9 @@ def calls(folder):
 def other_ways(folder):
     source = documents.ALL['article']
     yield from called.elsewhere(Job(folder / 'elsewhere', 'article', source))
-    yield from called.by_make(Job(folder / 'make', 'article', source), ENVIRONMENT)
-    rules = (ROOT / 'latex/examples/latexmkrc').read_text()
-    yield from called.by_latexmk(Job(folder / 'latexmk', 'article', source), ENVIRONMENT, rules)
+    rules = {name: (ROOT / 'latex/examples' / name).read_text() for name in ('Makefile', 'latexmkrc')}
+    yield from called.by_make(Job(folder / 'make', 'article', source), ENVIRONMENT, rules['Makefile'])
+    yield from called.by_latexmk(Job(folder / 'latexmk', 'article', source), ENVIRONMENT, rules['latexmkrc'])
 
 
 def real(folder, name):
