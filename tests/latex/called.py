@@ -61,6 +61,26 @@ def elsewhere(job):
     yield 'another folder: blocks not on the page of the list', pages.misplaced(out)[1], 0
 
 
+def tutorial(job, text):
+    """docs/LATEX.md shows what the command prints for the example."""
+    told = job.barleychime()
+    shown = re.search(r'^ +galley +lines.*?own pages have \d+$', text, re.M | re.S)[0].splitlines()
+    indent = min(len(row) - len(row.lstrip()) for row in shown)
+    yield 'docs/LATEX.md: what tex prints', (told.returncode, told.stdout.rstrip().splitlines()), (0, [row[indent:] for row in shown])
+
+
+def manual(job, folder):
+    """The manual is paged by itself."""
+    (job.folder / 'examples').mkdir()
+    for name in ('latexmkrc', 'Makefile'):
+        (job.folder / 'examples' / name).write_text((folder / 'examples' / name).read_text())
+    told = job.barleychime()
+    yield 'the manual: exit status and remarks', (told.returncode, told.stderr), (0, '')
+    right, wrong_ = pages.misplaced(job.path)
+    yield 'the manual: blocks on the page of the list, and not', (right > 60, wrong_), (True, 0)
+    yield 'the manual: overfull boxes', re.findall(r'Overfull .hbox \([0-9.]+pt', job.log()), []
+
+
 def by_make(job, environment, rules):
     (job.folder / 'Makefile').write_text(rules.replace('small', job.path.stem))
     done = subprocess.run(['make', '-s'], cwd=job.folder, env={**environment, 'BARLEYCHIME': str(job.program)}, capture_output=True, timeout=120)

@@ -16,6 +16,7 @@ sys.path[:0] = [str(ROOT / part) for part in ('tests/latex', 'tests', 'tests/hos
 import called  # noqa: E402
 import documents  # noqa: E402
 import followed  # noqa: E402
+import galleys  # noqa: E402
 import pages  # noqa: E402
 import sources as real_documents  # noqa: E402
 import tally  # noqa: E402
@@ -84,6 +85,8 @@ def set_both_ways(folder, name, source):
         yield f'{name}: pictures without a list', pictures(own.file('.pdf')) == pictures(plain.file('.pdf')), True
     told = made.barleychime()
     yield f'{name}: the command ends well', (told.returncode, told.stderr), (0, '')
+    if told.returncode:
+        return
     right, wrong = pages.misplaced(made.path)
     yield f'{name}: blocks not on the page of the list', wrong, 0
     yield f'{name}: some pages are by a list', right > 40, name not in documents.WARNED or name != 'wrapfig'
@@ -94,6 +97,7 @@ def set_both_ways(folder, name, source):
     got = [warning for warning in made.warnings() if not any(warning.startswith(due) for due in wanted)]
     yield f'{name}: warnings', (got, bool(made.warnings())), ([], bool(wanted))
     yield f'{name}: turns', turns(told.stdout), 'no more than LaTeX has'
+    yield from galleys.check(name, made)
 
 
 def turns(stdout):
@@ -124,6 +128,9 @@ def calls(folder):
 def other_ways(folder):
     source = documents.ALL['article']
     yield from called.elsewhere(Job(folder / 'elsewhere', 'article', source))
+    latex = ROOT / 'latex'
+    yield from called.tutorial(Job(folder / 'tutorial', 'small', (latex / 'examples/small.tex').read_text()), (ROOT / 'docs/LATEX.md').read_text())
+    yield from called.manual(Job(folder / 'manual', 'manual', (latex / 'manual.tex').read_text()), latex)
     rules = {name: (ROOT / 'latex/examples' / name).read_text() for name in ('Makefile', 'latexmkrc')}
     yield from called.by_make(Job(folder / 'make', 'article', source), ENVIRONMENT, rules['Makefile'])
     yield from called.by_latexmk(Job(folder / 'latexmk', 'article', source), ENVIRONMENT, rules['latexmkrc'])

@@ -1,0 +1,56 @@
+"""What the galleys of the small documents must say: citing lines, floats that are kept together, sides, barriers."""
+import pages
+
+CITING = ('article', 'hyperref', 'cleveref', 'varioref', 'scrartcl', 'microtype', 'babel', 'fancyhdr')
+
+
+def read(job):
+    """For each galley its remarks and its records."""
+    galleys = []
+    for row in job.file('.galley.txt').read_text().splitlines():
+        if row.startswith('# galley'):
+            galleys.append(([], []))
+        galleys[-1][not row.startswith('#')].append(row.removeprefix('# '))
+    return galleys
+
+
+def citing_lines(job):
+    """The text of the line that cites each float, and of the line before it."""
+    lines = []
+    for row in job.file('.text').read_text(errors='replace').splitlines():
+        if row.startswith('l '):
+            lines.append(pages.plain(row[2:]))
+    records = [row.split() for row in read(job)[0][1]]
+    cites = [int(fields[4]) for fields in records if fields[0] in ('FG', 'FK', 'TB')]
+    return [''.join(lines[max(cite - 2, 0):cite]) for cite in cites]
+
+
+def passed(job):
+    """Floats on a later page than the line after a barrier that stands after them."""
+    galleys = pages.shipped(job.path)[1]
+    for (remarks, _), galley in zip(read(job), galleys):
+        for remark in remarks:
+            if remark.startswith('barrier'):
+                line, *before = map(int, remark.split()[3:])
+                lines, *floats = galley.streams
+                yield from (page for stream, count in zip(floats, before) for page in stream[:count] if line < len(lines) and page > lines[line])
+
+
+def check(name, job):
+    galleys = read(job)
+    remarks = [row for rows, _ in galleys for row in rows]
+    if name in CITING:
+        yield f'{name}: floats whose citing line does not cite', [text for text in citing_lines(job) if 'See' not in text], []
+    if name == 'caption':
+        marks = [row.split()[0] for _, rows in galleys for row in rows if row.startswith('F')]
+        yield f'{name}: floats that are kept with the next', marks.count('FK'), 2
+    if name in ('book', 'scrbook', 'memoir'):
+        yield f'{name}: galleys that open on the right', remarks.count('opens right') >= 3, True
+        folios = [int(row.split()[1]) for rows, records in galleys for row in records if row.startswith('FO') and 'opens right' in rows]
+        yield f'{name}: their folios are odd', [folio for folio in folios if folio % 2 == 0], []
+    if name == 'report':
+        yield f'{name}: galleys that follow on', remarks.count('follows') >= 3, True
+    if name == 'placeins':
+        yield f'{name}: floats that passed a barrier', list(passed(job)), []
+        text = job.file('.galley.txt').read_text() + job.file('.list').read_text()
+        yield f'{name}: barriers held, or galleys ended there', text.count('barrier ') >= 1, True
