@@ -81,9 +81,13 @@ def manual(job, folder):
     yield 'the manual: overfull boxes', re.findall(r'Overfull .hbox \([0-9.]+pt', job.log()), []
 
 
+def with_command(job, environment):
+    return {**environment, 'PATH': f'{job.program.parent}:{environment["PATH"]}'}
+
+
 def by_make(job, environment, rules):
     (job.folder / 'Makefile').write_text(rules.replace('small', job.path.stem))
-    done = subprocess.run(['make', '-s'], cwd=job.folder, env={**environment, 'BARLEYCHIME': str(job.program)}, capture_output=True, timeout=120)
+    done = subprocess.run(['make', '-s'], cwd=job.folder, env=with_command(job, environment), capture_output=True, timeout=180)
     yield 'make: exit status', done.returncode, 0
     right, wrong_ = pages.misplaced(job.path)
     yield 'make: blocks on the page of the list, and not', (right > 100, wrong_), (True, 0)
@@ -93,7 +97,7 @@ def by_latexmk(job, environment, rules):
     """With the rule that the manual shows."""
     (job.folder / '.latexmkrc').write_text(rules)
     done = subprocess.run(['latexmk', '-silent', job.path.name], cwd=job.folder, capture_output=True, timeout=180,
-                          env={**environment, 'PATH': f'{job.program.parent}:{environment["PATH"]}'})
+                          env=with_command(job, environment))
     yield 'latexmk: exit status', (done.returncode, done.returncode and done.stderr[-300:]), (0, 0)
     right, wrong_ = pages.misplaced(job.path)
     yield 'latexmk: blocks on the page of the list, and not', (right > 100, wrong_), (True, 0)
