@@ -16,6 +16,15 @@ def said(job):
     yield 'lists-only after that: nothing changes', (told.returncode, job.file('.list').read_text()), (0, before)
 
 
+def shown(job, page_is_built):
+    """The page of spreads, where the command was built with it; else it says that it was not."""
+    told = job.barleychime('--show')
+    page = job.folder / f'{job.path.stem}-1.html'
+    due = (0, True) if page_is_built else (2, False)
+    yield 'show: exit status, and whether the page is there', (told.returncode, page.exists()), due
+    yield 'show: what is said', ('is written' if page_is_built else 'without the page') in told.stderr, True
+
+
 def printed(job):
     """Pages that are printed stay, and the rest is made."""
     before = {number: ends for number, ends in pages.lists(job.path).items()}

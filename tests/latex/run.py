@@ -121,6 +121,8 @@ def calls(folder):
     source = documents.ALL['article']
     job = Job(folder / 'called', 'article', source)
     yield from called.said(job)
+    named = os.environ.get('BARLEYCHIME_PAGE') or ROOT / 'target/web/barleychime.html'
+    yield from called.shown(job, pathlib.Path(named).exists())
     yield from called.printed(job)
     yield from called.wrong(Job(folder / 'wrong', 'article', source))
 

@@ -6,9 +6,12 @@ mod lists;
 mod runs;
 mod shipped;
 
+use super::show;
 use crate::error::Error;
+use crate::input::FileName;
 use crate::output::{say, watched, Output};
 use crate::Outcome;
+use barleychime::list;
 pub use failure::Failure;
 use galleys::Part;
 use lists::{Lists, Printed};
@@ -32,6 +35,9 @@ pub struct Args {
     /// Keep the pages of the PDF up to N, which are printed, and make the rest
     #[arg(long, value_name = "N")]
     pub after: Option<usize>,
+    /// Write the page of spreads for each galley that has a list, JOB-N.html
+    #[arg(long, conflicts_with = "lists_only")]
+    pub show: bool,
     /// Let TeX write to this folder
     #[arg(long, value_name = "FOLDER")]
     pub output_directory: Option<PathBuf>,
@@ -48,6 +54,9 @@ pub fn run(args: &Args, output: &mut Output) -> Result<Outcome, Error> {
     let own = work.own_pages()?;
     let settled = work.by_lists()?;
     output.print(summary(&job, &own, &work.lists))?;
+    if args.show {
+        show_spreads(&job, &own, &work.lists, output)?;
+    }
     if !settled {
         say(&format!("after {MOST_RUNS} runs the galleys still change: page numbers in the text change its lines"));
         return Ok(Outcome::Refused);
@@ -93,8 +102,24 @@ fn lists_only(job: &Job, printed: Option<&Printed>) -> Result<Outcome, Error> {
     Ok(Outcome::Success)
 }
 
-/// LaTeX's own pages: the galleys and the turns of each, as far as it was shipped whole.
-struct Own(Vec<(String, Option<Turns>)>);
+/// LaTeX's own pages of a galley: its turns, as far as it was shipped whole, and its page ends.
+struct OwnPages {
+    sum: String,
+    turns: Option<Turns>,
+    ends: Vec<[u32; 3]>,
+}
+
+struct Own(Vec<OwnPages>);
+
+impl Own {
+    /// LaTeX's pages of a galley; where there are other galleys now, of the one that is the same.
+    fn of(&self, part: &Part, galleys: usize) -> Option<&OwnPages> {
+        match self.0.len() == galleys {
+            true => self.0.get(part.number - 1),
+            false => self.0.iter().find(|own| own.sum == part.sum),
+        }
+    }
+}
 
 struct Work<'job> {
     job: &'job Job,
@@ -125,7 +150,12 @@ impl Work<'_> {
             }
         }
         let (parts, shipped) = (read_galleys(self.job)?, shipped::read(&self.job.text(".pages")));
-        Ok(Own(parts.iter().map(|part| (part.sum.clone(), shipped.turns(part))).collect()))
+        let own = |part: &Part| OwnPages {
+            sum: part.sum.clone(),
+            turns: shipped.turns(part),
+            ends: shipped.galleys.get(part.number - 1).map_or(vec![], |placed| placed.ends_up_to(usize::MAX)),
+        };
+        Ok(Own(parts.iter().map(own).collect()))
     }
 
     /// Lists and runs by turns; whether nothing changes any more.
@@ -153,16 +183,12 @@ impl Work<'_> {
 fn summary(job: &Job, own: &Own, lists: &Lists) -> String {
     let parts = galleys::read(&job.text(".galley.txt"));
     let shipped = shipped::read(&job.text(".pages"));
-    let alike = parts.len() == own.0.len();
     let mut text = format!(
         "{:>6} {:>6} {:>7} {:>6}  {:<13} {:<13} {}\n",
         "galley", "lines", "figures", "tables", "LaTeX", "list", "opens with"
     );
     for (part, made) in parts.iter().zip(&lists.made) {
-        let before = match alike {
-            true => own.0[part.number - 1].1,
-            false => own.0.iter().find(|(sum, _)| *sum == part.sum).and_then(|(_, turns)| *turns),
-        };
+        let before = own.of(part, parts.len()).and_then(|own| own.turns);
         let now = shipped.turns(part).filter(|_| made.list.is_some());
         let told = |turns: Option<Turns>| turns.map_or("-".into(), |turns| turns.to_string());
         let words: String = part.words.chars().take(30).collect();
@@ -179,8 +205,31 @@ fn summary(job: &Job, own: &Own, lists: &Lists) -> String {
     let all = |turns: &mut dyn Iterator<Item = Option<Turns>>| -> u32 {
         turns.flatten().map(|turns| turns.x + turns.y).sum()
     };
-    let before = all(&mut own.0.iter().map(|(_, turns)| *turns));
+    let before = all(&mut own.0.iter().map(|own| own.turns));
     let now = all(&mut parts.iter().map(|part| shipped.turns(part)));
     let (pdf, pages) = (job.file(".pdf"), shipped.folios.len());
     text + &format!("{}: {pages} pages, {now} turns; LaTeX's own pages have {before}\n", pdf.display())
+}
+
+/// The page of spreads for each galley that has a list, with LaTeX's own pages beside it: JOB-N.html, of JOB-N.galley, JOB-N.list
+/// and JOB-N.latex.
+fn show_spreads(job: &Job, own: &Own, lists: &Lists, output: &mut Output) -> Result<(), Error> {
+    let parts = galleys::read(&job.text(".galley.txt"));
+    for (part, made) in parts.iter().zip(&lists.made) {
+        let Some((measure, pages)) = &made.list else { continue };
+        let words = if part.tables() > 0 { 3 } else { 2 };
+        let rows = own.of(part, parts.len()).map_or(&[][..], |own| &own.ends);
+        let latex: String = rows.iter().map(|end| format!("{}\n", list::spaced(&end[..words]))).collect();
+        let file = |ending: &str| job.file(&format!("-{}.{ending}", part.number));
+        let galley = part.bytes(Some(made.folio)).map_err(Error::Tex)?;
+        let all =
+            [("galley", galley), ("list", list::print(*measure, pages, words).into()), ("latex", latex.into_bytes())];
+        for (ending, bytes) in all {
+            fs::write(file(ending), bytes).map_err(|error| Error::Tex(Failure::Lists { path: file(ending), error }))?;
+        }
+        let named = |ending: &str| FileName::from(file(ending).into_os_string());
+        let (galley, lists) = (named("galley"), vec![named("list"), named("latex")]);
+        show::run(&show::Args { galley, lists, out: Some(file("html").into()), open: false }, output)?;
+    }
+    Ok(())
 }

@@ -28,7 +28,7 @@ pub enum Failure {
     Unlike { number: usize, refusal: Refusal },
     /// The printed pages of a galley cannot stay.
     Printed { number: usize, words: String, error: MakeError },
-    /// The lists cannot be written.
+    /// The lists, or what `--show` takes, cannot be written.
     Lists { path: PathBuf, error: io::Error },
 }
 
