@@ -30,7 +30,8 @@ CALLS = [
     'mark {a} {best}', 'mark {a} {best} {longer} {high} {back} {junk} {empty} {head} {nowhere}', 'mark {k} {tabled}', 'mark {cut} {best}', 'mark {nowhere} {best}',
     'explain {a} {best} {longer} {high} {back} {junk} {empty}', 'explain {k} {tabled}', 'explain {cut} {best}', 'explain {none} {high}', 'explain {nowhere} {best}',
     'book {a} {a}', 'book {gretl-p046} {gretl-p441}', 'book {a} {k} {cut}', 'book {none} {a}', 'book {nowhere}',
-    'report {a} {best} {longer} {high} {junk} {nowhere}', 'report {a} {best}', 'report {none} {best}', 'report {cut} {best}', 'report --marks {marks}',
+    'forecast {a}', 'forecast {a} {k} {cut} {nowhere}', 'forecast {cut}', 'forecast {nowhere}', 'forecast --book {a} {a}', 'forecast --book {a} {k}',
+    'forecast --book {nowhere}', 'report {a} {best} {longer} {high} {junk} {nowhere}', 'report {a} {best}', 'report {none} {best}', 'report {cut} {best}', 'report --marks {marks}',
     'report --marks {low}', 'report --marks {junk}', 'fold', 'fold 8', 'fold 5', 'refusals',
 ]
 
@@ -75,6 +76,10 @@ def as_people_read(tally, what, value, text):
             tally.same(f'{what}: sums', list(value['report'].values()), due)
         case 'explain':
             tally.same(f'{what}: answers', sum(row['status'] == 'accepted' for row in value['lists']), text.count('\naccepted: '))
+        case 'forecast':
+            told = [row['forecast'] for row in value['galleys'] if row['forecast']] + [value['book']] * bool(value['book'])
+            due = [int(line.split()[2]) for line in lines if line.startswith('work area: ')]
+            tally.same(f'{what}: words of work area', [one['work'] for one in told], due)
         case 'fold':
             sheets = [[*sheet['front'], *sheet['back']] for section in value['sections'] for sheet in section['sheets']]
             due = [[int(word) for word in line.split()] for line in lines if line and line[0] != 'R']
@@ -97,7 +102,7 @@ def objects(tally, command, names, schemas):
         met.add((name, value['outcome']))
         if 'error' not in value:
             as_people_read(tally, f'{line} --json', value, text)
-    tally.same('every outcome of every command', len(met) >= 3 * 6 - 1, True)  # fold does not fail
+    tally.same('every outcome of every command', len(met) >= 3 * 7 - 1, True)  # fold does not fail
     wrong = json.loads(told(command, names, 'make {a}', '--json')[1])
     for key in list(wrong):
         tally.same(f'without {key}', bool(schemas.faults('make', {k: v for k, v in wrong.items() if k != key})), True)
@@ -110,7 +115,7 @@ def tabs(tally, command, names):
     """Rows have as many columns as there are names of columns, and say what the objects say."""
     for line in CALLS:
         name = line.split()[0]
-        if name in ('explain', 'refusals') or '--marks' in line:
+        if name in ('explain', 'refusals') or '--marks' in line or '--book' in line:
             continue
         status, output, _ = told(command, names, line, '--tsv')
         tally.same(f'{line} --tsv: status', status, told(command, names, line)[0])

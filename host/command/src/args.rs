@@ -126,6 +126,7 @@ impl Commands {
         let (json, name) = match self {
             Commands::Make(args) => (args.format.json, "make"),
             Commands::Book(args) => (args.format.json, "book"),
+            Commands::Forecast(args) => (args.format.json, "forecast"),
             Commands::Mark(args) => (args.format.json, "mark"),
             Commands::Explain(args) => (args.json, "explain"),
             Commands::Report(args) => (args.format.json, "report"),

@@ -1,5 +1,6 @@
 //! `barleychime book`, and the forecast of a book: chapters in, a page list for each out.
 
+use super::forecast;
 use crate::error::Error;
 use crate::input::FileName;
 use crate::json;
@@ -69,11 +70,19 @@ pub fn run(args: &Args, output: &mut Output) -> Result<Outcome, Error> {
 }
 
 /// What is told of a book beforehand.
-pub fn foretell(names: &[FileName], output: &mut Output) -> Result<Outcome, Error> {
+pub fn foretell(names: &[FileName], format: Format, output: &mut Output) -> Result<Outcome, Error> {
     let chapters = read(names)?;
-    match engine::forecast_book(&chapters) {
+    let told = engine::forecast_book(&chapters);
+    if format.json {
+        let outcome = if told.is_ok() { Outcome::Success } else { Outcome::Refused };
+        let refusal = told.err().map(Into::into);
+        let book = told.ok().map(|told| forecast::Forecast::of(&told, time_of_all(&chapters)));
+        let told = forecast::Told { refusal, book, galleys: vec![] };
+        return output.print_json(&json::Answer { command: "forecast", outcome, told }).map(|()| outcome);
+    }
+    match told {
         Ok(told) => output.print(needs::in_words(&told, time_of_all(&chapters))).map(|()| Outcome::Success),
-        Err(refusal) => refuse(names, &chapters, refusal, Format::default(), output),
+        Err(refusal) => refuse(names, &chapters, refusal, format, output),
     }
 }
 
