@@ -8,6 +8,7 @@ from driver import Keys
 
 ROOT = pathlib.Path(__file__).resolve().parents[2]
 CASE_C = 'GS 10 20 0 0 2 1 1\nTL 10 0 0 1\nTL 10 0 0 1\nTL 20 0 0 1\nTL 20 0 0 1\nFG 20 0 0 4\nED\n'
+ONE = 'GS 0 30 0 0 2 1 1\nTL 10 0 0 1\nED\n'
 NAMES = ['<img src=x onerror="document.title=1">', '"><script>document.title=1</script>', '&lt;b&gt;', "' onclick='document.title=1", '<svg onload=document.title=1>', 'a‮b c', '${1}`']
 GARBAGE = ['', ' ', '\x00', '<b>', 'GS', 'GS 1 2 3', 'ED', 'TL 1 1 1 1', '1 2 3 4 5 6 7', '-1 0', '9' * 4000, 'R 11 0', '{"name":1}', '‮‭', 'GS 10 20 0 0 2 1 1\nED\n', CASE_C.replace('ED', 'ED\nED')]
 
@@ -27,6 +28,11 @@ def run(tally, browser, command, folder):
     for tab in ('show', 'desk'):
         browser.js('app.go(arguments[0])', tab)
         tally.same(f'no pagination, {tab}', 'R 11 0' in browser.text('main'), True)
+    paste(tally, browser, ONE)
+    browser.until('app.best && app.best.ok && app.best.p === 1', 'a list of one page')
+    for tab in ('show', 'class', 'desk'):
+        browser.js('app.go(arguments[0])', tab)
+    tally.same('a list of one page has no desk', 'one page' in browser.text('#view-desk'), True)
     garbage(tally, browser)
 
 

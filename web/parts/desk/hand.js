@@ -69,7 +69,7 @@ export class DeskHand {
     if (!this.bench?.open || !this.view.Z || this.bench !== this.app.bench) return;
     s.q = this.within(s.q);
     this.paint();
-    this.view.drawPanels(s);
+    if (this.bench.p > 1) this.view.drawPanels(s);
     this.idle();
   }
 
