@@ -1,6 +1,7 @@
 """What `explain` says, against the reference: folios, spreads, heights, turns of figures, the numbers that break a rule, the page
 ends with which turns are lost for good; and against the cases that all words about lists are held to."""
 
+import json
 import random
 import re
 
@@ -237,4 +238,13 @@ def several(tally, command, folder):
     tally.same('one of three is none', (status, text, f'{junk}: line 1' in remarks), (2, due, True))
     status, text, _ = command.text('explain', '--why', path, one, two)
     tally.same('why, of two', (status, text), (1, f'{one}:\nno turn is lost for good\n\n{two}:\nrefused, R 15 1: 40 is above htMax 30 by 10\n'))
+    three = folder / 'three.list'
+    three.write_text('3 0\n3 1\n')
+    status, text, _ = command.text('mark', '--why', '--tsv', path, one, two, three)
+    rows = [line.split('\t') for line in text.splitlines()]
+    tally.same('why, with tabs', (status, [row[-1] for row in rows], {len(row) for row in rows}), (1, ['lost', '-', '', '1:1'], {len(rows[0])}))
+    for name in ('mark', 'report'):
+        lists = json.loads(command.text(name, '--why', '--json', path, one, two, three)[1])['lists']
+        told = [[loss['words'] for loss in row['lost']] if 'lost' in row else None for row in lists]
+        tally.same(f'{name} --why for programs', told, [[], None, ['page 1 ends after line 3: 1 turn lost for good, F1']])
     tally.group('several lists explained')
