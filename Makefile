@@ -86,8 +86,10 @@ staged: command $(SHARED)
 	@mkdir -p $(STAGE)/share/barleychime $(STAGE)/share/doc/barleychime
 	@cp -R samples $(STAGE)/share/barleychime/samples
 	@if [ -f target/web/barleychime.html ]; then install -m 644 target/web/barleychime.html $(STAGE)/share/barleychime/; fi
-	@$(if $(LATEX),install -D -m 644 -t $(STAGE)/share/texmf/tex/lualatex/barleychime $(LATEX))
+	@install -D -m 644 -t $(STAGE)/share/texmf/tex/lualatex/barleychime $(LATEX)
 	@cp -R README.md CHANGELOG.md docs $(STAGE)/share/doc/barleychime/
+	@install -D -m 644 -t $(STAGE)/share/doc/barleychime/latex latex/manual.tex
+	@cp -R latex/examples $(STAGE)/share/doc/barleychime/latex/
 	@ln -s ../../barleychime/samples $(STAGE)/share/doc/barleychime/samples
 	@sed -n '/^```c$$/,/^```$$/p' docs/EMBEDDING.md | sed '/^```/d' > $(STAGE)/share/doc/barleychime/pages.c
 	@cd $(STAGE) && touch $(FILES) && find . \( -type f -o -type l \) -printf '%P\n' | LC_ALL=C sort > $(FILES)

@@ -77,8 +77,9 @@ def used(tally, here):
     for name in TOLD:
         tally.same(f'{name} is there', (here / name).is_file() and (here / name).stat().st_size > 200, True)
     documents = here / 'share/doc/barleychime'
-    links = re.findall(r'\]\(([^)#:]+)[)#]', (documents / 'README.md').read_text())
-    tally.same('what README.md leads to', (len(links) > 5, [link for link in links if not (documents / link).exists()]), (True, []))
+    for document in [documents / 'README.md', *sorted((documents / 'docs').glob('*.md'))]:
+        links = re.findall(r'\]\(([^)#:]+)[)#]', document.read_text())
+        tally.same(f'what {document.name} leads to', [link for link in links if not (document.parent / link).exists()], [])
     wheels = [name for name in files(here) if name.endswith('.whl')]
     pip = (sys.executable, '-m', 'pip', 'install', '-q', '--no-index', '--target', 'site')
     tally.same('the wheel is installed', ran(*pip, *wheels, cwd=here, HOME=str(here))[0], 0)
