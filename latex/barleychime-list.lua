@@ -7,18 +7,19 @@ local L = {}
 
 -- JOB.list: for each galley "galley N SUM FOLIO", then what `make` printed, or nothing if
 -- LaTeX is to make its pages. SUM is the MD5 sum of the galley's records without FO.
--- "barrier N" asks for a page end at the N-th barrier. nil if there is no such file.
+-- "barrier N" asks for a page end at the N-th barrier. nil if there is no such file. Galleys that
+-- are alike may have different lists, so a list is found by number and sum, else by the sum.
 function L.read(path)
   local file = io.open(path)
   if not file then return nil end
   local all, list, numbers_due = {barriers = {}}, nil, false
   for row in file:lines() do
-    local sum, folio = row:match("^galley %d+ (%x+) (%d+)")
+    local number, sum, folio = row:match("^galley (%d+) (%x+) (%d+)")
     local barrier = row:match("^barrier (%d+)")
     local i, j, d = row:match("^%d+ (%d+) (%d+) ?(%d*)$")
     if sum then
       list, numbers_due = {folio = tonumber(folio)}, true
-      all[sum] = list
+      all[sum], all[number .. " " .. sum] = list, list
     elseif barrier then all.barriers[tonumber(barrier)] = true
     elseif list and numbers_due then numbers_due = false    -- p X Y T W
     elseif list and i then

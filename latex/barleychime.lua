@@ -82,7 +82,7 @@ end
 -- The list for a galley, or nil: then LaTeX makes the pages.
 local function list_for(g)
   if not lists then return nil end
-  local list = lists[g.sum]
+  local list = lists[g.number .. " " .. g.sum] or lists[g.sum]
   if not g.fits then
     warn("Galley %d is too large: LaTeX makes its pages", g.number)
   elseif not list then

@@ -60,9 +60,10 @@ def wrong(job):
     yield 'no pagination: LaTeX makes the pages', pages.shipped(job.path)[1][0].by, 'latex'
 
 
-def elsewhere(job):
+def elsewhere(job, environment):
+    """Another folder, and the package that is inside the command, since TeX is not told of another."""
     (job.folder / 'out').mkdir()
-    told = job.barleychime('--output-directory', 'out')
+    told = job.barleychime('--output-directory', 'out', environment={name: value for name, value in environment.items() if name != 'TEXINPUTS'})
     yield 'another folder: exit status and remarks', (told.returncode, told.stderr), (0, '')
     out = job.folder / 'out' / job.path.name
     yield 'another folder: its files', [out.with_suffix(end).exists() for end in ('.pdf', '.list', '.galley.txt')], [True] * 3

@@ -51,8 +51,8 @@ class Job:
                                   stdin=subprocess.DEVNULL, stdout=subprocess.PIPE, timeout=120, **more)
         return done
 
-    def barleychime(self, *arguments):
-        return subprocess.run([self.program, 'tex', *arguments, self.path.name], cwd=self.folder, env=ENVIRONMENT,
+    def barleychime(self, *arguments, environment=ENVIRONMENT):
+        return subprocess.run([self.program, 'tex', *arguments, self.path.name], cwd=self.folder, env=environment,
                               stdin=subprocess.DEVNULL, capture_output=True, text=True, timeout=300)
 
     def log(self):
@@ -129,7 +129,7 @@ def calls(folder):
 
 def other_ways(folder):
     source = documents.ALL['article']
-    yield from called.elsewhere(Job(folder / 'elsewhere', 'article', source))
+    yield from called.elsewhere(Job(folder / 'elsewhere', 'article', source), ENVIRONMENT)
     latex = ROOT / 'latex'
     yield from called.tutorial(Job(folder / 'tutorial', 'small', (latex / 'examples/small.tex').read_text()), (ROOT / 'docs/LATEX.md').read_text())
     yield from called.manual(Job(folder / 'manual', 'manual', (latex / 'manual.tex').read_text()), latex)
