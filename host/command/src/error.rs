@@ -55,6 +55,18 @@ impl Error {
     }
 }
 
+/// A word of a call that is no value of its option: why.
+#[derive(Clone, Debug, PartialEq, Eq)]
+pub struct WordError(pub String);
+
+impl fmt::Display for WordError {
+    fn fmt(&self, out: &mut fmt::Formatter) -> fmt::Result {
+        self.0.fmt(out)
+    }
+}
+
+impl std::error::Error for WordError {}
+
 impl fmt::Display for Error {
     fn fmt(&self, out: &mut fmt::Formatter) -> fmt::Result {
         match self {

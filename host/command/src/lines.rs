@@ -1,5 +1,6 @@
 //! The lines that hold the calls at a desk: typed at a terminal, with editing and history, or sent by a script.
 
+use crate::call::CallError;
 use crate::error::Error;
 use rustyline::config::OutputStreamType;
 use rustyline::error::ReadlineError;
@@ -43,14 +44,14 @@ impl Lines {
     }
 
     /// The next line, or why it cannot be read as one; none at the end.
-    pub fn next(&mut self) -> Result<Option<Result<String, String>>, Error> {
+    pub fn next(&mut self) -> Result<Option<Result<String, CallError>>, Error> {
         match self {
             Lines::Typed(editor) => match editor.readline(PROMPT) {
                 Ok(line) => Ok(Some(Ok(line))),
                 // A line that is broken off is none.
                 Err(ReadlineError::Interrupted) => Ok(Some(Ok(String::new()))),
                 Err(ReadlineError::Eof) => Ok(None),
-                Err(ReadlineError::Utf8Error) => Ok(Some(Err(NOT_TEXT.into()))),
+                Err(ReadlineError::Utf8Error) => Ok(Some(Err(CallError::NotText))),
                 Err(ReadlineError::Io(error)) => Err(Error::Calls(error)),
                 Err(error) => Err(Error::Calls(io::Error::other(error))),
             },
@@ -61,11 +62,9 @@ impl Lines {
                 match read.map_err(Error::Calls)? {
                     0 => Ok(None),
                     bytes if bytes as u64 > LONGEST_LINE => Err(Error::LongCall { line: *number }),
-                    _ => Ok(Some(String::from_utf8(line).map_err(|_| NOT_TEXT.into()))),
+                    _ => Ok(Some(String::from_utf8(line).map_err(|_| CallError::NotText))),
                 }
             }
         }
     }
 }
-
-const NOT_TEXT: &str = "not text";

@@ -111,7 +111,7 @@ impl Sitting<'_> {
                 Ok(None) => {}
                 Ok(Some(Call::Quit)) => break,
                 Ok(Some(call)) => self.answer(&call, output)?,
-                Err(what) => self.is_no_call(&what, output)?,
+                Err(what) => self.is_no_call(&what.to_string(), output)?,
             }
         }
         Ok(self.outcomes.whole())

@@ -1,6 +1,6 @@
 //! `barleychime fold`: stitched sections, sheet by sheet.
 
-use crate::error::Error;
+use crate::error::{Error, WordError};
 use crate::json;
 use crate::output::{say, Format, Output};
 use crate::rows;
@@ -21,8 +21,8 @@ pub struct Args {
 }
 
 /// A size is any number: the engine says of which there is a section.
-fn size(word: &str) -> Result<u32, String> {
-    whole_number(word).ok_or_else(|| no_number(word))
+fn size(word: &str) -> Result<u32, WordError> {
+    whole_number(word).ok_or_else(|| WordError(no_number(word)))
 }
 
 const SIZES: std::ops::RangeInclusive<u32> = 4..=64;

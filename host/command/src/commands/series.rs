@@ -1,6 +1,6 @@
 //! `barleychime make --out`: many galleys made on all cores, a list for each in a folder.
 
-use crate::error::Error;
+use crate::error::{Error, WordError};
 use crate::input::FileName;
 use crate::output::{hint_at_pack, say, say_why, watched, write_whole, Output};
 use crate::Outcome;
@@ -206,7 +206,7 @@ pub fn half_of_memory() -> Option<u64> {
 }
 
 /// Bytes as people write them: `500M`, `1.5G`, a plain number.
-pub fn bytes(text: &str) -> Result<u64, String> {
+pub fn bytes(text: &str) -> Result<u64, WordError> {
     let amount = text.strip_suffix(['B', 'b']).unwrap_or(text);
     let units = [('k', 1e3), ('K', 1e3), ('m', 1e6), ('M', 1e6), ('g', 1e9), ('G', 1e9)];
     let found = units.iter().find_map(|(unit, size)| amount.strip_suffix(*unit).map(|number| (number, *size)));
@@ -214,7 +214,7 @@ pub fn bytes(text: &str) -> Result<u64, String> {
     let digits = number.bytes().all(|byte| byte.is_ascii_digit() || byte == b'.');
     match number.parse::<f64>() {
         Ok(number) if digits && number * size >= 1.0 => Ok((number * size) as u64),
-        _ => Err("no amount of memory; `500M` and `8G` are some".into()),
+        _ => Err(WordError("no amount of memory; `500M` and `8G` are some".into())),
     }
 }
 
