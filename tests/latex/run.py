@@ -115,6 +115,7 @@ def lists_tried(folder):
     yield from followed.other_lists(job)
     yield from followed.spoilt_lists(job, pages.texts(plain.file('.pdf')))
     yield from followed.changed_document(job, plain)
+    yield from followed.ended_at_barrier(Job(folder / 'barrier', 'placeins', documents.ALL['placeins']))
 
 
 def calls(folder):
