@@ -24,15 +24,14 @@ def shipped(job):
 
 def lists(job):
     """The page ends of every galley that has a list."""
-    ends, path = {}, job.with_suffix('.list')
+    galleys, path = {}, job.with_suffix('.list')
     for row in path.read_text().splitlines() if path.exists() else ():
-        fields = row.split()
-        if fields[0] == 'galley':
-            ends[int(fields[1])] = []
-        elif fields[0] != 'barrier':
-            ends[int(number)].append(list(map(int, fields)))
-        number = fields[1] if fields[0] == 'galley' else number
-    return {number: [(*end, 0)[:3] for _, *end in rows[1:]] for number, rows in ends.items() if rows}
+        name, *fields = row.split()
+        if name == 'galley':
+            rows = galleys[int(fields[0])] = []
+        elif name != 'barrier':
+            rows.append(tuple(map(int, fields)))
+    return {number: [(*end, 0)[:3] for end in rows[1:]] for number, rows in galleys.items() if rows}
 
 
 def blocks(job):
