@@ -28,6 +28,7 @@ import bad_input  # noqa: E402
 import bound  # noqa: E402
 import c_interface  # noqa: E402
 import command_line  # noqa: E402
+import course  # noqa: E402
 import examples  # noqa: E402
 import explained  # noqa: E402
 import folding  # noqa: E402
@@ -76,6 +77,7 @@ def main():
         tried.run(tally, command, ROOT, folder)
         examples.run(tally, command, ROOT, library, folder)
         samples.run(tally, command, ROOT, folder)
+        course.run(tally, command, ROOT, folder)
         table.run(tally, command, ROOT)
         if library == PROVED.resolve():  # the header's figures are the proved archive's
             stack.run(tally, command, ROOT, library, folder)
