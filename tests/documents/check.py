@@ -2,8 +2,8 @@
 
 Every definition that docs/MODEL.md names stands in the file that it names, and every row that states something names one. Every link
 and every path in README.md and in docs leads somewhere. Every section of documents 01 and 02 that a comment of the crates cites has its
-row in docs/MODEL.md, and every refusal of host/library/src/refusal.rs too. A fault of each kind is planted first, so that the test is
-known to find it.
+row in docs/MODEL.md, and every refusal of host/library/src/refusal.rs too. docs/PERFORMANCE.md is no longer than it may be, and the headings
+of docs/DECISIONS.md that documents cite are there. A fault of each kind is planted first, so that the test is known to find it.
 """
 import pathlib
 import re
@@ -16,6 +16,8 @@ from tally import Tally  # noqa: E402
 
 CRATES = ROOT / 'crates'
 MODEL = 'docs/MODEL.md'
+PERFORMANCE, MOST_LINES = 'docs/PERFORMANCE.md', 120
+DECISIONS = 'docs/DECISIONS.md'
 NAMED = re.compile(r'(`[^`]+`(?:, `[^`]+`)*) in (crates/[\w/.]*\w|[a-z_]+/\w+(?:/\w+)*)')
 LINK = re.compile(r'\[[^\]]*\]\(([^)\s]+)\)')
 CELL = re.compile(r'(?<!\\)\|')
@@ -172,6 +174,22 @@ def unlike_refusals(text, table):
         yield f'{MODEL}: refusal {number} {name} is {"not in" if (number, name) in here else "only in"} host/library/src/refusal.rs'
 
 
+def too_long(text):
+    """More lines on the engine of today than anybody reads; the rest is history."""
+    lines = len(text.splitlines())
+    if lines > MOST_LINES:
+        yield f'{PERFORMANCE}: {lines} lines, and {MOST_LINES} are the most: what is not of today goes to docs/history/PERFORMANCE.md'
+
+
+def undecided(text, pages):
+    """Headings of decisions that a page cites and the page of decisions does not have."""
+    headings = {re.sub(r' \(\d{4}-\d\d-\d\d\)$', '', heading) for heading in re.findall(r'^### (.+)$', text, re.M)}
+    for name, page in pages.items():
+        for heading in re.findall(r'DECISIONS\.md(?:\]\(DECISIONS\.md\))?, "([^"]+)"', ' '.join(page.split())):
+            if heading not in headings:
+                yield f'{name}: {DECISIONS} has no entry "{heading}"'
+
+
 def planted(tally, model, table):
     """A fault of each kind is found."""
     row = '\n\n| what holds | stated by |\n|---|---|\n| A sentence. | {} |\n'
@@ -188,6 +206,8 @@ def planted(tally, model, table):
         'the second of two sections': untold(model, {'a.rt': '// Document 01, "Making" and "Made up".\n'}),
         'a request that is not told': untold(model, {'a.antt': '-- Of a page (document 02, S-7 and S-15).\n'}),
         'a rule that is not told': untold(model, {'a.antt': '-- Of a page (document 01, rules 17 to 19).\n'}),
+        'a page that is too long': too_long('a line\n' * (MOST_LINES + 1)),
+        'a decision that is not there': undecided('### One (2026-11-17)\n', {'X.md': 'docs/DECISIONS.md, "One", and\n[DECISIONS.md](DECISIONS.md),\n"Two"'}),
         'a refusal less': unlike_refusals(model, table.replace('33 NoSuchSection', '33 NoSection')),
     }
     for what, faults in found.items():
@@ -218,6 +238,8 @@ def main():
     tally.same('sections of both documents are cited', {document for document, _ in told}, {'01', '02'})
     none('sections that comments cite', untold(model, sources), len(set(told)))
     none('refusals', unlike_refusals(model, table), 1)
+    none('the length of docs/PERFORMANCE.md', too_long(pages[PERFORMANCE]), 1)
+    none('decisions that are cited', undecided(pages[DECISIONS], pages), 1)
     return tally.end()
 
 

@@ -25,7 +25,7 @@ def told_in_words(work, listed, ceiling, likely, most):
 
 
 def time_of_making(galley):
-    """Nanoseconds, as docs/PERFORMANCE.md has the formula: as a rule, and at most."""
+    """Nanoseconds, as docs/COMMAND.md has the formula: as a rule, and at most."""
     places, (lines, figures, tables), starts = reach(galley)
     height = sum(block.height + block.least for stream in galley.streams for block in stream)
     pages = max(1, height / galley.spec.htmax)
