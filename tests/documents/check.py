@@ -1,9 +1,10 @@
 """What the documents name is there.
 
 Every definition that docs/MODEL.md names stands in the file that it names, and every row that states something names one. Every link
-and every path in README.md and in docs leads somewhere. Every section of documents 01 and 02 that a comment of the crates cites has its
-row in docs/MODEL.md, and every refusal of host/library/src/refusal.rs too. docs/PERFORMANCE.md is no longer than it may be, and the headings
-of docs/DECISIONS.md that documents cite are there. A fault of each kind is planted first, so that the test is known to find it.
+and every path in README.md and in docs leads somewhere; in docs/landings a path may be gone if it is said where it went. Every section
+of documents 01 and 02 that a comment of the crates cites has its row in docs/MODEL.md, and every refusal of host/library/src/refusal.rs
+too. docs/PERFORMANCE.md is no longer than it may be, and the headings of docs/DECISIONS.md that documents cite are there. A fault of
+each kind is planted first, so that the test is known to find it.
 """
 import pathlib
 import re
@@ -25,7 +26,7 @@ ANY_NAME = re.compile(r'(?<![A-Za-z])(?:NAME|GROUP|LABEL|N)(?![A-Za-z])')
 
 
 def documents():
-    """README and the pages of docs that are kept true: landing notes and history stay as they were written."""
+    """README and the pages of docs that are kept true; landing notes and history stay as they were written."""
     return {str(path.relative_to(ROOT)): path.read_text() for path in [ROOT / 'README.md', *sorted((ROOT / 'docs').glob('*.md'))]}
 
 
@@ -102,11 +103,26 @@ def paths_in(text):
     return [path for path in found if 'target' not in path.split('/')]
 
 
+def is_there(path):
+    """Whether a path leads somewhere; NAME and the like stand for any name."""
+    return (ROOT / path).exists() or any(ROOT.glob(ANY_NAME.sub('*', path)))
+
+
 def missing_paths(name, text):
-    """Paths that lead nowhere; NAME and the like stand for any name."""
+    """Paths that lead nowhere."""
     for path in paths_in(text):
-        if not (ROOT / path).exists() and not any(ROOT.glob(ANY_NAME.sub('*', path))):
+        if not is_there(path):
             yield f'{name}: there is no {path}'
+
+
+def unremarked(name, text):
+    """Paths of a landing note that are no longer there, without a remark after them that says where they went."""
+    plain = LINK.sub('', text)
+    for path in sorted({path for path in paths_in(plain) if not is_there(path)}):
+        for after in re.findall(rf'{re.escape(path)}(?![\w/])(.{{0,120}})', plain):
+            moved = re.match(r' \(moved to ([\w./\-]*\w)\)', after)
+            if not (moved and is_there(moved.group(1)) or after.startswith(' (gone')):
+                yield f'{name}: there is no {path}; put "(moved to PATH)" after it, or "(gone, ...)"'
 
 
 def comments(text, is_code):
@@ -202,6 +218,7 @@ def planted(tally, model, table):
         'a link to no heading': broken_links('docs/X.md', '# One\n[x](#two)'),
         'a path to nothing': missing_paths('README.md', 'see crates/model/specs/Heights.antt'),
         'a pattern of no path': missing_paths('README.md', 'see crates/NAME/must-not-fail'),
+        'a path of a landing note that has moved': unremarked('S-0.md', 'crates/a.rt, crates/b.rt (moved to README.md), crates/c.rt (gone)'),
         'a section that is not told': untold(model, {'a.antt': '-- Of a page (document 01,\n-- "Made up").\n'}),
         'the second of two sections': untold(model, {'a.rt': '// Document 01, "Making" and "Made up".\n'}),
         'a request that is not told': untold(model, {'a.antt': '-- Of a page (document 02, S-7 and S-15).\n'}),
@@ -234,6 +251,8 @@ def main():
     none('definitions that the model names', unstated(model), sum(len(re.findall('`[^`]+`', quoted)) for quoted, _ in NAMED.findall(model)))
     none('links', (fault for page in pages.items() for fault in broken_links(*page)), sum(len(LINK.findall(text)) for text in pages.values()))
     none('paths', (fault for page in pages.items() for fault in missing_paths(*page)), sum(len(paths_in(text)) for text in pages.values()))
+    landings = {str(path.relative_to(ROOT)): path.read_text() for path in sorted((ROOT / 'docs/landings').glob('*.md'))}
+    none('paths of landing notes', (fault for note in landings.items() for fault in unremarked(*note)), sum(len(paths_in(text)) for text in landings.values()))
     told = [section for name, text in sources.items() for comment in comments(text, name.endswith('.rt')) for section in cited(comment)]
     tally.same('sections of both documents are cited', {document for document, _ in told}, {'01', '02'})
     none('sections that comments cite', untold(model, sources), len(set(told)))
