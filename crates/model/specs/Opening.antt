@@ -24,7 +24,7 @@ begins (v ∷ vs) (w ∷ ws) = same v w && begins vs ws
 unfoldable pub validAfter : Galley → List Place → List (List Place)
 validAfter g os = keep (begins os) (valid g)
 
--- The best of them: the first by turns and then by the tie order, as ever (document 02, S-6).
+-- The best of them: the first by turns, then by white and then by the tie order, as ever (document 02, S-6 and S-10).
 unfoldable pub bestAfter : Galley → List Place → Option (List Place)
 bestAfter g os = firstOf (before g) (validAfter g os)
 

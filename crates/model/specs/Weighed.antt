@@ -14,11 +14,6 @@ unfoldable pub sumOf : {A : Type 0} → (A → ℕ) → List A → ℕ
 sumOf f [] = 0
 sumOf f (x ∷ xs) = f x + sumOf f xs
 
--- f 0 + f 1 + … + f (n − 1): over n things numbered from 0 (notation).
-unfoldable pub below : ℕ → (ℕ → ℕ) → ℕ
-below zero f = 0
-below (suc n) f = below n f + f n
-
 -- f a · f (a + 1) · …, of n numbers (notation).
 unfoldable pub product : ℕ → ℕ → (ℕ → ℕ) → ℕ
 product a zero f = 1

@@ -6,7 +6,7 @@ use mathlib.Core.List.{List}
 use lib.Dec.{ltb, leb}
 use Rattle.model.specs.Gather.{pick}
 use Rattle.model.specs.Galley as model
-use Rattle.model.specs.Weighed.{below}
+use Rattle.model.specs.laws.Boxes.{below}
 use Rattle.galley.specs.declared.Galley.{Galley}
 use Rattle.galley.specs.declared.Stream.{Stream}
 use Rattle.galley.specs.Model.{textOf, floatsOf, modelOf}

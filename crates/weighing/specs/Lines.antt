@@ -8,7 +8,7 @@ use lib.Dec.{ltb, leb}
 use Rattle.model.specs.Gather.{one, total}
 use Rattle.model.specs.Galley.{Stream}
 use Rattle.model.specs.Height.{stacked}
-use Rattle.model.specs.Weighed.{below}
+use Rattle.model.specs.laws.Boxes.{below}
 use Rattle.window.specs.Slide.{Reaches}
 use Rattle.window.specs.Sums.{spacedAt, bareAt, SmallPair, Sums}
 use Rattle.weighing.specs.declared.lines.Tally.{Tally}

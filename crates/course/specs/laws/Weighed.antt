@@ -9,7 +9,8 @@ use lib.ListN.{length, drop, drop-of-length-le}
 use Rattle.model.specs.Gather.{one, sum, total}
 use Rattle.model.specs.Galley as model
 use Rattle.model.specs.Galley.{Place}
-use Rattle.model.specs.Weighed.{below, weighs, past, weighedFrom}
+use Rattle.model.specs.Weighed.{weighs, past, weighedFrom}
+use Rattle.model.specs.laws.Boxes.{below}
 use Rattle.model.specs.laws.Weighed.{weighed-from-nothing}
 use Rattle.galley.specs.declared.Galley.{Galley}
 use Rattle.galley.specs.declared.Reading.the-variants as reads

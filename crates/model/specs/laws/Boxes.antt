@@ -8,10 +8,14 @@ use mathlib.Core.List.{List, [], _∷_, _++_, map, List·Memᴰ·head, List·Mem
 use Rattle.model.specs.Gather.{one, sum, total}
 use Rattle.model.specs.Galley.{Place}
 use Rattle.model.specs.Best.{prefixed, box}
-use Rattle.model.specs.Weighed.{sumOf, below, product}
+use Rattle.model.specs.Weighed.{sumOf, product}
 use Rattle.model.specs.laws.Lists.{_∈_}
 
--- Sums over the numbers below n.
+-- f 0 + f 1 + … + f (n − 1): over n things numbered from 0.
+unfoldable pub below : ℕ → (ℕ → ℕ) → ℕ
+below zero f = 0
+below (suc n) f = below n f + f n
+
 pub below-ext : (n : ℕ) (f h : ℕ → ℕ) → ((k : ℕ) → k < n → f k ≡ h k) → below n f ≡ below n h
 unfolding below
 below-ext zero f h e = refl

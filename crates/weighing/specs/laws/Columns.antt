@@ -8,9 +8,9 @@ use mathlib.Core.List.{List, [], _∷_}
 use Rattle.model.specs.Gather.{one, sum, total, row}
 use Rattle.model.specs.Galley.{Galley, Place, streams, sizes}
 use Rattle.model.specs.Best.{box}
-use Rattle.model.specs.Weighed.{sumOf, below, weighs, past, weighedFrom}
+use Rattle.model.specs.Weighed.{sumOf, weighs, past, weighedFrom}
 use Rattle.model.specs.laws.Gather.{sum-add, sum-zero, total-ext}
-use Rattle.model.specs.laws.Boxes.{below-ext, below-add, sum-box}
+use Rattle.model.specs.laws.Boxes.{below, below-ext, below-add, sum-box}
 use Rattle.places.specs.Columns.{columns, floatsAt, floatSizes, placeAt}
 use Rattle.places.specs.laws.Columns.{columns-some}
 use Rattle.weighing.specs.Columns.{pairsFrom}

@@ -8,7 +8,8 @@ use mathlib.Core.Bool.{true, false, _&&_, _||_}
 use mathlib.Core.List.{List}
 use lib.Dec.{ltb, leb}
 use borrow.Author.Tests.{ltb-true, ltb-false, leb-false}
-use Rattle.model.specs.Weighed.{below, weighedFrom}
+use Rattle.model.specs.Weighed.{weighedFrom}
+use Rattle.model.specs.laws.Boxes.{below}
 use Rattle.model.specs.laws.Gather.{or-cases}
 use Rattle.galley.specs.declared.Galley.{Galley}
 use Rattle.galley.specs.Model.{modelOf}

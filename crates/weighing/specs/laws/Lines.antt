@@ -10,9 +10,8 @@ use lib.Dec.{ltb, leb}
 use borrow.Author.Tests.{lt-ltb, le-ltb, le-leb, lt-leb}
 use Rattle.model.specs.Galley.{Stream}
 use Rattle.model.specs.Height.{stacked}
-use Rattle.model.specs.Weighed.{below}
 use Rattle.model.specs.laws.Gather.{and-both}
-use Rattle.model.specs.laws.Boxes.{total-below, width}
+use Rattle.model.specs.laws.Boxes.{below, total-below, width}
 use Rattle.window.specs.Sums.{spacedAt, bareAt, Pair, Sums}
 use Rattle.window.specs.Slide.{FirstBelow, Reaches}
 use Rattle.window.specs.laws.Sums.{reach-grows}

@@ -13,9 +13,9 @@ use Rattle.model.specs.Gather.{one, total}
 use Rattle.model.specs.Galley.{Galley, Place}
 use Rattle.model.specs.Height.{stacked, tightest}
 use Rattle.model.specs.Rules.{forward, fits}
-use Rattle.model.specs.Weighed.{below, weighs, past}
+use Rattle.model.specs.Weighed.{weighs, past}
 use Rattle.model.specs.laws.Gather.{and-left, and-right, and-both, sum-add, sum-zero, total-ext}
-use Rattle.model.specs.laws.Boxes.{width}
+use Rattle.model.specs.laws.Boxes.{below, width}
 use Rattle.model.specs.laws.Lists.{Inside}
 use Rattle.places.specs.Columns.{columns, floatSizes, placeAt}
 use Rattle.places.specs.Order.{Earlier}

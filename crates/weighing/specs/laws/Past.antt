@@ -11,7 +11,7 @@ use borrow.Author.Tests.{lt-ltb, le-ltb, ltb-true, ltb-false, le-leb, leb-true, 
 use Rattle.model.specs.Gather.{pick, every}
 use Rattle.model.specs.Galley.{Place, count}
 use Rattle.model.specs.Weighed as model
-use Rattle.model.specs.Weighed.{below}
+use Rattle.model.specs.laws.Boxes.{below}
 use Rattle.model.specs.laws.Gather.{each-of, every-at}
 use Rattle.galley.specs.declared.Galley.{Galley}
 use Rattle.galley.specs.Model.{textOf, floatStreams, modelOf}
