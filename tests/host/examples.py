@@ -27,6 +27,7 @@ def run(tally, command, root, library, folder):
                 found[language] += 1
                 example(tally, f'{path.name}, {language}', source, command, root, library, folder, galley)
     shown(tally, command, root, galley)
+    of_readme(tally, command, root, folder)
     ignored(tally, root)
     tally.same('examples found', {language: count > 0 for language, count in found.items()}, dict.fromkeys(found, True))
     tally.group('examples')
@@ -101,6 +102,23 @@ def shown(tally, command, root, galley):
         _, output, _ = command.text(*arguments)
         block = ''.join(f'    {line}\n' for line in output.splitlines())
         tally.same(f'{arguments[0]} in the manual', f'\n\n{block}\n' in manual, True)
+
+
+def of_readme(tally, command, root, folder):
+    """The commands that README.md has people try, run as they stand there beside the samples: a chapter of the series has no pagination,
+    one list of the class cannot be read, and one is refused. `tex` has a part of its own; what opens a browser gets a stand-in for one."""
+    here = folder / 'tried'
+    here.mkdir()
+    (here / 'samples').symlink_to(root / 'samples')
+    (here / 'xdg-open').write_text('#!/bin/sh\ntest -s "$1"\n')
+    (here / 'xdg-open').chmod(0o755)
+    path = os.pathsep.join(map(str, (here, command.program.parent, os.environ['PATH'])))
+    status = {}
+    for call in re.findall('^ {4}(barleychime .*)$', (root / 'README.md').read_text(), re.M):
+        out = f' --out {here / "page.html"}' if ' show ' in call else ''
+        ran = subprocess.run(call + out, shell=True, cwd=here, capture_output=True, text=True, env={**os.environ, 'PATH': path})
+        status[call.split()[1]] = ran.returncode
+    tally.same('README.md: what its commands end with', status, {'make': 1, 'report': 2, 'explain': 1, 'show': 0})
 
 
 def ignored(tally, root):

@@ -83,39 +83,39 @@ def uncited(sources):
                     yield f'{source.path.relative_to(ROOT)}:{declaration.first + 1}: nothing cites {declaration.name}'
 
 
-def untold(readme):
+def untold(architecture):
     """What a document lists and the tree has not, or the other way round."""
     contributing = (ROOT / 'docs/CONTRIBUTING.md').read_text()
     crates = re.findall(r'^(\w+):', (ROOT / 'crates.txt').read_text(), re.M)
     files = re.findall(r'^pub mod (\w+)$', (CRATES / 'model/specs/Lib.antt').read_text(), re.M)
     parts = [path.name for path in (ROOT / 'tests').iterdir() if path.is_dir() or not path.suffix]
     for document, told, there in (
-            ('README.md, Layout', re.findall(r'^\| `crates/(\w+)` \|', readme, re.M), crates),
-            ('README.md, Reading the model', re.findall(r'`([A-Z]\w+)`', readme.split('## Reading the model')[1]), set(files) - {'laws'}),
+            ('docs/ARCHITECTURE.md, The crates', re.findall(r'^\| `crates/(\w+)` \|', architecture, re.M), crates),
+            ('docs/ARCHITECTURE.md, Reading the model', re.findall(r'`([A-Z]\w+)`', architecture.split('## Reading the model')[1]), set(files) - {'laws'}),
             ('docs/CONTRIBUTING.md, The gate', re.findall(r'`tests/(\w+)`(?=.*\|$)', contributing, re.M), set(parts) - {'run', '__pycache__'})):
         for name in sorted(set(told) ^ set(there)):
             yield f'{document}: {name} is {"not there" if name in told else "not listed"}'
 
 
-def faults(sources, readme):
-    return [*unused(sources), *uncited(sources), *untold(readme)]
+def faults(sources, architecture):
+    return [*unused(sources), *uncited(sources), *untold(architecture)]
 
 
-def planted(readme):
+def planted(architecture):
     """What is found with a law that nothing cites, a name that a file brings in for nothing and a crate that is not there."""
     path = CRATES / 'model/specs/Leaf.antt'
     text = path.read_text() + '\n-- A law of nothing.\npub planted-law : ℕ → ℕ\nplanted-law q = leaf single q\n'
     text = text.replace('use lib.Dec.{eqb}', 'use lib.Dec.{eqb, planted-name}')
-    listed = readme.replace('| `crates/model` |', '| `crates/planted` |')
+    listed = architecture.replace('| `crates/model` |', '| `crates/planted` |')
     return [fault for fault in faults(names.read(CRATES, {path: text}), listed) if 'planted' in fault]
 
 
 def main():
-    readme = (ROOT / 'README.md').read_text()
-    found = faults(names.read(CRATES), readme)
+    architecture = (ROOT / 'docs/ARCHITECTURE.md').read_text()
+    found = faults(names.read(CRATES), architecture)
     for fault in found:
         print(fault)
-    caught = planted(readme)
+    caught = planted(architecture)
     print(f'three faults planted, {len(caught)} found')
     failed = len(found) + (len(caught) != 3)
     print(f'{2 - (len(found) > 0) - (len(caught) != 3)} passed, {failed} failed')
