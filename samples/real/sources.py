@@ -5,6 +5,7 @@
 writes FOLDER/NAME.tex, which says \\usepackage{barleychime}, with all that it reads. A document is a row of DOCUMENTS: to add one, add a row.
 """
 import gzip
+import os
 import pathlib
 import subprocess
 import sys
@@ -26,8 +27,13 @@ PACKAGE = r'''\PassOptionsToPackage{sides=2,trace=true}{barleychime}
 \AddToHook{begindocument/before}{\usepackage{barleychime}}'''
 
 
+LATEX = pathlib.Path(__file__).resolve().parents[2] / 'latex'
+ENVIRONMENT = {**os.environ, 'TEXINPUTS': f'.:{LATEX}:'}  # so that TeX finds the package
+
+
 def quiet(command, folder):
-    return subprocess.run(command, cwd=folder, stdin=subprocess.DEVNULL, stdout=subprocess.DEVNULL, stderr=subprocess.DEVNULL, check=False)
+    return subprocess.run(command, cwd=folder, env=ENVIRONMENT, stdin=subprocess.DEVNULL, stdout=subprocess.DEVNULL, stderr=subprocess.DEVNULL,
+                          check=False)
 
 
 def is_here(name):

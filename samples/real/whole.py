@@ -4,7 +4,6 @@
 
 prints the table of WHOLE.md. COMMAND is the command barleychime. sources.py says which documents there are and how one is added.
 """
-import os
 import pathlib
 import re
 import subprocess
@@ -13,7 +12,6 @@ import tempfile
 
 import sources
 
-LATEX = pathlib.Path(__file__).resolve().parents[2] / 'latex'
 ROW = re.compile(r' *(\d+) +(\d+) +(\d+) +(\d+)  (\S.*?)  +(\S.*?)  +(.*)')
 LAST = re.compile(r'.*: (\d+) pages, (\d+) turns; LaTeX.s own pages have (\d+)')
 
@@ -21,9 +19,8 @@ LAST = re.compile(r'.*: (\d+) pages, (\d+) turns; LaTeX.s own pages have (\d+)')
 def table(command, name):
     """Rows of the table for a document."""
     with tempfile.TemporaryDirectory() as folder:
-        environment = {**os.environ, 'TEXINPUTS': f'.:{LATEX}:'}
         path = sources.prepare(name, pathlib.Path(folder))
-        done = subprocess.run([command, 'tex', path.name], cwd=folder, env=environment, stdout=subprocess.PIPE, text=True, check=True)
+        done = subprocess.run([command, 'tex', path.name], cwd=folder, env=sources.ENVIRONMENT, stdout=subprocess.PIPE, text=True, check=True)
     for row in done.stdout.splitlines()[1:]:
         if found := ROW.fullmatch(row):
             number, lines, figures, tables, latex, by_list, words = found.groups()
