@@ -25,7 +25,7 @@ local function span(g, run)
   local function meet(page)
     if page then first, last = math.min(first, page), math.max(last, page) end
   end
-  for _, line in ipairs(g.lines) do meet(run.line_page[line.id]) end
+  for _, line in ipairs(g.lines) do meet(line.page) end
   for _, mark in ipairs{"FG", "TB"} do
     for _, x in ipairs(g[mark]) do meet(x.float.page) end
   end
@@ -56,15 +56,29 @@ local function write_galley(out, k, run)
   out:write(g.rows[1], "\nFO ", g.folio, "\n", table.concat(g.rows, "\n", 2), "\n")
 end
 
+-- The page of every block of a galley, 0 for what was not shipped. What was shipped again has
+-- "again LINES N PAGE", with the stream's name and its number there.
 local function write_pages(out, k, run)
   local g = run.galleys[k]
-  out:write(string.format("galley %d %s\nlines", k, g.by_list and "list" or "latex"))
-  for _, line in ipairs(g.lines) do out:write(" ", run.line_page[line.id] or 0) end
-  for _, mark in ipairs{"FG", "TB"} do
-    out:write(mark == "FG" and "\nfigures" or "\ntables")
-    for _, x in ipairs(g[mark]) do out:write(" ", x.float.page or 0) end
+  out:write(string.format("galley %d %s %s\ntext %s\n", k, g.by_list and "list" or "latex",
+                          g.sum, g.words))
+  local number = {}                     -- of a block: its stream and its number there
+  local function write_stream(name, stream)
+    out:write(name)
+    for i, x in ipairs(stream) do
+      local block = x.float or x
+      number[block] = name .. " " .. i
+      out:write(" ", block.page or 0)
+    end
+    out:write("\n")
   end
-  out:write("\n")
+  write_stream("lines", g.lines)
+  write_stream("figures", g.FG)
+  write_stream("tables", g.TB)
+  for _, again in ipairs(run.again) do
+    local name = number[again.block]
+    if name then out:write("again ", name, " ", again.page, "\n") end
+  end
 end
 
 local function write_text(out, k, run)

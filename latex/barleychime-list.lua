@@ -21,9 +21,13 @@ function L.read(path)
       list, numbers_due = {folio = tonumber(folio)}, true
       all[sum], all[number .. " " .. sum] = list, list
     elseif barrier then all.barriers[tonumber(barrier)] = true
-    elseif list and numbers_due then numbers_due = false    -- p X Y T W
+    elseif list and numbers_due then
+      numbers_due = false
+      list.pages = tonumber(row:match("^(%d+) %d+ %d+ %d+ %d+$"))
+      if not list.pages then list.bad = '"' .. row .. '" does not say how many pages' end
     elseif list and i then
       list[#list + 1] = {tonumber(i), tonumber(j), tonumber(d) or 0}
+    elseif list then list.bad = list.bad or '"' .. row .. '" is no page end'
     end
   end
   file:close()
@@ -65,6 +69,7 @@ end
 
 -- Why a list cannot be followed; nil if it can. The engine's lists always can.
 function L.flaw(g, list)
+  if list.bad then return list.bad end
   local last = {0, 0, 0}
   for q, page in ipairs(list) do
     local why = page_flaw(g, q, last, page)
@@ -73,6 +78,8 @@ function L.flaw(g, list)
   end
   if last[1] ~= #g.lines or last[2] ~= #g.FG or last[3] ~= #g.TB then
     return "it does not place everything"
+  elseif list.pages ~= #list then
+    return "it says " .. list.pages .. " pages and has " .. #list
   end
 end
 

@@ -41,9 +41,9 @@ local due                               -- the page that is being made
 local memory                            -- the last node that was held, copied
 local opens = "any"                     -- on which side the next galley opens
 local barriers = 0                      -- how many there were
--- What a run meets: its galleys, floats, citations with the labels of each, the page of
--- every line, and the folio of every page.
-local run = {galleys = {}, floats = {}, cites = {}, line_page = {}, lines = 0, folios = {}}
+-- What a run meets: its galleys, lines, floats, citations with the labels of each, the folio
+-- of every page, and lines and floats that were shipped again.
+local run = {galleys = {}, lines = {}, floats = {}, cites = {}, folios = {}, again = {}}
 
 local PLAIN = luatexbase.registernumber("catcodetable@atletter")
 local function tell(text) tex.sprint(PLAIN, text) end
@@ -59,9 +59,8 @@ local function measured(head)
   opens = "any"
   run.galleys[g.number] = g
   for _, line in ipairs(g.lines) do
-    run.lines = run.lines + 1
-    line.id = run.lines
-    set(line.box, N.LINE, line.id)
+    run.lines[#run.lines + 1] = line
+    set(line.box, N.LINE, #run.lines)
     if opt.trace and line.box.id ~= N.RULE then line.text = N.letters(line.box) end
   end
   return g
@@ -88,7 +87,7 @@ local function list_for(g)
   elseif not list then
     warn("Galley %d has changed since the list was made: LaTeX makes its pages.\n"
          .. "Make the list again", g.number)
-  elseif #list == 0 then
+  elseif #list == 0 and not list.bad then
     say("no list for galley %d: LaTeX makes its pages", g.number)
   else
     local why = hindrance(g, list)
@@ -439,16 +438,24 @@ function M.shipped(number)
   run.folios[page] = tex.count["c@page"]
   local box = tex.box[number]
   if not opt or not box or not box.list then return end
+  local function meet(x)
+    if x.page then run.again[#run.again + 1] = {block = x, page = page} end
+    x.page = x.page or page
+  end
   N.deep(box.list, function (n)
-    local f = run.floats[has(n, N.FLOAT) or 0]
-    if f and N.is_box(n) then f.page = f.page or page end
-    local l = has(n, N.LINE)
-    if l then run.line_page[l] = run.line_page[l] or page end
+    local f, l = run.floats[has(n, N.FLOAT) or 0], run.lines[has(n, N.LINE) or 0]
+    if f and N.is_box(n) then meet(f) end
+    if l then meet(l) end
   end)
 end
 
 function M.finish()
-  if opt then files.write(opt, run) end
+  if not opt then return end
+  if #run.again > 0 then
+    warn("%d lines and floats are set more than once, first on page %d of the PDF", #run.again,
+         run.again[1].page)
+  end
+  files.write(opt, run)
 end
 
 return M

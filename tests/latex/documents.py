@@ -22,10 +22,15 @@ class Prose:
         return opening + ' '.join(self.sentence() for _ in range(self.random.randint(6, 11)))
 
 
+def name(number):
+    """Words for a number, which no other has: digits are not compared."""
+    return f'{ADJECTIVES[number % 18]} {NOUNS[number * 5 % 18]} {NOUNS[number // 18]}'
+
+
 def figure(number, high, extra='', kind='figure'):
-    inner = rf'\fbox{{\parbox[c][{high}mm][c]{{60mm}}{{\centering drawing number {number}}}}}'
+    inner = rf'\fbox{{\parbox[c][{high}mm][c]{{60mm}}{{\centering drawing of the {name(number)}}}}}'
     if kind == 'table':
-        rows = ''.join(rf'row {row} of table {number} & {row * 7} \\' for row in range(high // 5))
+        rows = ''.join(rf'row {row} of the {name(number)} & {row * 7} \\' for row in range(high // 5))
         inner = rf'\begin{{tabular}}{{lr}}{rows}\end{{tabular}}'
     return (rf'\begin{{{kind}}}[tbp]\centering {extra}{inner}\caption{{The {kind} of number {number} as it is set.}}'
             rf'\label{{{kind}:{number}}}\end{{{kind}}}')

@@ -14,6 +14,11 @@ def read(job):
     return galleys
 
 
+def remark(rows, name):
+    """What a row of this name says."""
+    return next(row.split(' ', 1)[1] for row in rows if row.split()[0] == name)
+
+
 def citing_lines(job):
     """The text of the line that cites each float, and of the line before it."""
     lines = []

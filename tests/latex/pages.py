@@ -5,19 +5,22 @@ import re
 import subprocess
 import unicodedata
 
-Galley = collections.namedtuple('Galley', 'number by streams')
+Galley = collections.namedtuple('Galley', 'number by streams again')
+STREAMS = ('lines', 'figures', 'tables')
 
 
 def shipped(job):
-    """The folios of all pages, and the galleys with the page of every line, figure and table."""
+    """The folios of all pages, and the galleys with the page of every line, figure and table, and what was shipped again."""
     folios, galleys = [], []
     for row in job.with_suffix('.pages').read_text().splitlines():
         kind, *fields = row.split()
         if kind == 'folios':
             folios = list(map(int, fields))
         elif kind == 'galley':
-            galleys.append(Galley(int(fields[0]), fields[1], []))
-        else:
+            galleys.append(Galley(int(fields[0]), fields[1], [], []))
+        elif kind == 'again':
+            galleys[-1].again.append(' '.join(fields))
+        elif kind in STREAMS:
             galleys[-1].streams.append(list(map(int, fields)))
     return folios, galleys
 
@@ -49,8 +52,9 @@ def blocks(job):
 
 
 def misplaced(job):
-    """How many blocks were shipped as the list says, and how many were not."""
-    right = wrong = 0
+    """How many blocks were shipped once, on the page that the list says, and how many were not, or were shipped again."""
+    right = 0
+    wrong = sum(len(galley.again) for galley in shipped(job)[1])
     for galley, first, pages in blocks(job):
         for page, placed in enumerate(pages, first):
             for stream, numbers in zip(galley.streams, placed):
@@ -79,26 +83,40 @@ def nearest(text, pages):
     return max(range(len(pages)), key=lambda page: sum(gram in pages[page] for gram in grams))
 
 
-def unlike(job):
-    """Lines and floats of ten letters or more: how many the PDF has on their page, and those that it has not. Where symbols come between
-    (in old mathematical fonts they have the codes of letters) no other page may have more of a text's letters."""
-    pdf = [plain(re.sub('(-|\u00ad|\u2010)\n', '', page)) for page in texts(job.with_suffix('.pdf'), '-raw')]
-    letters = {}
+def letters(job):
+    """The letters of every line, figure and table, by galley."""
+    galleys = {}
     for row in job.with_suffix('.text').read_text(errors='replace').splitlines():
         if row.startswith('galley'):
-            letters[int(row.split()[1])] = streams = ([], [], [])
+            galleys[int(row.split()[1])] = streams = ([], [], [])
         else:
             streams['lft'.index(row[0])].append(plain(row[2:]))
-    found, missing = 0, []
+    return galleys
+
+
+def printed(job):
+    """The letters of every page of the PDF."""
+    return [plain(re.sub('(-|\u00ad|\u2010)\n', '', page)) for page in texts(job.with_suffix('.pdf'), '-raw')]
+
+
+def unlike(job, pdf=None):
+    """Lines and floats of ten letters or more: how many the PDF has on their page, and those that it has not, or has again. Where symbols
+    come between (in old mathematical fonts they have the codes of letters) no other page may have more of a text's letters. A text of twenty
+    letters or more that the galley has once, which is no heading, is found once on its page and on no other."""
+    pdf = pdf or printed(job)
+    found, missing, every = 0, [], letters(job)
     for galley, first, pages in blocks(job):
-        own = pdf[first - 1:first - 1 + len(pages)]
+        own, streams = pdf[first - 1:first - 1 + len(pages)], every[galley.number]
+        whole = ' '.join(''.join(stream) for stream in streams)
         for page, placed in enumerate(pages):
-            for stream, numbers in zip(letters[galley.number], placed):
-                for text in (stream[number] for number in numbers if len(stream[number]) >= 10):
-                    if text in own[page] or nearest(text, own) == page:
-                        found += 1
-                    else:
-                        missing.append((first + page, text[:60]))
+            for text in (stream[number] for stream, numbers in zip(streams, placed) for number in numbers if len(stream[number]) >= 10):
+                there = text in own[page]
+                if not there and nearest(text, own) != page:
+                    missing.append((first + page, text[:60]))
+                elif there and len(text) >= 20 and whole.count(text) == 1 and (own[page].count(text) > 1 or sum(text in other for other in own) > 1):
+                    missing.append((first + page, 'again', text[:60]))
+                else:
+                    found += 1
     return found, missing
 
 

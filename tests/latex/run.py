@@ -112,10 +112,18 @@ def lists_tried(folder):
     plain.tex(2)
     yield from ((f'tex: {what}', got, due) for what, got, due in [('ends well', job.barleychime().returncode, 0)])
     yield from followed.heights(job, notes=1)
-    yield from followed.other_lists(job)
+    yield from followed.other_lists(job, least=12)
     yield from followed.spoilt_lists(job, pages.texts(plain.file('.pdf')))
     yield from followed.changed_document(job, plain)
     yield from followed.ended_at_barrier(Job(folder / 'barrier', 'placeins', documents.ALL['placeins']))
+
+
+def more_lists_tried(folder):
+    """Lists of a document of several galleys, and faults that are planted."""
+    job = Job(folder / 'tried', 'report', documents.ALL['report'])
+    yield 'report: tex ends well', job.barleychime().returncode, 0
+    yield from followed.other_lists(job, least=30)
+    yield from followed.faults(Job(folder / 'faults', 'article', documents.ALL['article']))
 
 
 def calls(folder):
@@ -168,13 +176,14 @@ def checks(task):
     try:
         return list(task())
     except Exception as error:  # noqa: BLE001
-        return [(f'{task}', f'{type(error).__name__}: {error}', 'no exception')]
+        return [(f'{task}'[:100], f'{type(error).__name__}: {error}', 'no exception')]
 
 
 def tasks(folder, names):
     """The longest first."""
     every = {f'real {name}': functools.partial(real, folder, name) for name in ('mpman', 'mpgraph')}
-    every.update(lists=functools.partial(lists_tried, folder), calls=functools.partial(calls, folder), ways=functools.partial(other_ways, folder))
+    groups = {'lists': lists_tried, 'more': more_lists_tried, 'calls': calls, 'ways': other_ways}
+    every.update({name: functools.partial(group, folder) for name, group in groups.items()})
     every.update({name: functools.partial(set_both_ways, folder, name, source) for name, source in documents.ALL.items()})
     return [task for name, task in every.items() if not names or name in names]
 
