@@ -14,7 +14,7 @@ use crate::Outcome;
 use barleychime::list;
 pub use failure::Failure;
 use galleys::Part;
-use lists::{Lists, Printed};
+use lists::{Lists, Made, Printed};
 use runs::{Job, TeX};
 use shipped::Turns;
 use std::fs;
@@ -50,7 +50,8 @@ pub fn run(args: &Args, output: &mut Output) -> Result<Outcome, Error> {
         return lists_only(&job, printed.as_ref());
     }
     let tex = TeX::new().map_err(Error::Tex)?;
-    let mut work = Work { job: &job, tex: &tex, printed: printed.as_ref(), runs: 0, lists: Lists::default() };
+    let lists = printed.as_ref().map_or(Lists::default(), |_| Lists::with_barriers(&job.text(".list")));
+    let mut work = Work { job: &job, tex: &tex, printed: printed.as_ref(), runs: 0, lists };
     let own = work.own_pages()?;
     let settled = work.by_lists()?;
     output.print(summary(&job, &own, &work.lists))?;
@@ -58,7 +59,9 @@ pub fn run(args: &Args, output: &mut Output) -> Result<Outcome, Error> {
         show_spreads(&job, &own, &work.lists, output)?;
     }
     if !settled {
-        say(&format!("after {MOST_RUNS} runs the galleys still change: page numbers in the text change its lines"));
+        let why =
+            "as where a page number in the text changes its lines; LaTeX makes the pages of a galley that has changed";
+        say(&format!("after {MOST_RUNS} runs the galleys still change, {why}"));
         return Ok(Outcome::Refused);
     }
     Ok(Outcome::Success)
@@ -92,8 +95,7 @@ fn write_lists(job: &Job, text: &str) -> Result<(), Error> {
 fn lists_only(job: &Job, printed: Option<&Printed>) -> Result<Outcome, Error> {
     let parts = read_galleys(job)?;
     let before = job.text(".list");
-    let mut lists = Lists::default();
-    lists.barriers.extend(before.lines().filter_map(|row| row.strip_prefix("barrier ")?.parse::<u32>().ok()));
+    let mut lists = Lists::with_barriers(&before);
     lists.make(&parts, printed).map_err(Error::Tex)?;
     let text = lists.text(&parts);
     if text != before {
@@ -138,9 +140,12 @@ impl Work<'_> {
         self.tex.run(self.job).map_err(Error::Tex)
     }
 
-    /// Runs without lists until references settle.
+    /// Runs without lists until references settle. Printed pages that end at a barrier end there again.
     fn own_pages(&mut self) -> Result<Own, Error> {
         [".list", ".galley.txt", ".pages"].iter().for_each(|ending| self.job.remove(ending));
+        if !self.lists.barriers.is_empty() {
+            write_lists(self.job, &self.lists.text(&[]))?;
+        }
         let mut before = None;
         while self.runs < MOST_OWN {
             self.run("LaTeX's own pages")?;
@@ -183,28 +188,24 @@ impl Work<'_> {
 fn summary(job: &Job, own: &Own, lists: &Lists) -> String {
     let parts = galleys::read(&job.text(".galley.txt"));
     let shipped = shipped::read(&job.text(".pages"));
-    let mut text = format!(
-        "{:>6} {:>6} {:>7} {:>6}  {:<13} {:<13} {}\n",
-        "galley", "lines", "figures", "tables", "LaTeX", "list", "opens with"
-    );
-    for (part, made) in parts.iter().zip(&lists.made) {
+    let told = |turns: Option<Turns>| turns.map_or("-".into(), |turns| turns.to_string());
+    let cells = |(part, made): (&Part, &Made)| {
         let before = own.of(part, parts.len()).and_then(|own| own.turns);
-        let now = shipped.turns(part).filter(|_| made.list.is_some());
-        let told = |turns: Option<Turns>| turns.map_or("-".into(), |turns| turns.to_string());
-        let words: String = part.words.chars().take(30).collect();
-        text += &format!(
-            "{:>6} {:>6} {:>7} {:>6}  {:<13} {:<13} {words}\n",
-            part.number,
-            part.lines(),
-            part.figures(),
-            part.tables(),
-            told(before),
-            told(now)
-        );
-    }
-    let all = |turns: &mut dyn Iterator<Item = Option<Turns>>| -> u32 {
-        turns.flatten().map(|turns| turns.x + turns.y).sum()
+        [told(before), told(shipped.turns(part).filter(|_| made.list.is_some()))]
     };
+    let turns: Vec<[String; 2]> = parts.iter().zip(&lists.made).map(cells).collect();
+    let wide = turns.iter().flatten().map(String::len).max().unwrap_or(0).max(13);
+    let row = |fields: [&str; 4], [latex, list]: [&str; 2], words: &str| {
+        let [galley, lines, figures, tables] = fields;
+        format!("{galley:>6} {lines:>6} {figures:>7} {tables:>6}  {latex:<wide$} {list:<wide$} {words}\n")
+    };
+    let mut text = row(["galley", "lines", "figures", "tables"], ["LaTeX", "list"], "opens with");
+    for (part, [latex, list]) in parts.iter().zip(&turns) {
+        let numbers = [part.number, part.lines(), part.figures(), part.tables()].map(|number| number.to_string());
+        let words: String = part.words.chars().take(30).collect();
+        text += &row(numbers.each_ref().map(String::as_str), [latex, list], &words);
+    }
+    let all = |turns: &mut dyn Iterator<Item = Option<Turns>>| turns.flatten().map(Turns::weighed).sum::<u32>();
     let before = all(&mut own.0.iter().map(|own| own.turns));
     let now = all(&mut parts.iter().map(|part| shipped.turns(part)));
     let (pdf, pages) = (job.file(".pdf"), shipped.folios.len());

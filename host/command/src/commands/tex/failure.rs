@@ -22,6 +22,8 @@ pub enum Failure {
     NoPages(PathBuf),
     /// More pages are said to be printed than the PDF had.
     TooFewPages { last: usize, pages: usize },
+    /// A galley of which pages were printed, by its first line then, and what stands in its place now.
+    NotPrinted { last: usize, number: usize, printed: String, now: Option<String> },
     /// What the package wrote is no galley.
     Galley { number: usize, error: TextError },
     /// A chapter that the engine made is refused.
@@ -49,6 +51,15 @@ impl fmt::Display for Failure {
                 write!(out, "{}: not there; --after needs it from the run whose pages were printed", path.display())
             }
             Failure::TooFewPages { last, pages } => write!(out, "--after {last}: the PDF had {pages} pages"),
+            Failure::NotPrinted { last, number, printed, now } => {
+                let now = match now {
+                    Some(now) if now == printed => "it has changed".into(),
+                    Some(now) => format!("{now:?} stands there now"),
+                    None => "it is not there any more".into(),
+                };
+                let what = "its pages cannot stay; without --after all is made anew";
+                write!(out, "--after {last}: galley {number} was printed, {printed:?}, and {now}: {what}")
+            }
             Failure::Galley { number, error } => write!(out, "galley {number}: {error}"),
             Failure::Unlike { number, refusal } => write!(out, "galley {number}: {refusal}"),
             Failure::Printed { number, words, error } => {

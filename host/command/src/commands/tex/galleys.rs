@@ -87,6 +87,12 @@ impl Part {
         self.spec.split(' ').nth(5) == Some("2")
     }
 
+    /// alpha and beta.
+    pub fn weights(&self) -> [u32; 2] {
+        let weight = |at| self.spec.split(' ').nth(at).and_then(|field| field.parse().ok()).unwrap_or(1);
+        [weight(6), weight(7)]
+    }
+
     /// The galley's bytes, opened on a folio, or without one as a later chapter of a book.
     pub fn bytes(&self, folio: Option<u32>) -> Result<Vec<u8>, Failure> {
         let folio = folio.map_or(String::new(), |folio| format!("FO {folio}\n"));

@@ -4,7 +4,7 @@ use super::galleys::{Opens, Part};
 use super::shipped::Shipped;
 use super::Failure;
 use crate::output::{say, watched};
-use barleychime::engine::{self, MakeError, Measure, Memory};
+use barleychime::engine::{self, Book, MakeError, Measure, Memory};
 use barleychime::refusal::{Refusal, RefusalKind};
 use barleychime::{fill, list};
 use std::collections::BTreeSet;
@@ -24,6 +24,24 @@ pub struct Printed {
     pub last: usize,
 }
 
+impl Printed {
+    /// Whether the galleys that were printed stand where they stood: what was printed is the document's beginning, so each is known
+    /// by its place and by its sum or, where text was added after the printed pages, by its first line.
+    fn check(&self, parts: &[Part]) -> Result<(), Failure> {
+        let begun = self.shipped.galleys.iter().enumerate().filter(|(_, placed)| placed.opens_by(self.last));
+        for (at, placed) in begun {
+            let part = parts.get(at);
+            let by_latex = !placed.by_list && placed.ends_by(self.last);
+            let same = |part: &Part| part.sum == placed.sum || part.words == placed.words && !by_latex;
+            if !part.is_some_and(same) {
+                let (printed, now) = (placed.words.clone(), part.map(|part| part.words.clone()));
+                return Err(Failure::NotPrinted { last: self.last, number: at + 1, printed, now });
+            }
+        }
+        Ok(())
+    }
+}
+
 /// The lists of a document.
 #[derive(Default)]
 pub struct Lists {
@@ -35,8 +53,15 @@ pub struct Lists {
 }
 
 impl Lists {
-    /// Makes the lists anew; barriers stay. Whether a barrier came to them.
-    pub fn make(&mut self, parts: &[Part], printed: Option<&Printed>) -> Result<bool, Failure> {
+    /// No lists yet; the barriers are those of a JOB.list.
+    pub fn with_barriers(text: &str) -> Lists {
+        let numbers = text.lines().filter_map(|row| row.strip_prefix("barrier ")?.parse().ok());
+        Lists { barriers: numbers.collect(), ..Lists::default() }
+    }
+
+    /// Makes the lists anew; barriers stay, and those that a float passes come to them.
+    pub fn make(&mut self, parts: &[Part], printed: Option<&Printed>) -> Result<(), Failure> {
+        printed.map_or(Ok(()), |printed| printed.check(parts))?;
         self.made = Vec::new();
         while self.made.len() < parts.len() {
             let at = self.made.len();
@@ -49,11 +74,10 @@ impl Lists {
                 }
             }
         }
-        let before = self.barriers.len();
         for (part, made) in parts.iter().zip(&self.made) {
             self.barriers.extend(passed(part, made));
         }
-        Ok(self.barriers.len() > before)
+        Ok(())
     }
 
     /// As JOB.list.
@@ -138,32 +162,62 @@ impl Lists {
         self.made.push(Made { folio, list: None });
     }
 
+    /// Galleys that follow on and are to have lists: the longest beginning that has a pagination as a book, then the rest where
+    /// that ends.
     fn make_book(&mut self, chapters: &[Part], folio: u32) -> Result<(), Failure> {
         let [first, rest @ ..] = chapters else { return Ok(()) };
-        if rest.is_empty() {
-            return self.make_one(first, folio);
-        }
         let mut bytes = vec![first.bytes(Some(folio))?];
         for part in rest {
             bytes.push(part.bytes(None)?);
         }
-        if let Ok(book) = engine::make_book(&bytes) {
-            for (part, chapter) in chapters.iter().zip(book.chapters) {
-                let folio = chapter.folio as u32;
-                let measure = engine::mark(&part.bytes(Some(folio))?, &chapter.list);
-                let measure = measure.map_err(|refusal| Failure::Unlike { number: part.number, refusal })?;
-                self.made.push(Made { folio, list: Some((measure, chapter.list)) });
+        let made = match self.longest_book(chapters, &bytes) {
+            Some(book) => self.take(chapters, book)?,
+            None => {
+                self.make_one(first, folio)?;
+                1
             }
-            return Ok(());
-        }
-        // One galley has none, or the sides do not fit: the first by itself, then the rest where that ends.
-        self.make_one(first, folio)?;
-        let pages = match (&self.made[self.made.len() - 1].list, first.shipped) {
+        };
+        let (last, Made { folio, list }) = (&chapters[made - 1], &self.made[self.made.len() - 1]);
+        let pages = match (list, last.shipped) {
             (Some((measure, _)), _) => measure.pages,
             (None, Some((first, last))) => last - first + 1,
             _ => 1,
         };
-        self.make_book(rest, folio + pages)
+        let next = folio + pages;
+        self.make_book(&chapters[made..], next)
+    }
+
+    /// The longest beginning, of two galleys or more, that has a pagination as a book. Where a book has one each of its beginnings
+    /// has one, so it is found by halves.
+    fn longest_book(&mut self, chapters: &[Part], bytes: &[Vec<u8>]) -> Option<Book> {
+        let (mut found, mut least, mut most) = (None, 1, bytes.len());
+        let mut tried = most;
+        while least < most {
+            match engine::make_book(&bytes[..tried]) {
+                Ok(book) => (found, least) = (Some(book), tried),
+                Err(error) => {
+                    if !no_pagination(&error) {
+                        let (first, last) = (chapters[0].number, chapters[tried - 1].number);
+                        self.remark(format!("galleys {first} to {last} as a book: {error}; fewer are made together"));
+                    }
+                    most = tried - 1;
+                }
+            }
+            tried = least + (most - least).div_ceil(2);
+        }
+        found
+    }
+
+    /// The lists of a book's chapters; how many there are.
+    fn take(&mut self, chapters: &[Part], book: Book) -> Result<usize, Failure> {
+        let made = book.chapters.len();
+        for (part, chapter) in chapters.iter().zip(book.chapters) {
+            let folio = chapter.folio as u32;
+            let measure = engine::mark(&part.bytes(Some(folio))?, &chapter.list);
+            let measure = measure.map_err(|refusal| Failure::Unlike { number: part.number, refusal })?;
+            self.made.push(Made { folio, list: Some((measure, chapter.list)) });
+        }
+        Ok(made)
     }
 
     fn make_one(&mut self, part: &Part, folio: u32) -> Result<(), Failure> {
@@ -184,7 +238,7 @@ impl Lists {
     fn advise(&mut self, part: &Part, bytes: &[u8], error: &MakeError, memory: &mut Memory) {
         let name = format!("galley {}, {:?}", part.number, part.words);
         let mut remarks = vec![format!("{error}; LaTeX makes its pages")];
-        if matches!(error, MakeError::Refused(Refusal { kind: RefusalKind::NoPagination, .. })) {
+        if no_pagination(error) {
             let mut tell = |what: &str| {
                 if watched() {
                     say(&format!("{name}: {what}"));
@@ -193,12 +247,20 @@ impl Lists {
             remarks.extend(fill::advice(bytes, &[], memory, &mut tell));
         }
         for remark in remarks {
-            let remark = format!("{name}: {remark}");
-            if self.said.insert(remark.clone()) {
-                say(&remark);
-            }
+            self.remark(format!("{name}: {remark}"));
         }
     }
+
+    /// Says what was not said before.
+    fn remark(&mut self, remark: String) {
+        if self.said.insert(remark.clone()) {
+            say(&remark);
+        }
+    }
+}
+
+fn no_pagination(error: &MakeError) -> bool {
+    matches!(error, MakeError::Refused(Refusal { kind: RefusalKind::NoPagination, .. }))
 }
 
 /// The first galley and those that follow on from it under the same page specification.

@@ -6,6 +6,10 @@ use super::galleys::Part;
 #[derive(Debug, Default)]
 pub struct Placed {
     pub by_list: bool,
+    /// By which the package knows the galley again.
+    pub sum: String,
+    /// Its first line of text.
+    pub words: String,
     pub lines: Vec<usize>,
     pub figures: Vec<usize>,
     pub tables: Vec<usize>,
@@ -18,16 +22,29 @@ pub struct Shipped {
     pub galleys: Vec<Placed>,
 }
 
-/// Turns of a galley as it was shipped: X, from citations to floats, and Y, from the first page to the last.
-#[derive(Clone, Copy, Debug, Default, PartialEq, Eq)]
+/// Turns of a galley as it was shipped: X, from citations to floats, and Y, from the first page to the last, with their weights.
+#[derive(Clone, Copy, Debug, PartialEq, Eq)]
 pub struct Turns {
-    pub x: u32,
-    pub y: u32,
+    x: u32,
+    y: u32,
+    weights: [u32; 2],
+}
+
+impl Turns {
+    /// alpha X + beta Y.
+    pub fn weighed(self) -> u32 {
+        self.weights[0] * self.x + self.weights[1] * self.y
+    }
 }
 
 impl std::fmt::Display for Turns {
     fn fmt(&self, out: &mut std::fmt::Formatter) -> std::fmt::Result {
-        write!(out, "{} + {} = {}", self.x, self.y, self.x + self.y)
+        let term = |weight: u32, turns: u32| match weight {
+            1 => turns.to_string(),
+            _ => format!("{weight}*{turns}"),
+        };
+        let [alpha, beta] = self.weights;
+        write!(out, "{} + {} = {}", term(alpha, self.x), term(beta, self.y), self.weighed())
     }
 }
 
@@ -39,8 +56,12 @@ pub fn read(text: &str) -> Shipped {
         match (name, shipped.galleys.last_mut()) {
             ("folios", _) => shipped.folios = rest.split(' ').filter_map(|folio| folio.parse().ok()).collect(),
             ("galley", _) => {
-                shipped.galleys.push(Placed { by_list: rest.ends_with("list"), ..Placed::default() });
+                let mut fields = rest.split(' ').skip(1);
+                let by_list = fields.next() == Some("list");
+                let sum = fields.next().unwrap_or_default().into();
+                shipped.galleys.push(Placed { by_list, sum, ..Placed::default() });
             }
+            ("text", Some(galley)) => galley.words = rest.into(),
             ("lines", Some(galley)) => galley.lines = pages(),
             ("figures", Some(galley)) => galley.figures = pages(),
             ("tables", Some(galley)) => galley.tables = pages(),
@@ -62,6 +83,10 @@ impl Placed {
         let placed = |stream: &[usize], page: usize| stream.iter().filter(|&&at| at > 0 && at <= page).count() as u32;
         let end = |page| [placed(&self.lines, page), placed(&self.figures, page), placed(&self.tables, page)];
         (first..=until).map(end).collect()
+    }
+
+    pub fn opens_by(&self, last: usize) -> bool {
+        self.all().min().is_some_and(|page| page <= last)
     }
 
     pub fn ends_by(&self, last: usize) -> bool {
@@ -92,6 +117,6 @@ impl Shipped {
             let cited = *placed.lines.get(citation.checked_sub(1)?)?;
             x += leaf(page).abs_diff(leaf(cited));
         }
-        Some(Turns { x, y: leaf(last).abs_diff(leaf(first)) })
+        Some(Turns { x, y: leaf(last).abs_diff(leaf(first)), weights: part.weights() })
     }
 }
