@@ -163,8 +163,6 @@ def samples(tally, command, root, folder):
     choice = book.best(galleys)
     checked(tally, command, folder, 'sides', [folder / 'one.galley', folder / 'two.galley'], galleys, choice)
     tally.same('the book of the manual', done.stdout, printed(galleys, choice, ('one.galley', 'two.galley')))
-    block = ''.join(f'    {line}\n' for line in done.stdout.splitlines())
-    tally.same('book in the manual', f'\n\n{block}\n' in (root / 'docs/COMMAND.md').read_text(), True)
     alone = command.text('make', folder / 'one.galley')[1].split()
     tally.same('its first chapter is worse', (alone[3], book.measure(galleys[:1], choice[:1])[3]), ('0', 1))
     for name, chapters in REAL.items():

@@ -26,10 +26,14 @@ class Place:
         path = f'{command.program.parent}{os.pathsep}{os.environ["PATH"]}'
         self.environment = {**os.environ, 'PATH': path, 'LC_ALL': 'C', 'NO_COLOR': '1'}
 
+    def ran(self, line):
+        """The exit status of this line, and what a terminal shows after it."""
+        done = subprocess.run(line, shell=True, cwd=self.folder, env=self.environment, text=True, encoding='utf-8', timeout=300,
+                              stdin=subprocess.DEVNULL, stdout=subprocess.PIPE, stderr=subprocess.STDOUT)
+        return done.returncode, done.stdout
+
     def printed(self, line):
-        """What a terminal shows after this line."""
-        return subprocess.run(line, shell=True, cwd=self.folder, env=self.environment, text=True, encoding='utf-8', timeout=300,
-                              stdout=subprocess.PIPE, stderr=subprocess.STDOUT).stdout
+        return self.ran(line)[1]
 
 
 def shown(document):

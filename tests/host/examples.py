@@ -1,4 +1,5 @@
-"""What the documents have people copy: the programs in C, Rust, Python and JavaScript, the series on all cores; and what they leave."""
+"""What the documents have people copy: the programs in C, Rust, Python and JavaScript, the series on all cores; and what they leave.
+documents.py runs their commands."""
 
 import os
 import re
@@ -26,8 +27,6 @@ def run(tally, command, root, library, folder):
             for source in blocks(document, language):
                 found[language] += 1
                 example(tally, f'{path.name}, {language}', source, command, root, library, folder, galley)
-    shown(tally, command, root, galley)
-    of_readme(tally, command, root, folder)
     ignored(tally, root)
     tally.same('examples found', {language: count > 0 for language, count in found.items()}, dict.fromkeys(found, True))
     tally.group('examples')
@@ -94,33 +93,6 @@ def series(tally, what, source, command, root, _library, folder, _galley):
         tally.same(f'{what}: {made.name}', made.is_file() and made.read_text(), command.text('make', galley)[1])
 
 
-def shown(tally, command, root, galley):
-    """What the manual shows of the command's output is what it prints; a.galley is case A."""
-    manual = (root / 'docs/COMMAND.md').read_text()
-    for arguments in (('make', galley), ('make', '--after', root / 'samples/openings/a-lines-first.list', galley),
-                      ('forecast', root / 'samples/real/mpman-p003.galley'), ('fold', '8')):
-        _, output, _ = command.text(*arguments)
-        block = ''.join(f'    {line}\n' for line in output.splitlines())
-        tally.same(f'{arguments[0]} in the manual', f'\n\n{block}\n' in manual, True)
-
-
-def of_readme(tally, command, root, folder):
-    """The commands that README.md has people try, run as they stand there beside the samples: a chapter of the series has no pagination,
-    one list of the class cannot be read, and one is refused. `tex` has a part of its own; what opens a browser gets a stand-in for one."""
-    here = folder / 'tried'
-    here.mkdir()
-    (here / 'samples').symlink_to(root / 'samples')
-    (here / 'xdg-open').write_text('#!/bin/sh\ntest -s "$1"\n')
-    (here / 'xdg-open').chmod(0o755)
-    path = os.pathsep.join(map(str, (here, command.program.parent, os.environ['PATH'])))
-    status = {}
-    for call in re.findall('^ {4}(barleychime .*)$', (root / 'README.md').read_text(), re.M):
-        out = f' --out {here / "page.html"}' if ' show ' in call else ''
-        ran = subprocess.run(call + out, shell=True, cwd=here, capture_output=True, text=True, env={**os.environ, 'PATH': path})
-        status[call.split()[1]] = ran.returncode
-    tally.same('README.md: what its commands end with', status, {'make': 1, 'report': 2, 'explain': 1, 'show': 0})
-
-
 def ignored(tally, root):
     """What the commands of README.md, docs/COMMAND.md and docs/EMBEDDING.md write is not offered to git."""
     documents = ''.join((root / name).read_text() for name in ('README.md', 'docs/COMMAND.md', 'docs/EMBEDDING.md'))
@@ -128,7 +100,7 @@ def ignored(tally, root):
     commands = re.findall(r'^ {4}(.*)$', plain, re.M)
     written = {name for line in commands for name in re.findall(r'(?:> |-o )(\S+)', line)}
     tally.same('files that are written', written, {'a.galley', 'close.galley', 'one.galley', 'pages', 'two.galley'})
-    for name in sorted(written | {'pages.c', 'series/chapter.list', 'target/log', 'host/library/target/release', 'host/command/target/release'}):
+    for name in sorted(written | {'pages.c', 'series/chapter.list', 'lists/chapter.list', 'samples/real/gretl-p441.html', 'target/log', 'host/library/target/release', 'host/command/target/release'}):
         asked = subprocess.run(['git', 'check-ignore', '--quiet', name], cwd=root, capture_output=True)
         if asked.returncode != 128:  # a copy without git has nothing to ignore
             tally.same(f'{name} is ignored by git', asked.returncode, 0)

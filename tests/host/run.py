@@ -29,6 +29,7 @@ import bound  # noqa: E402
 import c_interface  # noqa: E402
 import command_line  # noqa: E402
 import course  # noqa: E402
+import documents  # noqa: E402
 import examples  # noqa: E402
 import explained  # noqa: E402
 import folding  # noqa: E402
@@ -78,6 +79,7 @@ def main():
         examples.run(tally, command, ROOT, library, folder)
         samples.run(tally, command, ROOT, folder)
         course.run(tally, command, ROOT, folder)
+        documents.run(tally, command, ROOT, folder)
         table.run(tally, command, ROOT)
         if library == PROVED.resolve():  # the header's figures are the proved archive's
             stack.run(tally, command, ROOT, library, folder)
