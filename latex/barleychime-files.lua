@@ -60,8 +60,7 @@ end
 -- "again LINES N PAGE", with the stream's name and its number there.
 local function write_pages(out, k, run)
   local g = run.galleys[k]
-  out:write(string.format("galley %d %s %s\ntext %s\n", k, g.by_list and "list" or "latex",
-                          g.sum, g.words))
+  out:write(string.format("galley %d %s\n", k, g.by_list and "list" or "latex"))
   local number = {}                     -- of a block: its stream and its number there
   local function write_stream(name, stream)
     out:write(name)

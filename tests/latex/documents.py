@@ -69,6 +69,26 @@ def with_package(name, preamble, rows=(), at=9, **more):
     return document(f'article-{name}', preamble, text[:at] + list(rows) + text[at:], **more)
 
 
+def appendix_on_one_side():
+    """A chapter, and an appendix that is a figure as high as a page and the few lines that cite it: it has a pagination on a left-hand page
+    alone, where both are on one spread."""
+    prose = Prose('sides4')
+    whole = figure(40, 99).replace('99mm', r'0.88\textheight')
+    few = ' '.join([r'See \ref{figure:40} here.', *(prose.sentence() for _ in range(3))])
+    rows = [r'\chapter{The work}', *body(prose, floats=4, tables=0, every=99)[1:], r'\appendix', r'\chapter{A page of its own}', few, whole]
+    return document('report', rows=rows, options='11pt,twoside,a5paper,openany')
+
+
+def passed_barrier():
+    """Three figures before a barrier that do not fit on the page that cites them: the best list without the barrier lets two of them pass it."""
+    prose = Prose('barrier')
+    numbers = range(40, 43)
+    cited = prose.paragraph('See ' + ', '.join(rf'\ref{{figure:{number}}}' for number in numbers) + ' here. ')
+    rows = [*body(prose, floats=2, tables=0, every=99), cited, *(figure(number, 65) for number in numbers), r'\FloatBarrier']
+    rows += [row.replace('figure:', 'figure:9') for row in body(prose, floats=3, tables=0, every=99)[1:]]
+    return document('article', r'\usepackage{placeins}', rows, options='11pt,a5paper', package='fill=70,trace=true')
+
+
 LONGTABLE = r'\begin{longtable}{lr}' + ''.join(rf'long row {row} & {row} \\' for row in range(60)) + r'\end{longtable}'
 COLUMNS = r'\begin{multicols}{2}' + Prose('columns').paragraph() + r'\end{multicols}'
 WRAPPED = r'\begin{wrapfigure}{r}{40mm}\fbox{\parbox[c][30mm][c]{30mm}{wrapped}}\end{wrapfigure}'

@@ -125,20 +125,6 @@ def heights(job, notes):
     yield 'pages unlike the model', len(low) <= notes, True
 
 
-def ended_at_barrier(job):
-    """A list that asks for a page end at a barrier: two galleys, the second on a new page, and the barrier stays in the next lists."""
-    job.barleychime()
-    job.file('.list').write_text('barrier 1\n' + job.file('.list').read_text())
-    job.tex()
-    first, second = pages.shipped(job.path)[1]
-    yield 'a barrier that ends a galley: the next opens a page', max(first.streams[0]) < min(second.streams[0]), True
-    told = job.barleychime('--lists-only')
-    yield 'a barrier that ends a galley: it stays', (told.returncode, job.file('.list').read_text().startswith('barrier 1\n')), (0, True)
-    job.tex()
-    right, wrong = pages.misplaced(job.path)
-    yield 'a barrier that ends a galley: blocks on the page of the list, and not', (right > 200, wrong), (True, 0)
-
-
 TWICE = r"""\AddToHook{shipout/before}[planted]{\ifnum\value{page}=3 \setbox\ShipoutBox\vbox{\copy\ShipoutBox\vskip-\ht\ShipoutBox\copy\ShipoutBox}\fi}
 \DeclareHookRule{shipout/before}{planted}{before}{barleychime}
 \begin{document}"""

@@ -1,4 +1,5 @@
 """What the galleys of the small documents must say: citing lines, floats that are kept together, sides, barriers."""
+import documents
 import pages
 
 CITING = ('article', 'hyperref', 'cleveref', 'varioref', 'scrartcl', 'microtype', 'babel', 'fancyhdr')
@@ -41,6 +42,17 @@ def passed(job):
                 yield from (page for stream, count in zip(floats, before) for page in stream[:count] if line < len(lines) and page > lines[line])
 
 
+def opened_on_the_right(job):
+    """The folio of each list is that of the galley's first page, and a blank page stands before a right-hand opening where it must."""
+    folios, all_ = pages.shipped(job.path)
+    heads = {int(row.split()[1]): int(row.split()[3]) for row in job.file('.list').read_text().splitlines() if row.startswith('galley')}
+    spans = [(min(placed), max(placed)) for placed in ([page for stream in galley.streams for page in stream] for galley in all_)]
+    yield f'{job.path.stem}: folios of the lists', [heads[galley.number] for galley in all_], [folios[first - 1] for first, _ in spans]
+    between = [(folios[last - 1] % 2, first - last - 1) for (_, last), (first, _) in zip(spans, spans[1:])]
+    yield f'{job.path.stem}: a blank page after a galley that ends on the right, none after one on the left', \
+        (sorted(set(between) - {(0, 0), (1, 1)}), (1, 1) in between), ([], True)
+
+
 def check(name, job):
     galleys = read(job)
     remarks = [row for rows, _ in galleys for row in rows]
@@ -49,10 +61,18 @@ def check(name, job):
     if name == 'caption':
         marks = [row.split()[0] for _, rows in galleys for row in rows if row.startswith('F')]
         yield f'{name}: floats that are kept with the next', marks.count('FK'), 2
+        figures = [page for galley in pages.shipped(job.path)[1] for page in galley.streams[1]]
+        together = [(figures[k], figures[k + 1]) for k, mark in enumerate(mark for mark in marks if mark in ('FG', 'FK')) if mark == 'FK']
+        yield f'{name}: pages of floats that are kept together', [pair for pair in together if pair[0] != pair[1]], []
+        pdf = pages.printed(job.path)
+        for one, two in ((90, 91), (92, 93)):
+            there = [[k for k, page in enumerate(pdf) if pages.plain(f'drawing of the {documents.name(number)}') in page] for number in (one, two)]
+            yield f'{name}: pages of the PDF that have float {one}, and {two}', (len(there[0]), there[0] == there[1]), (1, True)
     if name in ('book', 'scrbook', 'memoir'):
         yield f'{name}: galleys that open on the right', remarks.count('opens right') >= 3, True
         folios = [int(row.split()[1]) for rows, records in galleys for row in records if row.startswith('FO') and 'opens right' in rows]
         yield f'{name}: their folios are odd', [folio for folio in folios if folio % 2 == 0], []
+        yield from opened_on_the_right(job)
     if name == 'report':
         yield f'{name}: galleys that follow on', remarks.count('follows') >= 3, True
     if name == 'placeins':

@@ -13,6 +13,7 @@ import tempfile
 ROOT = pathlib.Path(__file__).resolve().parents[2]
 sys.path[:0] = [str(ROOT / part) for part in ('tests/latex', 'tests', 'tests/host', 'samples/real')]
 
+import books  # noqa: E402
 import called  # noqa: E402
 import documents  # noqa: E402
 import followed  # noqa: E402
@@ -115,7 +116,6 @@ def lists_tried(folder):
     yield from followed.other_lists(job, least=12)
     yield from followed.spoilt_lists(job, pages.texts(plain.file('.pdf')))
     yield from followed.changed_document(job, plain)
-    yield from followed.ended_at_barrier(Job(folder / 'barrier', 'placeins', documents.ALL['placeins']))
 
 
 def more_lists_tried(folder):
@@ -124,6 +124,12 @@ def more_lists_tried(folder):
     yield 'report: tex ends well', job.barleychime().returncode, 0
     yield from followed.other_lists(job, least=30)
     yield from followed.faults(Job(folder / 'faults', 'article', documents.ALL['article']))
+
+
+def several_galleys(folder):
+    yield from books.beats_one_by_one(Job(folder / 'sides', 'report', documents.appendix_on_one_side()))
+    yield from books.ended_at_barrier(Job(folder / 'barrier', 'article', documents.passed_barrier()))
+    yield from books.kept_as_printed(Job(folder / 'printed', 'report', documents.ALL['report'].replace(r'\tableofcontents', '')))
 
 
 def calls(folder):
@@ -182,7 +188,7 @@ def checks(task):
 def tasks(folder, names):
     """The longest first."""
     every = {f'real {name}': functools.partial(real, folder, name) for name in ('mpman', 'mpgraph')}
-    groups = {'lists': lists_tried, 'more': more_lists_tried, 'calls': calls, 'ways': other_ways}
+    groups = {'lists': lists_tried, 'more': more_lists_tried, 'books': several_galleys, 'calls': calls, 'ways': other_ways}
     every.update({name: functools.partial(group, folder) for name, group in groups.items()})
     every.update({name: functools.partial(set_both_ways, folder, name, source) for name, source in documents.ALL.items()})
     return [task for name, task in every.items() if not names or name in names]

@@ -69,11 +69,12 @@ pub fn run(args: &Args, output: &mut Output) -> Result<Outcome, Error> {
 
 /// The pages that were shipped last, up to one of the PDF.
 fn pages_printed(job: &Job, last: usize) -> Result<Printed, Error> {
-    let shipped = shipped::read(&job.text(".pages"));
+    let (parts, shipped) = (galleys::read(&job.text(".galley.txt")), shipped::read(&job.text(".pages")));
     match shipped.folios.len() {
         0 => Err(Error::Tex(Failure::NoPages(job.file(".pages")))),
+        _ if parts.is_empty() => Err(Error::Tex(Failure::NoPages(job.file(".galley.txt")))),
         pages if last > pages => Err(Error::Tex(Failure::TooFewPages { last, pages })),
-        _ => Ok(Printed { shipped, last }),
+        _ => Ok(Printed { parts, shipped, last }),
     }
 }
 

@@ -87,6 +87,25 @@ impl Part {
         self.spec.split(' ').nth(5) == Some("2")
     }
 
+    /// Whether it begins as another: by its first line, and by what is on pages that end after so many lines, figures and tables.
+    pub fn begins_as(&self, other: &Part, placed: [u32; 3]) -> bool {
+        self.words == other.words && self.beginning(placed) == other.beginning(placed)
+    }
+
+    /// The records of the first lines, but of the last its height alone, since what comes after it may be new; then the heights of
+    /// the first figures and tables.
+    fn beginning(&self, [lines, figures, tables]: [u32; 3]) -> Vec<&str> {
+        let mut found = Vec::new();
+        for (marks, count) in [(&["TL"][..], lines), (&["FG", "FK"][..], figures), (&["TB"][..], tables)] {
+            let stream = self.records.iter().filter(|record| marks.iter().any(|mark| record.starts_with(mark)));
+            for (at, record) in stream.take(count as usize).enumerate() {
+                let whole = marks[0] == "TL" && at + 1 < count as usize;
+                found.push(if whole { record } else { record.split(' ').nth(1).unwrap_or_default() });
+            }
+        }
+        found
+    }
+
     /// alpha and beta.
     pub fn weights(&self) -> [u32; 2] {
         let weight = |at| self.spec.split(' ').nth(at).and_then(|field| field.parse().ok()).unwrap_or(1);

@@ -18,24 +18,26 @@ pub struct Made {
     pub list: Option<(Measure, Vec<u32>)>,
 }
 
-/// Pages that are printed and stay as they are: what was shipped then, and the last such page of the PDF.
+/// Pages that are printed and stay as they are: the galleys then, what was shipped, and the last such page of the PDF.
 pub struct Printed {
+    pub parts: Vec<Part>,
     pub shipped: Shipped,
     pub last: usize,
 }
 
 impl Printed {
-    /// Whether the galleys that were printed stand where they stood: what was printed is the document's beginning, so each is known
-    /// by its place and by its sum or, where text was added after the printed pages, by its first line.
+    /// Whether what was printed is the document's beginning still: a galley is the same by its first line and its sum or, where it
+    /// goes on after the printed pages, by what is on them.
     fn check(&self, parts: &[Part]) -> Result<(), Failure> {
-        let begun = self.shipped.galleys.iter().enumerate().filter(|(_, placed)| placed.opens_by(self.last));
-        for (at, placed) in begun {
-            let part = parts.get(at);
-            let by_latex = !placed.by_list && placed.ends_by(self.last);
-            let same = |part: &Part| part.sum == placed.sum || part.words == placed.words && !by_latex;
-            if !part.is_some_and(same) {
-                let (printed, now) = (placed.words.clone(), part.map(|part| part.words.clone()));
-                return Err(Failure::NotPrinted { last: self.last, number: at + 1, printed, now });
+        for (before, placed) in self.parts.iter().zip(&self.shipped.galleys) {
+            let Some(&end) = placed.ends_up_to(self.last).last() else { continue };
+            let now = parts.get(before.number - 1);
+            let whole = placed.ends_by(self.last);
+            let same = |now: &Part| now.begins_as(before, end) && (!whole || now.sum == before.sum);
+            if !now.is_some_and(same) {
+                let (number, printed) = (before.number, before.words.clone());
+                let now = now.map(|now| now.words.clone());
+                return Err(Failure::NotPrinted { last: self.last, number, printed, now });
             }
         }
         Ok(())

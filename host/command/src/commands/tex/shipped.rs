@@ -6,10 +6,6 @@ use super::galleys::Part;
 #[derive(Debug, Default)]
 pub struct Placed {
     pub by_list: bool,
-    /// By which the package knows the galley again.
-    pub sum: String,
-    /// Its first line of text.
-    pub words: String,
     pub lines: Vec<usize>,
     pub figures: Vec<usize>,
     pub tables: Vec<usize>,
@@ -56,12 +52,8 @@ pub fn read(text: &str) -> Shipped {
         match (name, shipped.galleys.last_mut()) {
             ("folios", _) => shipped.folios = rest.split(' ').filter_map(|folio| folio.parse().ok()).collect(),
             ("galley", _) => {
-                let mut fields = rest.split(' ').skip(1);
-                let by_list = fields.next() == Some("list");
-                let sum = fields.next().unwrap_or_default().into();
-                shipped.galleys.push(Placed { by_list, sum, ..Placed::default() });
+                shipped.galleys.push(Placed { by_list: rest.ends_with("list"), ..Placed::default() });
             }
-            ("text", Some(galley)) => galley.words = rest.into(),
             ("lines", Some(galley)) => galley.lines = pages(),
             ("figures", Some(galley)) => galley.figures = pages(),
             ("tables", Some(galley)) => galley.tables = pages(),
@@ -83,10 +75,6 @@ impl Placed {
         let placed = |stream: &[usize], page: usize| stream.iter().filter(|&&at| at > 0 && at <= page).count() as u32;
         let end = |page| [placed(&self.lines, page), placed(&self.figures, page), placed(&self.tables, page)];
         (first..=until).map(end).collect()
-    }
-
-    pub fn opens_by(&self, last: usize) -> bool {
-        self.all().min().is_some_and(|page| page <= last)
     }
 
     pub fn ends_by(&self, last: usize) -> bool {
