@@ -98,9 +98,9 @@ def run(sitting, rng, g, lists, others, calls=CALLS):
 
 
 def theorem(tally, sitting, rng, g, opening):
-    """Calls about one galley, from a desk opened unrefused: by its own answers the list in force is the one last come back to, as then
-    saved, else the opening one, with exactly the ends committed since altered, in order; a name not dropped since gives the list that was in
-    force when it was last saved; and the marking accepts them all. Half of the desks are asked and committed at alone."""
+    """Calls about one galley, from a desk opened unrefused. By its own answers the list in force is the last layout returned to, or else the
+    opening list, plus the page ends committed since then. A name gives the list that was in force when it was last saved, until it is
+    dropped. The marking accepts all these lists. At half of the desks there are only asks and commits."""
     data, pending, force, layouts = galley.write(g), None, tuple(marking.places(g, opening)), {}
     names = rng.random() < 0.5
     for _ in range(CALLS):
