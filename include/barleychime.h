@@ -1,10 +1,10 @@
 /* Barleychime: page make-up and marking for galleys with figures and tables.
  *
- * Making gives the pagination with the fewest page turns that a galley's page specification allows, and of those the one with the
- * least white space, of all paginations or of those that begin with an opening that is already printed, of one galley or of the
- * chapters of a book; marking judges a pagination that is handed in. Both work on lent memory alone: they allocate nothing, keep
- * nothing between calls, print nothing, and call nothing but memcpy and memset of the C library. Calls on memory that is not
- * shared may run at the same time.
+ * Making gives the pagination with the fewest page turns that a galley's page specification allows. If several have as few, it gives
+ * the one with the least white space. It makes one galley, or the chapters of a book, or the pages after an opening that is already
+ * printed. Marking judges a pagination that is handed in. Both work on lent memory alone: they allocate nothing, keep nothing between
+ * calls, print nothing, and call nothing but memcpy and memset of the C library. Calls on memory that is not shared may run at the
+ * same time.
  *
  * What the caller owes, because no call can see it:
  *   - A pointer leads to as many bytes or words as its length says, or to as many as an array parameter has: the 9 words of an
@@ -18,8 +18,8 @@
  * placed so far and the figures placed so far. For a galley that has tables it has three: the tables placed so far too. A word
  * is 32 bits in the machine's own byte order; the galley's bytes are the same everywhere.
  *
- * A galley's records, in this order; each has a mark of two ASCII bytes and then its fields, of 4 bytes each, unsigned, the most
- * significant first. Lengths are in hundredths of a point, 0 to 100,000, and a least one is not above its greatest one.
+ * A galley has these records, in this order. A record is a mark of two ASCII bytes and then its fields, of 4 bytes each, unsigned, the
+ * most significant first. Lengths are in hundredths of a point, 0 to 100,000, and a least one is not above its greatest one.
  *   GS  30 bytes  the page specification: htMin, htMax (not 0), sMin, sMax, sides (1 or 2), alpha, beta (0 to 1,000 each)
  *   G2  34 bytes  its second edition, which may stand for GS: the same fields and then lastMin, 0 to htMax
  *   FO   6 bytes  the folio of the first page, 1 to 9,999; the record may be absent, and the folio is then 1
@@ -30,13 +30,13 @@
  *   ED   2 bytes  the end
  * Lines, figures and tables are each in order, but a table may stand before a figure, and a figure before a table. A page that
  * has two of these kinds has a separation, sMin to sMax, and a page that has all three has two.
- * A page has at least htMin of height, at its loosest, and at most htMax, at its tightest. Of the last page GS asks no least
- * height, and G2 asks lastMin.
+ * A page has at least htMin of height, at its loosest, and at most htMax, at its tightest. Under GS the last page has no least
+ * height. Under G2 it has lastMin.
  * Double-sided (sides 2), an even folio and the next one face each other on a spread, so the first folio decides on spreads and
  * turns. Pages are counted from 1 all the same, in page lists, answers and places.
  *
- * Refusals: the call returns the number, answer[0] is the number, answer[1] the place, the rest of the answer is 0, but for
- * the count of pages weighed, which making has with 11 too.
+ * Refusals: the call returns the number. answer[0] is the number, answer[1] the place, and the rest of the answer is 0. With 11
+ * making also has the count of pages weighed.
  *
  * The galley's writer can mend these. Place: byte offset of the record's mark, or where one was due; for 8, of what follows.
  *    1  the galley stops short, inside a record or without its ED
@@ -86,9 +86,9 @@
  *   33  no section has so many pages: their number is a multiple of 4 from 4 to 64
  *
  * Making, marking, the forecast and the opening of a desk read the galley first and answer 1 to 8 alike. Making then looks at the
- * lengths, 9 before 10, then at an opening, 20 before 21, and searches only where none of these is due. Of several broken rules
- * marking answers the one on the earliest page, and there the lowest number. Making a book answers 28 first, then goes chapter by
- * chapter, its own refusal before 29 and that before 30, and then looks at the lengths, 9 before 10.
+ * lengths, 9 before 10, and then at an opening, 20 before 21. It searches only if none of these is due. If several rules are broken,
+ * marking answers the one on the earliest page, and there the lowest number. Making a book answers 28 first. Then it goes chapter by
+ * chapter, with the chapter's own refusal before 29, and 29 before 30. Then it looks at the lengths, 9 before 10.
  */
 #ifndef BARLEYCHIME_H
 #define BARLEYCHIME_H
@@ -274,9 +274,9 @@ uint32_t barleychime_version(void);
  *   answer      9 words, always written: number, place, p, X, Y, T, the count of pages weighed, low word and high word, and W
  * Longer areas are fine. barleychime_forecast tells the lengths beforehand; 9 and 10 tell them too, each with its own.
  *
- * The count is of pages weighed in the plain sense: the pairs of a start and an end, reached or not, with something between
- * them whose tightest height is at most htMax, each pair once. The search itself looks at far fewer. It is there on success and
- * on 11, and it is never above the forecast's ceiling.
+ * The count is of every possible page: the pairs of a start and an end, reached or not, with something between them whose tightest
+ * height is at most htMax, each pair once. The search looks at far fewer. The count is there on success and on 11, and it is never
+ * above the forecast's ceiling.
  *
  * Returns 0 for success. Afterwards:
  *   success         2*p words of pages, or 3*p where there are tables, hold the list, the rest of it is as before; the words
@@ -291,10 +291,10 @@ uint32_t barleychime_make(const uint8_t *galley, size_t galley_len, uint32_t *wo
  * it the one with the fewest turns. Without words it is barleychime_make, and everything said there holds here.
  *   opening     opening_len words, only read; not null even where there are none
  * The whole list is written, the opening included, and p, X, Y, T, W are those of the whole list. 11 means that no valid list
- * begins so. Of pages weighed only those count that start at or past the opening's end in lines, in figures and in tables.
- * An opening has whole pages, none of which breaks 13 to 17 (20); none counts as the last of a list, so that each has htMin, and
- * 17 is asked of a page that ends its spread alone. Nothing else is asked of its length, but that something is left to place
- * (21). After 20 and 21 pages and work area are as before.
+ * begins so. The count has only pages that start at or past the opening's end in lines, in figures and in tables.
+ * An opening has whole pages, and none of them breaks 13 to 17 (20). None counts as the last of a list, so each has htMin, and
+ * 17 is asked only of a page that ends its spread. An opening may have any length that leaves something to place (21). After 20 and
+ * 21 pages and work area are as before.
  */
 uint32_t barleychime_make_after(const uint8_t *galley, size_t galley_len, const uint32_t *opening, size_t opening_len,
                                 uint32_t *work, size_t work_len, uint32_t *pages, size_t pages_len,
@@ -302,8 +302,8 @@ uint32_t barleychime_make_after(const uint8_t *galley, size_t galley_len, const 
 
 /* Makes the pages of a book: 1 to 200 galleys, its chapters, lent end to end. The first chapter opens on its own folio, stated by FO
  * or 1, each later one on the folio after the last of the one before. Of all choices of a page list for each chapter, each valid at
- * the folio on which its chapter opens, it is the one with the fewest turns, and of these with the least white space; where both are
- * equal, the last chapter's list decides as for a galley alone, then that of the chapter before it, and so on. A chapter may be
+ * the folio on which its chapter opens, it is the one with the fewest turns, and of these the one with the least white space. If both
+ * tie, the last chapter's list decides as for a galley alone, then that of the chapter before it, and so on. A chapter may be
  * worse than it could be by itself. A book of one chapter is barleychime_make.
  *   galleys     galleys_len bytes, only read: the chapters, one after another
  *   lengths     lengths_len words, only read: the bytes of each chapter; they add up to galleys_len (28). Not null even where there
@@ -353,62 +353,63 @@ static inline size_t barleychime_page_words(const uint8_t *galley, size_t galley
     return barleychime_mark(galley, galley_len, page, 2, answer) == BARLEYCHIME_BAD_LIST ? 3 : 2;
 }
 
-/* A desk, at which another end of a page is tried before the list is changed, and layouts are kept to come back to.
+/* A desk: another end of a page is tried before the list is changed, and layouts are kept to return to.
  *
  * A desk is BARLEYCHIME_DESK_WORDS words that the caller owns and lends to each call: plain data, which may be copied and kept,
- * without a pointer and without the galley. On it are the list in force, what is pending, which is a page and its new end, and
- * up to eight layouts under names of 1 to 16 bytes. Names are any bytes; two are the same where length and bytes are. A galley is
- * given again with each ask; it has to be the one that the desk was opened on if the answers are to be about the list in force.
+ * without a pointer and without the galley. It holds the list in force, the pending page with its new end, and up to eight layouts
+ * under names of 1 to 16 bytes. Names are any bytes; two are the same if length and bytes are. The galley is given again with each
+ * ask. It has to be the one that the desk was opened on, or else the answers are not about the list in force.
  *
- * A desk may hold anything, also what no call left there; every call on it is defined, reads and writes what is lent and nothing
- * else, and ends. It has the pages that its first word says where these are at most 64 and a page has 2 words or 3, and else none;
- * a new end is pending where its page is one of 1 to p - 1; of layouts with the same name the first counts, and one whose name
- * were longer than 16 bytes is neither held nor free. On a desk without pages every ask is 23 and every commit 24, and what is
- * saved there is an empty list.
+ * A desk may hold anything, also what no call left there. Every call on it is defined, ends, and reads and writes only what is lent.
+ * It has as many pages as its first word says, if these are at most 64 and a page has 2 words or 3; else it has none. A new end is
+ * pending if its page is one of 1 to p - 1. Of layouts with the same name the first counts. A layout whose name is longer than 16
+ * bytes is neither held nor free. On a desk without pages every ask is 23 and every commit 24, and what is saved there is an empty
+ * list.
  *
  * All of them take under 24,576 bytes of stack, write an answer and return its number. Opening and asking answer as marking does;
  * the others have 0 after number and place, but for p of the list in force where that is asked for.
  *
- * For a desk opened unrefused, and any calls about its galley after that: a name not dropped since gives the list that was in force
- * when it was last saved; the list in force is the one last come back to, as it was saved then, else the opening one, with exactly
- * the ends altered that were committed since, in the order of the commits; and marking accepts it and every layout, all of which
- * have as many pages.
+ * These hold for a desk that opens without a refusal, after any calls about its galley. The list in force is the last layout
+ * returned to, or else the opening list, plus the page ends committed since then. A name gives the list that was in force when it was
+ * last saved, until it is dropped. Marking accepts the list in force and every layout, and all of them have as many pages.
  */
 
 /* Opens a desk on a galley and a list of list_len words, and marks the list.
  *   desk        of any contents; on success all of it is written: the list in force is the one lent, nothing is pending, no
  *               layout is held, and the words that are not used are 0
- * A refused galley is refused as ever; then 22 is a list that marking does not accept, whatever rule it breaks, or one of more than
- * BARLEYCHIME_DESK_PAGES pages. Refused at opening, a desk has no pages: its first word is 0, and the others are as before;
- * so names that it held are held, each with an empty list.
+ * A refused galley is refused with its own number. 22 is then a list that marking does not accept, whatever rule it breaks, or one of
+ * more than BARLEYCHIME_DESK_PAGES pages. A desk that is refused at opening has no pages: its first word is 0, and the others are as
+ * before. So names that it held are held, each with an empty list.
  */
 uint32_t barleychime_desk_open(const uint8_t *galley, size_t galley_len, const uint32_t *list, size_t list_len,
                                uint32_t desk[BARLEYCHIME_DESK_WORDS], uint32_t answer[BARLEYCHIME_ANSWER_WORDS]);
 
 /* Marks the list in force with another end of a page, 1 to p - 1: the lines, the figures and the tables placed so far.
  *   end         3 words, only read; the third is not looked at in a galley without tables
- * The list in force stays as it is. An ask that is accepted is pending, in place of an earlier one; after one that is refused, by
- * any number, nothing is. 23 is tested before the galley is read; then the answer is that of marking, of 1 to 8 and 12 to 18.
+ * The list in force stays as it is. An accepted ask is pending, in place of an earlier one. After a refused one, by any number,
+ * nothing is pending. 23 is tested before the galley is read. Then the answer is that of marking, of 1 to 8 and 12 to 18.
  */
 uint32_t barleychime_desk_ask(const uint8_t *galley, size_t galley_len, uint32_t page, const uint32_t end[3],
                               uint32_t desk[BARLEYCHIME_DESK_WORDS], uint32_t answer[BARLEYCHIME_ANSWER_WORDS]);
 
-/* Puts in force what is pending; then nothing is pending. 24 where nothing was, and the desk is as before. */
+/* Puts in force what is pending; then nothing is pending. If nothing was pending, it is 24, and the desk is as before. */
 uint32_t barleychime_desk_commit(uint32_t desk[BARLEYCHIME_DESK_WORDS], uint32_t answer[BARLEYCHIME_ANSWER_WORDS]);
 
-/* Keeps the list in force as the layout of a name of name_len bytes, in place of what the name has, else as the first layout that
- * is free. 25 is a bad length of a name, 27 a ninth name; then the desk is as before. What is pending stays.
+/* Keeps the list in force as the layout of a name of name_len bytes: in place of the layout of that name, or else as the first
+ * layout that is free. 25 is a bad length of a name, 27 a ninth name; then the desk is as before. What is pending stays.
  */
 uint32_t barleychime_desk_save(const uint8_t *name, size_t name_len, uint32_t desk[BARLEYCHIME_DESK_WORDS],
                                uint32_t answer[BARLEYCHIME_ANSWER_WORDS]);
 
-/* Comes back to the layout of a name: puts it in force, and then nothing is pending. The layout stays. 25, and then 26 where the
- * name is not held; then the desk is as before, and what is pending stays.
+/* Returns to the layout of a name: puts it in force, and then nothing is pending. The layout stays. 25 is a bad length of a name, and
+ * then 26 a name that is not held; then the desk is as before, and what is pending stays.
  */
 uint32_t barleychime_desk_back(const uint8_t *name, size_t name_len, uint32_t desk[BARLEYCHIME_DESK_WORDS],
                                uint32_t answer[BARLEYCHIME_ANSWER_WORDS]);
 
-/* Frees a name: its length is 0 wherever the desk had it, and all else stays, also what is pending. Refused as coming back is. */
+/* Frees a name: its length is 0 wherever the desk had it, and all else stays, also what is pending. It is refused as
+ * barleychime_desk_back is.
+ */
 uint32_t barleychime_desk_drop(const uint8_t *name, size_t name_len, uint32_t desk[BARLEYCHIME_DESK_WORDS],
                                uint32_t answer[BARLEYCHIME_ANSWER_WORDS]);
 

@@ -147,9 +147,9 @@ pub struct Measure {
 pub struct Making {
     /// What the list comes to, or why there is none.
     pub answer: Result<Measure, Refusal>,
-    /// The pages weighed, in the plain sense: the pairs of a start and an end, reached or not, with something between them
-    /// whose tightest height is at most htMax. It is there on success and where no pagination exists (11), and 0 with every
-    /// other refusal. The search itself looks at far fewer.
+    /// Every possible page, counted: the pairs of a start and an end, reached or not, with something between them whose
+    /// tightest height is at most htMax. The search looks at far fewer. The count is there on success and where no pagination
+    /// exists (11), and 0 with every other refusal.
     pub weighed: u64,
 }
 

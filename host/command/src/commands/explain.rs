@@ -26,7 +26,7 @@ pub struct Args {
     /// Open the galley on folio N, as a chapter of a book
     #[arg(long, value_name = "N", value_parser = clap::value_parser!(u32).range(1..))]
     pub folio: Option<u32>,
-    /// Say only with which page ends turns are lost for good
+    /// Say only which page ends lose turns for good
     #[arg(long)]
     pub why: bool,
     /// Print one JSON object

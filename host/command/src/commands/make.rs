@@ -23,13 +23,13 @@ pub struct Args {
     /// Make many on all cores, NAME.galley into DIR/NAME.list
     #[arg(long, value_name = "DIR", conflicts_with_all = ["after", "advise", "verbose", "json", "tsv"])]
     pub out: Option<PathBuf>,
-    /// Memory for --out, as 500M or 8G; half of the machine's
+    /// Memory for --out, as 500M or 8G; if not said, half of the machine's
     #[arg(long, value_name = "SIZE", requires = "out", value_parser = series::bytes)]
     pub memory: Option<u64>,
     /// Keep the pages of LIST, which are printed, and make the rest
     #[arg(long, value_name = "LIST")]
     pub after: Option<FileName>,
-    /// Where no pagination exists, say which least heights would do
+    /// If no pagination exists, say which least heights would do
     #[arg(long)]
     pub advise: bool,
     /// Say how many pages were weighed

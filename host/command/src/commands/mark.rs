@@ -23,7 +23,7 @@ pub struct Args {
     /// Open the galley on folio N, as a chapter of a book
     #[arg(long, value_name = "N", value_parser = clap::value_parser!(u32).range(1..))]
     pub folio: Option<u32>,
-    /// Add with which page ends turns are lost for good: `4:2` is 2 with page 4
+    /// Add the page ends that lose turns for good: `4:2` is 2 by page 4
     #[arg(long)]
     pub why: bool,
     #[command(flatten)]
