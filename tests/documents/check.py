@@ -3,8 +3,8 @@
 Every definition that docs/MODEL.md names stands in the file that it names, and every row that states something names one. Every link
 and every path in README.md and in docs leads somewhere; in docs/landings a path may be gone if it is said where it went. Every section
 of documents 01 and 02 that a comment of the crates cites has its row in docs/MODEL.md, and every refusal of host/library/src/refusal.rs
-too. docs/PERFORMANCE.md is no longer than it may be, and the headings of docs/DECISIONS.md that documents cite are there. A fault of
-each kind is planted first, so that the test is known to find it.
+too. docs/PERFORMANCE.md is no longer than it may be, and the headings of docs/DECISIONS.md that documents cite are there. The numbers
+that documents state are those of the sources (stated.py). A fault of each kind is planted first, so that the test is known to find it.
 """
 import pathlib
 import re
@@ -13,6 +13,7 @@ import sys
 ROOT = pathlib.Path(__file__).resolve().parents[2]
 sys.path[:0] = [str(ROOT / 'tests'), str(ROOT / 'tests/sources')]
 import names  # noqa: E402
+import stated  # noqa: E402
 from tally import Tally  # noqa: E402
 
 CRATES = ROOT / 'crates'
@@ -225,6 +226,9 @@ def planted(tally, model, table):
         'a rule that is not told': untold(model, {'a.antt': '-- Of a page (document 01, rules 17 to 19).\n'}),
         'a page that is too long': too_long('a line\n' * (MOST_LINES + 1)),
         'a decision that is not there': undecided('### One (2026-11-17)\n', {'X.md': 'docs/DECISIONS.md, "One", and\n[DECISIONS.md](DECISIONS.md),\n"Two"'}),
+        'a number that is another': stated.unlike_sources({'X.md': 'up to 65 pages'}, {'pages': 64}, [r'up to (?P<pages>\d+) pages']),
+        'a number in words that is another': stated.unlike_sources({'X.md': 'eight layouts'}, {'layouts': 9}, [r'(?P<layouts>\w+) layouts']),
+        'a number that no page states': stated.unlike_sources({'X.md': 'many pages'}, {'pages': 64}, [r'up to (?P<pages>\d+) pages']),
         'a refusal less': unlike_refusals(model, table.replace('33 NoSuchSection', '33 NoSection')),
     }
     for what, faults in found.items():
@@ -258,6 +262,7 @@ def main():
     none('sections that comments cite', untold(model, sources), len(set(told)))
     none('refusals', unlike_refusals(model, table), 1)
     none('the length of docs/PERFORMANCE.md', too_long(pages[PERFORMANCE]), 1)
+    none('numbers that are stated', stated.unlike_sources(pages, stated.numbers()), len(stated.STATED))
     none('decisions that are cited', undecided(pages[DECISIONS], pages), 1)
     return tally.end()
 

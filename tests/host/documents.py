@@ -187,6 +187,21 @@ def unlike_quoted(pages, root):
                     yield line, 'quoted', f'as {file} has it'
 
 
+def sizes(tally, command, root, document):
+    """What docs/EMBEDDING.md says of the library and the module, in tens of kilobytes, and of the real chapters' work area."""
+    for what, file in ((r'some (\d+) KB for x86-64 Linux', 'target/staticlib/libbarleychime.a'),
+                       (r'engine\.wasm`, some (\d+) KB', 'target/web/engine.wasm')):
+        [said] = re.findall(what, document)
+        if (root / file).is_file():
+            tally.same(f'docs/EMBEDDING.md: the size of {file}', int(said), round((root / file).stat().st_size / 1000, -1))
+        else:
+            print(f'docs/EMBEDDING.md: the size of {file}: did not run, since it is not built')
+            tally.same(f'{file} is built, as the gate asks', os.environ.get('CI') != 'true', True)
+    [said] = re.findall(r'real chapters among the samples take up to (\d+) MB', document)
+    told = command.text('forecast', '--lines', *(root / 'samples/real').glob('*.galley'))[1]
+    tally.same("docs/EMBEDDING.md: the real chapters' memory", int(said), round(max(int(line.split()[0]) for line in told.splitlines()) * 4 / 1e6))
+
+
 def beside(command, root, folder):
     """A folder with what the documents take for granted: the samples, a series, the second chapter's list, and what opens a browser."""
     place = Place(command, folder, root / 'samples')
@@ -241,6 +256,7 @@ def run(tally, command, root, folder):
     tally.same('parts that run the others', [part for part in ELSEWHERE.values() if not (root / part).exists()], [])
     none(tally, unlike_packed(pages['docs/FORMAT.md'], packed), packed.count(b'\0'))
     none(tally, unlike_quoted(pages, root), len(QUOTED))
+    sizes(tally, command, root, pages['docs/EMBEDDING.md'])
     late = bytearray(packed)
     late[101] = 4
     told = command.text('make', '-', given=bytes(late))[1]
