@@ -56,14 +56,16 @@ def school(tally, browser, command, folder):
     browser.js('app.go("class")')
     browser.until('document.querySelectorAll("#view-class [data-show]").length >= 20', 'a row a list')
     text = browser.text('#view-class')
-    accepted = []
+    accepted, turned = [], []
     for name, data in lists:
         said = native.marked(command, galley, data.decode(), folder)
-        page = browser.value('(({mark: m}) => m.ok ? [m.p, m.x, m.y, m.t, m.w].join(" ") : "refused")(app.lists.find((l) => l.name === arguments[0] || l.name + ".list" === arguments[0]))', name)
-        right = said if said and said[0] not in 'R?' else 'refused'
+        page = browser.value('(({mark: m}) => m.ok ? [m.p, m.x, m.y, m.t, m.w].join(" ") : m.unread ? "?" : "R")(app.lists.find((l) => l.name === arguments[0] || l.name + ".list" === arguments[0]))', name)
+        right = said if said and said[0] not in 'R?' else said[:1]
         tally.same(f'class: {name}', page, right)
-        accepted += [said] if right != 'refused' else []
-    tally.same('class: accepted and refused are told', (str(len(accepted)) in text, str(20 - len(accepted)) in text), (True, True))
+        accepted += [said] if right not in ('R', '?') else []
+        turned += [right] if right in ('R', '?') else []
+    counts = f'{len(accepted)} accepted', f'{turned.count("R")} refused', f'{turned.count("?")} unreadable'
+    tally.same('class: accepted, refused and unreadable ones are told', [each in ' '.join(text.split()) for each in counts], [True] * 3)
     engine = int(native.made(command, galley).split()[3])
     excess = sum(int(said.split()[3]) - engine for said in accepted)
     tally.same('class: the mean excess', f'{excess}/{len(accepted)}' in text.replace(' ', ''), True)

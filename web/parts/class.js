@@ -45,7 +45,7 @@ function rowsOf(app, best) {
   const name = (a, b) => a.name < b.name ? -1 : 1;
   const accepted = rows.filter((row) => row.mark.ok).sort((a, b) => a.mark.t - b.mark.t || a.mark.w - b.mark.w || name(a, b));
   const refused = rows.filter((row) => !row.mark.ok)
-    .sort((a, b) => a.mark.number - b.mark.number || a.mark.place - b.mark.place || name(a, b));
+    .sort((a, b) => Number(!!a.mark.unread) - Number(!!b.mark.unread) || a.mark.number - b.mark.number || a.mark.place - b.mark.place || name(a, b));
   return [...accepted, ...refused];
 }
 
@@ -62,6 +62,7 @@ function whyMore(g, { L, mark, more, part }, best) {
 
 /** @param {any} g @param {Row} row */
 function whyRefused(g, { L, mark, words }) {
+  if (mark.unread) return `it cannot be read. ${mark.why}`;
   if (mark.number === 12) return `R 12: ${mark.why ?? brokenLength(g, words.length)}`;
   const fault = L?.pages[mark.place - 1]?.bad[0];
   return `rule ${mark.number} on page ${mark.place}${fault ? `: ${fault.numbers.join('; ')}` : ''}`;
@@ -69,9 +70,11 @@ function whyRefused(g, { L, mark, words }) {
 
 /** @param {App} app @param {Row[]} rows @param {Measured | null} best */
 function figures(app, rows, best) {
-  const accepted = rows.filter((row) => row.mark.ok), refused = rows.length - accepted.length;
-  const told = [[rows.length, 'lists'], [accepted.length, 'accepted'], [refused, 'refused', refused ? 'bad' : '']]
-    .map(([count, what, cls]) => el('li', {}, el('b', { class: cls || null }, count), ` ${what}`));
+  const accepted = rows.filter((row) => row.mark.ok), unread = rows.filter((row) => row.mark.unread).length;
+  const refused = rows.length - accepted.length - unread;
+  const counts = [[rows.length, 'lists'], [accepted.length, 'accepted'], [refused, 'refused', refused ? 'bad' : '']];
+  if (unread) counts.push([unread, 'unreadable', 'bad']);
+  const told = counts.map(([count, what, cls]) => el('li', {}, el('b', { class: cls || null }, count), ` ${what}`));
   const sums = best && accepted.length ? app.engine.report(accepted.map((row) => ({ ...row.mark, engine: best.T }))) : null;
   if (sums?.ok) {
     const same = accepted.filter((row) => row.more === 0).length, mean = (Number(sums.excess) / Number(sums.count)).toFixed(2);
@@ -107,7 +110,7 @@ function rowOf(app, row, best, most) {
   const { mark, L, more, part } = row, name = link(row.name, () => app.showOnly(row.name), { 'data-show': row.name });
   const told = el('td', { class: `r ${more ? 'loud' : 'soft'}`, 'data-t': 'more' }, more === null ? '' : more ? `+${more}` : '0');
   const cells = mark.ok ? [numbers([mark.p, mark.x, mark.y, mark.t, mark.w]), told]
-    : [el('td', { class: 'r', 'data-t': 'p' }, L ? L.p : '–'), el('td', { colspan: 5, class: 'bad' }, 'refused')];
+    : [el('td', { class: 'r', 'data-t': 'p' }, L ? L.p : '–'), el('td', { colspan: 5, class: 'bad' }, mark.unread ? 'unreadable' : 'refused')];
   return el('tr', {}, el('th', { scope: 'row' }, name), cells, el('td', { class: 'dp' }, drawn(dotPlot(more, most))),
     el('td', { class: 'sp' }, best && L ? drawn(spark(app.g, L, mark, best, most)) : ''),
     el('td', { class: 'r', 'data-t': 'parts at page' }, part || ''), el('td', { class: mark.ok ? 'why soft' : 'why bad' }, row.why));
@@ -148,7 +151,7 @@ export function csv(rows) {
     return /[",\n\r]/.test(safe) ? `"${safe.replace(/"/g, '""')}"` : safe;
   };
   const line = (row) => {
-    const { mark } = row, refused = [row.L?.p, '', '', '', '', '', mark.number, mark.place];
+    const { mark } = row, refused = [row.L?.p, '', '', '', '', '', mark.unread ? '?' : mark.number, mark.unread ? '' : mark.place];
     const told = mark.ok ? [mark.p, mark.x, mark.y, mark.t, mark.w, row.more, '', ''] : refused;
     return [row.name, ...told, row.part || '', row.why].map(field).join(',');
   };
