@@ -26,10 +26,10 @@ class Place:
         path = f'{command.program.parent}{os.pathsep}{os.environ["PATH"]}'
         self.environment = {**os.environ, 'PATH': path, 'LC_ALL': 'C', 'NO_COLOR': '1'}
 
-    def ran(self, line):
-        """The exit status of this line, and what a terminal shows after it."""
+    def ran(self, line, errors=subprocess.STDOUT):
+        """The exit status of this line, and what a terminal shows after it; `errors` is where standard error goes."""
         done = subprocess.run(line, shell=True, cwd=self.folder, env=self.environment, text=True, encoding='utf-8', timeout=300,
-                              stdin=subprocess.DEVNULL, stdout=subprocess.PIPE, stderr=subprocess.STDOUT)
+                              stdin=subprocess.DEVNULL, stdout=subprocess.PIPE, stderr=errors)
         return done.returncode, done.stdout
 
     def printed(self, line):

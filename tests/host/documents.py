@@ -8,10 +8,12 @@ fault of each kind is planted first, so that the test is known to find it.
 
 import os
 import re
+import subprocess
 import textwrap
 from typing import NamedTuple
 
 from course import Place, can_run, none, shown
+from options import names_of
 
 PROGRAMS = {'c', 'rust', 'python', 'js', 'sh'}  # of examples.py
 COURSE = 'docs/COURSE.md'
@@ -63,7 +65,6 @@ STATUS = {  # what a command ends with, if not with 0
     'barleychime mark a.galley samples/lists/a-*.list': 1,
     'barleychime make --out lists series/*.galley': 1,
 }
-LAST = {'barleychime make --out lists series/*.galley'}  # of which only the end is stated, after the reasons
 
 
 class Block(NamedTuple):
@@ -74,6 +75,7 @@ class Block(NamedTuple):
 class Call(NamedTuple):
     line: str
     due: str | None  # None if no output is stated
+    errors: int = subprocess.DEVNULL  # an indented block has the answers alone, a console all that a terminal shows
 
 
 def blocks(document):
@@ -109,7 +111,7 @@ class Document:
         if language in PROGRAMS or DRAWN.search(text) or PACKED.match(text.splitlines()[0]):
             self.open = False
         elif language == 'console':
-            self.calls += [Call(*call) for call in shown(f'```console\n{text}```\n')] if self.name != COURSE else []
+            self.calls += [Call(*call, subprocess.STDOUT) for call in shown(f'```console\n{text}```\n')] if self.name != COURSE else []
             self.open = False
         elif language == 'json':
             if self.open and '--json' in self.calls[-1].line:
@@ -147,12 +149,23 @@ class Document:
 
 def unlike(calls, place):
     """Commands that print something else than is stated, or end otherwise."""
-    for line, due in calls:
-        status, printed = place.ran(line)
+    for line, due, errors in calls:
+        status, printed = place.ran(line, errors)
         if status != STATUS.get(line, 0):
             yield f'{line}: status', status, STATUS.get(line, 0)
-        if due is not None and printed != due and not (line in LAST and printed.endswith(f'\n{due}')):
+        if due is not None and printed != due:
             yield line, printed, due
+
+
+def untold(command, manual):
+    """Commands that the manual gives no example of, and options that it does not name."""
+    examples = ''.join(block.text for block in blocks(manual) if block.language is None)
+    for name in names_of(command):
+        if name not in ('completions', 'man') and f'barleychime {name} ' not in examples:
+            yield f'docs/COMMAND.md: {name}', 'no example', 'an example'
+        for option in re.findall(r'^ +(?:-\w, )?(--[a-z-]+)', command.text(name, '--help')[1], re.M):
+            if option != '--help' and not re.search(rf'{option}(?![\w-])', manual):
+                yield f'docs/COMMAND.md: {name} {option}', 'not named', 'named'
 
 
 def unlike_packed(document, data):
@@ -217,7 +230,7 @@ def beside(command, root, folder):
     return place
 
 
-def planted(tally, place, pages, data, root):
+def planted(tally, command, place, pages, data, root):
     """A fault of each kind is found."""
     manual, quoting = pages['docs/FORMAT.md'], pages['docs/CONTRIBUTING.md']
     faults = {
@@ -228,6 +241,8 @@ def planted(tally, place, pages, data, root):
         'an output that is another': unlike(Document('X.md', 'Say\n\n    barleychime fold 4\n\nsays\n\n    4 1 3 2\n').calls, place),
         'a fenced output that is another': unlike(Document('X.md', '```text\nbarleychime fold 4\n```\n\n```text\n4 1 3 2\n```\n').calls, place),
         'a status that is another': unlike([Call('barleychime fold 5 2> /dev/null', None)], place),
+        'a command without an example': untold(command, pages['docs/COMMAND.md'].replace('barleychime unpack ', 'unpack ')),
+        'an option that is not named': untold(command, pages['docs/COMMAND.md'].replace('--verbose', '')),
         'a byte that is another': unlike_packed(manual.replace('00 00 00 14  height 20', '00 00 00 15  height 21'), data),
         'a number that is not its bytes': unlike_packed(manual.replace('height 20', 'height 21'), data),
         'a field that is another': unlike_packed(manual.replace('14  height', '14  least'), data),
@@ -243,7 +258,7 @@ def run(tally, command, root, folder):
     here.mkdir()
     pages = {str(path.relative_to(root)): path.read_text() for path in [root / 'README.md', *sorted((root / 'docs').glob('*.md'))]}
     packed = command.run('pack', root / 'samples/case-a.txt')[1]
-    planted(tally, beside(command, root, here / 'planted'), pages, packed, root)
+    planted(tally, command, beside(command, root, here / 'planted'), pages, packed, root)
     met = set()
     for name, text in pages.items():
         document = Document(name, text)
@@ -256,6 +271,7 @@ def run(tally, command, root, folder):
     tally.same('parts that run the others', [part for part in ELSEWHERE.values() if not (root / part).exists()], [])
     none(tally, unlike_packed(pages['docs/FORMAT.md'], packed), packed.count(b'\0'))
     none(tally, unlike_quoted(pages, root), len(QUOTED))
+    none(tally, untold(command, pages['docs/COMMAND.md']), len(names_of(command)))
     sizes(tally, command, root, pages['docs/EMBEDDING.md'])
     late = bytearray(packed)
     late[101] = 4
