@@ -66,10 +66,18 @@ local function measured(head)
   return g
 end
 
+-- Whether floats stand on LaTeX's page or wait for one; met: or were just met.
+local function page_has_floats(met)
+  for _, list in ipairs{"@toplist", "@midlist", "@botlist", "@deferlist", met and "@currlist"} do
+    if token.get_macro(list) ~= "" then return true end
+  end
+  return false
+end
+
 -- Why there is no following the list for a galley, if there is one.
 local function hindrance(g, list)
   local why = L.flaw(g, list)
-  if not why and token.get_macro("@deferlist") ~= "" then
+  if not why and page_has_floats() then
     why = "floats from before it are still to be placed"
   end
   if not why and opt.sides == 2 and (g.folio - list.folio) % 2 ~= 0 then
@@ -192,13 +200,6 @@ local function sort_out(rest)
   return out
 end
 
-local function page_has_floats()
-  for _, list in ipairs{"@toplist", "@midlist", "@botlist", "@deferlist", "@currlist"} do
-    if token.get_macro(list) ~= "" then return true end
-  end
-  return false
-end
-
 local function calls_output(head)
   for n in node.traverse_id(N.PENALTY, head) do
     if n.penalty <= N.FORCED then return true end
@@ -215,7 +216,7 @@ local function filter(info)
   end
   asides, pauses = {}, {}               -- by now all is placed
   if passing and foreign == 0 and not bound and contributed and tex.lists.page_head
-     and not calls_output(contributed) and not page_has_floats() then
+     and not calls_output(contributed) and not page_has_floats(true) then
     contributed = N.join(N.penalty(N.PAUSE), nil, contributed)
   end
   tex.lists.contrib_head = sort_out(contributed)
@@ -242,10 +243,12 @@ end
 -- LaTeX makes the pages of what is held, and from here on: to the next forced page end, unless
 -- the page is taken back before.
 -- build: the page builder is called, so that \pagetotal says what is on the page.
-function M.hand_over(who, build)
+-- to_page_end: the page is not taken back.
+function M.hand_over(who, build, to_page_end)
   if not opt then return end
-  foreign, bound = foreign + 1, bound or not build
-  warn("%s: LaTeX makes the pages up to %s", who, build and "its end" or "the next forced page end")
+  foreign, bound = foreign + 1, bound or to_page_end
+  warn("%s: LaTeX makes the pages up to %s", who,
+       to_page_end and "the next forced page end" or "its end")
   if passing then return end
   passing = true
   if not held then return end
@@ -259,8 +262,11 @@ end
 
 function M.hand_back() foreign = max(foreign - 1, 0) end
 
+-- A page end meanwhile is none of the document's: LaTeX's own goes on after it.
+function M.stand_off(more) foreign, bound = foreign + more, true end
+
 -- What the output routine gives back is held, if no float stands on the page or waits.
-function M.take_back() taking_back = not page_has_floats() end
+function M.take_back() taking_back = not page_has_floats(true) end
 
 -- ------------------------------------------------------- called by the package
 

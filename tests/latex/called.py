@@ -49,15 +49,57 @@ def wrong(job):
     job.path.write_text(re.sub(r'\\usepackage\[[^]]*\]{barleychime}', '', source))
     told = job.barleychime()
     yield 'a document without the package', (told.returncode, r'\usepackage{barleychime}' in told.stderr), (2, True)
-    job.path.write_text(source.replace('fill=80', 'fill=much'))
-    told = job.barleychime()
-    yield 'a bad option', (told.returncode, 'option fill=much: a number from 0 to 100 is due' in ' '.join(told.stderr.split())), (2, True)
     unfit = source.replace('fill=80', 'fill=100').replace(r'\begin{document}', r'\setlength\parskip{0pt}\addtolength\textheight{5pt}\begin{document}')
     job.path.write_text(unfit)  # no page of lines alone is full
     told = job.barleychime()
     yield 'no pagination: exit status', told.returncode, 0
     yield 'no pagination: the galley by its first line, and advice', bool(re.search(r'galley 1, "1 ?Part 1 of the work": .*htMin', told.stderr.replace('\n', ' '))), True
     yield 'no pagination: LaTeX makes the pages', pages.shipped(job.path)[1][0].by, 'latex'
+
+
+# every option with a value that is none, and what is due
+BAD = {'fill': ('much', 'a number from 0 to 100'), 'lastmin': ('-2', 'a number from -1 to 100'), 'alpha': ('1.5', 'a whole number from 0 to 1000'),
+       'beta': ('-1', 'a whole number from 0 to 1000'), 'sides': ('3', 'a whole number from 0 to 2'), 'streams': ('0', 'a whole number from 1 to 2'),
+       'forbid': ('10001', 'a whole number from -9999 to 10000'), 'bottom': ('high', 'loose or class'), 'trace': ('maybe', 'true or false')}
+
+
+def bad_options(job, options):
+    """Each has an error of TeX's that says what is due; an option that is none has LaTeX's own."""
+    yield 'options with a bad value', set(BAD), set(re.findall(r'option\("(\w+)"', options))
+    source = job.path.read_text()
+    for name, (value, words) in BAD.items():
+        job.path.write_text(source.replace('fill=80,trace=true', f'{name}={value}'))
+        told = job.barleychime()
+        due = f'option {name}={value}: {words} is due'.replace(' ', '')  # TeX breaks its lines at 79 letters
+        yield f'option {name}={value}', (told.returncode, due in ''.join(told.stderr.split())), (2, True)
+    job.path.write_text(source.replace('fill=80', 'fil=80'))
+    told = job.barleychime()
+    yield 'an option that is none', (told.returncode, "Unknown option 'fil" in told.stderr), (2, True)
+
+
+def weights(job):
+    """The turns that are told are alpha X + beta Y."""
+    job.path.write_text(job.path.read_text().replace('trace=true', 'alpha=2,beta=3'))
+    told = job.barleychime()
+    found = [tuple(map(int, numbers)) for numbers in re.findall(r'2\*(\d+) \+ 3\*(\d+) = (\d+)', told.stdout)]
+    yield 'weights: both ways told', (told.returncode, len(found)), (0, 2)
+    yield 'weights: alpha X + beta Y', [2 * x + 3 * y for x, y, _ in found], [total for _, _, total in found]
+    last = re.search(r'(\d+) turns; LaTeX.s own pages have (\d+)', told.stdout)
+    yield 'weights: the whole', [int(last[2]), int(last[1])], [total for _, _, total in found]
+
+
+# Every other run has more words.
+CHANGING = (r'\directlua{local f = io.open("turn") local n = f and tonumber(f:read("a")) or 0 if f then f:close() end f = io.open("turn", "w") '
+            r'f:write(n + 1) f:close() tex.sprint(string.rep("More words here. ", n - 2 * math.floor(n / 2) == 0 and 60 or 5))}')
+
+
+def unsettled(job):
+    """A document that never settles ends after ten runs, and that is said."""
+    job.path.write_text(job.path.read_text().replace(r'\end{document}', CHANGING + '\n\\end{document}'))
+    told = job.barleychime()
+    yield 'never settled: exit status', told.returncode, 1
+    yield 'never settled: said', 'after 10 runs the galleys still change' in told.stderr, True
+    yield 'never settled: runs', int((job.folder / 'turn').read_text()), 10
 
 
 def elsewhere(job, environment):
@@ -77,6 +119,22 @@ def tutorial(job, text):
     shown = re.search(r'^ +galley +lines.*?own pages have \d+$', text, re.M | re.S)[0].splitlines()
     indent = min(len(row) - len(row.lstrip()) for row in shown)
     yield 'docs/LATEX.md: what tex prints', (told.returncode, told.stdout.rstrip().splitlines()), (0, [row[indent:] for row in shown])
+
+
+def functions(folder):
+    """The functions of the package, and how many lines each has."""
+    for path in sorted(folder.glob('*.lua')):
+        rows = path.read_text().splitlines()
+        for at, row in enumerate(rows):
+            if (found := re.match(r'( *)(local )?(\w+ = )?function\b', row)) and not row.rstrip().endswith(' end'):
+                length = next(k for k, later in enumerate(rows[at:], 1) if re.match(rf'{found[1]}end\b', later))
+                yield path.name, row.strip(), length
+
+
+def short_functions(folder):
+    every = list(functions(folder))
+    yield 'functions of the package', len(every) > 50, True
+    yield 'functions of more than 40 lines', [one for one in every if one[2] > 40], []
 
 
 def manual(job, folder):
@@ -101,6 +159,10 @@ def by_make(job, environment, rules):
     yield 'make: exit status', done.returncode, 0
     right, wrong_ = pages.misplaced(job.path)
     yield 'make: blocks on the page of the list, and not', (right > 100, wrong_), (True, 0)
+    before = [job.file(ending).read_text() for ending in ('.aux', '.galley.txt', '.list')]
+    job.barleychime('--lists-only')
+    job.tex()
+    yield 'make: nothing changes any more', [job.file(ending).read_text() for ending in ('.aux', '.galley.txt', '.list')], before
 
 
 def by_latexmk(job, environment, rules):

@@ -89,7 +89,23 @@ def passed_barrier():
     return document('article', r'\usepackage{placeins}', rows, options='11pt,a5paper', package='fill=70,trace=true')
 
 
-LONGTABLE = r'\begin{longtable}{lr}' + ''.join(rf'long row {row} & {row} \\' for row in range(60)) + r'\end{longtable}'
+def long_table(name, columns='{lr}'):
+    return rf'\begin{{{name}}}{columns}' + ''.join(rf'long row {row} & {row} \\' for row in range(60)) + rf'\end{{{name}}}'
+
+
+def on_sides():
+    """KOMA's commands for a side: the second galley opens on the right, the third on the left."""
+    parts = [[row.replace('figure:', f'figure:{part}') for row in body(Prose(f'koma{part}'), floats=3, tables=0)] for part in range(1, 4)]
+    return document('scrartcl', rows=[*parts[0], r'\cleardoubleoddpage', *parts[1], r'\cleardoubleevenpage', *parts[2]], options='11pt,twoside,paper=a5')
+
+
+def blocked():
+    """memoir's barrier."""
+    rows = [*body(Prose('block'))[:9], figure(80, 60), figure(81, 60), r'\FloatBlock', *body(Prose('block2'), floats=3, tables=0)[1:]]
+    return document('memoir', rows=[row.replace('figure:', 'figure:9') if k > 12 else row for k, row in enumerate(rows)],
+                    options='11pt,twoside,a5paper,article', package='fill=70,trace=true')
+
+
 COLUMNS = r'\begin{multicols}{2}' + Prose('columns').paragraph() + r'\end{multicols}'
 WRAPPED = r'\begin{wrapfigure}{r}{40mm}\fbox{\parbox[c][30mm][c]{30mm}{wrapped}}\end{wrapfigure}'
 CONTINUED = '\n\n'.join([figure(90, 25), figure(91, 25, extra=r'\ContinuedFloat ').replace('caption{', r'caption[]{')])
@@ -117,10 +133,20 @@ ALL = {
     'subcaption': with_package('subcaption', r'\usepackage{subcaption}', [r'See \subref{panel:1} of \ref{panel:2}.', PANELS]),
     'wrapfig': with_package('wrapfig', r'\usepackage{wrapfig}', [WRAPPED]),
     'placeins': with_package('placeins', r'\usepackage{placeins}', [r'\FloatBarrier', figure(80, 60), figure(81, 60), r'\FloatBarrier'], at=8),
-    'longtable': with_package('longtable', r'\usepackage{longtable}', [LONGTABLE]),
+    'longtable': with_package('longtable', r'\usepackage{longtable}', [long_table('longtable')]),
+    'xltabular': with_package('xltabular', r'\usepackage{xltabular}', [long_table('xltabular', r'{\textwidth}{Xr}')]),
+    'supertabular': with_package('supertabular', r'\usepackage{supertabular}', [long_table('supertabular')]),
+    'longtabu': with_package('longtabu', r'\usepackage{longtable,tabu}', [long_table('longtabu')]),
+    'afterpage': with_package('afterpage', r'\usepackage{afterpage}', [r'\afterpage{\noindent\fbox{after this page}\par}']),
+    'twocolumn': with_package('twocolumn', '', [r'\twocolumn', Prose('two').paragraph(), r'\onecolumn']),
+    'sides': on_sides(),
+    'uncited': with_package('uncited', '', ['Words before the uncited drawing.', figure(70, 30)]),
+    'block': blocked(),
     'multicol': with_package('multicol', r'\usepackage{multicol}', [COLUMNS]),
     'graphicx': with_package('graphicx', r'\usepackage{graphicx}', [r'\begin{figure}\rotatebox{5}{\scalebox{2}{turned}}\caption{Turned}\end{figure}']),
     'microtype': with_package('microtype', r'\usepackage{microtype}'),
     'babel': with_package('babel', r'\usepackage[english]{babel}'),
 }
-WARNED = {'wrapfig': 'wrapfigure: LaTeX makes', 'longtable': 'longtable: LaTeX makes', 'multicol': 'multicols: LaTeX makes'}
+WARNED = {'wrapfig': 'wrapfigure: LaTeX makes', 'longtable': 'longtable: LaTeX makes', 'multicol': 'multicols: LaTeX makes',
+          'xltabular': 'xltabular: LaTeX makes', 'supertabular': 'supertabular: LaTeX makes', 'longtabu': 'longtabu: LaTeX makes',
+          'block': r'\FloatBlock: LaTeX makes', 'afterpage': r'\afterpage: LaTeX makes', 'twocolumn': r'\twocolumn: LaTeX makes'}

@@ -73,6 +73,11 @@ def check(name, job):
         folios = [int(row.split()[1]) for rows, records in galleys for row in records if row.startswith('FO') and 'opens right' in rows]
         yield f'{name}: their folios are odd', [folio for folio in folios if folio % 2 == 0], []
         yield from opened_on_the_right(job)
+    if name == 'uncited':
+        yield f'{name}: the line that cites a float without a reference', sum('uncited' in text for text in citing_lines(job)), 1
+    if name == 'sides':
+        opened = [(remark(rows, 'opens'), int(remark(records, 'FO')) % 2) for rows, records in galleys]
+        yield f'{name}: galleys that open on the right and on the left', opened[1:], [('right', 1), ('left', 0)]
     if name == 'report':
         yield f'{name}: galleys that follow on', remarks.count('follows') >= 3, True
     if name == 'placeins':

@@ -90,7 +90,7 @@ def set_both_ways(folder, name, source):
         return
     right, wrong = pages.misplaced(made.path)
     yield f'{name}: blocks not on the page of the list', wrong, 0
-    yield f'{name}: some pages are by a list', right > 40, name not in documents.WARNED or name != 'wrapfig'
+    yield f'{name}: some pages are by a list', right > 40, name not in ('wrapfig', 'afterpage')
     found, missing = pages.unlike(made.path)
     yield f'{name}: not on its page of the PDF', missing, []
     yield f'{name}: texts found in the PDF', found > 40, right > 40
@@ -140,6 +140,14 @@ def calls(folder):
     yield from called.shown(job, pathlib.Path(named).exists())
     yield from called.printed(job)
     yield from called.wrong(Job(folder / 'wrong', 'article', source))
+    yield from called.weights(Job(folder / 'weights', 'article', source))
+
+
+def bad_calls(folder):
+    source = documents.ALL['article']
+    yield from called.bad_options(Job(folder / 'options', 'article', source), (ROOT / 'latex/barleychime-options.lua').read_text())
+    yield from called.unsettled(Job(folder / 'unsettled', 'article', source))
+    yield from called.short_functions(ROOT / 'latex')
 
 
 def other_ways(folder):
@@ -188,7 +196,7 @@ def checks(task):
 def tasks(folder, names):
     """The longest first."""
     every = {f'real {name}': functools.partial(real, folder, name) for name in ('mpman', 'mpgraph')}
-    groups = {'lists': lists_tried, 'more': more_lists_tried, 'books': several_galleys, 'calls': calls, 'ways': other_ways}
+    groups = {'lists': lists_tried, 'more': more_lists_tried, 'books': several_galleys, 'calls': calls, 'bad': bad_calls, 'ways': other_ways}
     every.update({name: functools.partial(group, folder) for name, group in groups.items()})
     every.update({name: functools.partial(set_both_ways, folder, name, source) for name, source in documents.ALL.items()})
     return [task for name, task in every.items() if not names or name in names]

@@ -14,7 +14,7 @@ use crate::Outcome;
 use barleychime::list;
 pub use failure::Failure;
 use galleys::Part;
-use lists::{Lists, Made, Printed};
+use lists::{Lists, Printed};
 use runs::{Job, TeX};
 use shipped::Turns;
 use std::fs;
@@ -54,7 +54,7 @@ pub fn run(args: &Args, output: &mut Output) -> Result<Outcome, Error> {
     let mut work = Work { job: &job, tex: &tex, printed: printed.as_ref(), runs: 0, lists };
     let own = work.own_pages()?;
     let settled = work.by_lists()?;
-    output.print(summary(&job, &own, &work.lists))?;
+    output.print(summary(&job, &own))?;
     if args.show {
         show_spreads(&job, &own, &work.lists, output)?;
     }
@@ -186,15 +186,15 @@ impl Work<'_> {
 }
 
 /// Turns galley by galley, LaTeX's and the list's, and the PDF.
-fn summary(job: &Job, own: &Own, lists: &Lists) -> String {
+fn summary(job: &Job, own: &Own) -> String {
     let parts = galleys::read(&job.text(".galley.txt"));
     let shipped = shipped::read(&job.text(".pages"));
     let told = |turns: Option<Turns>| turns.map_or("-".into(), |turns| turns.to_string());
-    let cells = |(part, made): (&Part, &Made)| {
+    let cells = |part: &Part| {
         let before = own.of(part, parts.len()).and_then(|own| own.turns);
-        [told(before), told(shipped.turns(part).filter(|_| made.list.is_some()))]
+        [told(before), told(shipped.turns(part).filter(|_| shipped.galleys[part.number - 1].by_list))]
     };
-    let turns: Vec<[String; 2]> = parts.iter().zip(&lists.made).map(cells).collect();
+    let turns: Vec<[String; 2]> = parts.iter().map(cells).collect();
     let wide = turns.iter().flatten().map(String::len).max().unwrap_or(0).max(13);
     let row = |fields: [&str; 4], [latex, list]: [&str; 2], words: &str| {
         let [galley, lines, figures, tables] = fields;
