@@ -21,9 +21,11 @@ import galleys  # noqa: E402
 import pages  # noqa: E402
 import sources as real_documents  # noqa: E402
 import tally  # noqa: E402
+import whole  # noqa: E402
 from command import Command  # noqa: E402
 
 NEEDED = ('lualatex', 'kpsewhich', 'latexmk', 'mpost', 'pdftotext', 'pdftoppm')
+PAGE = pathlib.Path(os.environ.get('BARLEYCHIME_PAGE') or ROOT / 'target/web/barleychime.html')
 ENVIRONMENT = {**os.environ, 'TEXINPUTS': f'.:{ROOT / "latex"}:'}
 
 
@@ -136,8 +138,7 @@ def calls(folder):
     source = documents.ALL['article']
     job = Job(folder / 'called', 'article', source)
     yield from called.said(job)
-    named = os.environ.get('BARLEYCHIME_PAGE') or ROOT / 'target/web/barleychime.html'
-    yield from called.shown(job, pathlib.Path(named).exists())
+    yield from called.shown(job, PAGE.exists())
     yield from called.printed(job)
     yield from called.wrong(Job(folder / 'wrong', 'article', source))
     yield from called.weights(Job(folder / 'weights', 'article', source))
@@ -179,6 +180,19 @@ def real(folder, name):
     yield f'{name}: pages higher than the model says', [page for page in pages.heights(made.path) if page[0] > page[2] + 0.2], []
 
 
+def whole_table(folder):
+    """The rows of WHOLE.md for its shortest document, and its galleys as real chapters."""
+    (folder / 'galleys').mkdir()
+    rows = list(whole.table(Job.program, 'mpboxes', folder / 'galleys' if PAGE.exists() else None))
+    text = (ROOT / 'samples/real/WHOLE.md').read_text().splitlines()
+    yield 'WHOLE.md: the rows of mpboxes', rows, [row for row in text if row.startswith('| mpboxes')]
+    if PAGE.exists():
+        yield 'the galleys of mpboxes', sorted(path.name for path in (folder / 'galleys').iterdir()), ['mpboxes-1.galley', 'mpboxes-1.latex']
+        made = subprocess.run([Job.program, 'make', folder / 'galleys/mpboxes-1.galley'], capture_output=True, text=True, check=False)
+        turns_told = int(re.search(r'= (\d+) \|$', rows[0])[1])
+        yield 'the galley of mpboxes: its turns', made.stdout.split()[3], str(turns_told)
+
+
 def prepare_real(folder, name, **more):
     job = Job(folder, name, '')
     real_documents.prepare(name, job.folder, **more)
@@ -196,7 +210,7 @@ def checks(task):
 def tasks(folder, names):
     """The longest first."""
     every = {f'real {name}': functools.partial(real, folder, name) for name in ('mpman', 'mpgraph')}
-    groups = {'lists': lists_tried, 'more': more_lists_tried, 'books': several_galleys, 'calls': calls, 'bad': bad_calls, 'ways': other_ways}
+    groups = {'lists': lists_tried, 'more': more_lists_tried, 'books': several_galleys, 'calls': calls, 'bad': bad_calls, 'table': whole_table, 'ways': other_ways}
     every.update({name: functools.partial(group, folder) for name, group in groups.items()})
     every.update({name: functools.partial(set_both_ways, folder, name, source) for name, source in documents.ALL.items()})
     return [task for name, task in every.items() if not names or name in names]
