@@ -12,9 +12,10 @@ from reference.galley import write
 
 # Every command that reads a galley, a list, a text or marks, with {bad} where it stands.
 GALLEYS = ['make {bad}', 'book {bad}', 'forecast {bad}', 'forecast --book {bad}', 'mark {bad} {best}', 'explain {bad} {best}',
-           'desk {bad} {best}', 'unpack {bad}', 'report {bad} {best}', 'make --after {best} {bad}', 'make --json {bad}', 'mark --tsv {bad} {best}']
+           'desk {bad} {best}', 'unpack {bad}', 'report {bad} {best}', 'make --after {best} {bad}', 'make --json {bad}', 'mark --tsv {bad} {best}', 'show --out - {bad} {best}']
 LISTS = ['mark {a} {bad}', 'explain {a} {bad}', 'desk {a} {bad}', 'report {a} {bad}', 'make --after {bad} {a}', 'mark --json {a} {bad}']
 TEXTS = ['pack {bad}', 'report --marks {bad}']
+SHOWN = ['show --out - {a} {bad}']  # which shows a list that is text, whatever it says
 MENDER = "the galley's writer can mend it"
 FULL_WORDS = 10 * 4_001 * 201 * 51  # of work area
 
@@ -57,14 +58,14 @@ def contents(folder):
     yield 'a galley and more', file(folder, 'more', a + b'?'), GALLEYS, 1, MENDER
     yield 'a text for a galley', file(folder, 'text', text), [line for line in GALLEYS if '--json' not in line], 1, '`barleychime pack`'
     yield 'a galley for a text', file(folder, 'galley', a), LISTS + TEXTS, 2, 'a galley file stands where a text is wanted'
-    yield 'a folder', folder, GALLEYS + LISTS + TEXTS, 2, 'Is a directory'
-    yield 'nowhere', folder / 'nowhere', GALLEYS + LISTS + TEXTS, 2, 'No such file or directory'
-    yield 'a name too long', folder / ('x' * 300), GALLEYS + LISTS + TEXTS, 2, 'File name too long'
+    yield 'a folder', folder, GALLEYS + LISTS + TEXTS + SHOWN, 2, 'Is a directory'
+    yield 'nowhere', folder / 'nowhere', GALLEYS + LISTS + TEXTS + SHOWN, 2, 'No such file or directory'
+    yield 'a name too long', folder / ('x' * 300), GALLEYS + LISTS + TEXTS + SHOWN, 2, 'File name too long'
     yield 'a file of 5 GB', zeros, GALLEYS, 1, MENDER
     yield 'a file of 5 GB', zeros, LISTS + TEXTS, 2, 'too long for a text'
     yield 'an endless file', '/dev/zero', GALLEYS, 1, MENDER
     yield 'an endless file', '/dev/zero', LISTS + TEXTS, 2, 'too long for a text'
-    yield 'UTF-16', file(folder, 'utf-16', '1 1\n3 1\n'.encode('utf-16')), LISTS + TEXTS, 2, 'line 1: not text in UTF-8'
+    yield 'UTF-16', file(folder, 'utf-16', '1 1\n3 1\n'.encode('utf-16')), LISTS + TEXTS + SHOWN, 2, 'line 1: not text in UTF-8'
     yield 'a number of 33 bits', file(folder, 'wide', b'1 4294967296\n'), LISTS, 2, 'line 1: field 2: `4294967296` is no whole number of 32 bits'
     yield 'a number of 33 bits', file(folder, 'wide.txt', b'GS 30 4294967296 0 0 1 1 1\n'), ['pack {bad}'], 2, 'the greatest is 4294967295'
     yield 'a number of 33 bits', file(folder, 'wide.marks', b'1 0 0 0 8589934591\n'), ['report --marks {bad}'], 2, 'line 1: field 5'
