@@ -19,7 +19,7 @@ from tally import Tally  # noqa: E402
 
 GROUPS = [('samples and lists against the command', shown.samples), ('a class', shown.school), ('on paper', shown.paper), ('the desk by keys', at_desk.by_keys),
           ('the desk by pointer and touch', at_desk.by_pointer), ('above 64 pages', at_desk.long), ('printed pages', wider.printed),
-          ('two ends together', wider.together), ('a book', wider.book), ('the large view', wider.large), ('what is given', given.run), ('names that look like markup', given.markup), ('nothing leaves the page', given.sealed),
+          ('two ends together', wider.together), ('a book', wider.book), ('the large view', wider.large), ('what is given', given.run), ('a making that is stopped', given.stopped), ('names that look like markup', given.markup), ('nothing leaves the page', given.sealed),
           ('the page that `show` writes', handed.run), ('any galley and any keys', wild.run)]
 
 

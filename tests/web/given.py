@@ -2,8 +2,10 @@
 import base64
 import pathlib
 import random
+import struct
 
 import at_desk
+import native
 from driver import Keys
 
 ROOT = pathlib.Path(__file__).resolve().parents[2]
@@ -34,6 +36,25 @@ def run(tally, browser, command, folder):
         browser.js('app.go(arguments[0])', tab)
     tally.same('a list of one page has no desk', 'one page' in browser.text('#view-desk'), True)
     garbage(tally, browser)
+
+
+def stopped(tally, browser, command, folder):
+    """A making that takes long tells what is known of it and can be stopped; it can be begun again, and another galley is made after it. Without
+    weights no cost leaves a place out, so that these blocks take far longer than a person clicks."""
+    spec, block = b'GS' + struct.pack('>7I', 0, 60_000, 0, 0, 2, 0, 0), struct.pack('>4I', 600, 0, 0, 1)
+    browser.give(('slow.galley', spec + (b'TL' + block) * 1_000 + (b'FG' + block) * 100 + (b'TB' + block) * 20 + b'ED'))
+    browser.js('app.go("show")')
+    for button in ('#stop', '#makeagain', '#stop'):
+        browser.until(f'document.querySelector("{button}")', button)
+        if button == '#stop':
+            tally.same('a making tells its memory', 'work area of' in browser.text('#view-show'), True)
+        browser.click(button)
+    browser.until('app.stopped', 'a making that is stopped')
+    tally.same('a making that is stopped has no list', [browser.value('!!(app.best && app.best.ok)'), 'stopped' in browser.text('#view-show')], [False, True])
+    galley = ROOT / 'samples/real/gretl-p441.galley'
+    browser.give(galley)
+    browser.until('app.best && app.best.ok', 'another galley is made')
+    tally.same('another galley is made after a stop', browser.value('app.best.t'), int(native.made(command, galley).split()[3]))
 
 
 def paste(tally, browser, text):
