@@ -124,8 +124,15 @@ def rewritten(path, text, new):
 
 
 def rust(text, new):
-    """A source: names with a capital inside stand in clauses alone, and one with a dash is no Rust."""
-    return TOKEN.sub(lambda m: m[0] if m[0] in LEMMAS else new.get(m[0], m[0]), text)
+    """A source or an edit: names with a capital inside stand in clauses alone, one with a dash is no Rust, and a comment keeps its words."""
+    out, at = [], 0
+    one = lambda m: m[0] if m[0] in LEMMAS else new.get(m[0], m[0])
+    for comment in re.finditer(r"//[^\n]*|^#[^\n]*", text, re.M):
+        out.append(TOKEN.sub(one, text[at:comment.start()]))
+        out.append(SPAN.sub(lambda m: TOKEN.sub(one, m[0]), comment[0]))
+        at = comment.end()
+    out.append(TOKEN.sub(one, text[at:]))
+    return "".join(out)
 
 
 def page(text, new):

@@ -33,7 +33,7 @@ pub fn counts_at(g: Galley, line: usize, column: usize) -> Counts
     }
 }
 
-// The side of a page by its number: 1 for an odd page of double_sided work, else 0.
+// The side of a page by its number: 1 for an odd page of double-sided work, else 0.
 pub fn side_of(g: Galley, page: u32) -> usize
     ensures { result ≡ side (sides_in g) page }
 {

@@ -6,7 +6,7 @@ ghost use Rattle.model.specs.Leaf.{leaf, ends, sides_of};
 #[derive(Drop)]
 pub struct Page(pub u32);
 
-// What lies open at a time: a spread in double_sided work, where `sides` is 2; in single-sided work each page by itself.
+// What lies open at a time: a spread in double-sided work, where `sides` is 2; in single-sided work each page by itself.
 #[derive(Drop)]
 pub struct Spread(pub u32);
 
