@@ -1,4 +1,6 @@
 // The C interface: making, marking and reports for programs in other languages. include/barleychime.h documents it.
+#![tactic(auto)]
+
 ghost use Rattle.std.specs.Prelude.{◌≡◌};
 ghost use Rattle.marking.specs.Mark.{mark_of};
 ghost use Rattle.barleychime.specs.Words.{number_of, answer_words, Exported, ExportedAfter};

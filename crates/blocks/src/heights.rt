@@ -5,7 +5,7 @@ ghost use Rattle.blocks.specs.Heights.{Joint, Room, Separable, put_on, with_bloc
 use galley::{Galley, Stream};
 
 // Heights with every space at its least, and with every space at its greatest.
-#[derive(Drop)]
+#[derive(Clone, Copy)]
 pub struct Heights {
     pub tight: u32,
     pub loose: u32,

@@ -1,5 +1,7 @@
 // The blocks of a galley that was read, in whatever stream: any field of block k, in constant time, the heights of a page, block by
 // block, and how many blocks of each stream are placed.
+#![tactic(auto)]
+
 ghost use Rattle.std.specs.Prelude.{◌≡◌, List, ℕ};
 ghost use Rattle.galley.specs.Block.{Has, field_of};
 ghost use Rattle.galley.specs.Model.{legal_of, model_of};
@@ -11,7 +13,7 @@ use galley::{Galley, Stream};
 pub mod heights; // heights.rt: the heights of a page, block by block
 
 // The blocks of each stream placed so far. Where there are no tables a page has no word for them.
-#[derive(Drop)]
+#[derive(Clone, Copy)]
 pub struct Counts {
     pub lines: usize,
     pub figures: usize,

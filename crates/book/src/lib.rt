@@ -1,4 +1,6 @@
 // Making a book: the choice of chapter lists with the fewest turns, for any bytes, any lengths and any lent memory. Document 02, S-9.
+#![tactic(auto)]
+
 ghost use Rattle.std.specs.Prelude.{◌≡◌, ◌+◌, ◌-◌, ◌*◌, ◌≤◌};
 ghost use Rattle.model.specs.Leaf.{leaf, sides_of};
 ghost use Rattle.galley.specs.declared.Galley.{Galley};
@@ -14,7 +16,7 @@ use course::Sums;
 use model::page::Page;
 
 // What making a book returns: a refusal and its place, or 0 and 0 and the book's pages, X, Y, T and W; and how many pages are weighed.
-#[derive(Drop)]
+#[derive(Clone, Copy)]
 pub struct BookMade {
     pub number: u32,
     pub place: u32,

@@ -1,1 +1,2 @@
 // What proofs by hand share. There is no code here: the laws are in specs/.
+#![tactic(auto)]

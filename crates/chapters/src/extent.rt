@@ -4,7 +4,7 @@ ghost use Rattle.chapters.specs.Book.{adds_up, chapter_start, extent_of};
 ghost use Rattle.chapters.specs.Steps.{Numbered};
 
 // Where a chapter begins and ends in the bytes.
-#[derive(Drop)]
+#[derive(Clone, Copy)]
 pub struct Extent {
     pub from: usize,
     pub to: usize,

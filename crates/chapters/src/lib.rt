@@ -1,4 +1,6 @@
 // Reading a book: chapters lent end to end, with a list of their lengths. Document 02, S-9.
+#![tactic(auto)]
+
 ghost use Rattle.std.specs.Prelude.{◌≡◌, ◌+◌, ◌≤◌, max};
 ghost use Rattle.galley.specs.declared.Reading.TheVariants as reads;
 ghost use Rattle.galley.specs.Place.{spec_size};
@@ -14,7 +16,7 @@ pub mod extent; // extent.rt: where a chapter stands in the bytes
 
 // A book that was read: how many chapters it has, the words of the work area that the largest of them needs, and the words of the
 // page list that all of them need.
-#[derive(Drop)]
+#[derive(Clone, Copy)]
 pub struct Book {
     pub chapters: usize,
     pub largest: usize,
@@ -22,7 +24,7 @@ pub struct Book {
 }
 
 // What reading a book gives.
-#[derive(Drop)]
+#[derive(Clone, Copy)]
 pub enum BookReading {
     Book(Book),
     Refused { number: u32, place: u32 },

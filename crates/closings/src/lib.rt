@@ -1,5 +1,7 @@
 // One chapter of a book: its table from the folio on which it opens, and what the table tells of the lists that close on each side.
 // Document 02, S-9.
+#![tactic(auto)]
+
 ghost use Rattle.std.specs.Prelude.{◌≡◌, ◌+◌, ◌≤◌};
 ghost use Rattle.theorems.specs.pages.Graph.{side};
 ghost use Rattle.galley.specs.Model.{sides_in, model_of};

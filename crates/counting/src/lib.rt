@@ -1,4 +1,6 @@
 // The counts of a list whose pages were judged: p, X, Y, T and W, and what printed pages cost. Document 01, "Marking".
+#![tactic(auto)]
+
 ghost use Rattle.std.specs.Prelude.{◌≡◌, ◌+◌};
 ghost use Rattle.rules.specs.Parts.{leaves_turned, PageLimits, CountLimits, all_placed, finished, printed_cost};
 ghost use Rattle.rules.specs.Sums.{Addable, with_page};

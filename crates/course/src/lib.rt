@@ -1,4 +1,6 @@
 // The chapters of a book made along the best route, each from its folio to the next. Document 02, S-9.
+#![tactic(auto)]
+
 ghost use Rattle.std.specs.Prelude.{◌≡◌, ◌≤◌, ◌<◌};
 ghost use Rattle.course.specs.Course.{Small, WithAnswer, NextChapter, NextMade, CourseRoom, CourseMade};
 
@@ -10,7 +12,7 @@ pub mod trace; // trace.rt: the folios of the best route, followed back
 pub mod weighed; // weighed.rt: what is weighed of all chapters
 
 // What the chapters made so far come to: where the next page's words go, and their pages, X and white.
-#[derive(Drop)]
+#[derive(Clone, Copy)]
 pub struct Sums {
     pub at: usize,
     pub pages: u64,

@@ -1,6 +1,8 @@
 // The desk: another end of a page is tried on a list that the marking accepts, and committed; and layouts are saved under names to
 // come back to. Document 02, S-7 and S-8. A desk is plain data of any contents, and there is no galley in it: whoever asks gives the
 // bytes again.
+#![tactic(auto)]
+
 ghost use Rattle.std.specs.Prelude.{◌++◌, ◌≡◌, drop};
 ghost use Rattle.model.specs.Answers.{accepted};
 ghost use Rattle.marking.specs.Mark.{mark_of};
@@ -18,7 +20,7 @@ mod pages; // pages.rt: the pages of the list in force, and one of them with ano
 // The count of pages and the words of a page, what is pending, which is a page and its new end, the list in force, and eight layouts.
 // Count and words stand once: all lists of a desk have as many pages.
 #[repr(C)]
-#[derive(Drop)]
+#[derive(Clone, Copy)]
 pub struct Desk {
     pub pages: u32,
     pub width: u32,
@@ -29,14 +31,14 @@ pub struct Desk {
 }
 
 // What a call leaves, with an answer like the marking's,
-#[derive(Drop)]
+#[derive(Clone, Copy)]
 pub struct Told {
     pub desk: Desk,
     pub answer: Answer,
 }
 
 // or with a number alone, whose place is 0.
-#[derive(Drop)]
+#[derive(Clone, Copy)]
 pub struct Done {
     pub desk: Desk,
     pub number: u32,

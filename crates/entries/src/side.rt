@@ -17,14 +17,14 @@ use queues::queue::Source;
 use window::slide::Window;
 
 // What is to be filled: the table of a galley, from an origin on.
-#[derive(Drop)]
+#[derive(Clone, Copy)]
 pub struct Task {
     pub galley: Galley,
     pub origin: Origin,
 }
 
 // The windows of a line: that of the line above it, and its own.
-#[derive(Drop)]
+#[derive(Clone, Copy)]
 pub struct Windows {
     pub from: Window,
     pub to: Window,
@@ -32,7 +32,7 @@ pub struct Windows {
 
 // Where a page ends: the counts of its place, the line among them, and the column; its side, and whether its leaf ends with it; how
 // many floats wait there, and what the place says of it.
-#[derive(Drop)]
+#[derive(Clone, Copy)]
 pub struct End {
     pub at: Counts,
     pub column: usize,

@@ -5,6 +5,8 @@
 // turned. That list says how often the best one is turned and how long its floats wait. It keeps no rule but the greatest height, so it
 // may cost less than the best list, and more. Nothing is promised of the guess but its size: whatever number comes out, the answer of making
 // is the same, since a search that finds nothing within its limit is made again without one.
+#![tactic(auto)]
+
 ghost use Rattle.std.specs.Prelude.{true, ◌≡◌, ◌-◌, ◌≤◌, ◌<◌};
 ghost use Rattle.galley.specs.Block.{Has};
 ghost use Rattle.galley.specs.Range.{SpecRanged};
@@ -24,7 +26,7 @@ const MOST: u32 = 1000000000;
 
 // The pages set so far: the blocks placed of each stream, the room left on the present page and whether it ends its leaf, what the pages
 // before it cost, and how many of them ended theirs.
-#[derive(Drop)]
+#[derive(Clone, Copy)]
 pub struct Greedy {
     pub lines: usize,
     pub figures: usize,

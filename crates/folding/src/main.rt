@@ -1,4 +1,6 @@
 // The program: the folding order of every section, one number a line. Document 02, folding order.
+#![tactic(auto)]
+
 use libc::STDOUT_FILENO;
 
 // A number on a line of its own.

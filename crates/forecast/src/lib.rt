@@ -1,4 +1,6 @@
 // What a galley asks for, told beforehand: the words of lent memory, and a ceiling on the pages weighed. Document 02, S-5.
+#![tactic(auto)]
+
 ghost use Rattle.std.specs.Prelude.{◌≡◌};
 ghost use Rattle.galley.specs.declared.Reading.TheVariants as reads;
 ghost use Rattle.galley.specs.Whole.{galley_of};
@@ -10,7 +12,7 @@ mod ceiling; // ceiling.rt: the ceiling on the pages weighed
 mod together; // together.rt: the most consecutive blocks that are not too high by themselves
 
 // A refusal's number and place, both 0 for a galley that reads; the words of work and of list that making needs, and the ceiling.
-#[derive(Drop)]
+#[derive(Clone, Copy)]
 pub struct Forecast {
     pub number: u32,
     pub place: u32,

@@ -1,11 +1,13 @@
 // A galley's bytes: its words and marks, the ranges of its fields, which mark fits where, and what reading gives. Document 01, "The galley
 // file".
+#![tactic(auto)]
+
 pub mod place; // place.rt: which mark fits where
 pub mod range; // range.rt: the ranges of the fields
 pub mod word; // word.rt: bytes, fields and marks
 
 // The page specification that `GS` holds, or `G2` in its second edition; the least height of the last page is 0 in the first.
-#[derive(Drop)]
+#[derive(Clone, Copy)]
 pub struct Spec {
     pub htmin: u32,
     pub htmax: u32,
@@ -19,7 +21,7 @@ pub struct Spec {
 }
 
 // The height of a block, a line, a figure or a table, and the least and the greatest height of the space after it.
-#[derive(Drop)]
+#[derive(Clone, Copy)]
 pub struct Block {
     pub height: u32,
     pub least: u32,
@@ -27,14 +29,14 @@ pub struct Block {
 }
 
 // A text line; `legal` is 1 where a page may end in the space after it.
-#[derive(Drop)]
+#[derive(Clone, Copy)]
 pub struct Line {
     pub block: Block,
     pub legal: u32,
 }
 
 // A figure or a table, the number of the line that cites it, and whether it is kept with the next one, as only a figure can be.
-#[derive(Drop)]
+#[derive(Clone, Copy)]
 pub struct Float {
     pub block: Block,
     pub cite: u32,
@@ -53,7 +55,7 @@ pub const LEGAL: usize = 14;
 pub const CITE: usize = 14;
 
 // What stands at an offset.
-#[derive(Drop)]
+#[derive(Clone, Copy)]
 pub enum Record {
     Spec(Spec),
     Folio(u32),
@@ -66,14 +68,14 @@ pub enum Record {
 
 // One stream of blocks, the lines, the figures or the tables: how many there are, and the offset of the first, from which every other is
 // found.
-#[derive(Drop)]
+#[derive(Clone, Copy)]
 pub struct Stream {
     pub first: usize,
     pub count: usize,
 }
 
 // A galley that was read: its specification, the folio of its first page, and its streams.
-#[derive(Drop)]
+#[derive(Clone, Copy)]
 pub struct Galley {
     pub spec: Spec,
     pub folio: u32,
@@ -83,7 +85,7 @@ pub struct Galley {
 }
 
 // What reading a whole galley gives.
-#[derive(Drop)]
+#[derive(Clone, Copy)]
 pub enum Reading {
     Galley(Galley),
     Refused { number: u32, place: u32 },
@@ -91,7 +93,7 @@ pub enum Reading {
 
 // A kind of record: the stage that it reaches, the first and the last stage after which it may come, how many there may be of
 // its stage, and its bytes.
-#[derive(Drop)]
+#[derive(Clone, Copy)]
 pub struct Kind {
     pub stage: u32,
     pub earliest: u32,
@@ -103,7 +105,7 @@ pub struct Kind {
 // How far reading has come: the stage reached, how many records of that stage there were, the line cited last in it, where the
 // next record is due, the folio of the first page, where the text begins, and how many blocks of each stream there were. The
 // specification is not carried along: it stands at the start of the bytes, and is read once, at the end.
-#[derive(Drop)]
+#[derive(Clone, Copy)]
 pub struct Sofar {
     pub stage: u32,
     pub count: usize,
@@ -117,7 +119,7 @@ pub struct Sofar {
 }
 
 // What one record more gives: reading goes on, or it is done.
-#[derive(Drop)]
+#[derive(Clone, Copy)]
 pub enum Step {
     On(Sofar),
     Done(Reading),

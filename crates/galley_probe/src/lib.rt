@@ -1,4 +1,6 @@
 // The reader of galleys, and the walk over the floats that wait, for tests in another language: what they find, as words.
+#![tactic(auto)]
+
 ghost use Rattle.std.specs.Prelude.{◌≡◌, ◌≤◌};
 ghost use Rattle.model.specs.Gather.{pick};
 ghost use Rattle.galley.specs.Whole.{galley_of};

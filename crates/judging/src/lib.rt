@@ -1,5 +1,7 @@
 // The rules as marking asks them: 12 of a list, and of a page the first of 13 and 14 that it breaks, and of 16 and 17 for a height that is
 // known. Document 01, "Marking".
+#![tactic(auto)]
+
 ghost use Rattle.std.specs.Prelude.{◌≡◌, Bool, ◌&&◌, ◌||◌, List, ℕ, ◌≤◌, length, leb, ltb};
 ghost use Rattle.model.specs.Gather.{implies, one};
 ghost use Rattle.model.specs.Rules.{forward, closes, floor, cited};

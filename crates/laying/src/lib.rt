@@ -1,4 +1,6 @@
 // The heights of a page under way, block by block: first its lines, then its figures, then its tables.
+#![tactic(auto)]
+
 ghost use Rattle.std.specs.Prelude.{◌≡◌, ◌≤◌};
 ghost use Rattle.galley.specs.Range.{SpecRanged};
 ghost use Rattle.rules.specs.Parts.{kinds_on};
@@ -9,7 +11,7 @@ use blocks::heights::Heights;
 use galley::Galley;
 
 // The place up to which a page has its blocks, and its heights with them and with all its separations.
-#[derive(Drop)]
+#[derive(Clone, Copy)]
 pub struct Laid {
     pub on: Counts,
     pub heights: Heights,

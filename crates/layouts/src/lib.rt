@@ -1,4 +1,6 @@
 // The layouts of a desk, by their names. Document 02, S-8.
+#![tactic(auto)]
+
 ghost use Rattle.std.specs.Prelude.{map, ◌≡◌, ◌<◌, ◌≤◌, length, set};
 ghost use Rattle.layouts.specs.Names.{free_layout, freed, find_named, room_for, layout_of};
 
@@ -8,7 +10,7 @@ pub mod words; // words.rt: words copied over the first of others
 // A list under a name: the bytes of the name, how many there are, and the words of the list. A layout whose name has no bytes is
 // free.
 #[repr(C)]
-#[derive(Drop)]
+#[derive(Clone, Copy)]
 pub struct Layout {
     pub len: u32,
     pub name: [u8; 16],

@@ -1,6 +1,8 @@
 // How far a search goes. Most of a table is far dearer than the best list: whatever costs more than that list cannot be part of it, since
 // costs never fall from page to page. So the table is filled within a limit, which is a guess at what the best list costs, and where no
 // list is found, without one.
+#![tactic(auto)]
+
 ghost use Rattle.std.specs.Prelude.{◌≡◌};
 ghost use Rattle.filling.specs.Next.{Fillable};
 ghost use Rattle.limits.specs.Sought.{within, limit_of, Tried, Sought};

@@ -1,4 +1,6 @@
 // Making: the pagination with the fewest turns, for any bytes and any lent memory. Document 01, "Making"; document 02, S-6.
+#![tactic(auto)]
+
 ghost use Rattle.std.specs.Prelude.{◌≡◌};
 ghost use Rattle.model.specs.declared.answer.Answer.TheVariants.{Refused};
 ghost use Rattle.making.specs.Make.{Made};
@@ -11,7 +13,7 @@ use places::Origin;
 use solving::opening::Begun;
 
 // What making returns: its answer, and how many pages are weighed, in the plain sense (document 02, S-5).
-#[derive(Drop)]
+#[derive(Clone, Copy)]
 pub struct Making {
     pub answer: Answer,
     pub weighed: u64,

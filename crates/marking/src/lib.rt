@@ -1,5 +1,7 @@
 // Marking a page list: for any bytes and any words the counts of a pagination or one numbered refusal. Nothing is written.
 // Document 01, "Marking".
+#![tactic(auto)]
+
 ghost use Rattle.std.specs.Prelude.{◌≡◌};
 ghost use Rattle.marking.specs.Mark.{mark_of};
 

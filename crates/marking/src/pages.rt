@@ -38,7 +38,7 @@ fn page_at(g: Galley, list: &[u32], from: usize) -> Counts
 
 // How pages are judged: the first page that breaks a rule, and there the first of 13 to 17; or where the last page ends, and the floats
 // that wait at the ends of leaves and the white of the pages, summed.
-#[derive(Drop)]
+#[derive(Clone, Copy)]
 pub enum Judged {
     Broken { number: u32, page: u32 },
     Kept { at: Counts, sums: Sums },

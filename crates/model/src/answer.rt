@@ -2,7 +2,7 @@
 ghost use Rattle.std.specs.Prelude.{◌≡◌};
 ghost use Rattle.model.specs.Answers.{numbers_of};
 
-#[derive(Drop)]
+#[derive(Clone, Copy)]
 pub enum Answer {
     Counted {
         pages: u32,
@@ -18,7 +18,7 @@ pub enum Answer {
 }
 
 // An answer as the six numbers of document 01 and its white: in a refusal the counts are 0, in a success number and place are.
-#[derive(Drop)]
+#[derive(Clone, Copy)]
 pub struct Numbers {
     pub number: u32,
     pub place: u32,

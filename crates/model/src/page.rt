@@ -3,11 +3,11 @@ ghost use Rattle.std.specs.Prelude.{◌≡◌, ◌+◌, ◌≤◌};
 ghost use Rattle.model.specs.Leaf.{leaf, ends, sides_of};
 
 // A page, counted from the galley's own first page, which is 1, whatever its folio.
-#[derive(Drop)]
+#[derive(Clone, Copy)]
 pub struct Page(pub u32);
 
 // What lies open at a time: a spread in double-sided work, where `sides` is 2; in single-sided work each page by itself.
-#[derive(Drop)]
+#[derive(Clone, Copy)]
 pub struct Spread(pub u32);
 
 // The spread of a page, by its folio: `folio` is that of the first page.

@@ -1,4 +1,6 @@
 // The words that a galley needs of lent memory: document 01, "Making".
+#![tactic(auto)]
+
 ghost use Rattle.std.specs.Prelude.{◌≡◌};
 ghost use Rattle.needs.specs.Needs.{Few, work_needed, list_needed};
 

@@ -1,4 +1,6 @@
 // An opening, pages already printed: what turns it away, or where it ends. Document 02, S-6.
+#![tactic(auto)]
+
 ghost use Rattle.std.specs.Prelude.{◌≡◌};
 ghost use Rattle.galley.specs.Sound.{Sound};
 ghost use Rattle.openings.specs.declared.Opening.TheVariants.{Refused};
@@ -11,7 +13,7 @@ use rules::counts::Sums;
 
 // What is made of an opening: a refusal, or where it ends after so many pages, and the floats that wait at the ends of its leaves and the
 // white of its pages, summed.
-#[derive(Drop)]
+#[derive(Clone, Copy)]
 pub enum Opening {
     Refused { number: u32, place: u32 },
     Ends { pages: u32, at: Counts, sums: Sums },

@@ -1,4 +1,6 @@
 // The program: a galley from standard input, its pages to standard output. Document 01, "The program".
+#![tactic(auto)]
+
 ghost use Rattle.std.specs.Prelude.{◌+◌, ◌≤◌, ◌<◌, ◌≡◌};
 ghost use Rattle.model.specs.Galley.{streams};
 ghost use Rattle.galley.specs.declared.Galley.{Galley};

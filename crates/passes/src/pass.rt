@@ -17,7 +17,7 @@ use queues::queue::Source;
 // One sweep: starts in column `from`, for pages that end in column `to` and are no lower than `least`. A page of the floats between
 // alone has these heights, the separation of figures and tables with them, and this white; beside lines they have one separation more.
 // No line of column `from` before `first` or after `last` is reached.
-#[derive(Drop)]
+#[derive(Clone, Copy)]
 pub struct Pass {
     pub from: usize,
     pub to: usize,

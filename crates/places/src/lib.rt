@@ -2,6 +2,8 @@
 //
 // A place has ten words, five for each side of the page that ends there: the tag, which is 1 where the place is reached, the cost
 // in two words, the low one first, and the line and column that the page starts at. Places stand column by column.
+#![tactic(auto)]
+
 ghost use Rattle.std.specs.Prelude.{◌≡◌, ◌+◌, ◌≤◌, [], ◌∷◌, length, take, replicate};
 ghost use Rattle.std.proofs.lemmas.List.Edits.{sets};
 ghost use Rattle.places.specs.Entry.{less, low_of, high_of, joined, entry_at, stored, cleared};
@@ -10,7 +12,7 @@ ghost use Rattle.places.specs.Table.{table_of};
 
 // Where a page starts, and where it ends: the lines placed so far, and the column, which is the number of the figures and tables
 // placed so far.
-#[derive(Drop)]
+#[derive(Clone, Copy)]
 pub struct Place {
     pub line: u32,
     pub column: u32,
@@ -18,7 +20,7 @@ pub struct Place {
 
 // A place, with the side of the page ending there, is either unreached or has a least cost; with the cost goes the start of
 // that page. A cost is one number: turns by 2³², and white, so that turns decide and then white.
-#[derive(Drop)]
+#[derive(Clone, Copy)]
 pub enum Entry {
     Unreached,
     Least(u64, Place),
@@ -29,7 +31,7 @@ pub const BOUNDLESS: u64 = 4600000000000000000;
 
 // Where a search begins: the place, the pages before it, and what they cost; and how far it goes: what the pages after it may cost in all
 // to be looked for.
-#[derive(Drop)]
+#[derive(Clone, Copy)]
 pub struct Origin {
     pub place: Place,
     pub pages: u32,

@@ -1,5 +1,7 @@
 // Whether a page may end at a place, and what it then costs: neither depends on where the page starts. What the floats say of it is
 // the same for a whole column, and all but the side's part for both sides of a place: each is asked once.
+#![tactic(auto)]
+
 ghost use Rattle.std.specs.Prelude.{◌≡◌, List, ℕ};
 ghost use Rattle.theorems.specs.turns.Waiting.{page_cost};
 ghost use Rattle.theorems.specs.pages.Graph.{full};
@@ -19,7 +21,7 @@ use galley::Galley;
 
 // What the floats placed say of a page that ends with them, whatever its last line: whether their spaces let it end, the line from
 // which on the last of each stream is cited, and whether none is left.
-#[derive(Drop)]
+#[derive(Clone, Copy)]
 pub struct Floats {
     pub closes: bool,
     pub cited: usize,
@@ -28,7 +30,7 @@ pub struct Floats {
 
 // What a place says of a page that ends there, on either side: whether rule 14 lets it, whether it keeps rule 17 should that be
 // asked, and whether every block is placed.
-#[derive(Drop)]
+#[derive(Clone, Copy)]
 pub struct Stop {
     pub closes: bool,
     pub cited: bool,

@@ -8,7 +8,7 @@ use places::Entry;
 use window::slide::Window;
 
 // The queue of the full pages, and that of the others.
-#[derive(Drop)]
+#[derive(Clone, Copy)]
 pub struct Parts {
     pub full: Queue,
     pub rest: Queue,

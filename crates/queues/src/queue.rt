@@ -8,7 +8,7 @@ use places::{Entry, Place};
 use window::sums::LOOSE;
 
 // The starts that a queue takes: the lines of a column of `tall` places, on a side.
-#[derive(Drop)]
+#[derive(Clone, Copy)]
 pub struct Source {
     pub tall: usize,
     pub column: usize,
@@ -17,7 +17,7 @@ pub struct Source {
 
 // The entries of a queue: those from `head` on and before `tail`. Several queues share a slice, each from its base on. Where its pages
 // lack something of htMax, what a line adds to its cost is the height up to it, by which a later start lacks more.
-#[derive(Drop)]
+#[derive(Clone, Copy)]
 pub struct Queue {
     pub base: usize,
     pub head: usize,

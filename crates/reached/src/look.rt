@@ -60,7 +60,7 @@ pub fn last_line(g: Galley, work: &[u32], column: usize, from: usize, to: usize)
 }
 
 // The first and the last line of a column that are reached: one past the last line where there is none.
-#[derive(Drop)]
+#[derive(Clone, Copy)]
 pub struct Reach {
     pub first: usize,
     pub last: usize,

@@ -9,7 +9,7 @@ use crate::look::Reach;
 use galley::Galley;
 
 // From column `since` on every column that is reached stands in the ring, and the next one takes word `head`.
-#[derive(Drop)]
+#[derive(Clone, Copy)]
 pub struct Recall {
     pub since: usize,
     pub head: usize,

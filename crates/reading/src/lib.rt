@@ -1,5 +1,7 @@
 // The whole galley, record by record: each in its place, with the first refusal. Nothing is copied and nothing is written. Document 01,
 // "The galley file".
+#![tactic(auto)]
+
 ghost use Rattle.std.specs.Prelude.{◌≡◌, ◌+◌, ◌≤◌};
 ghost use Rattle.model.specs.Gather.{pick};
 ghost use Rattle.galley.specs.declared.Record.TheVariants as records;

@@ -6,7 +6,7 @@ ghost use Rattle.galley.specs.Record.{record_at};
 use galley::Record;
 
 // The lent bytes, and an offset in them or past their end.
-#[derive(Drop)]
+#[derive(Clone, Copy)]
 pub struct Reader<'a> {
     pub src: &'a [u8],
     pub at: usize,

@@ -1,4 +1,6 @@
 // The record at an offset of a galley: its mark, and its fields where they are in range. Document 01, "The galley file".
+#![tactic(auto)]
+
 ghost use Rattle.std.specs.Prelude.{◌≡◌, ◌+◌, ◌≤◌, length, ltb, false};
 ghost use Rattle.model.specs.Gather.{pick};
 ghost use Rattle.galley.specs.Place.{kind_of};

@@ -1,4 +1,6 @@
 // The report on a term's marks: exact sums, least and greatest turns, and the excess over the engine (document 02, S-12).
+#![tactic(auto)]
+
 ghost use Rattle.std.specs.Prelude.{◌≡◌};
 ghost use Rattle.report.specs.Report.{report_of};
 ghost use Rattle.report.specs.Tally.{limit_of, answer_of};
@@ -9,7 +11,7 @@ pub mod tally;
 
 // The mark of one paper: its p, X, Y and T, and the T that the engine reaches for the same galley.
 #[repr(C)]
-#[derive(Drop)]
+#[derive(Clone, Copy)]
 pub struct Mark {
     pub pages: u32,
     pub x: u32,
@@ -20,7 +22,7 @@ pub struct Mark {
 
 // What the papers come to: how many there are, their four sums, the least and the greatest T, and the mean excess over the
 // engine as a sum and a count.
-#[derive(Drop)]
+#[derive(Clone, Copy)]
 pub struct Totals {
     pub papers: Total,
     pub pages: Total,
@@ -33,7 +35,7 @@ pub struct Totals {
     pub count: Total,
 }
 
-#[derive(Drop)]
+#[derive(Clone, Copy)]
 pub enum Report {
     Summed(Totals),
     Refused { number: u32, place: Total },

@@ -8,7 +8,7 @@ use crate::{Mark, Totals};
 pub type Total = u64;
 
 // What the papers come to, and the first of them, counted from 1, whose T is below the engine's; 0 as long as there is none.
-#[derive(Drop)]
+#[derive(Clone, Copy)]
 pub struct Tally {
     pub totals: Totals,
     pub below: Total,

@@ -1,4 +1,6 @@
 // The best route to each folio on which the next chapter may open, chapter after chapter. Folios are 1 and 2: only the parity matters.
+#![tactic(auto)]
+
 ghost use Rattle.std.specs.Prelude.{◌≡◌, length};
 ghost use Rattle.routes.specs.Routes.{is_reached, less, best_end, first_routes};
 ghost use Rattle.routes.specs.Room.{BookRoom};
@@ -12,28 +14,28 @@ pub mod offer; // offer.rt: what each folio offers the next, and which offer is 
 mod tables; // tables.rt: the chapter's tables from both folios, and the routes that they tell
 
 // The turns and the white of a choice.
-#[derive(Drop)]
+#[derive(Clone, Copy)]
 pub struct Cost {
     pub turns: u64,
     pub white: u64,
 }
 
 // What is known of the choices that lead to a folio: that there is none, or what the best of them costs.
-#[derive(Drop)]
+#[derive(Clone, Copy)]
 pub enum Route {
     Unreached,
     Least(Cost),
 }
 
 // The routes to folios 1 and 2.
-#[derive(Drop)]
+#[derive(Clone, Copy)]
 pub struct Routes {
     pub one: Route,
     pub two: Route,
 }
 
 // A route, and the folio that it comes from.
-#[derive(Drop)]
+#[derive(Clone, Copy)]
 pub struct Step {
     pub route: Route,
     pub from: u32,

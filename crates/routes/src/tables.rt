@@ -7,7 +7,7 @@ use crate::{Route, Routes, Step};
 use galley::Galley;
 
 // The routes to folios 1 and 2, and where each comes from.
-#[derive(Drop)]
+#[derive(Clone, Copy)]
 pub struct Steps {
     pub one: Step,
     pub two: Step,

@@ -5,7 +5,7 @@ ghost use Rattle.rules.specs.Sums.{white_at};
 use galley::Galley;
 
 // X and W so far.
-#[derive(Drop)]
+#[derive(Clone, Copy)]
 pub struct Sums {
     pub x: u32,
     pub white: u32,

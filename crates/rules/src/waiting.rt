@@ -24,7 +24,7 @@ pub fn waiting_floats(s: &[u8], floats: Stream, i: usize, j: usize, known: usize
 }
 
 // The floats of each stream that wait.
-#[derive(Drop)]
+#[derive(Clone, Copy)]
 pub struct Waiting {
     pub figures: usize,
     pub tables: usize,

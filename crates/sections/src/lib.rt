@@ -1,4 +1,6 @@
 // Stitched sections: the pages as they stand on the nested sheets, for sections of 4, 8, …, 64 pages. Document 02, folding order.
+#![tactic(auto)]
+
 ghost use Rattle.std.specs.Prelude.{◌≡◌};
 ghost use Rattle.sections.specs.Answer.{is_size, answer_of, numbers_after, Answered};
 ghost use Rattle.sections.specs.Copying.{overwritten, Inside};
@@ -6,7 +8,7 @@ ghost use Rattle.sections.specs.Copying.{overwritten, Inside};
 pub mod table; // table.rt: the numbers of all sections
 
 // The answer to a request: two zeros, or the number and the place of a refusal.
-#[derive(Drop)]
+#[derive(Clone, Copy)]
 pub struct Reply {
     pub number: u32,
     pub place: u32,

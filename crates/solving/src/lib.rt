@@ -1,4 +1,6 @@
 // The best list out of a filled work area, and where making begins after an opening.
+#![tactic(auto)]
+
 ghost use Rattle.solving.specs.Solved.{Solved, Written};
 
 use galley::Galley;

@@ -10,7 +10,7 @@ use places::{BOUNDLESS, Origin};
 use rules::counts::Sums;
 
 // Where making begins, or what turns the opening away.
-#[derive(Drop)]
+#[derive(Clone, Copy)]
 pub enum Begun {
     Refused { number: u32, place: u32 },
     From(Origin),

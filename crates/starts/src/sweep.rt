@@ -11,7 +11,7 @@ use galley::Galley;
 use passes::pass::Pass;
 
 // What is placed where the search begins, and the column from which on all that are reached were seen.
-#[derive(Drop)]
+#[derive(Clone, Copy)]
 pub struct Begin {
     pub origin: Counts,
     pub since: usize,
@@ -19,7 +19,7 @@ pub struct Begin {
 
 // The columns with so many figures, for pages that end in column `to`, where so much is placed: the figures between have these
 // heights.
-#[derive(Drop)]
+#[derive(Clone, Copy)]
 pub struct Row {
     pub begin: Begin,
     pub figures: usize,

@@ -1,4 +1,6 @@
 // Answers told to a caller of the C interface, in words that are lent.
+#![tactic(auto)]
+
 ghost use Rattle.std.specs.Prelude.{◌≡◌};
 ghost use Rattle.telling.specs.Words.{number_of, answer_words};
 

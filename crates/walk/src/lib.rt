@@ -1,4 +1,6 @@
 // From the last page back to the first, by the start that each entry holds: document 01, "Making".
+#![tactic(auto)]
+
 ghost use Rattle.std.specs.Prelude.{◌≡◌, List, ℕ, ◌≤◌};
 ghost use Rattle.std.proofs.lemmas.List.Edits.{sets};
 ghost use Rattle.galley.specs.Model.{sides_in, model_of};
@@ -11,7 +13,7 @@ use galley::Galley;
 use places::{Entry, Origin, Place};
 
 // A page stops at a place, on a side.
-#[derive(Drop)]
+#[derive(Clone, Copy)]
 pub struct Stop {
     pub place: Place,
     pub side: usize,

@@ -14,7 +14,7 @@ use galley::{Galley, Stream};
 
 // What pages that end in a column have of a stream of floats: so many stand before where the pages start, and those from there to the end
 // have these heights.
-#[derive(Drop)]
+#[derive(Clone, Copy)]
 struct Part {
     from: usize,
     heights: Heights,

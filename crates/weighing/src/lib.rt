@@ -1,5 +1,7 @@
 // How many pages are weighed, in the plain sense: the pairs of start and end with something between them that is not too tall. Document
 // 02, S-5. It is a pass of its own over heights, apart from the search.
+#![tactic(auto)]
+
 ghost use Rattle.std.specs.Prelude.{◌≡◌};
 ghost use Rattle.model.specs.Weighed.{weighed_from};
 ghost use Rattle.galley.specs.Model.{model_of};

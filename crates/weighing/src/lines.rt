@@ -6,7 +6,7 @@ ghost use Rattle.weighing.specs.Lines.{Pairable, too_much, Comparable, Compared,
 use window::sums::TIGHT;
 
 // So many pairs, and what else a page may have beside its lines for the same ones: from so much on and before so much.
-#[derive(Drop)]
+#[derive(Clone, Copy)]
 pub struct Tally {
     pub pairs: u32,
     pub from: u32,

@@ -7,7 +7,7 @@ use crate::sums::{LOOSE, TIGHT};
 
 // What a page has beside its lines, the heights that it must keep to, and the first line that it may start from: the lines before that
 // one are no starts, and no window goes back to them.
-#[derive(Drop)]
+#[derive(Clone, Copy)]
 pub struct Load {
     pub tight: u32,
     pub loose: u32,
@@ -18,7 +18,7 @@ pub struct Load {
 
 // A window of starting lines: from `low` on pages are not too tall, before `split` they reach htMax at their loosest and have no
 // white, and before `high` they are full enough.
-#[derive(Drop)]
+#[derive(Clone, Copy)]
 pub struct Window {
     pub low: usize,
     pub split: usize,

@@ -20,6 +20,7 @@ abbrev pub ◌∈◌ : {A : Type 0} → A → List A → Type 0
 infix 40 ◌∈◌
 module _ {A B : Type 0} where
   pub ∈-map : (f : A → B) (a : A) (l : List A) → a ∈ l → f a ∈ map f l
+  ∈-map f a [] m = elim m [ ]
   ∈-map f a (x ∷ l) (Memᴰ.head e) = Memᴰ.head (ap f e)
   ∈-map f a (x ∷ l) (Memᴰ.tail m) = Memᴰ.tail (∈-map f a l m)
 
@@ -108,7 +109,11 @@ unfolding box
 ∈-unbox (n ∷ l) v m = go (∈-unprefixed n v (box l) m) (∈-unbox l)
   where
     inside : (k : ℕ) (w : Place) → k ≤ n → Inside l w → Inside (n ∷ l) (k ∷ w)
-    inside k w h i = record { long = ap suc i.long; under = λ j. elim j [ zero ↦ h | suc j' ↦ i.under j' ] }
+    inside k w h i = record { long = ap suc i.long; under = under }
+      where
+        under : (j : ℕ) → get_or (k ∷ w) j 0 ≤ get_or (n ∷ l) j 0
+        under zero = h
+        under (suc j) = i.under j
 
     go : ((k : ℕ) × (w : Place) × (v ≡ k ∷ w) × (k ≤ n) × (w ∈ box l)) → ((w : Place) → w ∈ box l → Inside l w) → Inside (n ∷ l) v
     go r below = subst (λ x. Inside (n ∷ l) x) (sym r.2) (inside r.0 r.1 r.3 (below r.1 r.4))
