@@ -1,0 +1,12 @@
+-- `freed_of` meets its contract: the test is the definition's.
+use borrow.Author.Rules.{rules}
+use Rattle.layouts.specs.Names.{freed}
+use Rattle.layouts.proofs.freed_of.Goals as goal
+
+pub returns-then-is_named : goal.returns-then-is_named
+unfolding freed
+returns-then-is_named c = simp (← c.is_named.ensures, c.if-is_named.true)
+
+pub returns : goal.returns
+unfolding freed
+returns c = simp (← c.is_named.ensures, c.if-is_named.false)

@@ -1,0 +1,15 @@
+-- `without` meets its contract. The invariant: the layouts before number `at` are freed of the name, the others are as they were.
+use Prim.Native.Nat.{◌-◌}
+use borrow.Author.Rules.{rules}
+use Rattle.layouts.specs.laws.Layouts.{Freeing, free_starts, free_goes_on, free_ends}
+use Rattle.layouts.proofs.without.Goals as goal
+
+pub loop-at-init : goal.loop-at-init
+loop-at-init c = free_starts _ _ (search rules)
+
+pub loop-at-preserved : goal.loop-at-preserved
+loop-at-preserved c =
+    rw c.freed_of-after.ensures (free_goes_on _ _ c.loop-at.invariant c.loop-at-test.true _)
+
+pub returns : goal.returns
+returns c = free_ends _ _ c.loop-at.invariant c.loop-at-test.false
