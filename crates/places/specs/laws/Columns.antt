@@ -1,6 +1,6 @@
 -- Columns number the float places inside the sizes, one to one, and what is earlier in every stream is earlier in number.
 use Rattle.std.specs.Prelude.{ℕ, zero, suc, ◌+◌, ◌*◌, ◌/◌, ◌%◌, ◌≤◌, ◌<◌, ◌≡◌, refl, List, [], ◌∷◌}
-use Rattle.std.proofs.Common.{suc-mul, mul-le-mul_right, mod-eq_of_lt, div-add-mod', mod-lt, div-lt_iff_lt-mul, arith, ◌∙◌, ap}
+use Rattle.std.proofs.Common.{get_or, suc-mul, mul-le-mul_right, mod-eq_of_lt, div-add-mod', mod-lt, div-lt_iff_lt-mul, arith, ◌∙◌, ap}
 use Rattle.std.proofs.Math.Nat.{mul-add-div_right, mul-add-mod_self_right, div-eq_of_lt}
 use Rattle.model.specs.laws.Lists.{Inside}
 use Rattle.places.specs.Columns.{columns, column_of, floats_at}
@@ -13,7 +13,11 @@ pub inside_tail : (n j : ℕ) (ns js : List ℕ) → Inside (n ∷ ns) (j ∷ js
 inside_tail n j ns js h = let e = h.long in record { long = omega arith; under = λ s. h.under (suc s) }
 
 pub inside_cons : (n j : ℕ) (ns js : List ℕ) → j ≤ n → Inside ns js → Inside (n ∷ ns) (j ∷ js)
-inside_cons n j ns js h k = record { long = ap suc k.long; under = λ s. elim s [ zero ↦ h | suc r ↦ k.under r ] }
+inside_cons n j ns js h k = record { long = ap suc k.long; under = under }
+  where
+    under : (s : ℕ) → get_or (j ∷ js) s 0 ≤ get_or (n ∷ ns) s 0
+    under zero = h
+    under (suc r) = k.under r
 
 pub columns_some : (ns : List ℕ) → 0 < columns ns
 unfolding columns

@@ -12,7 +12,7 @@ use Rattle.model.specs.laws.Gather.{implies_at, or_left, each_at}
 use Rattle.model.specs.laws.Rules.{Kept, kept, forward_at}
 use Rattle.model.specs.laws.Judge.{accepts}
 use Rattle.theorems.specs.turns.Waiting.{waiting, at_end, turned, page_cost, costs}
-use Rattle.theorems.specs.turns.Pages.{along, accepts_along, page_sum_ext, page_sum_mix}
+use Rattle.theorems.specs.turns.Pages.{About, along, accepts_along, page_sum_ext, page_sum_mix}
 use Rattle.theorems.specs.turns.Full.{waiting_full}
 use Rattle.theorems.specs.turns.LeafEnds.{Orderly, x_by_ends, y_by_ends}
 
@@ -65,16 +65,20 @@ cost_parts g q last v h = go last (ends g.spec.sides q) h
     go false true h = simp mul-one
     go false false h = simp mul-zero
 
+-- What `accepts_along` tells of a page of an accepted list.
+abbrev Judged : Galley → About
+Judged g q last u v = (allowed g q last u v ≡ true) × (last ≡ true → v ≡ sizes g)
+
 -- The turns of an accepted list are what its pages cost.
 pub turns_are_costs : (g : Galley) → Sane g → (ps : List Place) → accepts (allowed g) (sizes g) 1 (zeros g) ps ≡ true
     → turns g ps ≡ costs g 1 ps
 unfolding turns costs
 turns_are_costs g sane ps h =
     let judged = accepts_along (allowed g) (sizes g) 1 (zeros g) ps h in
-    let fine = along _ (Orderly g) (λ q last u v a. keeps q last u v (kept a.0)) 1 (zeros g) ps judged in
+    let fine = along (Judged g) (Orderly g) (λ q last u v a. keeps q last u v (kept a.0)) 1 (zeros g) ps judged in
     simp (x_by_ends g (zeros g) ps fine, y_by_ends g ps)
     (page_sum_mix g.spec.alpha g.spec.beta (at_end g.spec.sides (waiting g)) (turned g.spec.sides) 1 ps
-    ∙ page_sum_ext _ _ (page_cost g) (λ q last u v a. cost_parts g q last v (λ e. free v (a.1 e))) 1 (zeros g) ps judged)
+    ∙ page_sum_ext (Judged g) _ (page_cost g) (λ q last u v a. cost_parts g q last v (λ e. free v (a.1 e))) 1 (zeros g) ps judged)
   where
     keeps : (q : ℕ) (last : Bool) (u v : Place) → Kept g q last u v → Orderly g q last u v
     keeps q last u v k = orderly g sane q last u v k.rule13 k.rule17

@@ -1,0 +1,6 @@
+-- `records::ranged` meets its contract. By its test.
+use borrow.Author.Rules.{rules}
+use Rattle.records.proofs.ranged.Goals as goal
+
+pub returns-else-fine : goal.returns-else-fine
+returns-else-fine c = simp c.if-fine.false
