@@ -7,8 +7,8 @@ use lib.Dec.{leb}
 use borrow.Author.Tests.{leb-true, leb-false}
 use Rattle.model.specs.Gather.{pick}
 use Rattle.rules.specs.Sums.{white_at}
-use Rattle.rules.proofs.counts.white_at.Statement.{statement}
-use Rattle.rules.proofs.counts.white_at.Tie as tie
+use Rattle.rules.proofs.counts.white_at.Goals as goal
+use Rattle.rules.proofs.counts.white_at.Goals.{Else-last-g}
 
 -- The test of the code, and what it says of the definition's.
 none : (last : Bool) (most loose : ℕ) → last || leb most loose ≡ true → pick last 0 (most - loose) ≡ 0
@@ -19,25 +19,22 @@ some : (last : Bool) (most loose : ℕ) → last || leb most loose ≡ false →
 some true most loose h = let z : ◌≡◌ {A = ℕ} 0 1 = cc in absurd (omega arith)
 some false most loose h = let below = leb-false most loose h in (refl, omega arith)
 
-returns : tie.Need-returns
+pub returns-then-last-g : goal.returns-then-last-g
 unfolding white_at
-returns c =
-    let a = c.before.before.args in
-    let same = none a.last a.g.spec.htmax a.loose c.if1.true in
+returns-then-last-g c =
+    let a = c.args in
+    let same = none a.last a.g.spec.htmax a.loose c.if-last-g.true in
     omega arith
 
 -- The page is not the last, and lower than htMax.
-below : (c : tie.Else1)
-    → (let a = c.before.before.args in
+below : (c : Else-last-g)
+    → (let a = c.args in
     (pick a.last 0 (a.g.spec.htmax - a.loose) ≡ a.g.spec.htmax - a.loose) × (a.loose ≤ a.g.spec.htmax))
-below c = let a = c.before.before.args in some a.last a.g.spec.htmax a.loose c.if1.false
+below c = let a = c.args in some a.last a.g.spec.htmax a.loose c.if-last-g.false
 
-sub-result : tie.Need-overflow-sub-result
-sub-result c = (below c.before).1
+pub overflow_sub-result : goal.overflow_sub-result
+overflow_sub-result c = (below (goal.at.overflow_sub-result c).Else-last-g).1
 
-returns-2 : tie.Need-returns-2
+pub returns : goal.returns
 unfolding white_at
-returns-2 c = let same = (below c.before).0 in omega arith
-
-pub white_at_spec : {M : Type 1} → statement M
-white_at_spec = tie.close (tie.spec returns sub-result returns-2)
+returns c = let same = (below (goal.at.returns c).Else-last-g).0 in omega arith

@@ -1,0 +1,40 @@
+-- `waiting_floats` meets its contract. The invariant: those found so far and those that the walk from here on finds are all that
+-- wait; each way that a turn ends is one law of laws/Waiting.
+use Prim.Native.Nat.{◌+◌, ◌-◌, ◌≤◌}
+use mathlib.Core.Path.{◌≡◌}
+use ghost.Mode.{◌$◌}
+use native.Mathlib.Omega.{arith}
+use Rattle.galley.specs.Model.{floats_of}
+use Rattle.rules.specs.Waiting.{waits}
+use Rattle.rules.specs.laws.Waiting.{waits_more, waits_stop, waits_end, waits_known}
+use Rattle.rules.proofs.waiting.waiting_floats.Goals as goal
+
+pub loop-found-init : goal.loop-found-init
+loop-found-init c =
+    let a = c.args in
+    let known = c.requires in
+    (known.within, waits_known (floats_of a.s.now a.floats) a.i a.j a.known known.within known.upto)
+
+pub returns-then-i-size : goal.returns-then-i-size
+returns-then-i-size c =
+    let a = c.args in
+    let l = c.loop-found in
+    let none = waits_stop (floats_of a.s.now a.floats) a.i (a.j + l.found) c.loop-found-test.true
+    (omega (arith, c.if-i-size.true, c.size.ensures, c.field.ensures)) in
+    omega (arith, l.invariant.1)
+
+pub loop-found-preserved : goal.loop-found-preserved
+loop-found-preserved c =
+    let a = c.args in
+    let l = c.loop-found in
+    let more = waits_more (floats_of a.s.now a.floats) a.i (a.j + l.found) c.loop-found-test.true
+    (omega (arith, c.if-i-size.false, c.size.ensures, c.field.ensures)) in
+    let e : a.j + (l.found + 1) ≡ a.j + l.found + 1 = omega arith in
+    (omega (arith, c.loop-found-test.true), rw e (omega (arith, l.invariant.1)))
+
+pub returns : goal.returns
+returns c =
+    let a = c.args in
+    let l = c.loop-found in
+    let none = waits_end (floats_of a.s.now a.floats) a.i (a.j + l.found) c.loop-found-test.false in
+    omega (arith, l.invariant.1)
