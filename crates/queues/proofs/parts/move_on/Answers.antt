@@ -3,12 +3,11 @@
 use native.Mathlib.Omega.{arith}
 use Rattle.queues.specs.laws.Parts.{parts_moved}
 use borrow.Author.Rules.{rules}
-use Rattle.queues.proofs.parts.move_on.Statement.{statement}
-use Rattle.queues.proofs.parts.move_on.Tie as tie
+use Rattle.queues.proofs.parts.move_on.Goals as goal
 
-advance-requires : tie.Need-advance-requires
-advance-requires c κs =
-    let pre = c.before.before.before.before.before.before.before.requires in
+pub advance-full-requires : goal.advance-full-requires
+advance-full-requires c =
+    let pre = c.requires in
     record {
       stands = λ a l. pre.stands a (omega (arith, pre.split));
       costs = λ a l. pre.costs a (omega (arith, pre.split));
@@ -20,9 +19,9 @@ advance-requires c κs =
       room = omega (arith, pre.split, pre.few, pre.room);
     }
 
-advance-requires-2 : tie.Need-advance-requires-2
-advance-requires-2 c κs =
-    let pre = c.before.before.before.before.before.before.before.before.before.before.before.requires in
+pub advance-rest-requires : goal.advance-rest-requires
+advance-rest-requires c =
+    let pre = c.requires in
     record {
       stands = λ a l. pre.stands a (omega (arith, pre.high));
       costs = λ a l. pre.costs a (omega (arith, pre.high));
@@ -34,17 +33,8 @@ advance-requires-2 c κs =
       room = omega (arith, pre.high, pre.few, pre.room, pre.held.second);
     }
 
-returns : tie.Need-returns
+pub returns : goal.returns
 returns c =
-    let first = c.before.before.before.before.before.before in
-    let later = first.before.before in
-    let start = later.before.before.before.before.before.before in
-    let a = start.args in
-    parts_moved a.work.now a.sums.now a.words.now _ _ a.source a.parts a.from a.to _ _ start.requires
-    first.advance.ensures (rw later.later.ensures at c.before.before.advance2.ensures)
-
-pub move_on_spec : {M : Type 1} → statement M
-move_on_spec =
-    tie.close
-    (tie.spec
-    (λ c κs. search rules) advance-requires advance-requires-2 (λ c. search rules) returns)
+    let a = c.args in
+    parts_moved a.work.now a.sums.now a.words.now _ _ a.source a.parts a.from a.to _ _ c.requires
+    c.advance-full.ensures (rw c.later-start.ensures at c.advance-rest.ensures)

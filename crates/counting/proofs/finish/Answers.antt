@@ -1,0 +1,36 @@
+-- `finish` meets its contract: within the limits no product or sum of the counts passes 32 bits (laws/Counts).
+use Prim.Native.Nat.{◌*◌, ◌≤◌}
+use borrow.Author.Rules.{rules}
+use native.Mathlib.Omega.{arith}
+use mathlib.Core.Path.{sym, ◌∙◌}
+use Rattle.rules.specs.Parts.{counts, finished}
+use Rattle.rules.specs.laws.Counts.{few_bounded}
+use Rattle.counting.proofs.finish.Goals as goal
+use Rattle.counting.proofs.finish.Goals.{After-leaves_turned-y}
+
+-- X and Y by their weights.
+weighted : (c : After-leaves_turned-y)
+    → (let a = c.args in
+    (a.g.spec.alpha * a.sums.x ≤ 1062500000) × (a.g.spec.beta * c.leaves_turned-y.result ≤ 4250000))
+weighted c =
+    let parts = few_bounded c.args.g c.args.pages c.args.sums.x c.requires in
+    rw c.leaves_turned-y.ensures (parts.waits, parts.leaves)
+
+pub returns-then-all_placed : goal.returns-then-all_placed
+unfolding finished counts
+returns-then-all_placed c =
+    let full = sym c.all_placed.ensures ∙ c.if-all_placed.true in
+    rw (full, c.leaves_turned-y.ensures)
+
+pub returns : goal.returns
+unfolding finished
+returns c = rw (sym c.all_placed.ensures ∙ c.if-all_placed.false)
+
+pub overflow_mul-result : goal.overflow_mul-result
+overflow_mul-result c = omega (arith, weighted (goal.at.overflow_mul-result c).After-leaves_turned-y)
+
+pub overflow_mul-result-then-all_placed : goal.overflow_mul-result-then-all_placed
+overflow_mul-result-then-all_placed c = omega (arith, weighted (goal.at.overflow_mul-result-then-all_placed c).After-leaves_turned-y)
+
+pub overflow_add-result : goal.overflow_add-result
+overflow_add-result c = omega (arith, weighted (goal.at.overflow_add-result c).After-leaves_turned-y)

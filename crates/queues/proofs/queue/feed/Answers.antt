@@ -1,0 +1,120 @@
+-- `feed` meets its contract. The loop's invariant: what was held of the lines before `from` is held of those before a; a
+-- turn passes an unreached line, or drops what is no cheaper and pushes a reached one.
+use Prim.Native.Nat.{ℕ, ◌+◌, ◌-◌, ◌*◌, ◌≤◌}
+use native.Mathlib.Omega.{arith}
+use mathlib.Core.Path.{◌≡◌, refl, sym, ap, subst, ◌∙◌}
+use mathlib.Core.List.{List}
+use lib.ListN.{length}
+use Rattle.places.specs.Best.{Paid}
+use Rattle.window.specs.Rows.{Beside}
+use Rattle.queues.specs.Queue.{added_of, lines_in, tailed, Held}
+use Rattle.queues.specs.Run.{FeedRun}
+use Rattle.window.specs.laws.Rows.{beside_none}
+use Rattle.queues.specs.laws.Held.{paid_of, held_passed}
+use Rattle.window.specs.laws.Rows.{pushed_length, pushed_beside}
+use Rattle.queues.specs.laws.Pushed.{held_pushed}
+use borrow.Author.Rules.{rules}
+use Rattle.queues.proofs.queue.feed.Goals as goal
+use Rattle.queues.proofs.queue.feed.Goals.{?None, After-entry_of-entry, After-place_of-place}
+
+pub loop-a-init : goal.loop-a-init
+loop-a-init c =
+    let pre = c.requires in
+    record {
+      start = omega arith;
+      within = pre.start;
+      order = pre.order;
+      short = pre.short;
+      beside = beside_none _ _ _;
+      sized = refl;
+      held = λ low h. h;
+    }
+
+pub place_of-place-requires : goal.place_of-place-requires
+place_of-place-requires c =
+    let stands = c.requires.stands c.loop-a.a c.loop-a-test.true in
+    record { line = omega (arith, stands.inside.row, stands.inside.high); column = stands.inside.wide }
+
+pub entry_of-entry-requires : goal.entry_of-entry-requires
+entry_of-entry-requires c =
+    rw c.place_of-place.ensures
+    (c.requires.stands c.loop-a.a c.loop-a-test.true)
+
+-- The entry of line a in the column.
+read : (c : After-entry_of-entry)
+    → lines_in c.args.work.now
+    c.args.source c.loop-a.a
+    ≡ c.entry_of-entry.result
+read c = sym (rw c.place_of-place.ensures at c.entry_of-entry.ensures)
+
+pub loop-a-preserved-in_default : goal.loop-a-preserved-in_default
+loop-a-preserved-in_default c =
+    let a = c.args in
+    let st = c.loop-a in
+    let none = read (goal.at.loop-a-preserved-in_default c).After-entry_of-entry ∙ c.in_default.is in
+    record {
+      start = omega arith;
+      within = omega arith;
+      order = st.invariant.order;
+      short = omega (arith, st.invariant.short);
+      beside = st.invariant.beside;
+      sized = st.invariant.sized;
+      held = λ low h.
+          held_passed (lines_in a.work.now a.source) (added_of a.sums.now a.queue.lacks) st.words
+          (tailed a.queue st.tail) low st.a none (st.invariant.held low h);
+    }
+
+pub overflow_add-cost : goal.overflow_add-cost
+overflow_add-cost c =
+    let st = c.loop-a in
+    let small = c.requires.costs st.a c.loop-a-test.true _ _ (read (goal.at.overflow_add-cost c).After-entry_of-entry ∙ c.in-Least.is) in
+    omega (arith, small)
+
+pub overflow_add-tail : goal.overflow_add-tail
+overflow_add-tail c =
+    omega (arith, c.drop_dearer-tail.ensures.to, c.loop-a.invariant.short)
+
+pub loop-a-preserved : goal.loop-a-preserved
+loop-a-preserved c =
+    let st = c.loop-a in
+    let a = c.args in
+    let col = lines_in a.work.now a.source in
+    let add = added_of a.sums.now a.queue.lacks in
+    let t = c.drop_dearer-tail.result in
+    let drops = c.drop_dearer-tail.ensures in
+    let new = rw (c.place_of-place.ensures, c.high_of.ensures, c.low_of.ensures)
+    at c.push.ensures in
+    let x = c.in-Least.x in
+    let more = c.added-more.result in
+    let here : Paid (col st.a) (add st.a) (x + more) =
+    paid_of x (add st.a) (x + more) (read (goal.at.loop-a-preserved c).After-place_of-place ∙ c.in-Least.is) (omega (arith, c.added-more.ensures)) in
+    let room : 3 * t + 3 ≤ length st.words =
+    omega (arith, drops.to, st.invariant.short, st.invariant.sized, c.requires.room, c.loop-a-test.true) in
+    record {
+      (goal.at.loop-a-preserved c).?None = omega (arith, st.invariant.start);
+      within = omega (arith, c.loop-a-test.true);
+      order = omega (arith, drops.from);
+      short = omega (arith, drops.to, st.invariant.short);
+      beside = subst (λ (w : List ℕ). Beside a.words.now w a.queue.base (a.queue.base + a.to)) (sym new)
+          (pushed_beside st.words t _ _ _ (omega (arith, c.requires.based, drops.from))
+          (omega (arith, drops.to, st.invariant.short, c.loop-a-test.true)) st.invariant.beside);
+      sized = ap length new ∙ pushed_length st.words t _ _ _ ∙ st.invariant.sized;
+      held = λ low h.
+          subst (λ (w : List ℕ). Held col add w (tailed a.queue (t + 1)) low (st.a + 1)) (sym new)
+          (held_pushed col add st.words (tailed a.queue st.tail) low st.a (x + more) t here drops room
+          (st.invariant.held low h));
+    }
+
+pub returns : goal.returns
+returns c =
+    let a = c.args in
+    let st = c.loop-a in
+    let done : st.a ≡ a.to = omega (arith, st.invariant.within, c.loop-a-test.false) in
+    record {
+      order = st.invariant.order;
+      short = omega (arith, st.invariant.short);
+      beside = st.invariant.beside;
+      held = λ low h.
+          subst (Held (lines_in a.work.now a.source) (added_of a.sums.now a.queue.lacks) st.words
+          (tailed a.queue st.tail) low) done (st.invariant.held low h);
+    }
