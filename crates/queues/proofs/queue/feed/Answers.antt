@@ -15,7 +15,7 @@ use Rattle.window.specs.laws.Rows.{pushed_length, pushed_beside}
 use Rattle.queues.specs.laws.Pushed.{held_pushed}
 use borrow.Author.Rules.{rules}
 use Rattle.queues.proofs.queue.feed.Goals as goal
-use Rattle.queues.proofs.queue.feed.Goals.{?None, After-entry_of-entry, After-place_of-place}
+use Rattle.queues.proofs.queue.feed.Goals.{After-entry_of-entry, After-place_of-place}
 
 pub loop-a-init : goal.loop-a-init
 loop-a-init c =
@@ -91,7 +91,7 @@ loop-a-preserved c =
     let room : 3 * t + 3 ≤ length st.words =
     omega (arith, drops.to, st.invariant.short, st.invariant.sized, c.requires.room, c.loop-a-test.true) in
     record {
-      (goal.at.loop-a-preserved c).?None = omega (arith, st.invariant.start);
+      start = omega (arith, st.invariant.start);
       within = omega (arith, c.loop-a-test.true);
       order = omega (arith, drops.from);
       short = omega (arith, drops.to, st.invariant.short);
