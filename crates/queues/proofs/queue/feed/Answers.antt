@@ -87,7 +87,7 @@ loop-a-preserved c =
     let x = c.in-Least.x in
     let more = c.added-more.result in
     let here : Paid (col st.a) (add st.a) (x + more) =
-    paid_of x (add st.a) (x + more) (read (goal.at.loop-a-preserved c).After-place_of-place ∙ c.in-Least.is) (omega (arith, c.added-more.ensures)) in
+    paid_of x (add st.a) (x + more) (read (goal.at.loop-a-preserved c).After-entry_of-entry ∙ c.in-Least.is) (omega (arith, c.added-more.ensures)) in
     let room : 3 * t + 3 ≤ length st.words =
     omega (arith, drops.to, st.invariant.short, st.invariant.sized, c.requires.room, c.loop-a-test.true) in
     record {

@@ -1,0 +1,26 @@
+-- `choose_later` meets its contract: each way is a clause of `chosen`, and where both are reached cost alone decides.
+use mathlib.Core.Path.{sym, ◌∙◌}
+use Rattle.candidates.specs.Better.{wins, chosen}
+use Rattle.candidates.specs.laws.Choice.{later_left_behind, later_taken}
+use borrow.Author.Rules.{rules}
+use Rattle.candidates.proofs.choice.choose_later.Goals as goal
+
+pub returns-in_default : goal.returns-in_default
+unfolding chosen
+returns-in_default c = cc
+
+pub returns-in_default-held : goal.returns-in_default-held
+unfolding chosen wins
+returns-in_default-held c = rw (c.in-Least.is, c.in_default-held.is)
+
+pub returns-then-less : goal.returns-then-less
+returns-then-less c =
+    rw (c.in-Least-held.is, c.in-Least.is)
+    (sym (later_left_behind _ _ _ _ (c.requires _ _ _ _ c.in-Least-held.is c.in-Least.is)
+    (sym c.less.ensures ∙ c.if-less.true)))
+
+pub returns : goal.returns
+returns c =
+    rw (c.in-Least-held.is, c.in-Least.is)
+    (sym (later_taken _ _ _ _ (c.requires _ _ _ _ c.in-Least-held.is c.in-Least.is)
+    (sym c.less.ensures ∙ c.if-less.false)))

@@ -1,0 +1,12 @@
+-- `wins` meets its contract: each arm is a clause of the definition.
+use Rattle.candidates.specs.Better.{wins}
+use borrow.Author.Rules.{rules}
+use Rattle.candidates.proofs.choice.wins.Goals as goal
+
+pub returns-in-Unreached : goal.returns-in-Unreached
+unfolding wins
+returns-in-Unreached c = cc
+
+pub returns-in-Least : goal.returns-in-Least
+unfolding wins
+returns-in-Least c = cc

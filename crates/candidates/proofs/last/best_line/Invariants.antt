@@ -1,0 +1,18 @@
+-- `best_line` meets its contract. The loop's invariant: of the window's lines before a the entry is the best.
+use Prim.Native.Nat.{◌-◌, ◌≤◌}
+use native.Mathlib.Omega.{arith}
+use mathlib.Core.Path.{◌≡◌, refl}
+use mathlib.Core.Logic.{◌⊎◌, inl, inr}
+use Rattle.places.specs.Best.{Best}
+use Rattle.queues.specs.Queue.{lines_of, Lines}
+use Rattle.candidates.specs.laws.Lines.{lines_none, lines_next, lines_all}
+use borrow.Author.Rules.{rules}
+use Rattle.candidates.proofs.last.best_line.Given as goal
+
+abbrev pub invariant-loop-a : goal.invariant-loop-a
+invariant-loop-a l =
+    (l.window.low ≤ l.a) × ((l.a ≡ l.window.low) ⊎ (l.a ≤ l.window.high))
+    × Best (Lines (lines_of l.work l.tall l.column l.side) (λ l.a. 0) l.window.low l.a l.column) l.best
+
+abbrev pub decreases-loop-a : goal.decreases-loop-a
+decreases-loop-a l = l.window.high - l.a
