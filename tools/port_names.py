@@ -45,8 +45,8 @@ def turned(name):
         return name
     if name[0].isupper() and "-" not in name:
         return name
-    words = re.sub(r"(?<=[a-z0-9])[A-Z]", lambda m: "_" + m[0].lower(), name[1:])
-    return name[0] + words.replace("-", "_")
+    words = re.sub(r"(?<=[a-z0-9])[A-Z]", lambda m: "_" + m[0].lower(), name)
+    return words.replace("-", "_")
 
 
 def of_library(module):

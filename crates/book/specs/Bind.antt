@@ -2,7 +2,7 @@
 use Rattle.std.specs.Prelude.{ℕ, ◌+◌, ◌-◌, ◌*◌, ◌≤◌, ◌≡◌, List, ◌∷◌, ◌++◌, length, drop}
 use Rattle.std.proofs.Math.Option.{some}
 use Rattle.model.specs.Leaf.{leaf}
-use Rattle.model.specs.Turns.{xOf}
+use Rattle.model.specs.Turns.{x_of}
 use Rattle.model.specs.White.{white}
 use Rattle.model.specs.Book.{first_folio, Choice, book_pages, book_x, book_white, best_book, book_made, book_words}
 use Rattle.theorems.specs.books.Course.{Course, coursed}
@@ -33,7 +33,7 @@ pub record OnRoute (c : Chapter) (cs : List Chapter) (from : List ℕ) (last : �
   pub leads : Leads from (length (c ∷ cs)) last
   pub follows : (after : List ℕ) → followed from (length (c ∷ cs)) last after ≡ folios ++ (last ∷ after)
   pub pages : book_pages (first_folio (models_of (c ∷ cs))) (models_of (c ∷ cs)) choice ≡ coursed (λ g ps. length ps) (models_of (c ∷ cs)) choice folios
-  pub x : book_x (first_folio (models_of (c ∷ cs))) (models_of (c ∷ cs)) choice ≡ coursed xOf (models_of (c ∷ cs)) choice folios
+  pub x : book_x (first_folio (models_of (c ∷ cs))) (models_of (c ∷ cs)) choice ≡ coursed x_of (models_of (c ∷ cs)) choice folios
   pub white : book_white (first_folio (models_of (c ∷ cs))) (models_of (c ∷ cs)) choice ≡ coursed white (models_of (c ∷ cs)) choice folios
 
 -- The best route was found.

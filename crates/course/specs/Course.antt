@@ -6,7 +6,7 @@ use Rattle.model.specs.declared.answer.Answer.{Answer}
 use Rattle.model.specs.declared.answer.Answer.TheVariants.{Counted, Refused}
 use Rattle.model.specs.Galley as model
 use Rattle.model.specs.Galley.{Place}
-use Rattle.model.specs.Turns.{xOf}
+use Rattle.model.specs.Turns.{x_of}
 use Rattle.model.specs.White.{white}
 use Rattle.model.specs.Answers.{words_of}
 use Rattle.model.specs.Book.{Choice}
@@ -52,7 +52,7 @@ with_list sums g ps =
     record {
       at = sums.at + length (words_of ps);
       pages = sums.pages + length ps;
-      x = sums.x + xOf g ps;
+      x = sums.x + x_of g ps;
       white = sums.white + white g ps;
     }
 

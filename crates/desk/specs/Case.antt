@@ -8,7 +8,7 @@ use Rattle.model.specs.Galley.{single, Spec, Stream, Galley, count, streams, zer
 use Rattle.model.specs.Height.{has, kinds, stacked, height, tightest, loosest}
 use Rattle.model.specs.Leaf.{leaf, ends}
 use Rattle.model.specs.Rules.{forward, may_end, closes, fits, fills, cited, first_broken, broken}
-use Rattle.model.specs.Turns.{page_of, apart, xOf, yOf, turns}
+use Rattle.model.specs.Turns.{page_of, apart, x_of, y_of, turns}
 use Rattle.model.specs.White.{white_on, whites, white}
 use Rattle.model.specs.Answers.{chunks, pages_of, words_of, counted, same, refuse, judge, counts_of, marked}
 use Rattle.layouts.specs.Names.{is_name}
@@ -176,5 +176,5 @@ abbrev Agrees : Galley → List ℕ → List Row → Type 0
 Agrees g list rows = rows_of g (begin list) (map (λ row. row.call) rows) ≡ rows
 
 pub sittings_agree : Agrees galley_a best (asking ++ keeping) × Agrees tabled figure_first asking_tabled
-unfolding sum between total each every row count streams zeros sizes blocks has kinds stacked height tightest loosest leaf ends forward may_end closes fits fills cited first_broken broken page_of apart xOf yOf turns white_on whites white chunks pages_of words_of counted same refuse judge counts_of marked is_name under without has_room other_end tried rows_of
+unfolding sum between total each every row count streams zeros sizes blocks has kinds stacked height tightest loosest leaf ends forward may_end closes fits fills cited first_broken broken page_of apart x_of y_of turns white_on whites white chunks pages_of words_of counted same refuse judge counts_of marked is_name under without has_room other_end tried rows_of
 sittings_agree = (refl, refl)

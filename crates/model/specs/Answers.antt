@@ -7,7 +7,7 @@ use Rattle.model.specs.declared.answer.Numbers.{Numbers}
 use Rattle.model.specs.Gather.{pick}
 use Rattle.model.specs.Galley.{Galley, Place, streams, zeros, sizes, blocks}
 use Rattle.model.specs.Rules.{broken}
-use Rattle.model.specs.Turns.{xOf, yOf, turns}
+use Rattle.model.specs.Turns.{x_of, y_of, turns}
 use Rattle.model.specs.White.{white}
 
 -- Number, place, p, X, Y, T, W of each case of an answer (document 01, "Numbers that turn work away"; document 02, S-10).
@@ -63,7 +63,7 @@ judge g good q u (v ∷ vs) = refuse (broken g q (ended vs) u v) q (judge g good
 
 -- Page count, turns and white of a list of pages: p, X, Y, T (document 01, "Marking") and W (document 02, S-10).
 unfoldable pub counts_of : Galley → List Place → Answer
-counts_of g ps = Counted (length ps) (xOf g ps) (yOf g ps) (turns g ps) (white g ps)
+counts_of g ps = Counted (length ps) (x_of g ps) (y_of g ps) (turns g ps) (white g ps)
 
 -- The answer of marking a list of words for a galley that reads without refusal: 12 before any page, then the pages, then 18
 -- (document 01, "Marking").

@@ -6,7 +6,7 @@ use Rattle.model.specs.declared.answer.Answer.{Answer}
 use Rattle.model.specs.declared.answer.Answer.TheVariants.{Counted, Refused}
 use Rattle.model.specs.Galley.{Sides, single, double, Galley, respecified, Place, zeros}
 use Rattle.model.specs.Leaf.{leaf}
-use Rattle.model.specs.Turns.{xOf}
+use Rattle.model.specs.Turns.{x_of}
 use Rattle.model.specs.White.{white}
 use Rattle.model.specs.Answers.{words_of}
 use Rattle.model.specs.Order.{then_by, by, lex, geb, oddly, starts_of}
@@ -57,7 +57,7 @@ unfoldable pub book_pages : ℕ → List Galley → Choice → ℕ
 book_pages = summed (λ g ps. length ps)
 
 unfoldable pub book_x : ℕ → List Galley → Choice → ℕ
-book_x = summed xOf
+book_x = summed x_of
 
 unfoldable pub book_white : ℕ → List Galley → Choice → ℕ
 book_white = summed white

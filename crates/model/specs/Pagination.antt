@@ -54,14 +54,14 @@ list_on g P zero q = []
 list_on g P (suc p) q = place_on g P q ∷ list_on g P p (suc q)
 
 -- The paper's Σ (P(f) − P(R(f))), over leaves: section 3.
-unfoldable pub xOn : Galley → Map → ℕ
-xOn g P =
+unfoldable pub x_on : Galley → Map → ℕ
+x_on g P =
     sum g.floats
     (λ s. sum (g.stream s).size (λ k. leaf g.spec.sides (P s k) - leaf g.spec.sides (P 0 ((g.stream s).cite k))))
 
 -- Turn.S in single-sided work and Turn.D in double-sided work, of a pagination on p pages: section 3.
 unfoldable pub turns_on : Galley → ℕ → Map → ℕ
-turns_on g p P = g.spec.alpha * xOn g P + g.spec.beta * (leaf g.spec.sides p - leaf g.spec.sides 1)
+turns_on g p P = g.spec.alpha * x_on g P + g.spec.beta * (leaf g.spec.sides p - leaf g.spec.sides 1)
 
 -- W of a pagination on p pages: what each page but the last lacks of htMax at its loosest (document 02, S-10).
 unfoldable pub white_over : Galley → ℕ → Map → ℕ

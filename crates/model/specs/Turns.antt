@@ -17,13 +17,13 @@ apart g ps s k =
     leaf g.spec.sides (page_of s k 1 ps) - leaf g.spec.sides (page_of 0 ((g.stream s).cite k) 1 ps)
 
 -- X: the leaves so turned, summed over all floats of all streams (document 01, "Spreads and turns").
-unfoldable pub xOf : Galley → List Place → ℕ
-xOf g ps = sum g.floats (λ s. sum (g.stream s).size (apart g ps s))
+unfoldable pub x_of : Galley → List Place → ℕ
+x_of g ps = sum g.floats (λ s. sum (g.stream s).size (apart g ps s))
 
 -- Y: the leaves turned from the first page to the last, one less than there are (document 01, "Spreads and turns").
-unfoldable pub yOf : Galley → List Place → ℕ
-yOf g ps = leaf g.spec.sides (length ps) - leaf g.spec.sides 1
+unfoldable pub y_of : Galley → List Place → ℕ
+y_of g ps = leaf g.spec.sides (length ps) - leaf g.spec.sides 1
 
 -- T: the turns, X and Y by their weights (paper, section 3).
 unfoldable pub turns : Galley → List Place → ℕ
-turns g ps = g.spec.alpha * xOf g ps + g.spec.beta * yOf g ps
+turns g ps = g.spec.alpha * x_of g ps + g.spec.beta * y_of g ps

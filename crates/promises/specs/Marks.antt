@@ -7,7 +7,7 @@ use Rattle.model.specs.declared.answer.Answer.{Answer}
 use Rattle.model.specs.declared.answer.Answer.TheVariants.{Counted}
 use Rattle.model.specs.declared.answer.Numbers.{Numbers}
 use Rattle.model.specs.Galley.{Galley, Place}
-use Rattle.model.specs.Turns.{xOf}
+use Rattle.model.specs.Turns.{x_of}
 use Rattle.model.specs.White.{white}
 use Rattle.model.specs.Answers.{numbers_of, accepted, words_of, counts_of, marked}
 use Rattle.model.specs.Best.{valid}
@@ -126,7 +126,7 @@ unfolding book_marked book_counts book_pages book_x book_white counts_of
 choice_marked gs cs m =
     let f = first_folio gs in
     let p = sum_marks_lem (λ n. n.pages) (λ g ps. length ps) (λ g ps. refl) f gs cs m in
-    let x = sum_marks_lem (λ n. n.x) xOf (λ g ps. refl) f gs cs m in
+    let x = sum_marks_lem (λ n. n.x) x_of (λ g ps. refl) f gs cs m in
     let w = sum_marks_lem (λ n. n.white) white (λ g ps. refl) f gs cs m in
     rw (p, x, w)
     (ap (λ t. Counted (book_pages f gs cs) (book_x f gs cs) (book_y f gs (book_pages f gs cs)) t (book_white f gs cs)) (turns_weighted f gs cs))

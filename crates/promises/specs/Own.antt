@@ -10,7 +10,7 @@ use Rattle.model.specs.Gather.{pick}
 use Rattle.model.specs.Galley as model
 use Rattle.model.specs.Leaf.{leaf}
 use Rattle.model.specs.Answers.{numbers_of, accepted, words_of, marked}
-use Rattle.model.specs.Pagination.{Map, Pagination, list_on, xOn, turns_on, white_over}
+use Rattle.model.specs.Pagination.{Map, Pagination, list_on, x_on, turns_on, white_over}
 use Rattle.model.specs.Best.{made}
 use Rattle.model.specs.Opening.{opening_turned, made_after}
 use Rattle.model.specs.Book.{open_on, first_folio, book_made}
@@ -45,7 +45,7 @@ pub record Own (g : model.Galley) (words : List ℕ) (answer : Answer) : Type 0 
   pub paginates : Pagination g pages map
   pub list : words_of (list_on g map pages 1) ≡ words
   pub numbers : answer
-      ≡ Counted pages (xOn g map) (leaf g.spec.sides pages - leaf g.spec.sides 1) (turns_on g pages map) (white_over g pages map)
+      ≡ Counted pages (x_on g map) (leaf g.spec.sides pages - leaf g.spec.sides 1) (turns_on g pages map) (white_over g pages map)
 
 -- What marking accepts is such a list, with the numbers that it reports.
 marked_own : (g : model.Galley) → model.Sane g → (words : List ℕ) → accepted (marked g words) ≡ true → Own g words (marked g words)

@@ -9,7 +9,7 @@ use Rattle.model.specs.Galley.{Block}
 use Rattle.model.specs.Leaf.{folio_of, leaf, sides_of}
 use Rattle.model.specs.laws.Leaf.{leaf_mono}
 use Rattle.model.specs.Answers.{accepted, marked, words_of}
-use Rattle.model.specs.Pagination.{Map, Pagination, list_on, xOn, turns_on, white_over}
+use Rattle.model.specs.Pagination.{Map, Pagination, list_on, x_on, turns_on, white_over}
 use Rattle.theorems.specs.published.Theorem.{words_published, words_unique, words_counts, turn_leaves}
 use Rattle.galley.specs.declared.Stream.{Stream}
 use Rattle.galley.specs.declared.Galley.{Galley}
@@ -61,7 +61,7 @@ module _ {bytes words : List ℕ} {g : Galley} {p : ℕ} {P : Map} (m : Paginate
   -- The answer is its page count, X and Y over its leaves, its turns, and its white: what its pages but the last lack of htMax at their
   -- loosest (document 02, S-10).
   pub reports : mark_of bytes words
-      ≡ Counted p (xOn (model_of bytes g) P) (leaf (sides_in g) p - leaf (sides_in g) 1)
+      ≡ Counted p (x_on (model_of bytes g) P) (leaf (sides_in g) p - leaf (sides_in g) 1)
       (turns_on (model_of bytes g) p P) (white_over (model_of bytes g) p P)
   reports =
       mark_is bytes words g m.says
@@ -85,14 +85,14 @@ module _ {bytes words : List ℕ} {g : Galley} {p : ℕ} {P : Map} (m : Paginate
   by_leaves : (S : ℕ → ℕ) → ((q : ℕ) → leaf (sides_in g) q ≡ S q)
       → mark_of bytes words
       ≡ Counted p (Over (Apart S)) (S p - S 1) (Over (λ s st f. g.spec.alpha * Apart S s st f) + g.spec.beta * (S p - S 1)) White
-  unfolding xOn sum
+  unfolding x_on sum
   by_leaves S is =
       let M = model_of bytes g in
       let X = Over (Apart S) in
       let T = Over (λ s st f. g.spec.alpha * Apart S s st f) + g.spec.beta * (S p - S 1) in
       let apart = sum_floats g (λ s. sum (M.stream s).size (λ f. S (P s f) - S (P 0 ((M.stream s).cite f)))) (λ none. rw none refl) in
       let dear = sum_floats g (λ s. sum (M.stream s).size (λ f. g.spec.alpha * (S (P s f) - S (P 0 ((M.stream s).cite f))))) (λ none. rw none refl) in
-      let ex : xOn M P ≡ X = simp is apart in
+      let ex : x_on M P ≡ X = simp is apart in
       let ey : leaf (sides_in g) p - leaf (sides_in g) 1 ≡ S p - S 1 = simp is in
       let paper = turn_leaves M p P S is in
       let et : turns_on M p P ≡ T = omega arith in

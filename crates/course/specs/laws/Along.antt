@@ -8,7 +8,7 @@ use Rattle.std.proofs.Math.Option.{some}
 use Rattle.std.proofs.Math.ListN.{length, get_or}
 use Rattle.model.specs.Galley as model
 use Rattle.model.specs.Galley.{Place}
-use Rattle.model.specs.Turns.{xOf}
+use Rattle.model.specs.Turns.{x_of}
 use Rattle.model.specs.White.{white}
 use Rattle.model.specs.Answers.{words_of}
 use Rattle.model.specs.Book.{open_on, Choice, gathered}
@@ -80,7 +80,7 @@ module _ (h : model.Galley) (last : ℕ) (few : last ≤ 2) (after : List ℕ) w
   pub course_sums : (f : ℕ) (cs : List Chapter) (choice : Choice) (os : List ℕ) → AllAlike h (models_of cs)
       → Course h f (models_of cs) choice os last → (sums : Sums)
       → ((sums_of cs (os ++ (last ∷ after)) sums).pages ≡ sums.pages + coursed (λ g ps. length ps) (models_of cs) choice os)
-      × ((sums_of cs (os ++ (last ∷ after)) sums).x ≡ sums.x + coursed xOf (models_of cs) choice os)
+      × ((sums_of cs (os ++ (last ∷ after)) sums).x ≡ sums.x + coursed x_of (models_of cs) choice os)
       × ((sums_of cs (os ++ (last ∷ after)) sums).white ≡ sums.white + coursed white (models_of cs) choice os)
   unfolding models_of AllAlike Course sums_of coursed
   course_sums f [] [] [] all c sums = (omega arith, omega arith, omega arith)
@@ -94,7 +94,7 @@ module _ (h : model.Galley) (last : ℕ) (few : last ≤ 2) (after : List ℕ) w
       let same : list_to x.bytes x.galley o n ≡ ps = ap or_none best in
       let m = model_on_lem x.bytes o x.galley in
       let long = ap length same in
-      let turned = ap (xOf (model_on x.bytes x.galley o)) same ∙ ap (λ g. xOf g ps) m in
+      let turned = ap (x_of (model_on x.bytes x.galley o)) same ∙ ap (λ g. x_of g ps) m in
       let lacked = ap (white (model_on x.bytes x.galley o)) same ∙ ap (λ g. white g ps) m in
       let (p, t, w) = course_sums (f + length ps) cs choice os all.1 c.2 (with_list sums (model_on x.bytes x.galley o) (list_to x.bytes x.galley o n)) in
       (omega (arith, p, long), omega (arith, t, turned), omega (arith, w, lacked))

@@ -7,8 +7,8 @@ use Rattle.std.proofs.Math.ListN.{length}
 use Rattle.model.specs.declared.answer.Answer.{Answer}
 use Rattle.model.specs.declared.answer.Answer.TheVariants.{Refused}
 use Rattle.model.specs.Gather.{pick}
-use Rattle.model.specs.Galley.{zeros, sizes, blocks}
-use Rattle.model.specs.Turns.{xOf, yOf, turns}
+use Rattle.model.specs.Galley.{Place, zeros, sizes, blocks}
+use Rattle.model.specs.Turns.{x_of, y_of, turns}
 use Rattle.model.specs.White.{white}
 use Rattle.model.specs.Answers.{accepted, same, judge, counted, counts_of, pages_of, marked}
 use Rattle.model.specs.Best.{allowed}
@@ -108,7 +108,7 @@ module _ {bytes : List ℕ} {g : Galley} {ws : List ℕ} {pages : ℕ} (asked : 
 
     -- X of an accepted list is what waited at the ends of its leaves.
     x_is : marked (model_of bytes g) ws ≡ counts_of (model_of bytes g) (pages_of (model_of bytes g) ws)
-        → sums.x ≡ xOf (model_of bytes g) (pages_of (model_of bytes g) ws)
+        → sums.x ≡ x_of (model_of bytes g) (pages_of (model_of bytes g) ws)
     unfolding counts_of waited marked
     x_is good =
         let M = model_of bytes g in
@@ -117,7 +117,7 @@ module _ {bytes : List ℕ} {g : Galley} {ws : List ℕ} {pages : ℕ} (asked : 
         let taken : accepts (allowed M) (sizes M) 1 (zeros M) pages ≡ true =
         sym (judge_accepts M (counts_of M pages) 1 (zeros M) pages refl) ∙ ap accepted judged in
         let fine =
-        along _ (Orderly M)
+        along (λ (q : ℕ) (last : Bool) (u v : Place). (allowed M q last u v ≡ true) × (last ≡ true → v ≡ sizes M)) (Orderly M)
         (λ q last u v t. let k = kept t.0 in orderly M (sound_sane bytes g asked.list.sound) q last u v k.rule13 k.rule17) 1
         (zeros M) pages (accepts_along (allowed M) (sizes M) 1 (zeros M) pages taken) in
         kept_pages.waits ∙ sym (x_by_ends M (zeros M) pages fine)
@@ -131,7 +131,7 @@ module _ {bytes : List ℕ} {g : Galley} {ws : List ℕ} {pages : ℕ} (asked : 
 
     counts_are : marked (model_of bytes g) ws ≡ counts_of (model_of bytes g) (pages_of (model_of bytes g) ws)
         → counts g pages sums ≡ counts_of (model_of bytes g) (pages_of (model_of bytes g) ws)
-    unfolding counts leaves_turned counts_of yOf turns
+    unfolding counts leaves_turned counts_of y_of turns
     counts_are good =
         let p : length (pages_of (model_of bytes g) ws) ≡ pages = omega (arith, pages_in_lem bytes g ws, asked.is) in
         rw (p, ← x_is good, ← white_is)

@@ -11,7 +11,7 @@ use Rattle.model.specs.Gather.{pick}
 use Rattle.model.specs.Galley.{Galley, Place, streams, zeros, sizes, blocks}
 use Rattle.model.specs.Height.{kinds, height, tightest, loosest}
 use Rattle.model.specs.Rules.{forward, closes, fits, fills, cited}
-use Rattle.model.specs.Turns.{apart, xOf, yOf, turns}
+use Rattle.model.specs.Turns.{apart, x_of, y_of, turns}
 use Rattle.model.specs.White.{white_on, whites, white}
 use Rattle.model.specs.Answers.{accepted, ended, counted, counts_of, pages_of, marked}
 use Rattle.model.specs.Best.{allowed, valid}
@@ -71,8 +71,8 @@ module _ (g : Galley) (h : ℕ) (low : h ≤ g.spec.htmin) where
 
   -- and has the same counts.
   counts_loosened : (ps : List Place) → counts_of (with_htmin h g) ps ≡ counts_of g ps
-  unfolding counts_of xOf yOf turns apart white zeros streams
-  counts_loosened ps = ap (λ x. Counted (length ps) (xOf g ps) (yOf g ps) (turns g ps) x) (whites_loosened (zeros g) ps)
+  unfolding counts_of x_of y_of turns apart white zeros streams
+  counts_loosened ps = ap (λ x. Counted (length ps) (x_of g ps) (y_of g ps) (turns g ps) x) (whites_loosened (zeros g) ps)
 
   -- Marking accepts for the lower htMin every list that it accepts for the higher, with the same numbers.
   pub marked_loosened : (ws : List ℕ) → accepted (marked g ws) ≡ true → marked (with_htmin h g) ws ≡ marked g ws

@@ -10,7 +10,7 @@ use Rattle.std.proofs.Math.Option.{Option, none, some}
 use Rattle.std.proofs.Math.ListN.{length}
 use Rattle.model.specs.Gather.{pick}
 use Rattle.model.specs.Galley.{Galley, Place}
-use Rattle.model.specs.Turns.{xOf}
+use Rattle.model.specs.Turns.{x_of}
 use Rattle.model.specs.White.{white}
 use Rattle.model.specs.Best.{valid}
 use Rattle.model.specs.Book.{open_on, first_folio, Choice, choices, book_pages, book_x, book_white}
@@ -135,7 +135,7 @@ module _ (h : Galley) (gs : List Galley) (all : AllAlike h gs) (some_folio_lem :
     pub is : r.folios ≡ reverse_aux folios []
     pub course : Course h (first_folio (h ∷ gs)) (h ∷ gs) b.choice folios next
     pub pages : book_pages (first_folio (h ∷ gs)) (h ∷ gs) b.choice ≡ coursed (λ g ps. length ps) (h ∷ gs) b.choice folios
-    pub x : book_x (first_folio (h ∷ gs)) (h ∷ gs) b.choice ≡ coursed xOf (h ∷ gs) b.choice folios
+    pub x : book_x (first_folio (h ∷ gs)) (h ∷ gs) b.choice ≡ coursed x_of (h ∷ gs) b.choice folios
     pub white : book_white (first_folio (h ∷ gs)) (h ∷ gs) b.choice ≡ coursed white (h ∷ gs) b.choice folios
 
   pub book_ordered : (next : ℕ) (r : Route) (b : Bound h gs all some_folio_lem next r) → Ordered next r b
@@ -157,7 +157,7 @@ module _ (h : Galley) (gs : List Galley) (all : AllAlike h gs) (some_folio_lem :
             is = is;
             course = c;
             pages = unfold book_pages in course_sum (λ g ps. length ps) (λ g f e sh ps. refl) h f some_folio_lem (h ∷ gs) alike b.choice os next c;
-            x = unfold book_x in course_sum xOf (λ g f e sh ps. x_on g f e sh ps) h f some_folio_lem (h ∷ gs) alike b.choice os next c;
+            x = unfold book_x in course_sum x_of (λ g f e sh ps. x_on g f e sh ps) h f some_folio_lem (h ∷ gs) alike b.choice os next c;
             white = unfold book_white in course_sum white (λ g f e sh ps. white_on_lem g f e ps) h f some_folio_lem (h ∷ gs) alike b.choice os next c;
           }
 

@@ -9,7 +9,7 @@ use Rattle.model.specs.Galley.{Sides, single, double, Galley, Place, streams, ze
 use Rattle.model.specs.Height.{kinds, height, tightest, loosest}
 use Rattle.model.specs.Leaf.{leaf, ends}
 use Rattle.model.specs.Rules.{forward, closes, fits, fills, cited, broken}
-use Rattle.model.specs.Turns.{page_of, apart, xOf, yOf, turns}
+use Rattle.model.specs.Turns.{page_of, apart, x_of, y_of, turns}
 use Rattle.model.specs.White.{white_on, whites, white}
 use Rattle.model.specs.Answers.{ended}
 use Rattle.model.specs.Order.{oddly}
@@ -110,13 +110,13 @@ module _ (g : Galley) (f e : ℕ) (sh : Shifted (sides_on f g.spec.sides) (sides
       omega arith
 
   -- with the same turns to floats,
-  pub x_on : (ps : List Place) → xOf (open_on f g) ps ≡ xOf (open_on e g) ps
-  unfolding xOf open_on
+  pub x_on : (ps : List Place) → x_of (open_on f g) ps ≡ x_of (open_on e g) ps
+  unfolding x_of open_on
   x_on ps = sum_ext _ _ _ (λ s p q. sum_ext _ _ _ (λ k p q. apart_on ps s k))
 
   -- the same leaves,
-  pub y_on : (ps : List Place) → yOf (open_on f g) ps ≡ yOf (open_on e g) ps
-  unfolding yOf open_on
+  pub y_on : (ps : List Place) → y_of (open_on f g) ps ≡ y_of (open_on e g) ps
+  unfolding y_of open_on
   y_on ps = let a = sh.leaves (length ps) in let b = sh.leaves 1 in omega arith
 
   -- the same turns,

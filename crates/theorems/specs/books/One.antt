@@ -13,7 +13,7 @@ use Rattle.model.specs.declared.answer.Answer.{Answer}
 use Rattle.model.specs.declared.answer.Answer.TheVariants.{Refused}
 use Rattle.model.specs.Gather.{implies}
 use Rattle.model.specs.Galley.{Sides, single, double, Galley, Place}
-use Rattle.model.specs.Turns.{xOf, yOf, turns}
+use Rattle.model.specs.Turns.{x_of, y_of, turns}
 use Rattle.model.specs.White.{white}
 use Rattle.model.specs.Order.{then_by, by, lex, before}
 use Rattle.model.specs.Answers.{counts_of, words_of}
@@ -54,16 +54,16 @@ module _ (g : Galley) where
   unfolding book_white summed
   one_white ps = let e = ap (λ x. white x ps) (own_folio g) in omega arith
 
-  one_x : (ps : List Place) → book_x f (g ∷ []) (ps ∷ []) ≡ xOf g ps
+  one_x : (ps : List Place) → book_x f (g ∷ []) (ps ∷ []) ≡ x_of g ps
   unfolding book_x summed
-  one_x ps = let e = ap (λ x. xOf x ps) (own_folio g) in omega arith
+  one_x ps = let e = ap (λ x. x_of x ps) (own_folio g) in omega arith
 
   one_pages : (ps : List Place) → book_pages f (g ∷ []) (ps ∷ []) ≡ length ps
   unfolding book_pages summed
   one_pages ps = omega arith
 
-  one_y : (ps : List Place) → book_y f (g ∷ []) (book_pages f (g ∷ []) (ps ∷ [])) ≡ yOf g ps
-  unfolding book_y yOf
+  one_y : (ps : List Place) → book_y f (g ∷ []) (book_pages f (g ∷ []) (ps ∷ [])) ≡ y_of g ps
+  unfolding book_y y_of
   one_y ps = rw (one_pages ps, own_sides') refl
     where
       own_sides' : sides_on f g.spec.sides ≡ g.spec.sides

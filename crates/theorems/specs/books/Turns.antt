@@ -10,7 +10,7 @@ use Rattle.std.proofs.Math.ListN.{length}
 use Rattle.model.specs.Gather.{pick, one}
 use Rattle.model.specs.Galley.{Sides, single, double, Galley, Place}
 use Rattle.model.specs.Leaf.{leaf, ends}
-use Rattle.model.specs.Turns.{xOf, yOf, turns}
+use Rattle.model.specs.Turns.{x_of, y_of, turns}
 use Rattle.model.specs.Best.{valid}
 use Rattle.model.specs.Book.{sides_on, open_on, Choice, choices, book_pages, book_x, book_y, book_turns}
 use Rattle.model.specs.laws.Leaf.{leaf_next, leaf_mono}
@@ -27,7 +27,7 @@ pub record Alike (h g : Galley) : Type 0 where
 -- The turns of a choice, the last chapter's list first, by the weights and the sidedness of one of the chapters.
 unfoldable pub turns_back : Galley → ℕ → List Galley → Choice → ℕ
 turns_back h f rs cs =
-    h.spec.alpha * sum_back xOf f rs cs
+    h.spec.alpha * sum_back x_of f rs cs
     + h.spec.beta * (leaf (sides_on f h.spec.sides) (pages_in cs) - leaf (sides_on f h.spec.sides) 1)
 
 -- There is no chapter.
@@ -100,9 +100,9 @@ module _ (h : Galley) (f : ℕ) (some : 1 ≤ f) where
   -- A chapter's own turns, by the weights that all share.
   own : (g : Galley) (n : ℕ) (ps : List Place) → Alike h g
       → turns (open_on n g) ps
-      ≡ h.spec.alpha * xOf (open_on n g) ps
+      ≡ h.spec.alpha * x_of (open_on n g) ps
       + h.spec.beta * (leaf (sides_on n h.spec.sides) (length ps) - leaf (sides_on n h.spec.sides) 1)
-  unfolding turns yOf open_on
+  unfolding turns y_of open_on
   own g n ps a = rw (a.alpha, a.beta, a.sides n) refl
 
   -- One more chapter adds its turns and those between it and the chapter before.
@@ -113,7 +113,7 @@ module _ (h : Galley) (f : ℕ) (some : 1 ≤ f) where
   turns_next g [] ps [] a c =
       let mine = own g (f + 0) ps a in
       let leaves = ap (λ n. h.spec.beta * n) (leaves_first h.spec.sides f (length ps) some) in
-      let x = mul-add h.spec.alpha 0 (xOf (open_on (f + 0) g) ps) in
+      let x = mul-add h.spec.alpha 0 (x_of (open_on (f + 0) g) ps) in
       let y : leaf (sides_on f h.spec.sides) 0 - leaf (sides_on f h.spec.sides) 1 ≡ 0 =
       let up = leaf_mono (sides_on f h.spec.sides) 0 1 (omega arith) in omega arith in
       let zero = ap (λ n. h.spec.beta * n) y ∙ mul-zero h.spec.beta in
@@ -131,7 +131,7 @@ module _ (h : Galley) (f : ℕ) (some : 1 ≤ f) where
       (leaves_after h.spec.sides f P (length ps) some (chosen_pages f g' rs cs c.1) (some_page _ ps c.0)) in
       let y = mul-add h.spec.beta (before + turn) after in
       let y' = mul-add h.spec.beta before turn in
-      let x = mul-add h.spec.alpha (sum_back xOf f (g' ∷ rs) cs) (xOf (open_on n g) ps) in
+      let x = mul-add h.spec.alpha (sum_back x_of f (g' ∷ rs) cs) (x_of (open_on n g) ps) in
       omega arith
 
   -- The turns of a book are its turns read backwards.
@@ -140,4 +140,4 @@ module _ (h : Galley) (f : ℕ) (some : 1 ≤ f) where
   unfolding book_turns book_x book_y book_pages turns_back
   turns_front gs cs m =
       let pages = sum_front f (h ∷ gs) (λ g ps. length ps) cs m ∙ pages_sum f _ _ (chosen_front f (h ∷ gs) cs m) in
-      rw (sum_front f (h ∷ gs) xOf cs m, pages) refl
+      rw (sum_front f (h ∷ gs) x_of cs m, pages) refl

@@ -5,8 +5,8 @@ use Rattle.std.proofs.Math.Path.{ap, ap₂}
 use Rattle.model.specs.Gather.{sum}
 use Rattle.model.specs.Galley.{Galley, Block, Sane}
 use Rattle.model.specs.Leaf.{leaf}
-use Rattle.model.specs.Turns.{page_of, apart, xOf, yOf, turns}
-use Rattle.model.specs.Pagination.{Map, Pagination, list_on, xOn, turns_on}
+use Rattle.model.specs.Turns.{page_of, apart, x_of, y_of, turns}
+use Rattle.model.specs.Pagination.{Map, Pagination, list_on, x_on, turns_on}
 use Rattle.model.specs.laws.Gather.{sum_ext}
 use Rattle.theorems.specs.published.OfMap.{length_list, page_list}
 
@@ -16,9 +16,9 @@ module _ {g : Galley} (sane : Sane g) {p : ℕ} {P : Map} (m : Pagination g p P)
   page_on s k b = let upto = (m.into s k b).1 in page_list m.order s k b p 0 (m.into s k b).0 (omega arith)
 
   -- X, Y and T of the list are those of the pagination.
-  pub x_on : xOf g (list_on g P p 1) ≡ xOn g P
-  unfolding xOf xOn apart
-  x_on =
+  pub x_on_lem : x_of g (list_on g P p 1) ≡ x_on g P
+  unfolding x_of x_on apart
+  x_on_lem =
       sum_ext g.floats _ _
       (λ s a d. sum_ext (g.stream s).size _ _ (λ k b c. float s a k (omega arith)))
     where
@@ -28,13 +28,13 @@ module _ {g : Galley} (sane : Sane g) {p : ℕ} {P : Map} (m : Pagination g p P)
           ap₂ (λ x y. leaf g.spec.sides x - leaf g.spec.sides y) (page_on s k b)
           (page_on 0 ((g.stream s).cite k) (sane.cites s k a b))
 
-  pub y_on : yOf g (list_on g P p 1) ≡ leaf g.spec.sides p - leaf g.spec.sides 1
-  unfolding yOf
+  pub y_on : y_of g (list_on g P p 1) ≡ leaf g.spec.sides p - leaf g.spec.sides 1
+  unfolding y_of
   y_on = ap (λ n. leaf g.spec.sides n - leaf g.spec.sides 1) (length_list g P p 1)
 
   pub turns_on_lem : turns g (list_on g P p 1) ≡ turns_on g p P
   unfolding turns turns_on
-  turns_on_lem = ap₂ (λ x y. g.spec.alpha * x + g.spec.beta * y) x_on y_on
+  turns_on_lem = ap₂ (λ x y. g.spec.alpha * x + g.spec.beta * y) x_on_lem y_on
 
 sum_times : (a n : ℕ) (f : ℕ → ℕ) → a * sum n f ≡ sum n (λ k. a * f k)
 unfolding sum

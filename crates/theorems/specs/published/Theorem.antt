@@ -9,13 +9,13 @@ use Rattle.model.specs.Leaf.{leaf}
 use Rattle.model.specs.Turns.{page_of}
 use Rattle.model.specs.Answers.{accepted, marked, pages_of, words_of, counts_of}
 use Rattle.model.specs.Best.{valid}
-use Rattle.model.specs.Pagination.{Map, Pagination, list_on, xOn, turns_on, white_over}
+use Rattle.model.specs.Pagination.{Map, Pagination, list_on, x_on, turns_on, white_over}
 use Rattle.model.specs.laws.Words.{pages_words}
 use Rattle.model.specs.laws.Lists.{◌∈◌}
 use Rattle.model.specs.laws.Valid.{Accepted, valid_accepted, accepted_valid, marked_counts}
 use Rattle.theorems.specs.published.OfMap.{length_list, list_shaped}
 use Rattle.theorems.specs.published.Accepted.{accepted_pagination, pagination_accepts}
-use Rattle.theorems.specs.published.Numbers.{page_on, x_on, y_on, turns_on_lem, weighted}
+use Rattle.theorems.specs.published.Numbers.{page_on, x_on_lem, y_on, turns_on_lem, weighted}
 use Rattle.theorems.specs.published.White.{white_on_lem}
 
 module _ (g : Galley) (sane : Sane g) where
@@ -65,13 +65,13 @@ module _ (g : Galley) (sane : Sane g) where
 
     -- The counts of its list are its page count, X and Y over its leaves, its turns, and its white.
     pub places_counts : counts_of g (list_on g P p 1)
-        ≡ Counted p (xOn g P) (leaf g.spec.sides p - leaf g.spec.sides 1) (turns_on g p P) (white_over g p P)
+        ≡ Counted p (x_on g P) (leaf g.spec.sides p - leaf g.spec.sides 1) (turns_on g p P) (white_over g p P)
     unfolding counts_of
-    places_counts = rw (length_list g P p 1, x_on sane m, y_on sane m, turns_on_lem sane m, white_on_lem sane m)
+    places_counts = rw (length_list g P p 1, x_on_lem sane m, y_on sane m, turns_on_lem sane m, white_on_lem sane m)
 
     -- And so marking answers the words of its list.
     pub words_counts : marked g (words_of (list_on g P p 1))
-        ≡ Counted p (xOn g P) (leaf g.spec.sides p - leaf g.spec.sides 1) (turns_on g p P) (white_over g p P)
+        ≡ Counted p (x_on g P) (leaf g.spec.sides p - leaf g.spec.sides 1) (turns_on g p P) (white_over g p P)
     words_counts =
         marked_counts g (words_of (list_on g P p 1)) ((words_published (words_of (list_on g P p 1))).1 (p, P, m, refl))
         ∙ ap (counts_of g) (pages_words g (list_on g P p 1) (list_shaped g P p 1))
@@ -83,7 +83,7 @@ pub turn_leaves : (g : Galley) (p : ℕ) (P : Map) (S : ℕ → ℕ) → ((q : �
     → turns_on g p P
     ≡ sum g.floats (λ s. sum (g.stream s).size (λ f. g.spec.alpha * (S (P s f) - S (P 0 ((g.stream s).cite f)))))
     + g.spec.beta * (S p - S 1)
-unfolding turns_on xOn
+unfolding turns_on x_on
 turn_leaves g p P S is =
     simp is
     (ap (λ x. x + g.spec.beta * (S p - S 1))

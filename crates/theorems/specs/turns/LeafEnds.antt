@@ -4,7 +4,7 @@ use Rattle.std.proofs.Common.{arith, ◌∙◌, ap, ltb-false, leb-true, leb-fal
 use Rattle.model.specs.Gather.{pick, one, sum}
 use Rattle.model.specs.Galley.{Sides, Galley, Place, Block, count}
 use Rattle.model.specs.Leaf.{leaf, ends}
-use Rattle.model.specs.Turns.{page_of, apart, xOf, yOf}
+use Rattle.model.specs.Turns.{page_of, apart, x_of, y_of}
 use Rattle.model.specs.Answers.{ended}
 use Rattle.model.specs.laws.Gather.{sum_ext, sum_zero, sum_add}
 use Rattle.model.specs.laws.Leaf.{leaf_mono}
@@ -97,15 +97,15 @@ stream_by_ends g s u ps h t a =
 
 -- X: at each page that ends its leaf, the floats that wait there.
 pub x_by_ends : (g : Galley) (u : Place) (ps : List Place) → Along (Orderly g) 1 u ps
-    → xOf g ps ≡ page_sum (at_end g.spec.sides (waiting g)) 1 ps
-unfolding xOf waiting
+    → x_of g ps ≡ page_sum (at_end g.spec.sides (waiting g)) 1 ps
+unfolding x_of waiting
 x_by_ends g u ps a =
     sum_ext g.floats _ _ (λ s p q. stream_by_ends g s u ps p q a)
     ∙ ends_swap g.spec.sides g.floats (waiting_in g) 1 ps
 
 -- Y: the pages, other than the last, that end their leaf.
-pub y_by_ends : (g : Galley) (ps : List Place) → yOf g ps ≡ page_sum (turned g.spec.sides) 1 ps
-unfolding yOf page_sum
+pub y_by_ends : (g : Galley) (ps : List Place) → y_of g ps ≡ page_sum (turned g.spec.sides) 1 ps
+unfolding y_of page_sum
 y_by_ends g [] = let first = leaf_mono g.spec.sides 0 1 (omega arith) in omega arith
 y_by_ends g (v ∷ vs) =
     let law = leaf_of_last g.spec.sides 1 v vs in

@@ -12,7 +12,7 @@ use Rattle.candidates.proofs.last.best_line.Given as goal
 abbrev pub invariant-loop-a : goal.invariant-loop-a
 invariant-loop-a l =
     (l.window.low ≤ l.a) × ((l.a ≡ l.window.low) ⊎ (l.a ≤ l.window.high))
-    × Best (Lines (lines_of l.work l.tall l.column l.side) (λ l.a. 0) l.window.low l.a l.column) l.best
+    × Best (Lines (lines_of l.work l.tall l.column l.side) (λ a. 0) l.window.low l.a l.column) l.best
 
 abbrev pub decreases-loop-a : goal.decreases-loop-a
 decreases-loop-a l = l.window.high - l.a

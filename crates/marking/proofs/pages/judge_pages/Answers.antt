@@ -53,7 +53,7 @@ page : (c : After-start_fault-start)
     Begun c.args.s.now c.args.g c.args.list.now c.args.last l.done l.at l.waiting l.sums c.page_at-v.result
     c.start_fault-start.result)
 page c =
-    begins c.args.s.now c.args.g c.args.list.now c.requires c.page_words-words.ensures.1 c.pages.invariant (more «c.before.before»)
+    begins c.args.s.now c.args.g c.args.list.now c.requires c.page_words-words.ensures.1 c.pages.invariant (page_left c.args.s.now c.args.g c.args.list.now c.requires c.page_words-words.ensures.1 c.pages.invariant c.if-done-pages.false)
     c.page_at-v.ensures c.start_fault-start.ensures
 
 pub bare_page-laid-requires : goal.bare_page-laid-requires
@@ -72,7 +72,7 @@ pub loop-laid-preserved : goal.loop-laid-preserved
 loop-laid-preserved c = rw c.with_next-laid.ensures (underway_more c.loop-laid.invariant (sym c.is_laid.ensures ∙ c.if-is_laid.false))
 
 pub overflow_add-closing : goal.overflow_add-closing
-overflow_add-closing c = omega (arith, low (goal.at.overflow_add-closing c).After-page_at-v)
+overflow_add-closing c = omega (arith, low (goal.at.overflow_add-closing c).Else-done-pages)
 
 pub end_fault-end-requires : goal.end_fault-end-requires
 end_fault-end-requires c = (c.requires.sound, c.loop-laid.invariant.ahead.within)
@@ -85,10 +85,10 @@ with_page-sums-requires c =
     underway_addable c.loop-laid.invariant c.waiting_on-waiting.result c.waiting_on-waiting.ensures
 
 pub overflow_add-done : goal.overflow_add-done
-overflow_add-done c = omega (arith, low (goal.at.overflow_add-done c).After-page_at-v)
+overflow_add-done c = omega (arith, low (goal.at.overflow_add-done c).Else-done-pages)
 
 pub pages-smaller : goal.pages-smaller
-pages-smaller c = omega (arith, more (goal.at.pages-smaller c).After-page_at-v)
+pages-smaller c = omega (arith, more (goal.at.pages-smaller c).Else-done-pages)
 
 pub pages-preserved : goal.pages-preserved
 pages-preserved c =

@@ -1,0 +1,32 @@
+-- `factors_of` meets its contract: it computes the definition, and no more blocks stand together than there are.
+use Prim.Native.Nat.{◌+◌, ◌*◌, ◌≤◌}
+use borrow.Author.Rules.{rules}
+use native.Mathlib.Nat.{mul-le-mul}
+use native.Mathlib.Omega.{arith}
+use Rattle.galley.specs.Model.{stream_of}
+use Rattle.forecast.specs.laws.Ceiling.{factors_is, factors_few}
+use Rattle.forecast.proofs.ceiling.factors_of.Goals as goal
+use Rattle.forecast.proofs.ceiling.factors_of.Goals.{After-most_together-most}
+
+low : (c : After-most_together-most)
+    → (c.args.stream.count + 1) * (c.most_together-most.result + 1)
+    ≤ (c.args.stream.count + 1) * (c.args.stream.count + 1)
+low c =
+    let n = c.args.stream.count in
+    mul-le-mul {n₁ = n + 1} {m₁ = c.most_together-most.result + 1} {n₂ = n + 1} {m₂ = n + 1} (omega arith) (omega (arith, c.most_together-most.ensures.1))
+
+pub returns : goal.returns
+returns c =
+    let a = c.args in (
+      λ g legal cite is. factors_is g (stream_of a.s.now a.stream legal cite) c.most_together-most.result (c.most_together-most.ensures.0 g legal cite is),
+      low (goal.at.returns c).After-most_together-most,
+    )
+
+pub overflow_add-result : goal.overflow_add-result
+overflow_add-result c = omega (arith, c.requires.1)
+
+pub overflow_add-result-2 : goal.overflow_add-result-2
+overflow_add-result-2 c = omega (arith, c.requires.1, c.most_together-most.ensures.1)
+
+pub overflow_mul-result : goal.overflow_mul-result
+overflow_mul-result c = let few = factors_few c.args.stream.count 4000 c.requires.1 (low (goal.at.overflow_mul-result c).After-most_together-most) in omega arith

@@ -1,0 +1,15 @@
+-- `hint_in` meets its contract. The loop's invariant: no word before `at` names the column. The word 0 names none.
+use Prim.Native.Nat.{ℕ, ◌+◌, ◌-◌, ◌<◌}
+use native.Mathlib.Omega.{arith}
+use mathlib.Core.Path.{◌≡◌, refl, sym, ◌∙◌, ap}
+use lib.ListN.{length, get_or}
+use Rattle.reached.specs.Ring.{hint_name}
+use Rattle.reached.specs.laws.Ring.{absent_next}
+use borrow.Author.Rules.{rules}
+use Rattle.reached.proofs.ring.hint_in.Given as goal
+
+abbrev pub invariant-loop-at : goal.invariant-loop-at
+invariant-loop-at l = (k : ℕ) → k < l.at → hint_name (get_or l.seen k 0) ≡ l.column + 1 → ⊥
+
+abbrev pub decreases-loop-at : goal.decreases-loop-at
+decreases-loop-at l = length l.seen - l.at
