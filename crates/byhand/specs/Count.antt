@@ -15,7 +15,7 @@ use types.Logic.{Logic}
 use contract.Running.{Running, tables, tables_of}
 use types.Kit.{Item, ⋆}
 
-module _ {M : Type 1} {𝓤 : Ura M} {𝓛 : Logic 𝓤} (𝓜 : Model 𝓤 𝓛.H) (𝓡 : Running 𝓤 𝓛.H 𝓜) (γ : Routines) where
+module _ {M : Type 1} {𝓤 : Ura M} (𝓛 : Logic 𝓤) (𝓜 : Model 𝓤 𝓛.H) (𝓡 : Running 𝓤 𝓛.H 𝓜) (γ : Routines) where
   open 𝓛 use {H}
   open tables 𝓤 H 𝓜 𝓡 γ use {C, Λ}
 

@@ -8,7 +8,7 @@
 use Rattle.std.specs.Prelude.{◌≡◌, refl, ℕ, zero, suc, List, [], ◌∷◌, T, get_or}
 use Rattle.std.proofs.Common.{sym, subst}
 use seplogic.Ra.Ura.{Ura}
-use seplogic.Ra.TreeShare.{full_share}
+use base.Fraction.{full_share}
 use mir.Syntax.{Ty, ty_enum, ttnil, Local, local, value_local, place, Step as PlaceStep, Opd as Operand, copy}
 use mir.Val.{Val, WT, has_ty}
 use base.Logic.{ent, via}

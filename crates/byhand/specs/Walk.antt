@@ -10,7 +10,7 @@
 use Rattle.std.specs.Prelude.{◌≡◌, refl, ℕ, ◌<◌, ◌^◌, List, [], ◌∷◌}
 use Rattle.std.proofs.Common.{subst, ap}
 use seplogic.Ra.Ura.{Ura}
-use mir.Syntax.{Fn, Name, Place, Opd as Operand, Body, seq, call, w64}
+use mir.Syntax.{Fn, Callee, Place, Opd as Operand, Body, seq, call, w64}
 use mir.Val.{Val}
 use base.Logic.{SProp, ent, sep, emp, via, mono_r, emp∗, fst∗, snd∗, ex_e, id⊢}
 use Rattle.std.specs.Borrow.{Fml, ftrue, fsep, usize}
@@ -53,7 +53,7 @@ pub record Passed {M : Type 1} {𝓤 : Ura M} (𝓛 : Logic 𝓤) {n : ℕ} (s :
 -- each is still owned at exit, as it was passed
 abbrev kept : {n : ℕ} (ss : List (Slot n)) (ks : Kepts ss) → Stays ss ks
 kept [] ks = tt
-kept (s ∷ ss) ks = (record { fit = λ κs x f. Unit {0}; has = λ κs x f vs. (s.row κs).own x vs }, kept ss ks.1)
+kept (s ∷ ss) ks = (record { fit = λ κs x f. Unit {0}; has = λ κs x f vs. (s.row κs).own_val x vs }, kept ss ks.1)
 
 -- nothing is owed of what is bound at exit, and what is had there is what was owned at entry
 fits : {n : ℕ} (κs : Lfts n) (ss : List (Slot n)) (ks : Kepts ss) (a : Denots (types_at ss κs)) (ws : Fins κs ss ks a)
@@ -64,7 +64,7 @@ fits κs (s ∷ ss) ks a ws = (tt, fits κs ss ks.1 a.1 ws.1)
 had : {n : ℕ} (κs : Lfts n) (ss : List (Slot n)) (ks : Kepts ss) (a : Denots (types_at ss κs)) (ws : Fins κs ss ks a)
     (vss : Valss (types_at ss κs)) → has_of κs ss ks (kept ss ks) a ws vss ≡ owns (types_at ss κs) a vss
 had κs [] ks a ws vss = refl
-had κs (s ∷ ss) ks a ws vss = ap (fsep ((s.row κs).own a.0 vss.0)) (had κs ss ks.1 a.1 ws.1 vss.1)
+had κs (s ∷ ss) ks a ws vss = ap (fsep ((s.row κs).own_val a.0 vss.0)) (had κs ss ks.1 a.1 ws.1 vss.1)
 
 module _ {M : Type 1} {𝓤 : Ura M} (𝓛 : Logic 𝓤) {n : ℕ} where
   abbrev pub Passeds : List (Slot n) → Type 1
@@ -93,7 +93,7 @@ module _ {M : Type 1} {𝓤 : Ura M} (𝓛 : Logic 𝓤) {n : ℕ} where
       (sep 𝓤 (sem 𝓛 (owns (types_at ss κs) a vss)) (sem 𝓛 (owns (types_at ss κs) a vss)))
   twice κs [] ps a vss = emp∗ 𝓤 (emp 𝓤)
   twice κs (s ∷ ss) ps a vss =
-      let P : Fml = (s.row κs).own a.0 vss.0 in
+      let P : Fml = (s.row κs).own_val a.0 vss.0 in
       let Q : Fml = owns (types_at ss κs) a.1 vss.1 in
       qed 𝓛 (‵ (fsep P Q) ∷ []) ∵ fsplit ! $
       use1 𝓛 (‵ P ⊛ ‵ P) ((ps.0.copy κs).twice a.0 vss.0) $ split ! $ move ! (2 ∷ []) $
@@ -139,7 +139,7 @@ module _ {M : Type 1} {𝓤 : Ura M} (𝓛 : Logic 𝓤) (T : Ended) (c : Clause
       suffices ! _ (ends_at 𝓛 T hs c y v r ws (fits y.0.0 ss T.kept y.0.3 ws)) $
       suffices ! (sep 𝓤 P (fact 𝓤 φ)) (mono_r 𝓤 P said) $ says ! x $ move ! (1 ∷ 2 ∷ 0 ∷ []) $ done !)
 
-module _ {M : Type 1} {𝓤 : Ura M} {𝓛 : Logic 𝓤} (𝓜 : Model 𝓤 𝓛.H) (𝓡 : Running 𝓤 𝓛.H 𝓜) (γ : Routines) where
+module _ {M : Type 1} {𝓤 : Ura M} (𝓛 : Logic 𝓤) (𝓜 : Model 𝓤 𝓛.H) (𝓡 : Running 𝓤 𝓛.H 𝓜) (γ : Routines) where
   open 𝓛 use {H}
   open tables 𝓤 H 𝓜 𝓡 γ use {C, Λ}
 
@@ -153,7 +153,7 @@ module _ {M : Type 1} {𝓤 : Ura M} {𝓛 : Logic 𝓤} (𝓜 : Model 𝓤 𝓛
     ss = T.signature.params
 
     -- A walk from the entry is the function's statement, whatever is had of each argument at exit.
-    pub met : (k : Name) → Closed 𝓤 H C Λ k f → (hs : Stays ss T.kept) → AllGo 𝓛 T.signature.lifetimes ss T.kept hs
+    pub met : (k : Callee) → Closed 𝓤 H C Λ k f → (hs : Stays ss T.kept) → AllGo 𝓛 T.signature.lifetimes ss T.kept hs
         → (sp : (κs : Lfts T.signature.lifetimes) → Spells (types_at ss κs))
         → ((κs : Lfts T.signature.lifetimes) → Tellss (types_at ss κs) (Ises (types_at ss κs)) (sp κs))
         → ((κs : Lfts T.signature.lifetimes) (qs : Shares T.signature.lifetimes)
@@ -177,7 +177,7 @@ module _ {M : Type 1} {𝓤 : Ura M} {𝓛 : Logic 𝓤} (𝓜 : Model 𝓤 𝓛
     Walks y = Sq 𝓛 (‵ (passed 𝓛 T c y) ∷ raw (tokens 𝓛 T c y) ∷ ‵ (passed 𝓛 T c y) ∷ [])
         (prop (WpFn 𝓤 H C Λ f (flat (types_at ss y.0.0) y.0.4) ((Walk 𝓛 T c).post y)))
 
-    pub proved : (k : Name) → Closed 𝓤 H C Λ k f → (ps : Passeds 𝓛 ss)
+    pub proved : (k : Callee) → Closed 𝓤 H C Λ k f → (ps : Passeds 𝓛 ss)
         → ((κs : Lfts T.signature.lifetimes) (qs : Shares T.signature.lifetimes)
         (bounds : AllOutlive T.signature.lifetimes T.signature.outlives κs) (a : Args T.signature κs)
         (g : (c κs a).ghost) → let vss = valss (types_at ss κs) (spelled 𝓛 ss ps κs) a in
@@ -195,7 +195,7 @@ module _ {M : Type 1} {𝓤 : Ura M} {𝓛 : Logic 𝓤} (𝓜 : Model 𝓤 𝓛
 
   -- The callee f is the routine r. What it ensures is the fact φ. Its operands are read while the arguments and the tokens
   -- are one item.
-  module _ (T : Ended) (c : Clauses 𝓤 T) {K : Type 0} {Γ : List (Item 𝓤)} {E : Env 𝓤 H} {f : Name} {xs : List Operand}
+  module _ (T : Ended) (c : Clauses 𝓤 T) {K : Type 0} {Γ : List (Item 𝓤)} {E : Env 𝓤 H} {f : Callee} {xs : List Operand}
       {p : Post 𝓤 H} {d : Place} {body : Body} where
     pub calls : K → (r : Routine) → γ f ≡ r → Meets 𝓛 T.signature (𝓡.run r) (closing 𝓛 T c)
         → (y : Call 𝓛 T c) → ent 𝓤 (emp 𝓤) ((c y.0.0 y.0.3).requires y.1) → (φ : Result 𝓛 T c y → Type 0)
@@ -225,11 +225,11 @@ module _ {M : Type 1} {𝓤 : Ura M} {𝓛 : Logic 𝓤} {K : Type 0} {Γ : List
   first t = step (λ s. fsplit t $ move t (1 ∷ []) $ drop t $ s)
 
   module _ (t : K) (R : RattleType) (x : R.Denot) (vs : List Val) where
-    pub alone : Step K 𝓛 (‵ (owns (R ∷ []) (x, tt) (vs, tt)) ∷ Γ) G (‵ (R.own x vs) ∷ Γ) G
+    pub alone : Step K 𝓛 (‵ (owns (R ∷ []) (x, tt) (vs, tt)) ∷ Γ) G (‵ (R.own_val x vs) ∷ Γ) G
     alone = step (λ s. nothing t $ move t (1 ∷ 0 ∷ []) $ fjoin t $ s)
 
     pub beside : (n : ℕ) → n < 2 ^ 64
-        → Step K 𝓛 (‵ (owns (R ∷ usize ∷ []) (x, (n, tt)) (vs, (uint_vals w64 n, tt))) ∷ Γ) G (‵ (R.own x vs) ∷ Γ) G
+        → Step K 𝓛 (‵ (owns (R ∷ usize ∷ []) (x, (n, tt)) (vs, (uint_vals w64 n, tt))) ∷ Γ) G (‵ (R.own_val x vs) ∷ Γ) G
     beside n ok = step (λ s.
         nothing t $ owned t usize (Is usize) (uint_Makes 𝓛 w64) n (uint_vals w64 n) (refl, ok) $ fjoin t $
         move t (1 ∷ 0 ∷ []) $ fjoin t $ s)

@@ -1,0 +1,78 @@
+-- `galley_probe::galley_probe_block` meets its contract. Block k is there once its number is tested, since a galley that reads
+-- is sound.
+use Prim.Native.Nat.{ℕ, ◌≤◌}
+use mathlib.Core.Path.{sym, ◌∙◌}
+use native.Mathlib.Omega.{arith}
+use borrow.Author.Tests.{lt-ltb, le-ltb}
+use Rattle.galley.specs.Block.{Has}
+use Rattle.galley.specs.laws.Sound.{sound}
+use Rattle.galley_probe.specs.Words.{block_words}
+use Rattle.galley_probe.specs.laws.Stream.{stream_sound}
+use Rattle.galley_probe.proofs.galley_probe_block.Goals as goal
+use Rattle.galley_probe.proofs.galley_probe_block.Goals.{Else-stream-k}
+
+pub returns-in_default : goal.returns-in_default
+unfolding block_words
+returns-in_default c = simp (sym c.read_galley-reading.ensures ∙ c.in_default.is)
+
+pub returns-then-k-lt1 : goal.returns-then-k-lt1
+unfolding block_words
+returns-then-k-lt1 c =
+    simp (
+      sym c.read_galley-reading.ensures ∙ c.in-Galley.is,
+      lt-ltb _ _ c.if-k-lt1.true,
+    )
+
+pub returns-then-stream-k : goal.returns-then-stream-k
+unfolding block_words
+returns-then-stream-k c =
+    simp (
+      sym c.read_galley-reading.ensures ∙ c.in-Galley.is,
+      le-ltb _ _ c.if-k-lt1.false,
+      ← c.stream_at-stream.ensures,
+      lt-ltb _ _ c.if-stream-k.true,
+    )
+
+-- Once the number is tested, block k has each of its fields.
+has : (c : Else-stream-k) (at : ℕ) → at ≤ 14
+    → Has c.args.bytes.now c.stream_at-stream.result c.args.k at
+has c at inside =
+    let a = c.args in
+    let read = sym c.read_galley-reading.ensures ∙ c.in-Galley.is in
+    record {
+      within = rw c.stream_at-stream.ensures (stream_sound a.bytes.now _ a.number (sound _ _ read)).0.within;
+      low = c.if-k-lt1.false;
+      high = c.if-stream-k.false;
+      field = inside;
+    }
+
+pub returns : goal.returns
+unfolding block_words
+returns c =
+    simp (
+      sym c.read_galley-reading.ensures ∙ c.in-Galley.is,
+      le-ltb _ _ c.if-k-lt1.false,
+      ← c.stream_at-stream.ensures,
+      le-ltb _ _ c.if-stream-k.false,
+      ← c.is_legal.ensures,
+      ← c.flag-legal.ensures,
+      ← c.field.ensures,
+      ← c.field-2.ensures,
+      ← c.field-3.ensures,
+      ← c.field-4.ensures,
+    )
+
+pub is_legal-requires : goal.is_legal-requires
+is_legal-requires c = has (goal.at.is_legal-requires c).Else-stream-k _ (omega arith)
+
+pub field-requires : goal.field-requires
+field-requires c = has (goal.at.field-requires c).Else-stream-k _ (omega arith)
+
+pub field-requires-2 : goal.field-requires-2
+field-requires-2 c = has (goal.at.field-requires-2 c).Else-stream-k _ (omega arith)
+
+pub field-requires-3 : goal.field-requires-3
+field-requires-3 c = has (goal.at.field-requires-3 c).Else-stream-k _ (omega arith)
+
+pub field-requires-4 : goal.field-requires-4
+field-requires-4 c = has (goal.at.field-requires-4 c).Else-stream-k _ (omega arith)
