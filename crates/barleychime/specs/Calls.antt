@@ -11,7 +11,7 @@ use Rattle.galley.specs.declared.Reading.{Reading}
 use Rattle.galley.specs.declared.Reading.TheVariants as reads
 use Rattle.galley.specs.Whole.{galley_of}
 use Rattle.galley.specs.Model.{model_of}
-use Rattle.galley.specs.laws.Sound.{refusal_number}
+use Rattle.galley.proofs.laws.Sound.{refusal_number}
 use Rattle.marking.specs.Mark.{mark_of}
 use Rattle.layouts.specs.Names.{is_name}
 use Rattle.desk.specs.declared.Desk.{Desk}

@@ -19,12 +19,12 @@ use Rattle.galley.specs.Block.{offset, field_of}
 use Rattle.galley.specs.Model.{stream_of, legal_of, streams_of, float_streams, model_of}
 use Rattle.galley.specs.Sound.{Opening}
 use Rattle.galley.specs.Write.{stated, folio_bytes}
-use Rattle.galley.specs.laws.Place.{spec_kind, spec_large, figure_kind, Fits, unfit_fits}
-use Rattle.galley.specs.laws.Record.{Found, found_at}
-use Rattle.galley.specs.laws.Stand.{begun, spec_first, folio_step, line_step}
-use Rattle.galley.specs.laws.Underway.{read_on}
-use Rattle.galley.specs.laws.Write.{folio_after}
-use Rattle.galley.specs.laws.Sound.{sound, opening}
+use Rattle.galley.proofs.laws.Place.{spec_kind, spec_large, figure_kind, Fits, unfit_fits}
+use Rattle.galley.proofs.laws.Record.{Found, found_at}
+use Rattle.galley.proofs.laws.Stand.{begun, spec_first, folio_step, line_step}
+use Rattle.galley.proofs.laws.Underway.{read_on}
+use Rattle.galley.proofs.laws.Write.{folio_after}
+use Rattle.galley.proofs.laws.Sound.{sound, opening}
 use Rattle.galley.specs.declared.Kind.{Kind}
 use Rattle.galley.specs.declared.Spec.{Spec}
 use Rattle.galley.specs.declared.Stream.{Stream}

@@ -9,5 +9,4 @@ pub mod Sound
 pub mod Write
 pub mod Model
 pub mod Alike
-pub mod laws
 mod CaseA

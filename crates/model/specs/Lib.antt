@@ -14,4 +14,3 @@ pub mod Weighed
 pub mod Opening
 pub mod Loosened
 pub mod Book
-pub mod laws

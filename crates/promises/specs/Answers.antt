@@ -13,7 +13,7 @@ use Rattle.galley.specs.declared.Reading.{Reading}
 use Rattle.galley.specs.declared.Reading.TheVariants as reads
 use Rattle.galley.specs.Whole.{galley_of}
 use Rattle.galley.specs.Model.{model_of}
-use Rattle.galley.specs.laws.Sound.{refusal_number}
+use Rattle.galley.proofs.laws.Sound.{refusal_number}
 use Rattle.marking.specs.Mark.{mark_read, mark_of}
 use Rattle.needs.specs.Needs.{work_needed, list_needed}
 use Rattle.making.specs.Make.{make_read, make_of}

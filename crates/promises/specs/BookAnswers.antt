@@ -21,7 +21,7 @@ use Rattle.galley.specs.declared.Galley.{Galley}
 use Rattle.galley.specs.declared.Reading.{Reading}
 use Rattle.galley.specs.declared.Reading.TheVariants as reads
 use Rattle.galley.specs.Whole.{galley_of}
-use Rattle.galley.specs.laws.Sound.{refusal_number}
+use Rattle.galley.proofs.laws.Sound.{refusal_number}
 use Rattle.places.specs.Entry.{cleared}
 use Rattle.chapters.specs.Book.{Chapter, Outcome, read, refused, adds_up, alike, has_folio, before, later, later_from, first_of, chapters_of, book_of, models_of, book_work, book_list}
 use Rattle.course.specs.Weighed.{all_weighed}

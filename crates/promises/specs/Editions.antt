@@ -4,12 +4,12 @@ use Rattle.std.specs.Prelude.{ℕ, ◌≤◌, ◌<◌, ◌≡◌, ◌↔◌, Boo
 use Rattle.model.specs.Galley as model
 use Rattle.model.specs.Height.{loosest}
 use Rattle.model.specs.Rules.{floor, fills}
-use Rattle.model.specs.laws.Rules.{fills_first, under_first}
+use Rattle.model.proofs.laws.Rules.{fills_first, under_first}
 use Rattle.galley.specs.declared.Galley.{Galley}
 use Rattle.galley.specs.declared.Reading.TheVariants as reads
 use Rattle.galley.specs.Whole.{galley_of}
 use Rattle.galley.specs.Model.{model_of}
-use Rattle.galley.specs.laws.Sound.{sound}
+use Rattle.galley.proofs.laws.Sound.{sound}
 
 -- What the first edition asks of the height of a page.
 pub record FirstEdition (bytes : List ℕ) (g : Galley) : Type 0 where

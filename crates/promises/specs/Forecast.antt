@@ -12,13 +12,13 @@ use Rattle.model.specs.Galley as model
 use Rattle.model.specs.Answers.{numbers_of, accepted}
 use Rattle.model.specs.Best.{made}
 use Rattle.model.specs.Weighed.{together, most_together, weighed, ceiling}
-use Rattle.model.specs.laws.Weighed.{weighed_ceiling}
+use Rattle.model.proofs.laws.Weighed.{weighed_ceiling}
 use Rattle.galley.specs.declared.Galley.{Galley}
 use Rattle.galley.specs.declared.Reading.{Reading}
 use Rattle.galley.specs.declared.Reading.TheVariants as reads
 use Rattle.galley.specs.Whole.{galley_of}
 use Rattle.galley.specs.Model.{model_of}
-use Rattle.galley.specs.laws.Sound.{sound, refusal_number}
+use Rattle.galley.proofs.laws.Sound.{sound, refusal_number}
 use Rattle.needs.specs.Needs.{work_needed, list_needed}
 use Rattle.making.specs.Make.{too_short, make_read, make_of, weighed_read, weighed_of, Made}
 use Rattle.forecast.specs.Forecast.{forecast_read, forecast_of}

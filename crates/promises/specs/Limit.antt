@@ -10,8 +10,8 @@ use Rattle.model.specs.Galley as model
 use Rattle.model.specs.Turns.{turns}
 use Rattle.model.specs.Answers.{numbers_of, accepted, counts_of, marked}
 use Rattle.model.specs.Best.{allowed, made, made_words}
-use Rattle.model.specs.laws.Judge.{accepts}
-use Rattle.model.specs.laws.Valid.{valid_accepted, accepted_valid}
+use Rattle.model.proofs.laws.Judge.{accepts}
+use Rattle.model.proofs.laws.Valid.{valid_accepted, accepted_valid}
 use Rattle.theorems.specs.turns.Bounds.{all_floats, dearest, costs_most, Limits, turns_limit, white_limit}
 use Rattle.theorems.specs.turns.Costs.{turns_are_costs}
 use Rattle.theorems.specs.turns.LeastTurns.{Making, no_list, best_list, making, valid_counts}
@@ -19,7 +19,7 @@ use Rattle.galley.specs.declared.Galley.{Galley}
 use Rattle.galley.specs.declared.Reading.TheVariants as reads
 use Rattle.galley.specs.Whole.{galley_of}
 use Rattle.galley.specs.Model.{model_of}
-use Rattle.galley.specs.laws.Sound.{sound}
+use Rattle.galley.proofs.laws.Sound.{sound}
 use Rattle.blocks.specs.laws.Counts.{sum_floats, blocks_of}
 use Rattle.rules.specs.laws.Sane.{reads_sane}
 use Rattle.marking.specs.Mark.{mark_of}

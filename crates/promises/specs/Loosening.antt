@@ -13,15 +13,15 @@ use Rattle.model.specs.Galley as model
 use Rattle.model.specs.Answers.{numbers_of, accepted, marked}
 use Rattle.model.specs.Opening.{opening_turned, made_after}
 use Rattle.model.specs.Loosened.{with_htmin}
-use Rattle.model.specs.laws.Opening.{made_after_nothing}
-use Rattle.model.specs.laws.Loosened.{marked_loosened, standing_loosened}
+use Rattle.model.proofs.laws.Opening.{made_after_nothing}
+use Rattle.model.proofs.laws.Loosened.{marked_loosened, standing_loosened}
 use Rattle.theorems.specs.pages.LeastAfter.{ByOpening, MakingAfter, turned_away, no_list, best_list, making_after}
 use Rattle.galley.specs.declared.Galley.{Galley}
 use Rattle.galley.specs.declared.Reading.TheVariants as reads
 use Rattle.galley.specs.Whole.{galley_of}
 use Rattle.galley.specs.Model.{model_of}
 use Rattle.galley.specs.Alike.{Alike}
-use Rattle.galley.specs.laws.Alike.{galleys_alike, models_alike}
+use Rattle.galley.proofs.laws.Alike.{galleys_alike, models_alike}
 use Rattle.rules.specs.laws.Sane.{reads_sane}
 use Rattle.marking.specs.Mark.{mark_read, mark_of}
 use Rattle.needs.specs.Needs.{work_needed, list_needed}

@@ -13,11 +13,11 @@ use Rattle.model.specs.Galley as model
 use Rattle.model.specs.Answers.{numbers_of, accepted, same, ended, chunks, pages_of, counts_of, marked}
 use Rattle.model.specs.Best.{allowed}
 use Rattle.model.specs.Opening.{pages_turned, opening_turned}
-use Rattle.model.specs.laws.Gather.{and_left, and_right, between_sum}
-use Rattle.model.specs.laws.Rules.{kept, forward_at}
-use Rattle.model.specs.laws.Judge.{accepts}
-use Rattle.model.specs.laws.Words.{length_chunks, length_pages, counted_at}
-use Rattle.model.specs.laws.Valid.{same_true, count_sizes, marked_accepted, marked_counts}
+use Rattle.model.proofs.laws.Gather.{and_left, and_right, between_sum}
+use Rattle.model.proofs.laws.Rules.{kept, forward_at}
+use Rattle.model.proofs.laws.Judge.{accepts}
+use Rattle.model.proofs.laws.Words.{length_chunks, length_pages, counted_at}
+use Rattle.model.proofs.laws.Valid.{same_true, count_sizes, marked_accepted, marked_counts}
 use Rattle.galley.specs.declared.Galley.{Galley}
 use Rattle.galley.specs.declared.Reading.TheVariants as reads
 use Rattle.galley.specs.Whole.{galley_of}

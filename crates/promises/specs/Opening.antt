@@ -14,14 +14,14 @@ use Rattle.model.specs.Galley as model
 use Rattle.model.specs.Answers.{numbers_of, pages_of}
 use Rattle.model.specs.Weighed.{weighed_from, ceiling}
 use Rattle.model.specs.Opening.{end_of, opening_turned, made_after, made_words_after}
-use Rattle.model.specs.laws.Weighed.{weighed_ceiling, weighed_from_le}
+use Rattle.model.proofs.laws.Weighed.{weighed_ceiling, weighed_from_le}
 use Rattle.theorems.specs.pages.LeastAfter.{ByOpening, MakingAfter, turned_away, no_list, best_list, making_after}
 use Rattle.galley.specs.declared.Galley.{Galley}
 use Rattle.galley.specs.declared.Reading.{Reading}
 use Rattle.galley.specs.declared.Reading.TheVariants as reads
 use Rattle.galley.specs.Whole.{galley_of}
 use Rattle.galley.specs.Model.{model_of}
-use Rattle.galley.specs.laws.Sound.{refusal_number}
+use Rattle.galley.proofs.laws.Sound.{refusal_number}
 use Rattle.places.specs.Entry.{cleared}
 use Rattle.needs.specs.Needs.{work_needed, list_needed}
 use Rattle.making.specs.After.{stands, sought, make_after_read, make_after_of, work_made_read, work_made_after, list_made_read, list_made_after, weighed_after_read, weighed_after_of, MadeAfter}

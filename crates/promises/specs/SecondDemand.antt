@@ -7,7 +7,7 @@ use Rattle.model.specs.declared.answer.Answer.TheVariants.{Counted, Refused}
 use Rattle.model.specs.Gather.{sum}
 use Rattle.model.specs.Galley.{Block}
 use Rattle.model.specs.Leaf.{folio_of, leaf, sides_of}
-use Rattle.model.specs.laws.Leaf.{leaf_mono}
+use Rattle.model.proofs.laws.Leaf.{leaf_mono}
 use Rattle.model.specs.Answers.{accepted, marked, words_of}
 use Rattle.model.specs.Pagination.{Map, Pagination, list_on, x_on, turns_on, white_over}
 use Rattle.theorems.specs.published.Theorem.{words_published, words_unique, words_counts, turn_leaves}

@@ -10,7 +10,7 @@ use Rattle.model.specs.declared.answer.Answer.TheVariants.{Refused}
 use Rattle.model.specs.Galley.{streams}
 use Rattle.model.specs.Answers.{numbers_of, accepted}
 use Rattle.model.specs.Opening.{made_after, made_words_after}
-use Rattle.model.specs.laws.Opening.{nothing_turned, made_after_nothing, words_after_nothing}
+use Rattle.model.proofs.laws.Opening.{nothing_turned, made_after_nothing, words_after_nothing}
 use Rattle.galley.specs.declared.Galley.{Galley}
 use Rattle.galley.specs.declared.Reading.TheVariants as reads
 use Rattle.galley.specs.Whole.{galley_of}

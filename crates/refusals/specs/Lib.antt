@@ -1,4 +1,3 @@
 -- The refusals of the reader, declared: a sentence about the bytes for each, the laws, and that reading answers so.
 pub mod Declared
-pub mod laws
 pub mod Theorem

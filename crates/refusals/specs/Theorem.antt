@@ -1,13 +1,9 @@
 -- Reading answers what the bytes say: each refusal, 1 to 8, exactly where its sentence holds, and a galley exactly where the bytes are one.
 use Rattle.std.specs.Prelude.{ℕ, ◌≡◌, ◌↔◌, List}
-use Rattle.std.proofs.Common.{subst}
 use Rattle.galley.specs.Whole.{galley_of}
 use Rattle.galley.specs.declared.Galley.{Galley}
 use Rattle.galley.specs.declared.Reading.TheVariants as reads
 use Rattle.refusals.specs.Declared.{StopsShort, UnknownMark, BadField, TooMany, BeforeFirstLine, NoSuchLine, OutOfOrder, AfterEnd, IsGalley}
-use Rattle.refusals.specs.laws.Told.{Says, Told}
-use Rattle.refusals.specs.laws.Exact.{says_exact, galley_exact}
-use Rattle.refusals.specs.laws.Total.{told}
 
 -- What the answers of reading are about. No other number is answered: see `refusal_number`.
 pub record Declared (bytes : List ℕ) : Type 0 where
@@ -20,26 +16,3 @@ pub record Declared (bytes : List ℕ) : Type 0 where
   pub seven : (at : ℕ) → (galley_of bytes ≡ reads.Refused 7 at) ↔ OutOfOrder bytes at
   pub eight : (at : ℕ) → (galley_of bytes ≡ reads.Refused 8 at) ↔ AfterEnd bytes at
   pub galley : (g : Galley) → (galley_of bytes ≡ reads.Galley g) ↔ IsGalley bytes g
-
-refusal_says : (bytes : List ℕ) (number at : ℕ) → (galley_of bytes ≡ reads.Refused number at) ↔ Says number bytes at
-unfolding Told
-refusal_says bytes number at = (λ e. subst (λ r. Told bytes r) e (told bytes), says_exact bytes number at)
-
-galley_says : (bytes : List ℕ) (g : Galley) → (galley_of bytes ≡ reads.Galley g) ↔ IsGalley bytes g
-unfolding Told
-galley_says bytes g = (λ e. subst (λ r. Told bytes r) e (told bytes), galley_exact bytes g)
-
--- For any bytes.
-pub reading_declared : (bytes : List ℕ) → Declared bytes
-reading_declared bytes =
-    record {
-      one = refusal_says bytes 1;
-      two = refusal_says bytes 2;
-      three = refusal_says bytes 3;
-      four = refusal_says bytes 4;
-      five = refusal_says bytes 5;
-      six = refusal_says bytes 6;
-      seven = refusal_says bytes 7;
-      eight = refusal_says bytes 8;
-      galley = galley_says bytes;
-    }

@@ -2,7 +2,7 @@
 use Rattle.std.specs.Prelude.{ℕ, zero, suc, ◌+◌, ◌-◌, ◌*◌, ◌^◌, ◌≤◌, ◌<◌, min, max, ◌≡◌, refl, Bool, true, false, List, [], ◌∷◌, ltb, length}
 use Rattle.std.proofs.Common.{le_refl, arith, sym, ◌∙◌, ltb-true, ltb-false, lt-ltb}
 use Rattle.model.specs.Gather.{pick, sum}
-use Rattle.model.specs.laws.Gather.{sum_add, sum_ext}
+use Rattle.model.proofs.laws.Gather.{sum_add, sum_ext}
 use Rattle.report.specs.declared.Mark.{Mark}
 use Rattle.report.specs.declared.Totals.{Totals}
 use Rattle.report.specs.declared.Report.{Report}

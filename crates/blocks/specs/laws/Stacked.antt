@@ -10,8 +10,8 @@ use borrow.Author.Tests.{ltb-true, ltb-false}
 use Rattle.model.specs.Gather.{pick, sum, between}
 use Rattle.model.specs.Galley.{Stream}
 use Rattle.model.specs.Height.{stacked}
-use Rattle.model.specs.laws.Gather.{between_sum}
-use Rattle.model.specs.laws.Height.{between_none}
+use Rattle.model.proofs.laws.Gather.{between_sum}
+use Rattle.model.proofs.laws.Height.{between_none}
 
 -- The last of what stands between a and k + 1, and what comes before it.
 between_next : (f : ℕ → ℕ) (a k : ℕ) → a ≤ k → between a (suc k) f ≡ between a k f + f (suc k)

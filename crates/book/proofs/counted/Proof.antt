@@ -3,7 +3,7 @@ use Prim.Native.Nat.{◌≤◌}
 use native.Mathlib.Omega.{arith}
 use mathlib.Core.Path.{refl}
 use lib.ListN.{length}
-use Rattle.galley.specs.laws.Sound.{sound}
+use Rattle.galley.proofs.laws.Sound.{sound}
 use Rattle.chapters.specs.laws.Lengths.{lent_is}
 use Rattle.course.specs.laws.Course.{one_galley}
 use Rattle.book.specs.laws.Count.{count_first}

@@ -2,7 +2,7 @@
 use borrow.Author.Rules.{rules}
 use native.Mathlib.Omega.{arith}
 use Rattle.model.specs.Leaf.{sides_of}
-use Rattle.model.specs.laws.Leaf.{leaf_mono}
+use Rattle.model.proofs.laws.Leaf.{leaf_mono}
 use Rattle.book.proofs.leaves.Statement.{statement}
 use Rattle.book.proofs.leaves.Tie as tie
 

@@ -11,7 +11,7 @@ use Rattle.model.specs.declared.answer.Answer.TheVariants.{Refused}
 use Rattle.needs.specs.Needs.{Few}
 use Rattle.needs.specs.laws.Needs.{read_few, work_small, list_small}
 use Rattle.places.specs.Entry.{cleared}
-use Rattle.places.specs.laws.Cleared.{cleared_forgets}
+use Rattle.places.proofs.laws.Cleared.{cleared_forgets}
 use Rattle.chapters.specs.declared.Book.{Book}
 use Rattle.chapters.specs.Book.{Chapter, refused, book_of, largest, book_work, book_list}
 use Rattle.chapters.specs.laws.Chapters.{chapter_at, chapters_many}

@@ -9,9 +9,9 @@ use Rattle.places.specs.declared.Entry.TheVariants.{Unreached, Least}
 use Rattle.places.specs.Entry.{entry_at, stored}
 use Rattle.places.specs.Address.{address, words_needed}
 use Rattle.places.specs.Table.{table_of}
-use Rattle.places.specs.laws.Address.{address_in, area_needed}
-use Rattle.places.specs.laws.Stored.{stored_length}
-use Rattle.places.specs.laws.Table.{table_same, table_other}
+use Rattle.places.proofs.laws.Address.{address_in, area_needed}
+use Rattle.places.proofs.laws.Stored.{stored_length}
+use Rattle.places.proofs.laws.Table.{table_same, table_other}
 use Rattle.candidates.specs.Better.{wins, chosen, taken}
 use Rattle.candidates.specs.Read.{table_in, columns_in}
 use Rattle.candidates.specs.Cells.{Scratched, fresh, more, Changed}

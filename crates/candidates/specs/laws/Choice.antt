@@ -6,13 +6,13 @@ use Rattle.std.proofs.Math.Logic.{⊎_swap}
 use Rattle.std.proofs.Math.Bool.{true, false}
 use borrow.Author.Tests.{eqb-true, eqb-false, ltb-true, ltb-false, leb-true, leb-false, lt-ltb, le-ltb}
 use Rattle.model.specs.Gather.{pick}
-use Rattle.model.specs.laws.Gather.{and_left, and_right, or_cases}
+use Rattle.model.proofs.laws.Gather.{and_left, and_right, or_cases}
 use Rattle.places.specs.declared.Place.{Place}
 use Rattle.places.specs.declared.Entry.{Entry}
 use Rattle.places.specs.declared.Entry.TheVariants.{Unreached, Least}
 use Rattle.places.specs.Order.{NoLater}
 use Rattle.places.specs.Best.{Leads, Best}
-use Rattle.places.specs.laws.Best.{leads_trans, best_as}
+use Rattle.places.proofs.laws.Best.{leads_trans, best_as}
 use Rattle.candidates.specs.Better.{no_later, wins, chosen}
 
 -- The test says which of two starts is no later.

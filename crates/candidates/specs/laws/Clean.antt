@@ -7,10 +7,10 @@ use Rattle.places.specs.declared.Entry.{Entry}
 use Rattle.places.specs.declared.Entry.TheVariants.{Unreached, Least}
 use Rattle.places.specs.Address.{address, words_needed}
 use Rattle.places.specs.Entry.{stored}
-use Rattle.places.specs.laws.Address.{address_in, address_apart, area_needed}
-use Rattle.places.specs.laws.Best.{no_reach}
-use Rattle.places.specs.laws.Stored.{stored_twice, stored_swap}
-use Rattle.places.specs.laws.Table.{table_same, table_other}
+use Rattle.places.proofs.laws.Address.{address_in, address_apart, area_needed}
+use Rattle.places.proofs.laws.Best.{no_reach}
+use Rattle.places.proofs.laws.Stored.{stored_twice, stored_swap}
+use Rattle.places.proofs.laws.Table.{table_same, table_other}
 use Rattle.candidates.specs.Read.{table_in, columns_in}
 use Rattle.candidates.specs.Cells.{Scratched, fresh, more, Empty, Blank, Clean}
 use Rattle.candidates.specs.laws.Cells.{scratched_length}

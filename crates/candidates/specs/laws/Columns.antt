@@ -9,8 +9,8 @@ use native.Mathlib.Omega.{arith}
 use Rattle.std.proofs.Math.Path.{sym, ap}
 use Rattle.model.specs.Gather.{pick, total}
 use Rattle.model.specs.Galley.{count}
-use Rattle.model.specs.laws.Rules.{placed}
-use Rattle.model.specs.laws.Lists.{Inside}
+use Rattle.model.proofs.laws.Rules.{placed}
+use Rattle.model.proofs.laws.Lists.{Inside}
 use Rattle.theorems.specs.pages.Graph.{full}
 use Rattle.galley.specs.declared.Galley.{Galley}
 use Rattle.galley.specs.Model.{model_of}
@@ -18,8 +18,8 @@ use Rattle.galley.specs.Sound.{Sound}
 use Rattle.blocks.specs.Counts.{place_of, Proper, Within}
 use Rattle.blocks.specs.laws.Counts.{sum_floats, sizes_of, count_lines, count_figures, count_tables, length_of, under_of}
 use Rattle.places.specs.Columns.{columns, floats_at, float_sizes, float_place, place_at}
-use Rattle.places.specs.laws.Columns.{inside_cons, inside_tail}
-use Rattle.places.specs.laws.Places.{sizes_cons, full_at}
+use Rattle.places.proofs.laws.Columns.{inside_cons, inside_tail}
+use Rattle.places.proofs.laws.Places.{sizes_cons, full_at}
 use Rattle.candidates.specs.Beside.{Under, Sought}
 use Rattle.candidates.specs.Read.{search_of, columns_in, counts_at, row_of, FewFloats, last_place, Placed}
 

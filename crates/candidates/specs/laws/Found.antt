@@ -9,7 +9,7 @@ use Rattle.model.specs.Gather.{pick}
 use Rattle.places.specs.declared.Entry.{Entry}
 use Rattle.places.specs.declared.Entry.TheVariants.{Unreached, Least}
 use Rattle.places.specs.Best.{Leads, Best}
-use Rattle.places.specs.laws.Best.{no_reach, best_none, best_least, best_as}
+use Rattle.places.proofs.laws.Best.{no_reach, best_none, best_least, best_as}
 use Rattle.candidates.specs.Better.{start_at}
 use Rattle.candidates.specs.Search.{Search, goes, white_from, start_from, on_lines, in_columns, best_start}
 use Rattle.candidates.specs.Choice.{Candidate, Starts, Any, Above, Level}

@@ -12,15 +12,15 @@ use Rattle.model.specs.Gather.{one, sum, total}
 use Rattle.model.specs.Galley.{Stream, Galley, Place, count, streams, sizes}
 use Rattle.model.specs.Height.{has, kinds, stacked, height, tightest}
 use Rattle.model.specs.Rules.{forward, fits}
-use Rattle.model.specs.laws.Gather.{sum_ext, sum_zero, sum_has, length_row}
-use Rattle.model.specs.laws.Height.{between_none, tightest_grows}
-use Rattle.model.specs.laws.Rules.{forward_at, forward_of}
-use Rattle.model.specs.laws.Lists.{Inside}
-use Rattle.model.specs.laws.Valid.{count_sizes}
+use Rattle.model.proofs.laws.Gather.{sum_ext, sum_zero, sum_has, length_row}
+use Rattle.model.proofs.laws.Height.{between_none, tightest_grows}
+use Rattle.model.proofs.laws.Rules.{forward_at, forward_of}
+use Rattle.model.proofs.laws.Lists.{Inside}
+use Rattle.model.proofs.laws.Valid.{count_sizes}
 use Rattle.places.specs.Columns.{columns, floats_at, float_sizes, place_at}
-use Rattle.places.specs.laws.Columns.{inside_cons, inside_tail, column_grows, column_of_floats}
+use Rattle.places.proofs.laws.Columns.{inside_cons, inside_tail, column_grows, column_of_floats}
 use Rattle.places.specs.Order.{Earlier}
-use Rattle.places.specs.laws.Places.{place_inside, line_at}
+use Rattle.places.proofs.laws.Places.{place_inside, line_at}
 use Rattle.candidates.specs.Beside.{Under, floats_high, float_kinds, beside, alone}
 
 module _ (g : Galley) (gap : Stream → ℕ → ℕ) (separation : ℕ) where

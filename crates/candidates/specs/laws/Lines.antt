@@ -7,7 +7,7 @@ use Rattle.std.proofs.Math.Logic.{inr}
 use Rattle.places.specs.declared.Entry.{Entry}
 use Rattle.places.specs.declared.Entry.TheVariants.{Unreached, Least}
 use Rattle.places.specs.Best.{Paid, Leads, Best}
-use Rattle.places.specs.laws.Best.{no_reach, best_none, best_least, best_as}
+use Rattle.places.proofs.laws.Best.{no_reach, best_none, best_least, best_as}
 use Rattle.queues.specs.Queue.{Lines}
 use Rattle.candidates.specs.Better.{chosen, start_at}
 use Rattle.candidates.specs.laws.Choice.{best_chosen}

@@ -8,13 +8,13 @@ use borrow.Author.Tests.{leb-true, le-leb}
 use Rattle.model.specs.Galley.{Galley, Place, count}
 use Rattle.model.specs.Height.{stacked, tightest, loosest}
 use Rattle.model.specs.Rules.{forward, fits, floor, fills}
-use Rattle.model.specs.laws.Gather.{and_left, and_right, and_both}
-use Rattle.model.specs.laws.Lists.{Inside}
+use Rattle.model.proofs.laws.Gather.{and_left, and_right, and_both}
+use Rattle.model.proofs.laws.Lists.{Inside}
 use Rattle.theorems.specs.pages.Graph.{full}
 use Rattle.places.specs.Order.{Earlier}
 use Rattle.places.specs.Columns.{place_at}
-use Rattle.places.specs.laws.Columns.{inside_cons, inside_tail}
-use Rattle.places.specs.laws.Places.{place_inside, forward_inside, forward_earlier, line_at, column_at}
+use Rattle.places.proofs.laws.Columns.{inside_cons, inside_tail}
+use Rattle.places.proofs.laws.Places.{place_inside, forward_inside, forward_earlier, line_at, column_at}
 use Rattle.candidates.specs.Search.{Search, goes}
 use Rattle.candidates.specs.Choice.{Candidate}
 use Rattle.candidates.specs.Beside.{Under, beside, alone, Sought}

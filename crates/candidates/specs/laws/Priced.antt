@@ -5,7 +5,7 @@ use Rattle.std.proofs.Common.{arith, sym, ◌∙◌, lt-ltb, le-ltb}
 use Rattle.places.specs.declared.Place.{Place}
 use Rattle.places.specs.declared.Entry.{Entry}
 use Rattle.places.specs.declared.Entry.TheVariants.{Unreached, Least}
-use Rattle.places.specs.laws.Best.{no_reach}
+use Rattle.places.proofs.laws.Best.{no_reach}
 use Rattle.candidates.specs.Search.{priced}
 
 -- The start of an entry that costs x with the price p.

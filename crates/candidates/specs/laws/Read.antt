@@ -7,7 +7,7 @@ use Rattle.model.specs.Leaf.{sides_of}
 use Rattle.galley.specs.Model.{sides_in}
 use Rattle.galley.specs.Sound.{Sound}
 use Rattle.places.specs.Address.{words_needed, Stands}
-use Rattle.places.specs.laws.Address.{address_in, area_needed}
+use Rattle.places.proofs.laws.Address.{address_in, area_needed}
 use Rattle.candidates.specs.Search.{before}
 use Rattle.candidates.specs.Read.{side_of, columns_in, FewFloats}
 use Rattle.candidates.specs.laws.Columns.{columns_few}

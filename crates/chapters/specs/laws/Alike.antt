@@ -12,7 +12,7 @@ use Rattle.theorems.specs.books.Turns.{Alike}
 use Rattle.theorems.specs.books.Choosing.{AllAlike}
 use Rattle.galley.specs.declared.Spec.{Spec}
 use Rattle.galley.specs.Model.{model_of}
-use Rattle.galley.specs.laws.Sound.{sound}
+use Rattle.galley.proofs.laws.Sound.{sound}
 use Rattle.chapters.specs.Book.{Chapter, read, book_of, models_of, chapter_bytes}
 use Rattle.chapters.specs.laws.Chapters.{chapter_at}
 

@@ -3,7 +3,7 @@ use Rattle.std.specs.Prelude.{ℕ, zero, suc, ◌+◌, ◌<◌, Bool, true, fals
 use Rattle.std.proofs.Common.{arith, sym, ap, subst, inl, inr, eqb-true, ltb-false}
 use Rattle.std.proofs.Math.Seq.{slice}
 use Rattle.model.specs.Gather.{pick}
-use Rattle.model.specs.laws.Gather.{and_left, and_right}
+use Rattle.model.proofs.laws.Gather.{and_left, and_right}
 use Rattle.galley.specs.declared.Spec.{Spec}
 use Rattle.galley.specs.declared.Galley.{Galley}
 use Rattle.galley.specs.declared.Reading.{Reading}
@@ -11,7 +11,7 @@ use Rattle.galley.specs.declared.Reading.TheVariants as reads
 use Rattle.galley.specs.Place.{spec_size}
 use Rattle.galley.specs.Sound.{Opening}
 use Rattle.galley.specs.Whole.{galley_of}
-use Rattle.galley.specs.laws.Sound.{opening}
+use Rattle.galley.proofs.laws.Sound.{opening}
 use Rattle.chapters.specs.Book.{Chapter, Outcome, read, refused, chapters_in, all_bytes, alike, has_folio, before, later, later_from, chapter_start}
 
 -- What was read is not refused, and is what it is.

@@ -3,7 +3,7 @@ use Rattle.std.specs.Prelude.{ℕ, zero, suc, ◌+◌, ◌-◌, ◌≤◌, ◌<�
 use Rattle.std.proofs.Common.{arith, sym, ◌∙◌, ap, drop-cons, ltb-false, eqb-true}
 use Rattle.std.proofs.Math.Seq.{slice, take-length, take-nil}
 use Rattle.std.proofs.lemmas.Bool.{eqb-false, not-true}
-use Rattle.model.specs.laws.Gather.{and_left, and_right}
+use Rattle.model.proofs.laws.Gather.{and_left, and_right}
 use Rattle.chapters.specs.declared.extent.Extent.{Extent}
 use Rattle.chapters.specs.Book.{all_bytes, adds_up, chapter_start, extent_of, chapter_bytes}
 

@@ -13,10 +13,10 @@ use Rattle.model.specs.Turns.{turns}
 use Rattle.model.specs.White.{white}
 use Rattle.model.specs.Order.{starts_of}
 use Rattle.model.specs.Answers.{words_of}
-use Rattle.model.specs.laws.Rules.{placed}
-use Rattle.model.specs.laws.Lists.{◌∈◌}
-use Rattle.model.specs.laws.Valid.{placed_sizes, valid_accepted}
-use Rattle.model.specs.laws.Best.{MakesOf, makes}
+use Rattle.model.proofs.laws.Rules.{placed}
+use Rattle.model.proofs.laws.Lists.{◌∈◌}
+use Rattle.model.proofs.laws.Valid.{placed_sizes, valid_accepted}
+use Rattle.model.proofs.laws.Best.{MakesOf, makes}
 use Rattle.theorems.specs.optimality.Cell.{Right, Trace}
 use Rattle.theorems.specs.optimality.Theorem.{trace_length}
 use Rattle.theorems.specs.turns.Rank.{rank}
@@ -32,7 +32,7 @@ use Rattle.places.specs.declared.Place.{Place as Start}
 use Rattle.places.specs.declared.Entry.TheVariants.{Unreached, Least}
 use Rattle.places.specs.Entry.{low_of, high_of}
 use Rattle.places.specs.Columns.{columns, float_sizes}
-use Rattle.places.specs.laws.Columns.{columns_some}
+use Rattle.places.proofs.laws.Columns.{columns_some}
 use Rattle.candidates.specs.Search.{most_from}
 use Rattle.candidates.specs.Read.{table_in, columns_in}
 use Rattle.entries.specs.Filled.{Side, Filled}

@@ -6,15 +6,15 @@ use Rattle.std.proofs.Math.Path.{ap, subst}
 use Rattle.model.specs.Gather.{implies, pick}
 use Rattle.model.specs.Galley.{Sides, Galley, Place, count, zeros}
 use Rattle.model.specs.Order.{lex, geb}
-use Rattle.model.specs.laws.Rules.{kept, forward_at}
-use Rattle.model.specs.laws.Valid.{count_zeros}
+use Rattle.model.proofs.laws.Rules.{kept, forward_at}
+use Rattle.model.proofs.laws.Valid.{count_zeros}
 use Rattle.theorems.specs.optimality.Cell.{Trace}
 use Rattle.theorems.specs.optimality.Theorem.{step_back}
 use Rattle.theorems.specs.pages.Graph.{State, stop, end, place_of, Step}
 use Rattle.theorems.specs.pages.Laws.{page_laws, page_domain}
 use Rattle.places.specs.declared.Place.{Place as Start}
 use Rattle.places.specs.Columns.{columns, float_sizes}
-use Rattle.places.specs.laws.Places.{place_tie}
+use Rattle.places.proofs.laws.Places.{place_tie}
 use Rattle.candidates.specs.Search.{Table, most_from}
 use Rattle.entries.specs.Filled.{Filled}
 use Rattle.walk.specs.declared.Stop.{Stop}

@@ -1,7 +1,7 @@
 -- `leaves_turned` meets its contract: no page lies on a leaf before that of the first.
 use borrow.Author.Rules.{rules}
 use native.Mathlib.Omega.{arith}
-use Rattle.model.specs.laws.Leaf.{leaf_mono}
+use Rattle.model.proofs.laws.Leaf.{leaf_mono}
 use Rattle.galley.specs.Model.{sides_in}
 use Rattle.rules.specs.Parts.{leaves_turned}
 use Rattle.counting.proofs.leaves_turned.Goals as goal

@@ -9,10 +9,10 @@ use Rattle.model.specs.Galley as model
 use Rattle.model.specs.Galley.{Place, streams}
 use Rattle.model.specs.Answers.{words_of, marked}
 use Rattle.model.specs.Best.{valid}
-use Rattle.model.specs.laws.Lists.{◌∈◌}
-use Rattle.model.specs.laws.Best.{MakesOf, makes, impossible}
-use Rattle.model.specs.laws.Words.{length_words}
-use Rattle.model.specs.laws.Valid.{few_pages, valid_accepted}
+use Rattle.model.proofs.laws.Lists.{◌∈◌}
+use Rattle.model.proofs.laws.Best.{MakesOf, makes, impossible}
+use Rattle.model.proofs.laws.Words.{length_words}
+use Rattle.model.proofs.laws.Valid.{few_pages, valid_accepted}
 use Rattle.theorems.specs.turns.LeastTurns.{valid_counts}
 use Rattle.theorems.specs.books.Closing.{closing, best_closing, closing_valid, closing_makes}
 use Rattle.galley.specs.declared.Galley.{Galley}

@@ -6,7 +6,7 @@ use Rattle.std.proofs.Math.Seq.{drop-length}
 use Rattle.model.specs.declared.answer.Answer.{Answer}
 use Rattle.model.specs.Answers.{words_of, counts_of}
 use Rattle.model.specs.Best.{valid}
-use Rattle.model.specs.laws.Lists.{◌∈◌}
+use Rattle.model.proofs.laws.Lists.{◌∈◌}
 use Rattle.theorems.specs.pages.Sides.{side_side}
 use Rattle.galley.specs.declared.Galley.{Galley}
 use Rattle.galley.specs.declared.Reading.{Reading}
@@ -14,7 +14,7 @@ use Rattle.galley.specs.declared.Reading.TheVariants as reads
 use Rattle.galley.specs.Whole.{galley_of}
 use Rattle.galley.specs.Model.{sides_in}
 use Rattle.galley.specs.Sound.{Sound}
-use Rattle.galley.specs.laws.Sound.{sound}
+use Rattle.galley.proofs.laws.Sound.{sound}
 use Rattle.blocks.specs.Counts.{page_words}
 use Rattle.needs.specs.Needs.{list_needed}
 use Rattle.closings.specs.Chapter.{on_folio}

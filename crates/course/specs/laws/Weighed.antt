@@ -9,14 +9,14 @@ use Rattle.model.specs.Gather.{one, sum, total}
 use Rattle.model.specs.Galley as model
 use Rattle.model.specs.Galley.{Place}
 use Rattle.model.specs.Weighed.{weighs, past, weighed_from}
-use Rattle.model.specs.laws.Boxes.{below}
-use Rattle.model.specs.laws.Weighed.{weighed_from_nothing}
+use Rattle.model.proofs.laws.Boxes.{below}
+use Rattle.model.proofs.laws.Weighed.{weighed_from_nothing}
 use Rattle.galley.specs.declared.Galley.{Galley}
 use Rattle.galley.specs.declared.Reading.TheVariants as reads
 use Rattle.galley.specs.Whole.{galley_of}
 use Rattle.galley.specs.Model.{model_of}
 use Rattle.galley.specs.Sound.{Sound}
-use Rattle.galley.specs.laws.Sound.{sound}
+use Rattle.galley.proofs.laws.Sound.{sound}
 use Rattle.blocks.specs.Counts.{no_counts, place_of, Within}
 use Rattle.blocks.specs.laws.Counts.{zeros_of}
 use Rattle.places.specs.Columns.{place_at}

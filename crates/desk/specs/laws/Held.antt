@@ -9,8 +9,8 @@ use Rattle.std.proofs.Math.ListN.{length}
 use Rattle.std.proofs.lemmas.Bool.{eqb-false}
 use Rattle.model.specs.Answers.{same}
 use Rattle.model.specs.Gather.{pick}
-use Rattle.model.specs.laws.Gather.{and_left, and_right}
-use Rattle.model.specs.laws.Valid.{same_true, same_refl}
+use Rattle.model.proofs.laws.Gather.{and_left, and_right}
+use Rattle.model.proofs.laws.Valid.{same_true, same_refl}
 use Rattle.layouts.specs.declared.Layout.{Layout}
 use Rattle.layouts.specs.Names.{is_name, is_named, find_named, room_for, padded, layout_of, no_layout, freed}
 use Rattle.desk.specs.Calls.{None, Some}

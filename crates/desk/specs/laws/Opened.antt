@@ -8,9 +8,9 @@ use Rattle.model.specs.declared.answer.Answer.TheVariants.{Refused}
 use Rattle.model.specs.Galley as model
 use Rattle.model.specs.Answers.{numbers_of, accepted, marked}
 use Rattle.model.specs.Gather.{pick, one}
-use Rattle.model.specs.laws.Gather.{and_right, and_both}
-use Rattle.model.specs.laws.Words.{counted_at}
-use Rattle.model.specs.laws.Valid.{marked_accepted}
+use Rattle.model.proofs.laws.Gather.{and_right, and_both}
+use Rattle.model.proofs.laws.Words.{counted_at}
+use Rattle.model.proofs.laws.Valid.{marked_accepted}
 use Rattle.galley.specs.declared.Galley.{Galley}
 use Rattle.galley.specs.declared.Reading.{Reading}
 use Rattle.galley.specs.declared.Reading.TheVariants as reads

@@ -10,9 +10,9 @@ use borrow.Author.Tests.{eqb-true, eqb-false, leb-true}
 use Rattle.model.specs.Galley as model
 use Rattle.model.specs.Gather.{pick}
 use Rattle.model.specs.Answers.{numbers_of, accepted, counts_of, marked}
-use Rattle.model.specs.laws.Gather.{and_left, and_right}
-use Rattle.model.specs.laws.Words.{counted_at, length_pages}
-use Rattle.model.specs.laws.Valid.{marked_accepted, marked_counts}
+use Rattle.model.proofs.laws.Gather.{and_left, and_right}
+use Rattle.model.proofs.laws.Words.{counted_at, length_pages}
+use Rattle.model.proofs.laws.Valid.{marked_accepted, marked_counts}
 use Rattle.galley.specs.declared.Galley.{Galley}
 use Rattle.galley.specs.declared.Reading.{Reading}
 use Rattle.galley.specs.declared.Reading.TheVariants as reads

@@ -6,7 +6,7 @@ use Rattle.std.proofs.Math.Bool.{true, false}
 use Rattle.std.proofs.Math.Path.{refl}
 use borrow.Author.Tests.{leb-true, ltb-true}
 use Rattle.model.specs.Gather.{pick}
-use Rattle.model.specs.laws.Gather.{and_left, and_right}
+use Rattle.model.proofs.laws.Gather.{and_left, and_right}
 use Rattle.desk.specs.declared.Desk.{Desk}
 use Rattle.desk.specs.Pages.{pages_on, words_on, is_inner, page_at}
 

@@ -8,7 +8,7 @@ use Rattle.std.proofs.Math.Dec.{ltb}
 use Rattle.std.proofs.Math.ListN.{length}
 use Rattle.model.specs.Answers.{same}
 use Rattle.model.specs.Gather.{pick, one}
-use Rattle.model.specs.laws.Valid.{same_true, same_refl}
+use Rattle.model.proofs.laws.Valid.{same_true, same_refl}
 use Rattle.layouts.specs.declared.Layout.{Layout}
 use Rattle.layouts.specs.Names.{is_name, is_named, find_named, room_for, layout_of, no_layout, freed}
 use Rattle.desk.specs.Calls.{None, Some, is_some}

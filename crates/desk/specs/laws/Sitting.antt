@@ -8,7 +8,7 @@ use Rattle.model.specs.declared.answer.Answer.TheVariants.{Refused}
 use Rattle.model.specs.Galley.{Galley}
 use Rattle.model.specs.Answers.{accepted, pages_of, same, marked}
 use Rattle.model.specs.Gather.{pick, one}
-use Rattle.model.specs.laws.Valid.{same_true, same_refl}
+use Rattle.model.proofs.laws.Valid.{same_true, same_refl}
 use Rattle.layouts.specs.Names.{is_name}
 use Rattle.desk.specs.Calls.{End, Call, Ask, Commit, Save, Back, Drop, Number, Spares, Quiet, Onward, Perhaps, None, Some, is_some, Named, Sitting, Step}
 use Rattle.desk.specs.Sitting.{under, without, has_room, says, hold, put_or, named, other_end, tried, step, begin, sat}

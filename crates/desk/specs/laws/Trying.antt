@@ -13,8 +13,8 @@ use Rattle.model.specs.declared.answer.Answer.TheVariants.{Refused}
 use Rattle.model.specs.Galley.{Galley, streams}
 use Rattle.model.specs.Answers.{accepted, pages_of, marked}
 use Rattle.model.specs.Gather.{pick}
-use Rattle.model.specs.laws.Gather.{and_left, and_right}
-use Rattle.model.specs.laws.Words.{length_pages}
+use Rattle.model.proofs.laws.Gather.{and_left, and_right}
+use Rattle.model.proofs.laws.Words.{length_pages}
 use Rattle.marking.specs.Mark.{mark_of}
 use Rattle.desk.specs.declared.Desk.{Desk}
 use Rattle.desk.specs.declared.Told.{Told}

@@ -8,7 +8,7 @@ use Rattle.places.specs.declared.Entry.{Entry}
 use Rattle.places.specs.declared.Entry.TheVariants.{Unreached, Least}
 use Rattle.places.specs.Order.{Earlier}
 use Rattle.places.specs.Columns.{place_at}
-use Rattle.places.specs.laws.Columns.{inside_head, inside_tail}
+use Rattle.places.proofs.laws.Columns.{inside_head, inside_tail}
 use Rattle.candidates.specs.Read.{table_in, side_of, counts_at}
 use Rattle.reached.specs.Look.{PastOrigin}
 use Rattle.candidates.specs.laws.Columns.{at_under}

@@ -10,11 +10,11 @@ use Rattle.model.specs.Gather.{pick}
 use Rattle.model.specs.Galley.{Sides, single, double, Galley}
 use Rattle.model.specs.Galley as model
 use Rattle.model.specs.Leaf.{sides_of}
-use Rattle.model.specs.laws.Gather.{and_left, and_right}
-use Rattle.model.specs.laws.Rules.{placed_grows}
-use Rattle.model.specs.laws.Lists.{Inside}
+use Rattle.model.proofs.laws.Gather.{and_left, and_right}
+use Rattle.model.proofs.laws.Rules.{placed_grows}
+use Rattle.model.proofs.laws.Lists.{Inside}
 use Rattle.theorems.specs.turns.Waiting.{page_cost}
-use Rattle.model.specs.laws.White.{page_white_le}
+use Rattle.model.proofs.laws.White.{page_white_le}
 use Rattle.theorems.specs.turns.Rank.{rank}
 use Rattle.theorems.specs.turns.Bounds.{cost_le}
 use Rattle.theorems.specs.pages.Graph.{side, full}
@@ -23,8 +23,8 @@ use Rattle.places.specs.declared.Origin.{Origin}
 use Rattle.places.specs.declared.Entry.{Entry}
 use Rattle.places.specs.declared.Entry.TheVariants.{Unreached, Least}
 use Rattle.places.specs.Columns.{columns, float_sizes, place_at}
-use Rattle.places.specs.laws.Best.{no_reach}
-use Rattle.places.specs.laws.Places.{place_inside, forward_inside}
+use Rattle.places.proofs.laws.Best.{no_reach}
+use Rattle.places.proofs.laws.Places.{place_inside, forward_inside}
 use Rattle.candidates.specs.Search.{Table, before, Search, white_from, best_start, most_from, priced, may_stop, begins, new_entry}
 use Rattle.candidates.specs.laws.Priced.{priced_least}
 use Rattle.candidates.specs.Beside.{Sought}

@@ -10,9 +10,9 @@ use Rattle.places.specs.declared.Entry.TheVariants.{Least}
 use Rattle.places.specs.Address.{address}
 use Rattle.places.specs.Order.{Earlier}
 use Rattle.places.specs.Columns.{columns, float_sizes}
-use Rattle.places.specs.laws.Address.{address_in}
-use Rattle.places.specs.laws.Stored.{stored_length}
-use Rattle.places.specs.laws.Table.{table_same, table_other}
+use Rattle.places.proofs.laws.Address.{address_in}
+use Rattle.places.proofs.laws.Stored.{stored_length}
+use Rattle.places.proofs.laws.Table.{table_same, table_other}
 use Rattle.candidates.specs.Search.{new_entry}
 use Rattle.entries.specs.Fill.{Words, tall, held, fill_side, fill_sides, side_count, fill_place}
 use Rattle.entries.specs.Filled.{Light, Roomy, Side, Entered, Filled}

@@ -2,7 +2,7 @@
 use Rattle.std.specs.Prelude.{ℕ, ◌+◌, ◌≤◌, ◌≡◌, true, false, List, eqb}
 use Rattle.std.proofs.Common.{le_refl, arith, sym, ◌∙◌, eqb-true}
 use Rattle.model.specs.Galley as model
-use Rattle.model.specs.laws.Gather.{and_left}
+use Rattle.model.proofs.laws.Gather.{and_left}
 use Rattle.theorems.specs.turns.Waiting.{page_cost}
 use Rattle.theorems.specs.turns.Rank.{rank}
 use Rattle.theorems.specs.turns.Bounds.{cost_le}

@@ -14,7 +14,7 @@ use Rattle.rules.specs.declared.waiting.Waiting.{Waiting}
 use Rattle.rules.specs.Waiting.{Walking}
 use Rattle.rules.specs.laws.Walked.{walked_on}
 use Rattle.places.specs.Columns.{floats_at, float_sizes, place_at}
-use Rattle.places.specs.laws.Columns.{inside_all}
+use Rattle.places.proofs.laws.Columns.{inside_all}
 use Rattle.window.specs.declared.slide.Window.{Window}
 use Rattle.window.specs.Slide.{Slidable, Tall}
 use Rattle.candidates.specs.Search.{may_stop}

@@ -7,7 +7,7 @@ use Rattle.blocks.specs.Counts.{Proper}
 use Rattle.blocks.specs.laws.Counts.{within_proper}
 use Rattle.places.specs.Address.{words_needed}
 use Rattle.places.specs.Columns.{columns, float_sizes}
-use Rattle.places.specs.laws.Address.{area_needed}
+use Rattle.places.proofs.laws.Address.{area_needed}
 use Rattle.rules.specs.Parts.{all_placed}
 use Rattle.queues.specs.declared.parts.Parts.{Parts}
 use Rattle.window.specs.Slide.{white_of}

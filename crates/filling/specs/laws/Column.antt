@@ -14,7 +14,7 @@ use Rattle.rules.specs.Waiting.{waiting_of}
 use Rattle.rules.specs.laws.Walked.{walking_none, walking_here}
 use Rattle.places.specs.declared.Entry.TheVariants.{Unreached}
 use Rattle.places.specs.Order.{Earlier}
-use Rattle.places.specs.laws.Best.{no_reach}
+use Rattle.places.proofs.laws.Best.{no_reach}
 use Rattle.window.specs.declared.slide.Window.{Window}
 use Rattle.window.specs.Slide.{shut_at, Slidable, Open, Slid}
 use Rattle.window.specs.laws.Slide.{ends_first, ends_next}

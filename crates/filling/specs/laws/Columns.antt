@@ -11,8 +11,8 @@ use Rattle.places.specs.declared.Origin.{Origin}
 use Rattle.places.specs.declared.Entry.TheVariants.{Unreached}
 use Rattle.places.specs.Address.{address, words_needed}
 use Rattle.places.specs.Entry.{boundless, stored, cleared}
-use Rattle.places.specs.laws.Address.{address_in, area_needed}
-use Rattle.places.specs.laws.Cleared.{cleared_length, cleared_empty}
+use Rattle.places.proofs.laws.Address.{address_in, area_needed}
+use Rattle.places.proofs.laws.Cleared.{cleared_length, cleared_empty}
 use Rattle.places.specs.Columns.{columns, float_sizes}
 use Rattle.candidates.specs.Cells.{Scratched, fresh, Blank}
 use Rattle.candidates.specs.Read.{table_in, columns_in}

@@ -10,7 +10,7 @@ use Rattle.places.specs.declared.Origin.{Origin}
 use Rattle.places.specs.Order.{Earlier}
 use Rattle.places.specs.Columns.{columns, float_sizes}
 use Rattle.places.specs.Entry.{cleared}
-use Rattle.places.specs.laws.Cleared.{cleared_length}
+use Rattle.places.proofs.laws.Cleared.{cleared_length}
 use Rattle.candidates.specs.Search.{Table}
 use Rattle.entries.specs.Fill.{Words, held, fill_sides, side_count, fill_place, table_words}
 use Rattle.filling.specs.Fill.{fill_column, fill_columns, filled}

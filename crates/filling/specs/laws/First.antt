@@ -9,7 +9,7 @@ use Rattle.galley.specs.Model.{model_of, sides_in}
 use Rattle.places.specs.declared.Place.{Place}
 use Rattle.places.specs.declared.Entry.TheVariants.{Least}
 use Rattle.places.specs.Order.{Earlier}
-use Rattle.places.specs.laws.Best.{no_reach}
+use Rattle.places.proofs.laws.Best.{no_reach}
 use Rattle.candidates.specs.Cells.{ColumnRoom, Blank}
 use Rattle.candidates.specs.Read.{table_in}
 use Rattle.reached.specs.Look.{Quiet, Found}

@@ -12,9 +12,9 @@ use Rattle.places.specs.declared.Entry.TheVariants.{Unreached}
 use Rattle.places.specs.Address.{address, area}
 use Rattle.places.specs.Entry.{stored, cleared}
 use Rattle.places.specs.Columns.{columns, float_sizes}
-use Rattle.places.specs.laws.Address.{area_grows, address_in, address_past}
-use Rattle.places.specs.laws.Cleared.{cleared_length, cleared_beyond, cleared_first, cleared_empty}
-use Rattle.places.specs.laws.Stored.{stored_beyond, stored_past}
+use Rattle.places.proofs.laws.Address.{area_grows, address_in, address_past}
+use Rattle.places.proofs.laws.Cleared.{cleared_length, cleared_beyond, cleared_first, cleared_empty}
+use Rattle.places.proofs.laws.Stored.{stored_beyond, stored_past}
 use Rattle.candidates.specs.Search.{new_entry}
 use Rattle.entries.specs.Fill.{Words, tall, held, fill_side, fill_sides, side_count, fill_place, table_words}
 use Rattle.filling.specs.Fill.{fill_column, fill_columns, filled}

@@ -13,10 +13,10 @@ use Rattle.places.specs.Entry.{stored}
 use Rattle.places.specs.Address.{address}
 use Rattle.places.specs.Order.{Earlier}
 use Rattle.places.specs.Columns.{columns, float_sizes}
-use Rattle.places.specs.laws.Address.{address_apart}
-use Rattle.places.specs.laws.Best.{best_as, best_unique}
-use Rattle.places.specs.laws.Stored.{stored_twice, stored_swap}
-use Rattle.places.specs.laws.Table.{table_other}
+use Rattle.places.proofs.laws.Address.{address_apart}
+use Rattle.places.proofs.laws.Best.{best_as, best_unique}
+use Rattle.places.proofs.laws.Stored.{stored_twice, stored_swap}
+use Rattle.places.proofs.laws.Table.{table_other}
 use Rattle.candidates.specs.Search.{Table, before, Search, best_start, new_entry}
 use Rattle.candidates.specs.Beside.{Sought}
 use Rattle.candidates.specs.laws.Found.{best_start_lem}

@@ -12,9 +12,9 @@ use Rattle.places.specs.Address.{address}
 use Rattle.places.specs.Entry.{stored}
 use Rattle.places.specs.Order.{Earlier}
 use Rattle.places.specs.Columns.{columns, float_sizes, place_at}
-use Rattle.places.specs.laws.Best.{no_reach}
-use Rattle.places.specs.laws.Places.{column_at, inside_columns}
-use Rattle.places.specs.laws.Table.{table_same}
+use Rattle.places.proofs.laws.Best.{no_reach}
+use Rattle.places.proofs.laws.Places.{column_at, inside_columns}
+use Rattle.places.proofs.laws.Table.{table_same}
 use Rattle.candidates.specs.Search.{new_entry}
 use Rattle.entries.specs.Fill.{Words, tall, held, fill_side, fill_sides, side_count, fill_place}
 use Rattle.filling.specs.Fill.{fill_column, fill_columns}

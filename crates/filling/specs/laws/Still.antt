@@ -7,14 +7,14 @@ use Rattle.std.proofs.Math.Path.{refl, ap}
 use Rattle.std.proofs.Common.{sym, ◌∙◌, inl, inr}
 use Rattle.std.proofs.Math.Bool.{true, false}
 use borrow.Author.Tests.{eqb-true}
-use Rattle.model.specs.laws.Gather.{and_left, and_right}
+use Rattle.model.proofs.laws.Gather.{and_left, and_right}
 use Rattle.galley.specs.Model.{model_of, sides_in}
 use Rattle.places.specs.declared.Entry.TheVariants.{Unreached}
 use Rattle.places.specs.Address.{address}
 use Rattle.places.specs.Entry.{stored}
 use Rattle.places.specs.Order.{Earlier}
 use Rattle.places.specs.Best.{Leads}
-use Rattle.places.specs.laws.Best.{no_reach, best_none, best_unique}
+use Rattle.places.proofs.laws.Best.{no_reach, best_none, best_unique}
 use Rattle.candidates.specs.Search.{best_start, priced, may_stop, begins, new_entry}
 use Rattle.candidates.specs.Choice.{Starts, Any}
 use Rattle.candidates.specs.Read.{table_in, side_of, search_of}

@@ -1,6 +1,6 @@
 -- `forecast_read` meets its contract: what making needs, and the ceiling.
 use native.Mathlib.Omega.{arith}
-use Rattle.galley.specs.laws.Sound.{sound}
+use Rattle.galley.proofs.laws.Sound.{sound}
 use Rattle.needs.specs.laws.Needs.{read_few, work_small, list_small}
 use Rattle.forecast.specs.laws.Forecast.{forecast_reads}
 use Rattle.forecast.proofs.forecast_read.Goals as goal

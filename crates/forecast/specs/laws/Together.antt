@@ -6,8 +6,8 @@ use Rattle.std.proofs.Math.Path.{refl}
 use Rattle.model.specs.Galley as model
 use Rattle.model.specs.Height.{stacked}
 use Rattle.model.specs.Weighed.{together, most_together}
-use Rattle.model.specs.laws.Height.{stacked_grows}
-use Rattle.model.specs.laws.Together.{most_is}
+use Rattle.model.proofs.laws.Height.{stacked_grows}
+use Rattle.model.proofs.laws.Together.{most_is}
 use Rattle.galley.specs.declared.Stream.{Stream}
 use Rattle.galley.specs.Record.{least_at}
 use Rattle.galley.specs.Model.{stream_of}

@@ -5,7 +5,7 @@ use mathlib.Core.Path.{sym, ◌∙◌}
 use native.Mathlib.Omega.{arith}
 use borrow.Author.Tests.{lt-ltb, le-ltb}
 use Rattle.galley.specs.Block.{Has}
-use Rattle.galley.specs.laws.Sound.{sound}
+use Rattle.galley.proofs.laws.Sound.{sound}
 use Rattle.galley_probe.specs.Words.{block_words}
 use Rattle.galley_probe.specs.laws.Stream.{stream_sound}
 use Rattle.galley_probe.proofs.galley_probe_block.Goals as goal

@@ -3,7 +3,7 @@
 use mathlib.Core.Path.{sym, ◌∙◌}
 use native.Mathlib.Omega.{arith}
 use Rattle.galley_probe.specs.Words.{words_of}
-use Rattle.galley.specs.laws.Sound.{sound}
+use Rattle.galley.proofs.laws.Sound.{sound}
 use Rattle.galley_probe.proofs.galley_probe_read.Goals as goal
 
 pub overflow_cast-out : goal.overflow_cast-out

@@ -5,7 +5,7 @@ use mathlib.Core.Path.{sym, ◌∙◌}
 use native.Mathlib.Omega.{arith}
 use Rattle.galley.specs.Model.{floats_of}
 use Rattle.galley.specs.Sound.{SoundStream}
-use Rattle.galley.specs.laws.Sound.{sound}
+use Rattle.galley.proofs.laws.Sound.{sound}
 use Rattle.rules.specs.laws.Waiting.{waits_end, waits_few}
 use Rattle.galley_probe.specs.Words.{waiting_of}
 use Rattle.galley_probe.specs.laws.Stream.{stream_sound}

@@ -3,7 +3,7 @@ use borrow.Author.Rules.{rules}
 use borrow.Author.Tests.{ltb-true}
 use lib.Dec.{ltb}
 use native.Mathlib.Omega.{arith}
-use Rattle.model.specs.laws.Gather.{and_right}
+use Rattle.model.proofs.laws.Gather.{and_right}
 use Rattle.judging.proofs.is_cited.Goals as goal
 
 pub field-requires : goal.field-requires

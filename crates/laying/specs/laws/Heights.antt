@@ -11,7 +11,7 @@ use Rattle.model.specs.Galley as model
 use Rattle.model.specs.Galley.{count}
 use Rattle.model.specs.Height.{stacked, height, tightest, loosest}
 use Rattle.model.specs.Rules.{floor, fits, fills}
-use Rattle.model.specs.laws.Height.{stacked_grows}
+use Rattle.model.proofs.laws.Height.{stacked_grows}
 use Rattle.galley.specs.declared.Galley.{Galley}
 use Rattle.galley.specs.Model.{floats_of, streams_of, model_of}
 use Rattle.galley.specs.Range.{SpecRanged}

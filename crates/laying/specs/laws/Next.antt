@@ -2,7 +2,7 @@
 use Rattle.std.specs.Prelude.{ℕ, zero, suc, ◌+◌, ◌-◌, ◌≤◌, ◌<◌, ◌≡◌, refl, Bool, true, false, ◌&&◌, List, leb, ltb}
 use Rattle.std.proofs.Common.{arith, le-leb, leb-true, leb-false, ltb-true, ltb-false}
 use Rattle.model.specs.Gather.{pick}
-use Rattle.model.specs.laws.Gather.{and_left, and_right}
+use Rattle.model.proofs.laws.Gather.{and_left, and_right}
 use Rattle.galley.specs.declared.Galley.{Galley}
 use Rattle.galley.specs.Model.{streams_of}
 use Rattle.galley.specs.Sound.{SoundStream, Sound}

@@ -7,7 +7,7 @@ use Rattle.std.proofs.Math.Path.{sym, ap}
 use Rattle.std.proofs.Math.ListN.{length, get_or, drop}
 use Rattle.std.proofs.Math.Seq.{length-take-le, drop-cons, drop-length}
 use Rattle.model.specs.Answers.{same}
-use Rattle.model.specs.laws.Gather.{and_left, and_right}
+use Rattle.model.proofs.laws.Gather.{and_left, and_right}
 use Rattle.layouts.specs.Names.{is_name}
 
 -- A name has a byte, and at most 16.

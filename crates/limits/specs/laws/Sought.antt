@@ -9,8 +9,8 @@ use Rattle.places.specs.declared.Entry.{Entry}
 use Rattle.places.specs.declared.Entry.TheVariants.{Unreached}
 use Rattle.places.specs.Address.{area}
 use Rattle.places.specs.Entry.{boundless, cleared}
-use Rattle.places.specs.laws.Address.{area_needed}
-use Rattle.places.specs.laws.Cleared.{cleared_forgets}
+use Rattle.places.proofs.laws.Address.{area_needed}
+use Rattle.places.proofs.laws.Cleared.{cleared_forgets}
 use Rattle.candidates.specs.Read.{table_in, columns_in}
 use Rattle.candidates.specs.laws.Columns.{few_floats, columns_in_lem}
 use Rattle.entries.specs.Fill.{tall, table_words}

@@ -2,7 +2,7 @@
 use borrow.Author.Rules.{rules}
 use native.Mathlib.Omega.{arith}
 use mathlib.Core.Path.{refl, sym}
-use Rattle.galley.specs.laws.Sound.{sound}
+use Rattle.galley.proofs.laws.Sound.{sound}
 use Rattle.needs.specs.laws.Needs.{read_few, work_small, list_small}
 use Rattle.making.specs.laws.Made.{made_nine, made_ten, made_turned_away, made_soluble}
 use Rattle.making.proofs.make_read.Statement.{statement}

@@ -19,12 +19,12 @@ use Rattle.galley.specs.declared.Galley.{Galley}
 use Rattle.galley.specs.declared.Reading.TheVariants as reads
 use Rattle.galley.specs.Whole.{galley_of}
 use Rattle.galley.specs.Model.{model_of}
-use Rattle.galley.specs.laws.Sound.{sound}
+use Rattle.galley.proofs.laws.Sound.{sound}
 use Rattle.blocks.specs.Counts.{place_of, Within}
 use Rattle.places.specs.declared.Origin.{Origin}
 use Rattle.places.specs.Address.{area, words_needed}
 use Rattle.places.specs.Entry.{boundless, cleared}
-use Rattle.places.specs.laws.Address.{area_grows, area_needed}
+use Rattle.places.proofs.laws.Address.{area_grows, area_needed}
 use Rattle.candidates.specs.Read.{columns_in, counts_at, Placed}
 use Rattle.candidates.specs.laws.Columns.{columns_in_lem, within_at, place_at_lem}
 use Rattle.entries.specs.Fill.{tall}

@@ -11,8 +11,8 @@ use Rattle.model.specs.Galley.{zeros}
 use Rattle.model.specs.Answers.{pages_of}
 use Rattle.model.specs.Weighed.{weighed, weighed_from}
 use Rattle.model.specs.Opening.{end_of}
-use Rattle.model.specs.laws.Weighed.{weighed_from_nothing}
-use Rattle.model.specs.laws.Opening.{no_pages, nothing_turned, made_after_nothing, words_after_nothing}
+use Rattle.model.proofs.laws.Weighed.{weighed_from_nothing}
+use Rattle.model.proofs.laws.Opening.{no_pages, nothing_turned, made_after_nothing, words_after_nothing}
 use Rattle.galley.specs.declared.Galley.{Galley}
 use Rattle.galley.specs.declared.Reading.{Reading}
 use Rattle.galley.specs.declared.Reading.TheVariants as reads

@@ -1,6 +1,6 @@
 -- `mark` meets its contract: a galley that reads is sound, and each case of the reading is the clause of `mark_read` for it.
 use mathlib.Core.Path.{sym, ◌∙◌}
-use Rattle.galley.specs.laws.Sound.{sound}
+use Rattle.galley.proofs.laws.Sound.{sound}
 use Rattle.marking.specs.Mark.{mark_read, mark_of}
 use native.Mathlib.Omega.{arith}
 use ghost.Mode.{◌$◌}

@@ -4,11 +4,11 @@ use Rattle.std.proofs.Common.{mul-le-mul, arith}
 use Rattle.galley.specs.declared.Galley.{Galley}
 use Rattle.galley.specs.declared.Reading.TheVariants as reads
 use Rattle.galley.specs.Whole.{galley_of}
-use Rattle.galley.specs.laws.Pick.{pick_has}
-use Rattle.galley.specs.laws.Sound.{sound}
+use Rattle.galley.proofs.laws.Pick.{pick_has}
+use Rattle.galley.proofs.laws.Sound.{sound}
 use Rattle.blocks.specs.Counts.{page_words}
 use Rattle.places.specs.Address.{words_needed, Limited}
-use Rattle.places.specs.laws.Address.{words_small}
+use Rattle.places.proofs.laws.Address.{words_small}
 use Rattle.needs.specs.Needs.{work_needed, list_needed, Few}
 
 -- A galley that reads has few blocks.

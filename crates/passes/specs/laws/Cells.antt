@@ -5,7 +5,7 @@ use Rattle.std.proofs.Common.{arith, sym, ◌∙◌}
 use Rattle.galley.specs.declared.Galley.{Galley}
 use Rattle.places.specs.declared.Entry.{Entry}
 use Rattle.places.specs.Best.{Best}
-use Rattle.places.specs.laws.Best.{best_none}
+use Rattle.places.proofs.laws.Best.{best_none}
 use Rattle.candidates.specs.Choice.{Starts, Between}
 use Rattle.candidates.specs.Read.{table_in, side_of, search_of}
 use Rattle.passes.specs.Sweep.{Lent, Knows, Swept, Known}

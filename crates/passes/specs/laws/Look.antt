@@ -6,7 +6,7 @@ use Rattle.galley.specs.declared.Galley.{Galley}
 use Rattle.blocks.specs.declared.Counts.{Counts}
 use Rattle.places.specs.declared.Entry.{Entry}
 use Rattle.places.specs.declared.Entry.TheVariants.{Unreached, Least}
-use Rattle.places.specs.laws.Best.{no_reach}
+use Rattle.places.proofs.laws.Best.{no_reach}
 use Rattle.candidates.specs.Choice.{Candidate, Between}
 use Rattle.candidates.specs.Read.{table_in, side_of, search_of, counts_at}
 use Rattle.reached.specs.Look.{Quiet, LastFound, PastOrigin, Hinted, Told, Recalled}

@@ -5,7 +5,7 @@ use Rattle.std.proofs.Math.Decide.{dec_le}
 use Rattle.std.proofs.Common.{arith}
 use Rattle.galley.specs.declared.Galley.{Galley}
 use Rattle.galley.specs.Model.{model_of}
-use Rattle.places.specs.laws.Best.{best_as}
+use Rattle.places.proofs.laws.Best.{best_as}
 use Rattle.candidates.specs.Choice.{Candidate, Starts, Between}
 use Rattle.candidates.specs.Beside.{Under, alone}
 use Rattle.candidates.specs.Read.{side_of, search_of, counts_at}

@@ -5,7 +5,7 @@ use Rattle.std.proofs.Math.Decide.{dec_le, dec_lt}
 use Rattle.std.proofs.Math.Path.{refl}
 use Rattle.model.specs.Gather.{pick}
 use Rattle.model.specs.Height.{stacked}
-use Rattle.model.specs.laws.Height.{stacked_grows}
+use Rattle.model.proofs.laws.Height.{stacked_grows}
 use Rattle.model.specs.Rules.{floor}
 use Rattle.theorems.specs.pages.Graph.{full}
 use Rattle.places.specs.declared.Entry.{Entry}
@@ -13,7 +13,7 @@ use Rattle.places.specs.declared.Entry.TheVariants.{Unreached}
 use Rattle.places.specs.Order.{Earlier}
 use Rattle.places.specs.Columns.{place_at}
 use Rattle.places.specs.Best.{Paid, Best}
-use Rattle.places.specs.laws.Best.{no_reach, best_as, best_unique}
+use Rattle.places.proofs.laws.Best.{no_reach, best_as, best_unique}
 use Rattle.window.specs.declared.slide.Load.{Load}
 use Rattle.window.specs.declared.slide.Window.{Window}
 use Rattle.window.specs.Slide.{Tall, Open}

@@ -2,7 +2,7 @@
 use native.Mathlib.Omega.{arith}
 use borrow.Author.Rules.{rules}
 use Rattle.places.specs.Address.{address}
-use Rattle.places.specs.laws.Address.{column_small}
+use Rattle.places.proofs.laws.Address.{column_small}
 use Rattle.places.proofs.address_of.Goals as goal
 
 pub overflow_mul-result : goal.overflow_mul-result

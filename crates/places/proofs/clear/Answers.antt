@@ -6,7 +6,7 @@ use Prim.Native.Nat.{ℕ, ◌≤◌, ◌-◌}
 use native.Mathlib.Omega.{arith}
 use lib.ListN.{length, set}
 use Rattle.places.specs.Entry.{cleared}
-use Rattle.places.specs.laws.Cleared.{cleared_already, cleared_next}
+use Rattle.places.proofs.laws.Cleared.{cleared_already, cleared_next}
 use borrow.Author.Rules.{rules}
 use ghost.Mode.{◌$◌}
 use Rattle.places.proofs.clear.Goals as goal

@@ -2,7 +2,7 @@
 use native.Mathlib.Omega.{arith}
 use ghost.Mode.{◌$◌}
 use Rattle.places.specs.Address.{words_needed}
-use Rattle.places.specs.laws.Address.{words_small}
+use Rattle.places.proofs.laws.Address.{words_small}
 use Rattle.places.proofs.words_needed.Statement.{statement}
 use Rattle.places.proofs.words_needed.Tie as tie
 

@@ -5,7 +5,7 @@ use Rattle.std.proofs.lemmas.Bool.{eqb-false}
 use Rattle.model.specs.Gather.{pick, implies}
 use Rattle.model.specs.Galley.{single, double, Sane}
 use Rattle.model.specs.Leaf.{ends, sides_of}
-use Rattle.model.specs.laws.Leaf.{ends_folio}
+use Rattle.model.proofs.laws.Leaf.{ends_folio}
 use Rattle.theorems.specs.turns.Waiting.{page_cost}
 use Rattle.theorems.specs.pages.Graph.{full}
 use Rattle.galley.specs.declared.Galley.{Galley}

@@ -12,7 +12,7 @@ use Rattle.places.specs.declared.Entry.{Entry}
 use Rattle.places.specs.declared.Entry.TheVariants.{Unreached, Least}
 use Rattle.places.specs.Order.{NoLater}
 use Rattle.places.specs.Best.{Leads, Best}
-use Rattle.places.specs.laws.Best.{best_none, best_least}
+use Rattle.places.proofs.laws.Best.{best_none, best_least}
 use Rattle.queues.specs.declared.queue.Queue.{Queue}
 use Rattle.queues.specs.Queue.{line_at, cost_at, front_of, Held, Lines}
 

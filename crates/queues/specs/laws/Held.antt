@@ -7,7 +7,7 @@ use Rattle.places.specs.declared.Entry.{Entry}
 use Rattle.places.specs.declared.Entry.TheVariants.{Unreached, Least}
 use Rattle.queues.specs.declared.queue.Queue.{Queue}
 use Rattle.places.specs.Best.{Paid}
-use Rattle.places.specs.laws.Best.{no_reach}
+use Rattle.places.proofs.laws.Best.{no_reach}
 use Rattle.window.specs.Rows.{Beside}
 use Rattle.queues.specs.Queue.{line_at, cost_at, headed, Cover, Held, Passed}
 

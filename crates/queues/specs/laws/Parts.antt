@@ -5,7 +5,7 @@ use Rattle.std.proofs.Math.Seq.{length-sets}
 use Rattle.model.specs.Gather.{pick}
 use Rattle.places.specs.declared.Entry.{Entry}
 use Rattle.places.specs.declared.Entry.TheVariants.{Unreached}
-use Rattle.places.specs.laws.Stored.{sets_out, sets_in}
+use Rattle.places.proofs.laws.Stored.{sets_out, sets_in}
 use Rattle.window.specs.declared.slide.Window.{Window}
 use Rattle.queues.specs.declared.parts.Parts.{Parts}
 use Rattle.queues.specs.declared.queue.Source.{Source}

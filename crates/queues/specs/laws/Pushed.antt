@@ -5,7 +5,7 @@ use Rattle.std.proofs.Common.{arith, ap, ◌∙◌}
 use Rattle.places.specs.declared.Entry.{Entry}
 use Rattle.places.specs.Entry.{low_of, high_of}
 use Rattle.places.specs.Best.{Paid}
-use Rattle.places.specs.laws.Stored.{cost_joined}
+use Rattle.places.proofs.laws.Stored.{cost_joined}
 use Rattle.queues.specs.declared.queue.Queue.{Queue}
 use Rattle.window.specs.laws.Rows.{pushed_other, pushed_own}
 use Rattle.queues.specs.Queue.{line_at, cost_at, queued, tailed, Cover, Held, Dropped}

@@ -10,7 +10,7 @@ use Rattle.places.specs.declared.Place.{Place}
 use Rattle.places.specs.declared.Entry.{Entry}
 use Rattle.places.specs.declared.Entry.TheVariants.{Unreached, Least}
 use Rattle.places.specs.Best.{Leads, Best}
-use Rattle.places.specs.laws.Best.{no_reach, best_none, best_least}
+use Rattle.places.proofs.laws.Best.{no_reach, best_none, best_least}
 use Rattle.window.specs.declared.slide.Load.{Load}
 use Rattle.window.specs.declared.slide.Window.{Window}
 use Rattle.queues.specs.declared.parts.Parts.{Parts}

@@ -1,7 +1,7 @@
 -- `reading::read_galley` meets its contract. The invariant is `Underway`: reading from here gives what the whole reading
 -- gives. The measure is how many bytes are left.
 use mathlib.Core.Path.{sym, ◌∙◌}
-use Rattle.galley.specs.laws.Underway.{underway_none, underway_small, underway_opened, underway_farther, underway_on, underway_done}
+use Rattle.galley.proofs.laws.Underway.{underway_none, underway_small, underway_opened, underway_farther, underway_on, underway_done}
 use Rattle.reading.proofs.read_galley.Goals as goal
 
 pub loop-next-init : goal.loop-next-init

@@ -2,7 +2,7 @@
 -- gives. The measure is how many bytes are left.
 use Prim.Native.Nat.{◌-◌}
 use lib.ListN.{length}
-use Rattle.galley.specs.laws.Underway.{Underway}
+use Rattle.galley.proofs.laws.Underway.{Underway}
 use Rattle.reading.proofs.read_galley.Given as goal
 
 abbrev pub invariant-loop-next : goal.invariant-loop-next

@@ -8,8 +8,8 @@ use borrow.Author.Rules.{rules}
 use Rattle.model.specs.Gather.{pick}
 use Rattle.galley.specs.Record.{record_at}
 use Rattle.galley.specs.Whole.{Opened, moved, refused, after, step_from}
-use Rattle.galley.specs.laws.Place.{kind_sized}
-use Rattle.galley.specs.laws.Step.{end_begun}
+use Rattle.galley.proofs.laws.Place.{kind_sized}
+use Rattle.galley.proofs.laws.Step.{end_begun}
 use Rattle.galley.specs.declared.Record.TheVariants as found
 use Rattle.reading.proofs.step_from.Goals as goal
 use Rattle.reading.proofs.step_from.Goals.{After-kind_of-kind, After-moved, After-unfit_for-number}

@@ -3,7 +3,7 @@
 use borrow.Author.Tests.{ne_eqb}
 use Rattle.galley.specs.Place.{kind_of}
 use Rattle.galley.specs.Record.{fields_of}
-use Rattle.galley.specs.laws.Record.{spec_room}
+use Rattle.galley.proofs.laws.Record.{spec_room}
 use Rattle.records.proofs.fields_of.Goals as goal
 
 pub returns-in_default : goal.returns-in_default

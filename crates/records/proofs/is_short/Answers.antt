@@ -4,7 +4,7 @@ use native.Mathlib.Omega.{arith}
 use borrow.Author.Rules.{rules}
 use borrow.Author.Tests.{le-ltb}
 use Rattle.galley.specs.Place.{kind_of}
-use Rattle.galley.specs.laws.Place.{kind_sized}
+use Rattle.galley.proofs.laws.Place.{kind_sized}
 use Rattle.records.proofs.is_short.Goals as goal
 
 pub returns-then-left-ge34 : goal.returns-then-left-ge34

@@ -9,7 +9,7 @@ use Rattle.galley.specs.declared.Reading.{Reading}
 use Rattle.galley.specs.declared.Reading.TheVariants as reads
 use Rattle.galley.specs.Whole.{galley_of}
 use Rattle.galley.specs.Model.{model_of}
-use Rattle.galley.specs.laws.Sound.{sound}
+use Rattle.galley.proofs.laws.Sound.{sound}
 use Rattle.routes.specs.declared.Routes.{Routes}
 use Rattle.routes.specs.declared.Step.{Step}
 use Rattle.routes.specs.declared.tables.Steps.{Steps}

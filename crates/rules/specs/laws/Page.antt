@@ -9,7 +9,7 @@ use Rattle.model.specs.Galley.{Stream, count}
 use Rattle.model.specs.Height.{has, kinds}
 use Rattle.model.specs.Leaf.{ends}
 use Rattle.model.specs.Rules.{forward, may_end, closes, cited}
-use Rattle.model.specs.laws.Gather.{and_left, and_right}
+use Rattle.model.proofs.laws.Gather.{and_left, and_right}
 use Rattle.theorems.specs.pages.Graph.{full}
 use Rattle.galley.specs.declared.Galley.{Galley}
 use Rattle.galley.specs.Model.{text_of, floats_of, sides_in, model_of}

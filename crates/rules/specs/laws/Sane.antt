@@ -7,7 +7,7 @@ use Rattle.galley.specs.declared.Reading.TheVariants as reads
 use Rattle.galley.specs.Whole.{galley_of}
 use Rattle.galley.specs.Model.{model_of}
 use Rattle.galley.specs.Sound.{Sound}
-use Rattle.galley.specs.laws.Sound.{sound}
+use Rattle.galley.proofs.laws.Sound.{sound}
 
 -- There is a line, and the floats of each stream are cited in order by lines that exist.
 pub sound_sane : (bytes : List ℕ) (g : Galley) → Sound bytes g → Sane (model_of bytes g)

@@ -12,7 +12,7 @@ use Rattle.std.proofs.Math.Dec.{leb, eqb}
 use borrow.Author.Tests.{leb-true, leb-false, le-leb, lt-leb, lt-ltb, le-ltb, eq-eqb, ne_eqb, eqb-true}
 use Rattle.model.specs.Gather.{pick, one, sum, times}
 use Rattle.model.specs.Galley.{Stream}
-use Rattle.model.specs.laws.Gather.{sum_ext, sum_zero, sum_split}
+use Rattle.model.proofs.laws.Gather.{sum_ext, sum_zero, sum_split}
 use Rattle.rules.specs.Waiting.{waiting_from, waiting_floats, waits, EachOnce}
 
 -- No line cites a float before the line that cites an earlier one.

@@ -1,7 +1,7 @@
 -- The sizes that there are sections of.
 use Rattle.std.specs.Prelude.{ℕ, ◌-◌, ◌*◌, ◌/◌, ◌%◌, ◌≤◌, ◌≡◌, true, ◌&&◌, leb, eqb}
 use Rattle.std.proofs.Common.{mul-le-mul, arith, leb-true, eqb-true, le-leb, eq-eqb}
-use Rattle.model.specs.laws.Gather.{and_left, and_right, and_both}
+use Rattle.model.proofs.laws.Gather.{and_left, and_right, and_both}
 use Rattle.sections.specs.Folding.{start_of}
 use Rattle.sections.specs.Answer.{is_size, Size}
 

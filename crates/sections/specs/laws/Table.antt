@@ -5,8 +5,8 @@ use Rattle.std.proofs.Common.{arith, sym, ap, ◌∙◌, take_at}
 use borrow.Author.Tests.{eqb-true}
 use Rattle.model.specs.Gather.{each, every, times}
 use Rattle.model.specs.Answers.{same}
-use Rattle.model.specs.laws.Gather.{and_left, and_right, each_at, every_at}
-use Rattle.model.specs.laws.Valid.{same_true}
+use Rattle.model.proofs.laws.Gather.{and_left, and_right, each_at, every_at}
+use Rattle.model.proofs.laws.Valid.{same_true}
 use Rattle.sections.specs.Folding.{sheets_from, section, sections_from, all_sections, start_of, part_of}
 use Rattle.sections.specs.Standing.{left_of, right_of, folds, has_pages, adds_up, every_size}
 use Rattle.sections.specs.Answer.{is_size, Size, numbers_after}

@@ -6,7 +6,7 @@ use borrow.Author.Tests.{not-true, not-false}
 use native.Mathlib.Omega.{arith}
 use lib.ListN.{length}
 use mathlib.Core.Path.{refl}
-use Rattle.galley.specs.laws.Sound.{sound}
+use Rattle.galley.proofs.laws.Sound.{sound}
 use Rattle.solving.specs.laws.Solved.{solved_lent, walk_visits, walk_able, walk_none, walk_room, walk_small, walk_writable, walk_written}
 use Rattle.solving.proofs.best_pages.Statement.{statement}
 use Rattle.solving.proofs.best_pages.Tie as tie

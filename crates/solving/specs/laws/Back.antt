@@ -14,9 +14,9 @@ use Rattle.std.proofs.lemmas.List.Edits.{sets-eq}
 use Rattle.model.specs.Galley.{Galley, Place, Sane, streams, sizes, blocks}
 use Rattle.model.specs.Answers.{words_of}
 use Rattle.model.specs.Opening.{best_after}
-use Rattle.model.specs.laws.Gather.{length_row}
-use Rattle.model.specs.laws.Rules.{placed}
-use Rattle.model.specs.laws.Valid.{placed_sizes}
+use Rattle.model.proofs.laws.Gather.{length_row}
+use Rattle.model.proofs.laws.Rules.{placed}
+use Rattle.model.proofs.laws.Valid.{placed_sizes}
 use Rattle.theorems.specs.optimality.Cell.{Right, Trace}
 use Rattle.theorems.specs.optimality.Theorem.{step_back, trace_length}
 use Rattle.theorems.specs.turns.Bounds.{Limits, Narrow, dearest_list}
@@ -28,7 +28,7 @@ use Rattle.places.specs.declared.Place.{Place as Start}
 use Rattle.places.specs.declared.Origin.{Origin}
 use Rattle.places.specs.declared.Entry.TheVariants.{Unreached, Least}
 use Rattle.places.specs.Columns.{columns, float_sizes}
-use Rattle.places.specs.laws.Places.{place_inside}
+use Rattle.places.proofs.laws.Places.{place_inside}
 use Rattle.candidates.specs.Search.{Table, before, most_from}
 use Rattle.entries.specs.Filled.{Side, Filled}
 use Rattle.walk.specs.declared.Stop.{Stop}

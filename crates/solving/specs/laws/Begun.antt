@@ -12,9 +12,9 @@ use Rattle.model.specs.Galley.{Place, zeros}
 use Rattle.model.specs.Leaf.{leaf}
 use Rattle.model.specs.Answers.{pages_of}
 use Rattle.model.specs.Opening.{opening_turned}
-use Rattle.model.specs.laws.Gather.{and_both}
-use Rattle.model.specs.laws.Words.{length_pages}
-use Rattle.model.specs.laws.Rules.{placed}
+use Rattle.model.proofs.laws.Gather.{and_both}
+use Rattle.model.proofs.laws.Words.{length_pages}
+use Rattle.model.proofs.laws.Rules.{placed}
 use Rattle.theorems.specs.turns.Rank.{rank}
 use Rattle.theorems.specs.turns.Bounds.{heaviest, weight_limit}
 use Rattle.theorems.specs.pages.Graph.{beginning, full}

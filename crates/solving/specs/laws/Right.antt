@@ -8,8 +8,8 @@ use Rattle.std.proofs.Common.{◌∙◌}
 use Rattle.std.proofs.Math.Path.{ap}
 use Rattle.std.proofs.Math.Logic.{inl, inr}
 use Rattle.model.specs.Galley.{Galley, Place, count, sizes}
-use Rattle.model.specs.laws.Rules.{kept}
-use Rattle.model.specs.laws.Lists.{Inside}
+use Rattle.model.proofs.laws.Rules.{kept}
+use Rattle.model.proofs.laws.Lists.{Inside}
 use Rattle.theorems.specs.optimality.Graph as graph
 use Rattle.theorems.specs.optimality.Cell.{Cell, base, inner, Right}
 use Rattle.theorems.specs.optimality.Storing as storing
@@ -18,8 +18,8 @@ use Rattle.places.specs.declared.Origin.{Origin}
 use Rattle.places.specs.Order.{Earlier}
 use Rattle.places.specs.Columns.{columns, float_sizes, place_at, column_in}
 use Rattle.places.specs.Entry.{cleared}
-use Rattle.places.specs.laws.Cleared.{cleared_length}
-use Rattle.places.specs.laws.Places.{place_inside, line_at, column_at, place_of, forward_earlier}
+use Rattle.places.proofs.laws.Cleared.{cleared_length}
+use Rattle.places.proofs.laws.Places.{place_inside, line_at, column_at, place_of, forward_earlier}
 use Rattle.entries.specs.Fill.{Words, held, fill_side, fill_sides, side_count, fill_place, table_words}
 use Rattle.filling.specs.Fill.{fill_column, fill_columns, filled}
 use Rattle.entries.specs.Filled.{Roomy, Side, Light, Filled}

@@ -9,9 +9,9 @@ use Rattle.std.proofs.Math.Bool.{true, false}
 use Rattle.model.specs.Gather.{pick}
 use Rattle.model.specs.Galley.{Sides, single, double, Galley, Place, count}
 use Rattle.model.specs.Rules.{forward, closes, fits, fills, cited}
-use Rattle.model.specs.laws.Gather.{and_left, and_right, and_both}
-use Rattle.model.specs.laws.Rules.{kept, kept_allowed}
-use Rattle.model.specs.laws.White.{page_white}
+use Rattle.model.proofs.laws.Gather.{and_left, and_right, and_both}
+use Rattle.model.proofs.laws.Rules.{kept, kept_allowed}
+use Rattle.model.proofs.laws.White.{page_white}
 use Rattle.theorems.specs.turns.Waiting.{page_cost}
 use Rattle.theorems.specs.turns.Rank.{rank}
 use Rattle.theorems.specs.optimality.Graph as graph
@@ -24,7 +24,7 @@ use Rattle.places.specs.declared.Entry.{Entry}
 use Rattle.places.specs.declared.Entry.TheVariants.{Unreached, Least}
 use Rattle.places.specs.Best.{Leads, Best}
 use Rattle.places.specs.Columns.{columns, float_sizes, place_at, column_in}
-use Rattle.places.specs.laws.Places.{place_inside, line_at, column_at, place_of, place_tie, forward_earlier}
+use Rattle.places.proofs.laws.Places.{place_inside, line_at, column_at, place_of, place_tie, forward_earlier}
 use Rattle.candidates.specs.Search.{Table, before, Search, goes, white_from, best_start, most_from, priced, may_stop, begins, new_entry}
 use Rattle.candidates.specs.Choice.{Candidate, Starts, Any}
 use Rattle.candidates.specs.laws.Found.{best_start_lem}

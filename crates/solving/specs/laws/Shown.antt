@@ -7,7 +7,7 @@ use mathlib.Core.List.{[]}
 use Rattle.std.proofs.Math.Dec.{eqb}
 use borrow.Author.Tests.{eqb-true, eq-eqb}
 use Rattle.model.specs.Galley.{Galley, Place, sizes}
-use Rattle.model.specs.laws.Gather.{and_left, and_right, and_both}
+use Rattle.model.proofs.laws.Gather.{and_left, and_right, and_both}
 use Rattle.theorems.specs.optimality.Graph as graph
 use Rattle.theorems.specs.optimality.Cell.{Ahead, Offer, Cell, inner}
 use Rattle.theorems.specs.pages.Graph.{side, State, stop, end, Within, Step, Prefers, price}
@@ -17,8 +17,8 @@ use Rattle.places.specs.declared.Origin.{Origin}
 use Rattle.places.specs.declared.Entry.{Entry}
 use Rattle.places.specs.declared.Entry.TheVariants.{Unreached, Least}
 use Rattle.places.specs.Columns.{columns, float_sizes, place_at}
-use Rattle.places.specs.laws.Columns.{columns_some}
-use Rattle.places.specs.laws.Places.{place_all, place_inside, line_at, column_at, place_same}
+use Rattle.places.proofs.laws.Columns.{columns_some}
+use Rattle.places.proofs.laws.Places.{place_all, place_inside, line_at, column_at, place_same}
 use Rattle.candidates.specs.Search.{Table, before, most_from, begins}
 use Rattle.entries.specs.Filled.{Side}
 use Rattle.walk.specs.Trace.{last_side}

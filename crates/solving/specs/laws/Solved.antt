@@ -11,9 +11,9 @@ use Rattle.model.specs.Galley.{Place, streams}
 use Rattle.model.specs.Answers.{pages_of, words_of, marked}
 use Rattle.model.specs.Best.{valid}
 use Rattle.model.specs.Opening.{made_words_after}
-use Rattle.model.specs.laws.Lists.{◌∈◌}
-use Rattle.model.specs.laws.Words.{Shaped, length_words}
-use Rattle.model.specs.laws.Valid.{few_pages, valid_accepted}
+use Rattle.model.proofs.laws.Lists.{◌∈◌}
+use Rattle.model.proofs.laws.Words.{Shaped, length_words}
+use Rattle.model.proofs.laws.Valid.{few_pages, valid_accepted}
 use Rattle.theorems.specs.turns.LeastTurns.{valid_counts}
 use Rattle.theorems.specs.turns.Bounds.{Limits, Narrow}
 use Rattle.theorems.specs.pages.Following.{accepted_follows}
@@ -22,7 +22,7 @@ use Rattle.galley.specs.declared.Galley.{Galley}
 use Rattle.galley.specs.declared.Reading.TheVariants as reads
 use Rattle.galley.specs.Whole.{galley_of}
 use Rattle.galley.specs.Model.{model_of, sides_in}
-use Rattle.galley.specs.laws.Sound.{sound}
+use Rattle.galley.proofs.laws.Sound.{sound}
 use Rattle.blocks.specs.Counts.{page_words}
 use Rattle.blocks.specs.laws.Counts.{streams_of_lem, blocks_of}
 use Rattle.rules.specs.laws.Sane.{reads_sane}

@@ -11,9 +11,9 @@ use Rattle.model.specs.Galley.{Place}
 use Rattle.model.specs.Answers.{pages_of, words_of, counts_of}
 use Rattle.model.specs.Best.{valid}
 use Rattle.model.specs.Opening.{valid_after, best_after, opening_turned, made_after, made_words_after}
-use Rattle.model.specs.laws.Lists.{◌∈◌}
-use Rattle.model.specs.laws.Best.{MakesOf, makes, impossible}
-use Rattle.model.specs.laws.Opening.{after_valid, after_makes}
+use Rattle.model.proofs.laws.Lists.{◌∈◌}
+use Rattle.model.proofs.laws.Best.{MakesOf, makes, impossible}
+use Rattle.model.proofs.laws.Opening.{after_valid, after_makes}
 
 -- The best list is valid.
 pub best_valid : (g : model.Galley) (os qs : List Place) → best_after g os ≡ some qs → qs ∈ valid g

@@ -5,7 +5,7 @@ use Rattle.model.specs.Gather.{pick}
 use Rattle.rules.specs.Sums.{white_at}
 use Rattle.galley.specs.declared.Galley.{Galley}
 use Rattle.galley.specs.Model.{floats_of, model_of}
-use Rattle.galley.specs.laws.Pick.{or_false}
+use Rattle.galley.proofs.laws.Pick.{or_false}
 use Rattle.blocks.specs.declared.Counts.{Counts}
 use Rattle.blocks.specs.declared.heights.Heights.{Heights}
 use Rattle.blocks.specs.Counts.{Within}

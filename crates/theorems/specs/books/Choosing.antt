@@ -14,7 +14,7 @@ use Rattle.model.specs.Galley.{Sides, single, double, Galley, Place, streams, ze
 use Rattle.model.specs.White.{white}
 use Rattle.model.specs.Order.{then_by, by, lex, geb, oddly, starts_of}
 use Rattle.model.specs.Book.{sides_on, open_on, Choice, Tie, tie_of, tie_order}
-use Rattle.model.specs.laws.Order.{Preference, preference_refl, lex_antisymm, geb_antisymm}
+use Rattle.model.proofs.laws.Order.{Preference, preference_refl, lex_antisymm, geb_antisymm}
 use Rattle.theorems.specs.pages.Graph.{side}
 use Rattle.theorems.specs.books.Folios.{like, side_on, like_like, like_range}
 use Rattle.theorems.specs.books.Closing.{closing_valid}

@@ -14,8 +14,8 @@ use Rattle.model.specs.Turns.{x_of}
 use Rattle.model.specs.White.{white}
 use Rattle.model.specs.Best.{valid}
 use Rattle.model.specs.Book.{open_on, first_folio, Choice, choices, book_pages, book_x, book_white}
-use Rattle.model.specs.laws.Lists.{◌∈◌, ∈-unmap}
-use Rattle.model.specs.laws.Book.{∈-ungathered}
+use Rattle.model.proofs.laws.Lists.{◌∈◌, ∈-unmap}
+use Rattle.model.proofs.laws.Book.{∈-ungathered}
 use Rattle.theorems.specs.pages.Graph.{side}
 use Rattle.theorems.specs.books.Folios.{like, x_on, white_on_lem}
 use Rattle.theorems.specs.books.Closing.{best_closing}

@@ -8,8 +8,8 @@ use Rattle.model.specs.Turns.{turns}
 use Rattle.model.specs.White.{white}
 use Rattle.model.specs.Order.{starts_of}
 use Rattle.model.specs.Opening.{best_after}
-use Rattle.model.specs.laws.Valid.{valid_accepted}
-use Rattle.model.specs.laws.Opening.{after_valid, valid_after_lem, after_is, after_none}
+use Rattle.model.proofs.laws.Valid.{valid_accepted}
+use Rattle.model.proofs.laws.Opening.{after_valid, valid_after_lem, after_is, after_none}
 use Rattle.theorems.specs.optimality.Graph.{unreached, least}
 use Rattle.theorems.specs.optimality.Cell.{Table, Right, Trace}
 use Rattle.theorems.specs.turns.Rank.{rank}

@@ -3,7 +3,7 @@ use Rattle.std.specs.Prelude.{ℕ, suc, ◌≡◌, refl, Bool}
 use Rattle.std.proofs.Common.{arith, sym}
 use Rattle.model.specs.Galley.{Sides, single, double, Galley, Place}
 use Rattle.model.specs.Leaf.{ends}
-use Rattle.model.specs.laws.Leaf.{ends_parity}
+use Rattle.model.proofs.laws.Leaf.{ends_parity}
 use Rattle.model.specs.Rules.{broken, cited}
 use Rattle.model.specs.Order.{oddly}
 use Rattle.model.specs.Best.{allowed}

@@ -10,8 +10,8 @@ use borrow.Author.Tests.{leb-true, le-leb}
 use Rattle.model.specs.Gather.{implies}
 use Rattle.model.specs.Galley.{Galley, Place, sizes}
 use Rattle.model.specs.Order.{then_by, by, lex, geb, oddly, starts_of}
-use Rattle.model.specs.laws.Gather.{and_left, and_right, and_both, implies_at, implies_of}
-use Rattle.model.specs.laws.Order.{preference_refl, lex_preference, geb_preference}
+use Rattle.model.proofs.laws.Gather.{and_left, and_right, and_both, implies_at, implies_of}
+use Rattle.model.proofs.laws.Order.{preference_refl, lex_preference, geb_preference}
 use Rattle.theorems.specs.optimality.Graph.{Way, total, First}
 use Rattle.theorems.specs.turns.Rank.{ranked}
 use Rattle.theorems.specs.pages.Graph.{State, stop, end, side, place_of, Origin, Within, PageStep, Step, Prefers, page_graph, page_at, pages_on}

@@ -8,12 +8,12 @@ use Rattle.model.specs.Galley.{Galley, Place, count, sizes}
 use Rattle.model.specs.Answers.{same, ended}
 use Rattle.model.specs.Order.{starts_of}
 use Rattle.model.specs.Best.{allowed}
-use Rattle.model.specs.laws.Gather.{and_left, and_both}
-use Rattle.model.specs.laws.Rules.{kept, forward_at}
-use Rattle.model.specs.laws.Judge.{accepts}
-use Rattle.model.specs.laws.Lists.{Inside, AllInside}
-use Rattle.model.specs.laws.Valid.{same_true, count_sizes}
-use Rattle.model.specs.laws.White.{page_white, whites_next}
+use Rattle.model.proofs.laws.Gather.{and_left, and_both}
+use Rattle.model.proofs.laws.Rules.{kept, forward_at}
+use Rattle.model.proofs.laws.Judge.{accepts}
+use Rattle.model.proofs.laws.Lists.{Inside, AllInside}
+use Rattle.model.proofs.laws.Valid.{same_true, count_sizes}
+use Rattle.model.proofs.laws.White.{page_white, whites_next}
 use Rattle.theorems.specs.optimality.Graph.{Way, total}
 use Rattle.theorems.specs.turns.Waiting.{page_sum, page_cost, costs}
 use Rattle.theorems.specs.turns.Rank.{rank, ranked}

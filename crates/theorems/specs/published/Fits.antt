@@ -5,7 +5,7 @@ use Rattle.std.proofs.Math.Nat.{le-suc_iff}
 use Rattle.std.proofs.Common.{le_refl, le_trans, arith, ◌∙◌, ap, inl, inr, leb-true, leb-false, le-leb, eqb-true, eq-eqb}
 use Rattle.std.proofs.Math.Decide.{dec_le}
 use Rattle.model.specs.Gather.{pick, one, sum, between}
-use Rattle.model.specs.laws.Gather.{sum_ext, between_sum}
+use Rattle.model.proofs.laws.Gather.{sum_ext, between_sum}
 
 -- The first c of n blocks are those that P has on page q or earlier.
 pub record Fits (n q c : ℕ) (P : ℕ → ℕ) : Type 0 where

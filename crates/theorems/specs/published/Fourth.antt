@@ -6,8 +6,8 @@ use Rattle.model.specs.Galley.{Sides, Galley, Place, count, Block, Sane}
 use Rattle.model.specs.Leaf.{leaf, ends}
 use Rattle.model.specs.Rules.{cited}
 use Rattle.model.specs.Pagination.{Map}
-use Rattle.model.specs.laws.Gather.{or_left, or_right, or_cases}
-use Rattle.model.specs.laws.Leaf.{leaf_next, leaf_mono, leaf_after}
+use Rattle.model.proofs.laws.Gather.{or_left, or_right, or_cases}
+use Rattle.model.proofs.laws.Leaf.{leaf_next, leaf_mono, leaf_after}
 use Rattle.theorems.specs.turns.Costs.{cite_mono}
 use Rattle.theorems.specs.published.Heights.{After}
 use Rattle.theorems.specs.published.Keeping.{cited_at, cited_of}

@@ -11,7 +11,7 @@ use Rattle.model.specs.Gather.{one}
 use Rattle.model.specs.Galley.{Stream, Galley, Place, count}
 use Rattle.model.specs.Height.{has, kinds, stacked, height}
 use Rattle.model.specs.Pagination.{Map, stacked_on, has_on, height_on}
-use Rattle.model.specs.laws.Gather.{total_ext, and_left, and_right, and_both}
+use Rattle.model.proofs.laws.Gather.{total_ext, and_left, and_right, and_both}
 use Rattle.theorems.specs.published.Fits.{Fits, sum_window, count_window, fits_page}
 
 -- u is the place after page q of the map: of each stream it counts the blocks on page q or earlier.

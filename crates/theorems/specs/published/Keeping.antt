@@ -4,8 +4,8 @@ use Rattle.std.proofs.Common.{ltb-true, lt-ltb, leb-true, le-leb}
 use Rattle.model.specs.Galley.{Galley, Place, count}
 use Rattle.model.specs.Leaf.{ends}
 use Rattle.model.specs.Rules.{may_end, closes, cited}
-use Rattle.model.specs.laws.Gather.{and_left, and_right, and_both, implies_at, implies_of}
-use Rattle.model.specs.laws.Gather.{each_at, each_of, every_at, every_of}
+use Rattle.model.proofs.laws.Gather.{and_left, and_right, and_both, implies_at, implies_of}
+use Rattle.model.proofs.laws.Gather.{each_at, each_of, every_at, every_of}
 
 -- 14: where a stream's blocks are neither all before the page's end nor all after it, the space there is legal.
 pub closes_at : (g : Galley) (v : Place) → closes g v ≡ true

@@ -7,7 +7,7 @@ use Rattle.model.specs.Galley.{Galley, Block, Sane}
 use Rattle.model.specs.Leaf.{leaf}
 use Rattle.model.specs.Turns.{page_of, apart, x_of, y_of, turns}
 use Rattle.model.specs.Pagination.{Map, Pagination, list_on, x_on, turns_on}
-use Rattle.model.specs.laws.Gather.{sum_ext}
+use Rattle.model.proofs.laws.Gather.{sum_ext}
 use Rattle.theorems.specs.published.OfMap.{length_list, page_list}
 
 module _ {g : Galley} (sane : Sane g) {p : ℕ} {P : Map} (m : Pagination g p P) where

@@ -3,8 +3,8 @@ use Rattle.std.specs.Prelude.{ℕ, ◌≤◌, ◌≡◌}
 use Rattle.std.proofs.Common.{arith, ◌∙◌, le-ltb}
 use Rattle.model.specs.Gather.{one, sum}
 use Rattle.model.specs.Galley.{Galley, count, sizes}
-use Rattle.model.specs.laws.Gather.{sum_ext, sum_zero}
-use Rattle.model.specs.laws.Valid.{count_sizes}
+use Rattle.model.proofs.laws.Gather.{sum_ext, sum_zero}
+use Rattle.model.proofs.laws.Valid.{count_sizes}
 use Rattle.theorems.specs.turns.Waiting.{dangles, waiting_in, waiting}
 
 -- At the full place nothing waits.

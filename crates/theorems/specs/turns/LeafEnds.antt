@@ -6,8 +6,8 @@ use Rattle.model.specs.Galley.{Sides, Galley, Place, Block, count}
 use Rattle.model.specs.Leaf.{leaf, ends}
 use Rattle.model.specs.Turns.{page_of, apart, x_of, y_of}
 use Rattle.model.specs.Answers.{ended}
-use Rattle.model.specs.laws.Gather.{sum_ext, sum_zero, sum_add}
-use Rattle.model.specs.laws.Leaf.{leaf_mono}
+use Rattle.model.proofs.laws.Gather.{sum_ext, sum_zero, sum_add}
+use Rattle.model.proofs.laws.Leaf.{leaf_mono}
 use Rattle.theorems.specs.turns.Waiting.{dangles, waiting_in, waiting, page_sum, at_end, turned}
 use Rattle.theorems.specs.turns.Pages.{Along, along, page_sum_ext, page_sum_mix}
 use Rattle.theorems.specs.turns.Leaves.{missing, Rises, leaf_of_page, leaf_of_last}

@@ -6,7 +6,7 @@ use Rattle.model.specs.Galley.{Sides, Place, count}
 use Rattle.model.specs.Leaf.{leaf}
 use Rattle.model.specs.Turns.{page_of}
 use Rattle.model.specs.Answers.{ended}
-use Rattle.model.specs.laws.Leaf.{leaf_next}
+use Rattle.model.proofs.laws.Leaf.{leaf_next}
 use Rattle.theorems.specs.turns.Waiting.{page_sum, at_end, turned}
 use Rattle.theorems.specs.turns.Pages.{About, Along}
 

@@ -4,9 +4,9 @@ use Rattle.std.proofs.Common.{mul-zero, mul-add, arith}
 use Rattle.model.specs.Galley.{Place}
 use Rattle.model.specs.Answers.{same, ended}
 use Rattle.model.specs.Best.{Allowed}
-use Rattle.model.specs.laws.Gather.{and_left, and_right}
-use Rattle.model.specs.laws.Judge.{accepts}
-use Rattle.model.specs.laws.Valid.{same_true}
+use Rattle.model.proofs.laws.Gather.{and_left, and_right}
+use Rattle.model.proofs.laws.Judge.{accepts}
+use Rattle.model.proofs.laws.Valid.{same_true}
 use Rattle.theorems.specs.turns.Waiting.{page_sum}
 
 -- What may hold of page q that goes from u to v, and is the last of its list or not.

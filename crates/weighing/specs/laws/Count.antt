@@ -7,11 +7,11 @@ use Rattle.std.proofs.Math.Path.{refl}
 use Rattle.std.proofs.Common.{sym, ◌∙◌, inl, inr}
 use borrow.Author.Tests.{ltb-true, ltb-false, leb-false}
 use Rattle.model.specs.Weighed.{weighed_from}
-use Rattle.model.specs.laws.Boxes.{below}
-use Rattle.model.specs.laws.Gather.{or_cases}
+use Rattle.model.proofs.laws.Boxes.{below}
+use Rattle.model.proofs.laws.Gather.{or_cases}
 use Rattle.galley.specs.declared.Galley.{Galley}
 use Rattle.galley.specs.Model.{model_of}
-use Rattle.galley.specs.laws.Pick.{or_false}
+use Rattle.galley.proofs.laws.Pick.{or_false}
 use Rattle.blocks.specs.declared.Counts.{Counts}
 use Rattle.blocks.specs.declared.heights.Heights.{Heights}
 use Rattle.blocks.specs.Counts.{place_of}

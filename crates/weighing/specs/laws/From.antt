@@ -3,7 +3,7 @@
 use Rattle.std.specs.Prelude.{ℕ, suc, ◌+◌, ◌≤◌, ◌<◌, ◌≡◌, refl, ◌⊎◌, Bool, true, false, ◌&&◌, ◌||◌, List, ltb, leb}
 use Rattle.std.proofs.Math.Decide.{dec_le}
 use Rattle.std.proofs.Common.{arith, sym, ap, inl, inr, lt-ltb, le-ltb, ltb-true, ltb-false, leb-true}
-use Rattle.model.specs.laws.Gather.{and_left, and_right, or_cases}
+use Rattle.model.proofs.laws.Gather.{and_left, and_right, or_cases}
 use Rattle.galley.specs.declared.Galley.{Galley}
 use Rattle.galley.specs.Model.{text_of, model_of}
 use Rattle.blocks.specs.declared.Counts.{Counts}

@@ -12,13 +12,13 @@ use Rattle.model.specs.Galley.{Galley, Place}
 use Rattle.model.specs.Height.{stacked, tightest}
 use Rattle.model.specs.Rules.{forward, fits}
 use Rattle.model.specs.Weighed.{weighs, past}
-use Rattle.model.specs.laws.Gather.{and_left, and_right, and_both, sum_add, sum_zero, total_ext}
-use Rattle.model.specs.laws.Boxes.{below, width}
-use Rattle.model.specs.laws.Lists.{Inside}
+use Rattle.model.proofs.laws.Gather.{and_left, and_right, and_both, sum_add, sum_zero, total_ext}
+use Rattle.model.proofs.laws.Boxes.{below, width}
+use Rattle.model.proofs.laws.Lists.{Inside}
 use Rattle.places.specs.Columns.{columns, float_sizes, place_at}
 use Rattle.places.specs.Order.{Earlier}
-use Rattle.places.specs.laws.Columns.{inside_all, inside_cons, inside_tail}
-use Rattle.places.specs.laws.Places.{place_inside, forward_inside, forward_earlier, line_at, column_at}
+use Rattle.places.proofs.laws.Columns.{inside_all, inside_cons, inside_tail}
+use Rattle.places.proofs.laws.Places.{place_inside, forward_inside, forward_earlier, line_at, column_at}
 use Rattle.candidates.specs.Beside.{Under, beside, alone}
 use Rattle.candidates.specs.laws.Heights.{height_lines, height_alone, forward_under, beside_none, fits_later}
 use Rattle.weighing.specs.Columns.{pairs_from}

@@ -3,7 +3,7 @@ use Rattle.std.specs.Prelude.{ℕ, ◌+◌, ◌*◌, ◌≤◌, ◌<◌, ◌≡�
 use Rattle.std.proofs.Math.Decide.{dec_lt}
 use Rattle.std.proofs.Common.{arith, ◌∙◌, inl, inr}
 use Rattle.std.proofs.Math.Seq.{length-sets}
-use Rattle.places.specs.laws.Stored.{sets_out, sets_in}
+use Rattle.places.proofs.laws.Stored.{sets_out, sets_in}
 use Rattle.window.specs.Rows.{pushed, Beside}
 
 -- The words after a row is written: its own, and those of the others.

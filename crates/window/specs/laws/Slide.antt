@@ -4,7 +4,7 @@ use Rattle.std.specs.Prelude.{ℕ, suc, ◌+◌, ◌≤◌, ◌<◌, ◌≡◌, 
 use Rattle.std.proofs.Common.{le_refl, arith, ltb-true}
 use Rattle.std.proofs.Math.Decide.{dec_le}
 use Rattle.model.specs.Galley.{Stream}
-use Rattle.model.specs.laws.Height.{stacked_grows}
+use Rattle.model.proofs.laws.Height.{stacked_grows}
 use Rattle.window.specs.declared.slide.Load.{Load}
 use Rattle.window.specs.declared.slide.Window.{Window}
 use Rattle.window.specs.Sums.{spaced_at, Pair, Sums}

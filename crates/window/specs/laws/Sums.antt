@@ -5,8 +5,8 @@ use Rattle.std.proofs.Common.{arith, sym, ap, ◌∙◌, inl}
 use Rattle.model.specs.Gather.{sum}
 use Rattle.model.specs.Galley.{Stream}
 use Rattle.model.specs.Height.{stacked}
-use Rattle.model.specs.laws.Gather.{between_sum}
-use Rattle.model.specs.laws.Height.{sum_mono}
+use Rattle.model.proofs.laws.Gather.{between_sum}
+use Rattle.model.proofs.laws.Height.{sum_mono}
 use Rattle.galley.specs.declared.Stream as galley
 use Rattle.galley.specs.Model.{text_of}
 use Rattle.galley.specs.Sound.{SoundStream}

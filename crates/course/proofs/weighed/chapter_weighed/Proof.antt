@@ -1,6 +1,6 @@
 -- `chapter_weighed` meets its contract: what is weighed from nothing placed on is all that is weighed.
 use borrow.Author.Rules.{rules}
-use Rattle.galley.specs.laws.Sound.{sound}
+use Rattle.galley.proofs.laws.Sound.{sound}
 use Rattle.course.specs.laws.Weighed.{none_within, chapter_weighed}
 use Rattle.course.proofs.weighed.chapter_weighed.Statement.{statement}
 use Rattle.course.proofs.weighed.chapter_weighed.Tie as tie

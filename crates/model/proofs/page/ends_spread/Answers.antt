@@ -1,7 +1,7 @@
 -- `ends_spread` meets its contract: whether a page ends its leaf follows from its side, which is its number's parity.
 use Rattle.std.proofs.Common.{◌∙◌}
 use Rattle.model.specs.Leaf.{sides_of}
-use Rattle.model.specs.laws.Leaf.{ends_parity}
+use Rattle.model.proofs.laws.Leaf.{ends_parity}
 use Rattle.model.proofs.page.ends_spread.Goals as goal
 
 pub returns : goal.returns

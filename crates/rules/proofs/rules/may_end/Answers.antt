@@ -3,7 +3,7 @@ use borrow.Author.Tests.{ltb-true}
 use lib.Dec.{ltb}
 use native.Mathlib.Omega.{arith}
 use Rattle.model.specs.Rules.{may_end}
-use Rattle.model.specs.laws.Gather.{and_left, and_right}
+use Rattle.model.proofs.laws.Gather.{and_left, and_right}
 use Rattle.rules.proofs.rules.may_end.Goals as goal
 
 pub is_legal-requires : goal.is_legal-requires
