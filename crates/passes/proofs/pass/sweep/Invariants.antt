@@ -1,0 +1,13 @@
+-- `sweep` meets its contract. The loop's invariant is `SweepRun`: the sides before c know the starts of the pass too.
+use Prim.Native.Nat.{◌-◌}
+use native.Mathlib.Omega.{arith}
+use Rattle.passes.specs.Swept.{SweepRun}
+use Rattle.passes.specs.laws.Sweeping.{sweep_first, sweep_none, sweep_stops, sweep_last, sweep_side, sweep_line, sweep_next}
+use borrow.Author.Rules.{rules}
+use Rattle.passes.proofs.pass.sweep.Given as goal
+
+abbrev pub invariant-loop-c : goal.invariant-loop-c
+invariant-loop-c l = SweepRun l.s l.g l.initial.work l.work l.initial.words l.words l.pass l.stop l.c
+
+abbrev pub decreases-loop-c : goal.decreases-loop-c
+decreases-loop-c l = l.g.spec.sides - l.c
