@@ -18,14 +18,14 @@ with_end-altered-requires c = sym c.is_inner.ensures ∙ c.if-not-is_inner.false
 
 pub slice_bounds-altered-end : goal.slice_bounds-altered-end
 slice_bounds-altered-end c =
-    let long = c.with_end-altered.type-inv.0 in
+    let long = c.with_end-altered.type_inv.0 in
     let few = words_few c.args.d in
     let is = c.words_on-words.ensures in
     omega arith
 
 pub slice_bounds-mark-end : goal.slice_bounds-mark-end
 slice_bounds-mark-end c =
-    let long = c.with_end-altered.type-inv.0 in
+    let long = c.with_end-altered.type_inv.0 in
     let few = words_few c.args.d in
     let is = c.words_on-words.ensures in
     sym (length-take-le _ _ (omega arith))

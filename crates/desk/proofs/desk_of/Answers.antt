@@ -13,5 +13,5 @@ unfolding opened
 returns c =
     let list = c.args.list.now in
     rw c.free-free.ensures
-    (ap₂ (fresh c.args.pages) c.width_of_lem.ensures
+    (ap₂ (fresh c.args.pages) c.width_of-width.ensures
     (c.copy_words.ensures ∙ ap (λ (ws : List ℕ). ws ++ drop (length list) (replicate 192 0)) (take-length list)))

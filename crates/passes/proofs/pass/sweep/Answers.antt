@@ -21,16 +21,16 @@ pub last_line-requires : goal.last_line-requires
 last_line-requires c =
     sweep_line c.requires (omega (arith, c.if-g-pass.false))
     c.sweep_stop-stop.ensures c.loop-c.invariant c.loop-c-test.true _ _
-    (search (rules, c.type_inv.work, c.work-1.given))
-    (search (rules, c.type_inv.words, c.words-1.given)) c.sweep_side.ensures
+    (search rules)
+    (search rules) c.sweep_side.ensures
 
 pub loop-c-preserved : goal.loop-c-preserved
 loop-c-preserved c =
     sweep_next c.requires (omega (arith, c.if-g-pass.false))
     c.sweep_stop-stop.ensures c.loop-c.invariant c.loop-c-test.true _ _
-    (search (rules, c.type_inv.work, c.work-1.given))
-    (search (rules, c.type_inv.words, c.words-1.given)) c.sweep_side.ensures _
-    (search (rules, c.type_inv.work, c.work-in-loop-c-1.given)) c.last_line.ensures
+    (search rules)
+    (search rules) c.sweep_side.ensures _
+    (search rules) c.last_line.ensures
 
 pub returns-then-g-pass : goal.returns-then-g-pass
 returns-then-g-pass c = sweep_none c.requires c.if-g-pass.true

@@ -28,7 +28,7 @@ pub loop-i-init : goal.loop-i-init
 loop-i-init c =
     rw (c.shut-fed.ensures, c.shut-starts.ensures, c.no_parts-parts.ensures, c.load_of-load.ensures)
     (side_first c.requires _
-    (search (rules, c.type_inv.words, c.words-1.given)) _
+    (search rules) _
     (rw c.side_before-side.ensures at c.bound_side-since.ensures))
 
 pub window_of-starts-requires : goal.window_of-starts-requires
@@ -47,7 +47,7 @@ pub beaten-requires : goal.beaten-requires
 beaten-requires c =
     rw c.place_of-place.ensures
     (side_compares c.requires c.loop-i.invariant c.loop-i-test.true _
-    (search (rules, c.type_inv.words, c.words-in-loop-i-1.given)) c.window_of-starts.result
+    (search rules) c.window_of-starts.result
     (rw c.load_of-load.ensures at c.window_of-starts.ensures))
 
 pub overflow_add-i : goal.overflow_add-i
@@ -61,7 +61,7 @@ overflow_add-i c =
 pub loop-i-preserved-then-beaten : goal.loop-i-preserved-then-beaten
 loop-i-preserved-then-beaten c =
     side_beaten c.requires c.loop-i.invariant c.loop-i-test.true _
-    (search (rules, c.type_inv.words, c.words-in-loop-i-1.given)) c.window_of-starts.result
+    (search rules) c.window_of-starts.result
     (rw c.load_of-load.ensures at c.window_of-starts.ensures)
     (rw c.place_of-place.ensures at (c.beaten.ensures c.if-beaten.true))
 
@@ -69,7 +69,7 @@ pub move_on-parts-requires : goal.move_on-parts-requires
 move_on-parts-requires c =
     rw c.side_before-side.ensures
     (side_moves c.requires c.loop-i.invariant c.loop-i-test.true _
-    (search (rules, c.type_inv.words, c.words-in-loop-i-1.given)) c.window_of-starts.result
+    (search rules) c.window_of-starts.result
     (rw c.load_of-load.ensures at c.window_of-starts.ensures))
 
 pub best_front-lines-requires : goal.best_front-lines-requires
@@ -77,7 +77,7 @@ best_front-lines-requires c =
     let load = c.load_of-load.ensures in
     rw load
     (side_fronted c.requires c.loop-i.invariant c.loop-i-test.true _
-    (search (rules, c.type_inv.words, c.words-in-loop-i-1.given)) c.window_of-starts.result
+    (search rules) c.window_of-starts.result
     (rw load at c.window_of-starts.ensures) _
     (search (rules, c.slice_known-in-loop-i-2-1.given, c.words-in-loop-i-2-1.given)) c.move_on-parts.result
     (rw c.side_before-side.ensures at c.move_on-parts.ensures))
@@ -100,7 +100,7 @@ pub loop-i-preserved : goal.loop-i-preserved
 loop-i-preserved c =
     let load = c.load_of-load.ensures in
     side_next c.requires c.loop-i.invariant c.loop-i-test.true _
-    (search (rules, c.type_inv.words, c.words-in-loop-i-1.given)) c.window_of-starts.result
+    (search rules) c.window_of-starts.result
     (rw load at c.window_of-starts.ensures) _
     (search (rules, c.slice_known-in-loop-i-2-1.given, c.words-in-loop-i-2-1.given)) c.move_on-parts.result
     (rw c.side_before-side.ensures at c.move_on-parts.ensures) _

@@ -1,0 +1,14 @@
+-- `row_top` meets its contract: by the test on the figures.
+use native.Mathlib.Omega.{arith}
+use borrow.Author.Tests.{lt-ltb, le-ltb}
+use ghost.Mode.{◌$◌}
+use Rattle.starts.specs.Sweep.{row_top}
+use Rattle.starts.proofs.sweep.row_top.Goals as goal
+
+pub returns-then-row : goal.returns-then-row
+unfolding row_top
+returns-then-row c = simp (lt-ltb _ _ c.if-row.true)
+
+pub returns : goal.returns
+unfolding row_top
+returns c = simp (le-ltb _ _ c.if-row.false)

@@ -1,0 +1,15 @@
+-- `sweep_column` meets its contract. The loop's invariant is `ColumnSweepRun`: the starts in rows from b figures on are known. Where
+-- the figures alone are too tall, no earlier row has a start, and none before the origin's figures is reached.
+use native.Mathlib.Omega.{arith}
+use Rattle.starts.specs.Swept.{ColumnSweepRun}
+use Rattle.candidates.specs.laws.Columns.{few_floats, within_at}
+use Rattle.starts.specs.laws.Rows.{column_first, column_since, column_last, column_room, column_sweeps, column_next, column_tall}
+use borrow.Author.Rules.{rules}
+use Rattle.starts.proofs.sweep.sweep_column.Given as goal
+
+abbrev pub invariant-loop-b : goal.invariant-loop-b
+invariant-loop-b l =
+    ColumnSweepRun l.s l.g l.initial.work l.work l.initial.words l.words l.seen l.j l.begin l.heights l.b l.any
+
+abbrev pub decreases-loop-b : goal.decreases-loop-b
+decreases-loop-b l = l.b
