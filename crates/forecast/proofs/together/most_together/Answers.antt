@@ -60,7 +60,7 @@ moved c =
     let a = c.args in
     let st = c.loop-b in
     let start = st.invariant.start in
-    omega (arith, grown «c.before.before», c.tight_of-height-then-limit-height.ensures.0, run_rest a.s.now a.stream st.a (st.b + 1) (omega arith))
+    omega (arith, c.tight_of-height.ensures.0, run_next _ _ c.loop-b.invariant, c.tight_of-height-then-limit-height.ensures.0, run_rest a.s.now a.stream st.a (st.b + 1) (omega arith))
 
 pub loop-b-preserved-then-limit-height : goal.loop-b-preserved-then-limit-height
 loop-b-preserved-then-limit-height c =

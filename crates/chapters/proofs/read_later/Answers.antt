@@ -9,53 +9,61 @@ use Rattle.needs.specs.laws.Needs.{read_few}
 use Rattle.chapters.specs.Steps.{Underway}
 use Rattle.chapters.specs.laws.Lengths.{adding, part_slice}
 use Rattle.chapters.specs.laws.Underway.{underway_first, underway_roomy, underway_within, underway_done, underway_refused, underway_unfit, underway_next}
-use Rattle.chapters.proofs.read_later.Statement.{statement}
-use Rattle.chapters.proofs.read_later.Tie as tie
+use Rattle.chapters.proofs.read_later.Goals as goal
 
-abbrev invariant-loop : tie.invariant-loop
-invariant-loop galleys lengths first book₀ at₀ book at = Underway galleys lengths first.spec book at
+pub with_chapter-book-requires : goal.with_chapter-book-requires
+with_chapter-book-requires c = (record { chapters = omega arith; list = omega arith }, read_few _ _ c.requires.reads)
 
-abbrev decreases-loop : tie.decreases-loop
-decreases-loop galleys lengths first book₀ at₀ book at = length lengths - book.chapters
-
-pub read_later_spec : {M : Type 1} → statement M
-read_later_spec =
-    tie.close
-    (tie.spec
-    invariant-loop decreases-loop
-    (λ c κs. (record { chapters = omega arith; list = omega arith }, read_few _ _ c.before.before.requires.reads))
-    (λ c.
+pub bounds-lengths-0 : goal.bounds-lengths-0
+bounds-lengths-0 = (λ c.
     let s = c.before.before.before.before in
     omega (arith, (adding s.args.galleys.now s.args.lengths.now s.requires.adds).some))
-    (λ c κs. search rules)
-    (λ c. rw c.before.before.with-chapter.ensures (rw c.wide.ensures.0 (underway_first c.before.before.before.before.before.requires)))
-    (λ c. search rules) (λ c. search rules) (λ c κs. search rules)
-    (λ c. omega (arith, c.before.before.before.before.loop.invariant.few))
-    (λ c. search rules) (λ c. search rules)
-    (λ c.
+
+pub loop-book-init : goal.loop-book-init
+loop-book-init c = rw c.with_chapter-book.ensures (rw c.wide-at.ensures.0 (underway_first c.requires))
+
+pub overflow_add-to : goal.overflow_add-to
+overflow_add-to c = omega (arith, c.loop-book.invariant.few)
+
+pub slice_bounds-read_galley-end : goal.slice_bounds-read_galley-end
+slice_bounds-read_galley-end = (λ c.
     let st = c.before.before.before.before.loop in
     omega (arith, underway_within st.invariant c.before.before.if1.true, c.wide2.ensures.0))
-    (λ c κs. search rules) (λ c. search rules) (λ c κs. search rules)
-    (λ c κs. omega (arith, c.before.before.before.before.before.before.before.before.before.before.before.loop.invariant.few))
-    (λ c.
+
+pub turned_away-requires : goal.turned_away-requires
+turned_away-requires c = omega (arith, c.loop-book.invariant.few)
+
+pub returns-then-number-gt0 : goal.returns-then-number-gt0
+returns-then-number-gt0 = (λ c.
     let w = c.before.before.before.before.before.before.before.before in
     let e = sym (ap galley_of (part_slice c.before.before.before.before.before.before.before.before.before.before.before.before.loop.at c.before.before.before.before.before.before.before.before.wide2.result c.before.before.before.before.before.before.before.before.before.before.before.before.before.before.before.before.before.before.args.galleys.now)) ∙ sym c.before.before.before.before.before.before.read-galley.ensures ∙ c.before.before.before.before.reading.given.1 in
     let u = c.before.before.unfit-after in
     c.turned-away.ensures
     ∙ underway_unfit c.before.before.before.before.before.before.before.before.before.before.before.before.loop.invariant w.wide2.result w.wide2.ensures.0 c.before.before.before.before.before.before.before.before.before.before.if1.true _ e u.result u.ensures c.before.if2.true)
-    (λ c κs.
+
+pub with_chapter-book-requires-in-Galley : goal.with_chapter-book-requires-in-Galley
+with_chapter-book-requires-in-Galley = (λ c κs.
     let e = sym (ap galley_of (part_slice c.before.before.before.before.before.before.before.before.before.before.before.loop.at c.before.before.before.before.before.before.before.wide2.result c.before.before.before.before.before.before.before.before.before.before.before.before.before.before.before.before.before.args.galleys.now)) ∙ sym c.before.before.before.before.before.read-galley.ensures ∙ c.before.before.before.reading.given.1 in
     (underway_roomy c.before.before.before.before.before.before.before.before.before.before.before.loop.invariant c.before.before.before.before.before.before.before.before.before.if1.true, read_few _ _ e))
-    (λ c. rw c.with-chapter2.ensures (omega arith))
-    (λ c.
+
+pub loop-book-smaller : goal.loop-book-smaller
+loop-book-smaller c = rw c.with_chapter-book-in-Galley.ensures (omega arith)
+
+pub loop-book-preserved : goal.loop-book-preserved
+loop-book-preserved = (λ c.
     let w = c.before.before.before.before.before.before.before.before in
     let e = sym (ap galley_of (part_slice c.before.before.before.before.before.before.before.before.before.before.before.before.loop.at c.before.before.before.before.before.before.before.before.wide2.result c.before.before.before.before.before.before.before.before.before.before.before.before.before.before.before.before.before.before.args.galleys.now)) ∙ sym c.before.before.before.before.before.before.read-galley.ensures ∙ c.before.before.before.before.reading.given.1 in
     let u = c.before.before.unfit-after in
     rw c.with-chapter2.ensures (underway_next c.before.before.before.before.before.before.before.before.before.before.before.before.loop.invariant w.wide2.result w.wide2.ensures.0 c.before.before.before.before.before.before.before.before.before.before.if1.true _ e (omega arith)))
-    (λ c. search rules)
-    (λ c κs. omega (arith, c.before.before.before.before.before.before.before.before.before.loop.invariant.few))
-    (λ c.
+
+pub turned_away-requires-in-Refused : goal.turned_away-requires-in-Refused
+turned_away-requires-in-Refused c = omega (arith, c.loop-book.invariant.few)
+
+pub returns-in-Refused : goal.returns-in-Refused
+returns-in-Refused = (λ c.
     let w = c.before.before.before.before.before.before in
     c.turned-away2.ensures
     ∙ underway_refused c.before.before.before.before.before.before.before.before.before.before.loop.invariant w.wide2.result w.wide2.ensures.0 c.before.before.before.before.before.before.before.before.if1.true _ _ (sym (ap galley_of (part_slice c.before.before.before.before.before.before.before.before.before.before.loop.at c.before.before.before.before.before.before.wide2.result c.before.before.before.before.before.before.before.before.before.before.before.before.before.before.before.before.args.galleys.now)) ∙ sym c.before.before.before.before.read-galley.ensures ∙ c.before.before.reading2.given.1))
-    (λ c. underway_done c.before.before.loop.invariant c.if1.false))
+
+pub returns : goal.returns
+returns c = underway_done c.loop-book.invariant c.loop-book-test.false

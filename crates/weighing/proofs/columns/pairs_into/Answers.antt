@@ -1,0 +1,99 @@
+-- `pairs_into` meets its contract. Both loops have one invariant, `ColumnCount`: the pages from all columns past that of these parts are
+-- counted. A turn counts one column more; those between it and the next add nothing.
+use native.Mathlib.Omega.{arith}
+use mathlib.Core.Path.{◌≡◌}
+use Rattle.candidates.specs.Read.{counts_at}
+use Rattle.candidates.specs.laws.Columns.{few_floats}
+use Rattle.weighing.specs.Count.{nothing, CountableColumn, ColumnCount, ColumnStep, KnownOf}
+use Rattle.weighing.specs.laws.From.{from_lays, from_between}
+use Rattle.weighing.specs.laws.Count.{column_short, column_first, column_few, table_room, table_next, figure_room, figure_next, column_last}
+use borrow.Author.Rules.{rules}
+use Rattle.weighing.proofs.columns.pairs_into.Goals as goal
+use Rattle.weighing.proofs.columns.pairs_into.Goals.{After-floats_alone-arg-1, After-known-1, After-pairs_between-pairs, After-struct_known-in-loop-tables-2-3-1, After-with_one_more-arg-1, After-with_one_more-arg-in-loop-tables-1, At-loop-tables-2}
+
+pub returns-then-end-first : goal.returns-then-end-first
+returns-then-end-first c =
+    (column_short c.requires.0 (rw c.counts_at-end.ensures at c.if-end-first.true), c.requires.1)
+
+pub loop-tables-init : goal.loop-tables-init
+loop-tables-init c = (
+  rw (c.nothing-figures.ensures, c.counts_at-end.ensures)
+      (column_first c.requires.0 (rw c.counts_at-end.ensures at c.if-end-first.false)),
+  c.requires.1,
+)
+
+pub loop-tables-2-init : goal.loop-tables-2-init
+loop-tables-2-init c =
+    (rw (c.nothing-tables.ensures, c.counts_at-end.ensures) c.loop-tables.invariant.0, c.loop-tables.invariant.1)
+
+-- What is asked, at the loop over tables, and what the end is.
+asked : (c : At-loop-tables-2) → let a = c.before.before.before.before.before.before.before.before.before.before.before.before.before.before.before.args in
+    CountableColumn a.s.now a.g a.sums.now a.first a.q
+asked c = c.requires.0
+
+end : (c : At-loop-tables-2) → let a = c.before.before.before.before.before.before.before.before.before.before.before.before.before.before.before.args in
+    c.before.before.before.before.before.before.before.before.before.before.before.counts-at.result ≡ counts_at a.g 0 a.q
+end c = c.counts_at-end.ensures
+
+pub pairs_between-pairs-requires : goal.pairs_between-pairs-requires
+pairs_between-pairs-requires c = (
+  from_between (asked (goal.at.pairs_between-pairs-requires c).At-loop-tables-2) c.loop-tables-2.invariant.0.figured c.loop-tables-2.invariant.0.tabled c.floats_alone-floats.result
+      (rw (end (goal.at.pairs_between-pairs-requires c).After-struct_known-in-loop-tables-2-3-1) at c.floats_alone-floats.ensures),
+  c.loop-tables-2.invariant.1,
+)
+
+-- What a turn adds.
+step : (c : After-pairs_between-pairs) → let st = c.before.before.before.before.before in
+    let a = st.before.before.before.before.before.before.before.before.before.before.before.before.before.before.before.args in
+    ColumnStep a.s.now a.g a.first a.q st.before.before.before.before.loop.figures st.loop2.tables c.before.before.floats-alone.result c.pairs-between.result
+step c =
+    record {
+      laid = rw (end «st») at c.floats_alone-floats.ensures;
+      few = c.pairs_between-pairs.ensures.0;
+      counted = rw (end «st») at (c.pairs_between-pairs.ensures.1 _ (asked «st»).ready.summed.rows);
+    }
+
+pub with_one_more-tables-requires : goal.with_one_more-tables-requires
+with_one_more-tables-requires c =
+    rw (end (goal.at.with_one_more-tables-requires c).After-floats_alone-arg-1) (table_room (asked (goal.at.with_one_more-tables-requires c).After-floats_alone-arg-1) c.loop-tables-2.invariant.0 (step (goal.at.with_one_more-tables-requires c).After-known-1) c.if-tall-tables.false)
+
+pub loop-tables-2-preserved : goal.loop-tables-2-preserved
+loop-tables-2-preserved c = (
+  rw (c.with_one_more-tables.ensures, end (goal.at.loop-tables-2-preserved c).After-floats_alone-arg-1) (table_next (asked (goal.at.loop-tables-2-preserved c).After-floats_alone-arg-1) c.loop-tables-2.invariant.0 (step (goal.at.loop-tables-2-preserved c).After-known-1) c.if-tall-tables.false),
+  c.pairs_between-pairs.ensures.2,
+)
+
+pub returns-then-bare-figures : goal.returns-then-bare-figures
+returns-then-bare-figures c = (
+  column_last (asked (goal.at.returns-then-bare-figures c).At-loop-tables-2) c.loop-tables-2.invariant.0 (step (goal.at.returns-then-bare-figures c).After-pairs_between-pairs) c.if-tall-tables.true (rw (end (goal.at.returns-then-bare-figures c).After-struct_known-in-loop-tables-2-3-1) at c.if-bare-figures.true),
+  c.pairs_between-pairs.ensures.2,
+)
+
+pub with_one_more-figures-requires : goal.with_one_more-figures-requires
+with_one_more-figures-requires c =
+    rw (end (goal.at.with_one_more-figures-requires c).After-floats_alone-arg-1) (figure_room (asked (goal.at.with_one_more-figures-requires c).After-floats_alone-arg-1) c.loop-tables-2.invariant.0 (step (goal.at.with_one_more-figures-requires c).After-known-1) c.if-tall-tables.true (rw (end (goal.at.with_one_more-figures-requires c).After-floats_alone-arg-1) at c.if-bare-figures.false))
+
+pub loop-tables-preserved : goal.loop-tables-preserved
+loop-tables-preserved c = (
+  rw (c.with_one_more-figures.ensures, end (goal.at.loop-tables-preserved c).After-floats_alone-arg-1)
+      (figure_next (asked (goal.at.loop-tables-preserved c).After-floats_alone-arg-1) c.loop-tables-2.invariant.0 (step (goal.at.loop-tables-preserved c).After-known-1) c.if-tall-tables.true (rw (end (goal.at.loop-tables-preserved c).After-floats_alone-arg-1) at c.if-bare-figures.false)),
+  c.pairs_between-pairs.ensures.2,
+)
+
+pub counts_at-end-requires : goal.counts_at-end-requires
+counts_at-end-requires c = few_floats c.requires.0.ready.sound
+
+pub floats_alone-floats-requires : goal.floats_alone-floats-requires
+floats_alone-floats-requires c = from_lays (asked (goal.at.floats_alone-floats-requires c).At-loop-tables-2) c.loop-tables-2.invariant.0.figured c.loop-tables-2.invariant.0.tabled
+
+pub overflow_add-pairs : goal.overflow_add-pairs
+overflow_add-pairs c = omega (arith, column_few (asked (goal.at.overflow_add-pairs c).At-loop-tables-2) c.loop-tables-2.invariant.0 (step (goal.at.overflow_add-pairs c).After-pairs_between-pairs))
+
+pub loop-tables-2-smaller : goal.loop-tables-2-smaller
+loop-tables-2-smaller c = rw c.with_one_more-tables.ensures (omega (arith, (with_one_more-tables-requires (goal.at.loop-tables-2-smaller c).After-with_one_more-arg-1 c.with_one_more-tables.lifetimes).some))
+
+pub shape_of-known-then-bare-figures : goal.shape_of-known-then-bare-figures
+shape_of-known-then-bare-figures c = omega (arith, c.pairs_between-pairs.ensures.2.sized, c.requires.1.sized)
+
+pub loop-tables-smaller : goal.loop-tables-smaller
+loop-tables-smaller c = rw c.with_one_more-figures.ensures (omega (arith, (with_one_more-figures-requires (goal.at.loop-tables-smaller c).After-with_one_more-arg-in-loop-tables-1 c.with_one_more-figures.lifetimes).some))

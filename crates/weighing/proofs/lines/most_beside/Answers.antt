@@ -1,0 +1,7 @@
+-- `most_beside` meets its contract: both lines have their sums.
+use Rattle.weighing.specs.laws.Lines.{compared_from}
+use borrow.Author.Rules.{rules}
+use Rattle.weighing.proofs.lines.most_beside.Goals as goal
+
+pub too_much-requires : goal.too_much-requires
+too_much-requires c = compared_from c.requires c.args.low c.requires.within
