@@ -30,20 +30,24 @@ turned c =
 
 pub parts_of-parts-requires : goal.parts_of-parts-requires
 parts_of-parts-requires c =
-    let low = either (goal.at.parts_of-parts-requires c).After-struct_known-1 in
+    let low = either (goal.at.parts_of-parts-requires c).In-loop-c in
     (omega (arith, c.loop-c.invariant.queued.rows), low)
 
 pub fill_side-moved-requires : goal.fill_side-moved-requires
 fill_side-moved-requires c =
     rw c.parts_of-parts.ensures
-    (sides_side c.requires c.loop-c.invariant c.loop-c-test.true _ (turned (goal.at.fill_side-moved-requires c).After-struct_known-1))
+    (sides_side c.requires c.loop-c.invariant c.loop-c-test.true _ (turned (goal.at.fill_side-moved-requires c).In-loop-c))
 
 small : (c : After-fill_side-moved)
     → (let r = c.fill_side-moved.result in
     (r.full.head ≤ 16000) × (r.full.tail ≤ 16000) × (r.rest.head ≤ 16000) × (r.rest.tail ≤ 16000))
 small c =
+    let sound = c.requires.next.lent.sound in
+    let turns : eqb c.loop-c.c c.ending_side-ending.result ≡ turns_on c.args.task.galley c.loop-c.c =
+    rw c.ending_side-ending.ensures
+    (turns_on_lem c.args.task.galley c.loop-c.c sound.some_folio sound.spec_ranged.sides_two c.loop-c-test.true) in
     sides_small c.requires c.loop-c.invariant
-    c.loop-c-test.true _ (turned «inside») _ c.fill_side-moved.result (rw c.parts_of-parts.ensures at c.fill_side-moved.ensures.moved)
+    c.loop-c-test.true _ turns _ c.fill_side-moved.result (rw c.parts_of-parts.ensures at c.fill_side-moved.ensures.moved)
 
 pub overflow_cast-full : goal.overflow_cast-full
 overflow_cast-full c = omega (arith, (small (goal.at.overflow_cast-full c).After-fill_side-moved).0)
@@ -59,11 +63,11 @@ overflow_cast-rest-in-loop-c c = omega (arith, (small (goal.at.overflow_cast-res
 
 pub put_row-requires : goal.put_row-requires
 put_row-requires c =
-    omega (arith, either (goal.at.put_row-requires c).After-struct_known-1, c.loop-c.invariant.queued.rows)
+    omega (arith, either (goal.at.put_row-requires c).In-loop-c, c.loop-c.invariant.queued.rows)
 
 pub overflow_add-c : goal.overflow_add-c
 overflow_add-c c =
-    omega (arith, either (goal.at.overflow_add-c c).After-struct_known-1)
+    omega (arith, either (goal.at.overflow_add-c c).In-loop-c)
 
 pub loop-c-smaller : goal.loop-c-smaller
 loop-c-smaller c =
@@ -73,7 +77,7 @@ pub loop-c-preserved : goal.loop-c-preserved
 loop-c-preserved c =
     rw c.put_row.ensures
     (sides_next c.requires c.loop-c.invariant
-    c.loop-c-test.true _ (turned (goal.at.loop-c-preserved c).After-struct_known-1) _ _ (search rules)
+    c.loop-c-test.true _ (turned (goal.at.loop-c-preserved c).In-loop-c) _ _ (search rules)
     c.fill_side-moved.result (rw c.parts_of-parts.ensures at c.fill_side-moved.ensures))
 
 pub returns : goal.returns

@@ -103,14 +103,19 @@ overflow_add-task c =
 -- The entry has the price of the page added to what its start costs.
 entered : (c : After-joined)
     → (let a = c.args in
-    let found = c.start-1.given in
     new_entry (model_of a.s.now a.task.galley) a.task.origin (table_in a.task.galley a.work.now) a.end.at.lines a.end.column a.end.side
-    ≡ priced (most_from a.task.origin) c.joined.result (Least found.0.0 found.0.1.0))
+    ≡ priced (most_from a.task.origin) c.joined.result (Least c.in-Least.x c.in-Least.from))
 entered c =
     let a = c.args in
     let lines = c.lines_above-lines in
-    rw (c.joined.ensures, priced-at «c.before»)
-    (entry_told c.requires lines.result lines.ensures _ (sym c.in-Least.is ∙ told «chose»)
+    let price : c.price-price.result ≡ (let v = place_at (model_of a.s.now a.task.galley) a.end.at.lines a.end.column in
+        page_cost (model_of a.s.now a.task.galley) a.end.side (full (model_of a.s.now a.task.galley) v) v) =
+    c.price-price.ensures a.s.now a.end.at a.end.side (entry_proper c.requires) (sound_sane a.s.now a.task.galley c.requires.next.lent.sound) c.requires.above.full c.requires.turns c.requires.ending.found
+    ∙ end_cost a.s.now a.task.galley a.end c.requires.ending.counts a.end.side in
+    let chose : c.choose-start.result ≡ chosen (table_in a.task.galley a.work.now a.end.at.lines a.end.column a.end.side) lines.result =
+    c.choose-start.ensures ∙ rw (c.entry_of-held.ensures, c.place_of-place.ensures) in
+    rw (c.joined.ensures, price)
+    (entry_told c.requires lines.result lines.ensures _ (sym c.in-Least.is ∙ chose)
     (sym c.is_origin.ensures ∙ c.if-is_origin.false)
     (end_stops a.s.now a.task.galley a.end c.requires.ending.counts a.end.side ∙ sym (c.may_stop.ensures a.s.now a.task.galley a.end.at a.end.side (entry_proper c.requires) c.requires.ending.stop c.requires.turns) ∙ c.if-not-may_stop.false))
 

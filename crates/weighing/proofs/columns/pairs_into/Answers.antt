@@ -26,57 +26,47 @@ pub loop-tables-2-init : goal.loop-tables-2-init
 loop-tables-2-init c =
     (rw (c.nothing-tables.ensures, c.counts_at-end.ensures) c.loop-tables.invariant.0, c.loop-tables.invariant.1)
 
--- What is asked, at the loop over tables, and what the end is.
-asked : (c : At-loop-tables-2) → let a = c.before.before.before.before.before.before.before.before.before.before.before.before.before.before.before.args in
-    CountableColumn a.s.now a.g a.sums.now a.first a.q
-asked c = c.requires.0
-
-end : (c : At-loop-tables-2) → let a = c.before.before.before.before.before.before.before.before.before.before.before.before.before.before.before.args in
-    c.before.before.before.before.before.before.before.before.before.before.before.counts-at.result ≡ counts_at a.g 0 a.q
-end c = c.counts_at-end.ensures
-
 pub pairs_between-pairs-requires : goal.pairs_between-pairs-requires
 pairs_between-pairs-requires c = (
-  from_between (asked (goal.at.pairs_between-pairs-requires c).At-loop-tables-2) c.loop-tables-2.invariant.0.figured c.loop-tables-2.invariant.0.tabled c.floats_alone-floats.result
-      (rw (end (goal.at.pairs_between-pairs-requires c).After-struct_known-in-loop-tables-2-3-1) at c.floats_alone-floats.ensures),
+  from_between c.requires.0 c.loop-tables-2.invariant.0.figured c.loop-tables-2.invariant.0.tabled c.floats_alone-floats.result
+      (rw c.counts_at-end.ensures at c.floats_alone-floats.ensures),
   c.loop-tables-2.invariant.1,
 )
 
 -- What a turn adds.
-step : (c : After-pairs_between-pairs) → let st = c.before.before.before.before.before in
-    let a = st.before.before.before.before.before.before.before.before.before.before.before.before.before.before.before.args in
-    ColumnStep a.s.now a.g a.first a.q st.before.before.before.before.loop.figures st.loop2.tables c.before.before.floats-alone.result c.pairs-between.result
+step : (c : After-pairs_between-pairs) → let a = c.args in
+    ColumnStep a.s.now a.g a.first a.q c.loop-tables.figures c.loop-tables-2.tables c.floats_alone-floats.result c.pairs_between-pairs.result
 step c =
     record {
-      laid = rw (end «st») at c.floats_alone-floats.ensures;
+      laid = rw c.counts_at-end.ensures at c.floats_alone-floats.ensures;
       few = c.pairs_between-pairs.ensures.0;
-      counted = rw (end «st») at (c.pairs_between-pairs.ensures.1 _ (asked «st»).ready.summed.rows);
+      counted = rw c.counts_at-end.ensures at (c.pairs_between-pairs.ensures.1 _ c.requires.0.ready.summed.rows);
     }
 
 pub with_one_more-tables-requires : goal.with_one_more-tables-requires
 with_one_more-tables-requires c =
-    rw (end (goal.at.with_one_more-tables-requires c).After-floats_alone-arg-1) (table_room (asked (goal.at.with_one_more-tables-requires c).After-floats_alone-arg-1) c.loop-tables-2.invariant.0 (step (goal.at.with_one_more-tables-requires c).After-known-1) c.if-tall-tables.false)
+    rw c.counts_at-end.ensures (table_room c.requires.0 c.loop-tables-2.invariant.0 (step (goal.at.with_one_more-tables-requires c).After-pairs_between-pairs) c.if-tall-tables.false)
 
 pub loop-tables-2-preserved : goal.loop-tables-2-preserved
 loop-tables-2-preserved c = (
-  rw (c.with_one_more-tables.ensures, end (goal.at.loop-tables-2-preserved c).After-floats_alone-arg-1) (table_next (asked (goal.at.loop-tables-2-preserved c).After-floats_alone-arg-1) c.loop-tables-2.invariant.0 (step (goal.at.loop-tables-2-preserved c).After-known-1) c.if-tall-tables.false),
+  rw (c.with_one_more-tables.ensures, c.counts_at-end.ensures) (table_next c.requires.0 c.loop-tables-2.invariant.0 (step (goal.at.loop-tables-2-preserved c).After-pairs_between-pairs) c.if-tall-tables.false),
   c.pairs_between-pairs.ensures.2,
 )
 
 pub returns-then-bare-figures : goal.returns-then-bare-figures
 returns-then-bare-figures c = (
-  column_last (asked (goal.at.returns-then-bare-figures c).At-loop-tables-2) c.loop-tables-2.invariant.0 (step (goal.at.returns-then-bare-figures c).After-pairs_between-pairs) c.if-tall-tables.true (rw (end (goal.at.returns-then-bare-figures c).After-struct_known-in-loop-tables-2-3-1) at c.if-bare-figures.true),
+  column_last c.requires.0 c.loop-tables-2.invariant.0 (step (goal.at.returns-then-bare-figures c).After-pairs_between-pairs) c.if-tall-tables.true (rw c.counts_at-end.ensures at c.if-bare-figures.true),
   c.pairs_between-pairs.ensures.2,
 )
 
 pub with_one_more-figures-requires : goal.with_one_more-figures-requires
 with_one_more-figures-requires c =
-    rw (end (goal.at.with_one_more-figures-requires c).After-floats_alone-arg-1) (figure_room (asked (goal.at.with_one_more-figures-requires c).After-floats_alone-arg-1) c.loop-tables-2.invariant.0 (step (goal.at.with_one_more-figures-requires c).After-known-1) c.if-tall-tables.true (rw (end (goal.at.with_one_more-figures-requires c).After-floats_alone-arg-1) at c.if-bare-figures.false))
+    rw c.counts_at-end.ensures (figure_room c.requires.0 c.loop-tables-2.invariant.0 (step (goal.at.with_one_more-figures-requires c).After-pairs_between-pairs) c.if-tall-tables.true (rw c.counts_at-end.ensures at c.if-bare-figures.false))
 
 pub loop-tables-preserved : goal.loop-tables-preserved
 loop-tables-preserved c = (
-  rw (c.with_one_more-figures.ensures, end (goal.at.loop-tables-preserved c).After-floats_alone-arg-1)
-      (figure_next (asked (goal.at.loop-tables-preserved c).After-floats_alone-arg-1) c.loop-tables-2.invariant.0 (step (goal.at.loop-tables-preserved c).After-known-1) c.if-tall-tables.true (rw (end (goal.at.loop-tables-preserved c).After-floats_alone-arg-1) at c.if-bare-figures.false)),
+  rw (c.with_one_more-figures.ensures, c.counts_at-end.ensures)
+      (figure_next c.requires.0 c.loop-tables-2.invariant.0 (step (goal.at.loop-tables-preserved c).After-pairs_between-pairs) c.if-tall-tables.true (rw c.counts_at-end.ensures at c.if-bare-figures.false)),
   c.pairs_between-pairs.ensures.2,
 )
 
@@ -84,16 +74,16 @@ pub counts_at-end-requires : goal.counts_at-end-requires
 counts_at-end-requires c = few_floats c.requires.0.ready.sound
 
 pub floats_alone-floats-requires : goal.floats_alone-floats-requires
-floats_alone-floats-requires c = from_lays (asked (goal.at.floats_alone-floats-requires c).At-loop-tables-2) c.loop-tables-2.invariant.0.figured c.loop-tables-2.invariant.0.tabled
+floats_alone-floats-requires c = from_lays c.requires.0 c.loop-tables-2.invariant.0.figured c.loop-tables-2.invariant.0.tabled
 
 pub overflow_add-pairs : goal.overflow_add-pairs
-overflow_add-pairs c = omega (arith, column_few (asked (goal.at.overflow_add-pairs c).At-loop-tables-2) c.loop-tables-2.invariant.0 (step (goal.at.overflow_add-pairs c).After-pairs_between-pairs))
+overflow_add-pairs c = omega (arith, column_few c.requires.0 c.loop-tables-2.invariant.0 (step (goal.at.overflow_add-pairs c).After-pairs_between-pairs))
 
 pub loop-tables-2-smaller : goal.loop-tables-2-smaller
-loop-tables-2-smaller c = rw c.with_one_more-tables.ensures (omega (arith, (with_one_more-tables-requires (goal.at.loop-tables-2-smaller c).After-with_one_more-arg-1 c.with_one_more-tables.lifetimes).some))
+loop-tables-2-smaller c = rw c.with_one_more-tables.ensures (omega (arith, (with_one_more-tables-requires (goal.at.loop-tables-2-smaller c).After-with_one_more-arg-1).some))
 
 pub shape_of-known-then-bare-figures : goal.shape_of-known-then-bare-figures
 shape_of-known-then-bare-figures c = omega (arith, c.pairs_between-pairs.ensures.2.sized, c.requires.1.sized)
 
 pub loop-tables-smaller : goal.loop-tables-smaller
-loop-tables-smaller c = rw c.with_one_more-figures.ensures (omega (arith, (with_one_more-figures-requires (goal.at.loop-tables-smaller c).After-with_one_more-arg-in-loop-tables-1 c.with_one_more-figures.lifetimes).some))
+loop-tables-smaller c = rw c.with_one_more-figures.ensures (omega (arith, (with_one_more-figures-requires (goal.at.loop-tables-smaller c).After-with_one_more-arg-in-loop-tables-1).some))

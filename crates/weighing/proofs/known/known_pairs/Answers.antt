@@ -21,7 +21,7 @@ pub loop-k-init : goal.loop-k-init
 loop-k-init c = omega arith
 
 pub returns-then-known-k-eq0 : goal.returns-then-known-k-eq0
-returns-then-known-k-eq0 c = absurd (omega arith)
+returns-then-known-k-eq0 c less = absurd (omega arith)
 
 pub loop-k-smaller : goal.loop-k-smaller
 loop-k-smaller c = omega arith
@@ -30,4 +30,4 @@ pub loop-k-preserved : goal.loop-k-preserved
 loop-k-preserved c = omega arith
 
 pub returns : goal.returns
-returns c = absurd (omega arith)
+returns c less = absurd (omega arith)
