@@ -14,31 +14,26 @@ pub returns-then-not-add_up : goal.returns-then-not-add_up
 returns-then-not-add_up c = unadded _ _ (sym c.add_up.ensures ∙ c.if-not-add_up.true)
 
 pub bounds-lengths-0 : goal.bounds-lengths-0
-bounds-lengths-0 = (λ c.
-    let s = c.before.before.before.before.before.args in
-    omega (arith, (adding s.galleys.now s.lengths.now (sym c.before.before.add-up.ensures ∙ not-false c.before.before.add-up.result c.before.if1.false)).some))
+bounds-lengths-0 c = let s = c.args in
+    omega (arith, (adding s.galleys.now s.lengths.now (sym c.add_up.ensures ∙ c.if-not-add_up.false)).some)
 
 pub slice_bounds-read_galley-end : goal.slice_bounds-read_galley-end
-slice_bounds-read_galley-end = (λ c.
-    let s = c.before.before.before.before.before.before.before.args in
-    sym (length-take-le c.before.wide.result s.galleys.now (omega (arith, first_within s.galleys.now s.lengths.now (sym c.before.before.before.before.add-up.ensures ∙ not-false c.before.before.before.before.add-up.result c.before.before.before.if1.false), c.before.wide.ensures.0))))
+slice_bounds-read_galley-end c = let s = c.args in
+    sym (length-take-le c.wide-to.result s.galleys.now (omega (arith, first_within s.galleys.now s.lengths.now (sym c.add_up.ensures ∙ c.if-not-add_up.false), c.wide-to.ensures.0)))
 
 pub read_later-requires : goal.read_later-requires
-read_later-requires = (λ c κs.
-    record {
-      adds = sym c.before.before.before.before.before.before.before.before.add-up.ensures ∙ not-false c.before.before.before.before.before.before.before.before.add-up.result c.before.before.before.before.before.before.before.if1.false;
-      reads =
-          ap (λ n. galley_of (slice 0 n c.before.before.before.before.before.before.before.before.before.before.before.args.galleys.now)) (sym c.before.before.before.before.before.wide.ensures.0)
-          ∙ sym c.before.before.before.read-galley.ensures ∙ c.before.reading.given.1;
-    })
+read_later-requires c = record {
+  adds = sym c.add_up.ensures ∙ c.if-not-add_up.false;
+  reads =
+      ap (λ n. galley_of (slice 0 n c.args.galleys.now)) (sym c.wide-to.ensures.0)
+      ∙ sym c.read_galley-reading.ensures ∙ c.in-Galley.is;
+}
 
 pub returns-in-Galley : goal.returns-in-Galley
-returns-in-Galley = (λ c.
-    c.read-later.ensures ∙ ap reading_of (sym (added _ _ (sym c.before.before.before.before.before.before.before.before.before.add-up.ensures ∙ not-false c.before.before.before.before.before.before.before.before.before.add-up.result c.before.before.before.before.before.before.before.before.if1.false))))
+returns-in-Galley c = c.read_later.ensures ∙ ap reading_of (sym (added _ _ (sym c.add_up.ensures ∙ c.if-not-add_up.false)))
 
 pub returns-in-Refused : goal.returns-in-Refused
-returns-in-Refused = (λ c.
-    c.turned-away.ensures
-    ∙ first_refused _ _ _ _ (sym c.before.before.before.before.before.before.before.before.before.add-up.ensures ∙ not-false c.before.before.before.before.before.before.before.before.before.add-up.result c.before.before.before.before.before.before.before.before.if1.false)
-    (ap (λ n. galley_of (slice 0 n c.before.before.before.before.before.before.before.before.before.before.before.before.args.galleys.now)) (sym c.before.before.before.before.before.before.wide.ensures.0)
-    ∙ sym c.before.before.before.before.read-galley.ensures ∙ c.before.before.reading2.given.1))
+returns-in-Refused c = c.turned_away.ensures
+    ∙ first_refused _ _ _ _ (sym c.add_up.ensures ∙ c.if-not-add_up.false)
+    (ap (λ n. galley_of (slice 0 n c.args.galleys.now)) (sym c.wide-to.ensures.0)
+    ∙ sym c.read_galley-reading.ensures ∙ c.in-Refused.is)

@@ -15,9 +15,7 @@ pub with_chapter-book-requires : goal.with_chapter-book-requires
 with_chapter-book-requires c = (record { chapters = omega arith; list = omega arith }, read_few _ _ c.requires.reads)
 
 pub bounds-lengths-0 : goal.bounds-lengths-0
-bounds-lengths-0 = (λ c.
-    let s = c.before.before.before.before in
-    omega (arith, (adding s.args.galleys.now s.args.lengths.now s.requires.adds).some))
+bounds-lengths-0 c = omega (arith, (adding c.args.galleys.now c.args.lengths.now c.requires.adds).some)
 
 pub loop-book-init : goal.loop-book-init
 loop-book-init c = rw c.with_chapter-book.ensures (rw c.wide-at.ensures.0 (underway_first c.requires))
@@ -26,44 +24,36 @@ pub overflow_add-to : goal.overflow_add-to
 overflow_add-to c = omega (arith, c.loop-book.invariant.few)
 
 pub slice_bounds-read_galley-end : goal.slice_bounds-read_galley-end
-slice_bounds-read_galley-end = (λ c.
-    let st = c.before.before.before.before.loop in
-    omega (arith, underway_within st.invariant c.before.before.if1.true, c.wide2.ensures.0))
+slice_bounds-read_galley-end c = let st = c.loop-book in
+    omega (arith, underway_within st.invariant c.loop-book-test.true, c.wide.ensures.0)
 
 pub turned_away-requires : goal.turned_away-requires
 turned_away-requires c = omega (arith, c.loop-book.invariant.few)
 
 pub returns-then-number-gt0 : goal.returns-then-number-gt0
-returns-then-number-gt0 = (λ c.
-    let w = c.before.before.before.before.before.before.before.before in
-    let e = sym (ap galley_of (part_slice c.before.before.before.before.before.before.before.before.before.before.before.before.loop.at c.before.before.before.before.before.before.before.before.wide2.result c.before.before.before.before.before.before.before.before.before.before.before.before.before.before.before.before.before.before.args.galleys.now)) ∙ sym c.before.before.before.before.before.before.read-galley.ensures ∙ c.before.before.before.before.reading.given.1 in
-    let u = c.before.before.unfit-after in
-    c.turned-away.ensures
-    ∙ underway_unfit c.before.before.before.before.before.before.before.before.before.before.before.before.loop.invariant w.wide2.result w.wide2.ensures.0 c.before.before.before.before.before.before.before.before.before.before.if1.true _ e u.result u.ensures c.before.if2.true)
+returns-then-number-gt0 c = let e = sym (ap galley_of (part_slice c.loop-book.at c.wide.result c.args.galleys.now)) ∙ sym c.read_galley-reading.ensures ∙ c.in-Galley.is in
+    let u = c.unfit_after-number in
+    c.turned_away.ensures
+    ∙ underway_unfit c.loop-book.invariant c.wide.result c.wide.ensures.0 c.loop-book-test.true _ e u.result u.ensures c.if-number-gt0.true
 
 pub with_chapter-book-requires-in-Galley : goal.with_chapter-book-requires-in-Galley
-with_chapter-book-requires-in-Galley = (λ c κs.
-    let e = sym (ap galley_of (part_slice c.before.before.before.before.before.before.before.before.before.before.before.loop.at c.before.before.before.before.before.before.before.wide2.result c.before.before.before.before.before.before.before.before.before.before.before.before.before.before.before.before.before.args.galleys.now)) ∙ sym c.before.before.before.before.before.read-galley.ensures ∙ c.before.before.before.reading.given.1 in
-    (underway_roomy c.before.before.before.before.before.before.before.before.before.before.before.loop.invariant c.before.before.before.before.before.before.before.before.before.if1.true, read_few _ _ e))
+with_chapter-book-requires-in-Galley c = let e = sym (ap galley_of (part_slice c.loop-book.at c.wide.result c.args.galleys.now)) ∙ sym c.read_galley-reading.ensures ∙ c.in-Galley.is in
+    (underway_roomy c.loop-book.invariant c.loop-book-test.true, read_few _ _ e)
 
 pub loop-book-smaller : goal.loop-book-smaller
 loop-book-smaller c = rw c.with_chapter-book-in-Galley.ensures (omega arith)
 
 pub loop-book-preserved : goal.loop-book-preserved
-loop-book-preserved = (λ c.
-    let w = c.before.before.before.before.before.before.before.before in
-    let e = sym (ap galley_of (part_slice c.before.before.before.before.before.before.before.before.before.before.before.before.loop.at c.before.before.before.before.before.before.before.before.wide2.result c.before.before.before.before.before.before.before.before.before.before.before.before.before.before.before.before.before.before.args.galleys.now)) ∙ sym c.before.before.before.before.before.before.read-galley.ensures ∙ c.before.before.before.before.reading.given.1 in
-    let u = c.before.before.unfit-after in
-    rw c.with-chapter2.ensures (underway_next c.before.before.before.before.before.before.before.before.before.before.before.before.loop.invariant w.wide2.result w.wide2.ensures.0 c.before.before.before.before.before.before.before.before.before.before.if1.true _ e (omega arith)))
+loop-book-preserved c = let e = sym (ap galley_of (part_slice c.loop-book.at c.wide.result c.args.galleys.now)) ∙ sym c.read_galley-reading.ensures ∙ c.in-Galley.is in
+    let u = c.unfit_after-number in
+    rw c.with_chapter-book-in-Galley.ensures (underway_next c.loop-book.invariant c.wide.result c.wide.ensures.0 c.loop-book-test.true _ e (omega arith))
 
 pub turned_away-requires-in-Refused : goal.turned_away-requires-in-Refused
 turned_away-requires-in-Refused c = omega (arith, c.loop-book.invariant.few)
 
 pub returns-in-Refused : goal.returns-in-Refused
-returns-in-Refused = (λ c.
-    let w = c.before.before.before.before.before.before in
-    c.turned-away2.ensures
-    ∙ underway_refused c.before.before.before.before.before.before.before.before.before.before.loop.invariant w.wide2.result w.wide2.ensures.0 c.before.before.before.before.before.before.before.before.if1.true _ _ (sym (ap galley_of (part_slice c.before.before.before.before.before.before.before.before.before.before.loop.at c.before.before.before.before.before.before.wide2.result c.before.before.before.before.before.before.before.before.before.before.before.before.before.before.before.before.args.galleys.now)) ∙ sym c.before.before.before.before.read-galley.ensures ∙ c.before.before.reading2.given.1))
+returns-in-Refused c = c.turned_away-in-Refused.ensures
+    ∙ underway_refused c.loop-book.invariant c.wide.result c.wide.ensures.0 c.loop-book-test.true _ _ (sym (ap galley_of (part_slice c.loop-book.at c.wide.result c.args.galleys.now)) ∙ sym c.read_galley-reading.ensures ∙ c.in-Refused.is)
 
 pub returns : goal.returns
 returns c = underway_done c.loop-book.invariant c.loop-book-test.false

@@ -21,7 +21,6 @@ pub overflow_cast-result-2 : goal.overflow_cast-result-2
 overflow_cast-result-2 c = omega (arith, c.list_needed-list.ensures, list_small c.args.g (read_few _ _ c.requires))
 
 pub returns : goal.returns
-returns = (λ c.
-    let start = c.before.before.before.before in
-    forecast_reads start.args.s.now start.args.g start.requires _ _ _ c.before.before.work-needed.ensures c.before.list-needed.ensures
-    c.ceiling-of.ensures)
+returns c =
+    forecast_reads c.args.s.now c.args.g c.requires _ _ _ c.work_needed-work.ensures c.list_needed-list.ensures
+        c.ceiling_of-ceiling.ensures

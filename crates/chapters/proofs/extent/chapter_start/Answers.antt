@@ -29,12 +29,10 @@ loop-i-smaller c = omega arith
 
 pub loop-i-preserved : goal.loop-i-preserved
 unfolding all_bytes
-loop-i-preserved = (λ c.
-    let e = start_next c.before.before.before.before.before.args.lengths.now c.before.before.before.loop.i (omega arith) in
-    (omega arith, omega (arith, e), omega arith))
+loop-i-preserved c = let e = start_next c.args.lengths.now c.loop-i.i (omega arith) in
+    (omega arith, omega (arith, e), omega arith)
 
 pub returns : goal.returns
 unfolding all_bytes
-returns = (λ c.
-    let e : c.before.loop.i ≡ c.before.before.before.args.k = omega arith in
-    (c.before.loop.invariant.1 ∙ ap (chapter_start c.before.before.before.args.lengths.now) e, omega arith))
+returns c = let e : c.loop-i.i ≡ c.before.before.before.args.k = omega arith in
+    (c.loop-i.invariant.1 ∙ ap (chapter_start c.args.lengths.now) e, omega arith)
