@@ -75,15 +75,15 @@ call_alike bytes d (Back name) r after left = left_alike r after left
 call_alike bytes d (Drop name) r after left = left_alike r after left
 
 -- and so does a list of them.
-calls-alike : (bytes : List ℕ) (d : Desk) (calls : List Call) (rs : List Returned) (after : Desk) → AllCalled bytes d calls rs after
+calls_alike : (bytes : List ℕ) (d : Desk) (calls : List Call) (rs : List Returned) (after : Desk) → AllCalled bytes d calls rs after
     → (rs ≡ map in_c (answered bytes d calls)) × (after ≡ after_calls bytes d calls)
 unfolding AllCalled answered after_calls
-calls-alike bytes d [] [] after e = (refl, e)
-calls-alike bytes d [] (r ∷ rs) after e = absurd e
-calls-alike bytes d (call ∷ calls) [] after e = absurd e
-calls-alike bytes d (call ∷ calls) (r ∷ rs) after (next, one, rest) =
+calls_alike bytes d [] [] after e = (refl, e)
+calls_alike bytes d [] (r ∷ rs) after e = absurd e
+calls_alike bytes d (call ∷ calls) [] after e = absurd e
+calls_alike bytes d (call ∷ calls) (r ∷ rs) after (next, one, rest) =
     let this = call_alike bytes d call r next one in
-    let others = calls-alike bytes (leaves bytes d call) calls rs after (subst (λ (n : Desk). AllCalled bytes n calls rs after) this.1 rest) in
+    let others = calls_alike bytes (leaves bytes d call) calls rs after (subst (λ (n : Desk). AllCalled bytes n calls rs after) this.1 rest) in
     (ap₂ (λ (x : Returned) (xs : List Returned). x ∷ xs) this.0 others.0, others.1)
 
 -- An opening that returns 0 is unrefused.
@@ -108,13 +108,13 @@ zero_accepted bytes list lent = go (galley_of bytes) refl
     go (reads.Refused number place) e h = absurd (omega (arith, (refusal_number bytes number place e).0))
 
 -- For every list of calls through C on a lent desk, from one opened with 0 returned, all is as in a sitting that begins with the opening list.
-pub calls-sit : (bytes list : List ℕ) (lent d : Desk) (number : ℕ) (answer : List ℕ)
+pub calls_sit : (bytes list : List ℕ) (lent d : Desk) (number : ℕ) (answer : List ℕ)
     → LeftTold (open_desk bytes list lent) number d answer → number ≡ 0 → (G : Galley) → galley_of bytes ≡ reads.Galley G
     → (calls : List Call) (rs : List Returned) (after : Desk) → AllCalled bytes d calls rs after
     → SitsInC (model_of bytes G) (begin list) calls rs after
-calls-sit bytes list lent d number answer left none G reading calls rs after called =
+calls_sit bytes list lent d number answer left none G reading calls rs after called =
     let first : Desk = (open_desk bytes list lent).desk in
-    let alike = calls-alike bytes first calls rs after (subst (λ (n : Desk). AllCalled bytes n calls rs after) left.lent called) in
+    let alike = calls_alike bytes first calls rs after (subst (λ (n : Desk). AllCalled bytes n calls rs after) left.lent called) in
     let so = zero_accepted bytes list lent (sym left.returned ∙ none) in
     let sits = desk_sits bytes list lent so G reading calls in
     record {

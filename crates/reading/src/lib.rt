@@ -103,6 +103,7 @@ fn refused(number: u32, at: usize) -> Step
 }
 
 // One float more, if its citation is right: 6, then 7.
+#[tactic(auto, unfolding(galley::specs::Whole::cited))]
 fn cited(so: Sofar, cite: usize, next: Sofar, at: usize) -> Step
     requires { at ≤ 100000 }
     ensures { result ≡ cited so cite next at }

@@ -49,6 +49,7 @@ fn limit(marks: usize) -> usize
 }
 
 // The report on so many marks, by the tally of those that were gone through: 31 before 32.
+#[tactic(auto, unfolding(crate::specs::Tally::answer_of))]
 fn answer(marks: usize, s: Tally) -> Report
     ensures { result ≡ answer_of marks s }
 {
