@@ -25,7 +25,7 @@ use Rattle.desk.specs.Desk.{ask_desk, commit_desk, pending_on}
 use Rattle.desk.specs.Layouts.{save_desk, back_desk, drop_desk}
 use Rattle.desk.specs.Held.{held_on}
 use Rattle.desk.specs.After.{leaves, answers, after_calls, answered}
-use Rattle.desk.specs.Promised.{desk_sits}
+use Rattle.desk.proofs.Promised.{desk_sits}
 use Rattle.barleychime.specs.Words.{number_of, answer_words}
 use Rattle.barleychime.specs.Desk.{number_alone, Left, LeftTold, LeftDone}
 

@@ -11,4 +11,3 @@ pub mod Beside
 pub mod Read
 pub mod Cells
 pub mod Last
-pub mod laws

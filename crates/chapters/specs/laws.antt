@@ -1,6 +1,5 @@
 pub mod Lengths
 pub mod Opening
-pub mod Underway
 pub mod Later
 pub mod Chapters
 pub mod Answer

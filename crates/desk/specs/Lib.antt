@@ -8,5 +8,4 @@ pub mod Desk
 pub mod Layouts
 pub mod Held
 pub mod After
-pub mod laws
 pub mod Promised

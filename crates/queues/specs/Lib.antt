@@ -2,4 +2,3 @@
 pub mod Queue
 pub mod Parts
 pub mod Run
-pub mod laws

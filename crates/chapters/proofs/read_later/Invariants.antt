@@ -8,7 +8,7 @@ use Rattle.galley.specs.Whole.{galley_of}
 use Rattle.needs.specs.laws.Needs.{read_few}
 use Rattle.chapters.specs.Steps.{Underway}
 use Rattle.chapters.specs.laws.Lengths.{adding, part_slice}
-use Rattle.chapters.specs.laws.Underway.{underway_first, underway_roomy, underway_within, underway_done, underway_refused, underway_unfit, underway_next}
+use Rattle.chapters.proofs.laws.Underway.{underway_first, underway_roomy, underway_within, underway_done, underway_refused, underway_unfit, underway_next}
 use Rattle.chapters.proofs.read_later.Given as goal
 
 abbrev pub invariant-loop-book : goal.invariant-loop-book

@@ -21,7 +21,7 @@ use Rattle.blocks.specs.Counts.{no_counts, place_of, Within}
 use Rattle.blocks.specs.laws.Counts.{zeros_of}
 use Rattle.places.specs.Columns.{place_at}
 use Rattle.candidates.specs.Read.{columns_in}
-use Rattle.candidates.specs.laws.Columns.{few_floats, columns_few, columns_in_lem}
+use Rattle.candidates.proofs.laws.Columns.{few_floats, columns_few, columns_in_lem}
 use Rattle.weighing.specs.Columns.{pairs_from}
 use Rattle.weighing.specs.laws.Columns.{weighed_columns}
 use Rattle.chapters.specs.declared.Book.{Book}

@@ -5,7 +5,7 @@ use native.Mathlib.Omega.{arith}
 use mathlib.Core.Path.{sym, ◌∙◌}
 use lib.Seq.{length-take-le}
 use Rattle.desk.specs.Desk.{altered, ask_desk}
-use Rattle.desk.specs.laws.Pages.{words_few}
+use Rattle.desk.proofs.laws.Pages.{words_few}
 use Rattle.desk.proofs.ask.Goals as goal
 
 pub returns-then-not-is_inner : goal.returns-then-not-is_inner

@@ -4,7 +4,7 @@ use native.Mathlib.Omega.{arith}
 use mathlib.Core.Path.{◌≡◌}
 use lib.ListN.{length}
 use Rattle.desk.specs.Pages.{in_force}
-use Rattle.desk.specs.laws.Pages.{words_few}
+use Rattle.desk.proofs.laws.Pages.{words_few}
 use Rattle.desk.proofs.list.Goals as goal
 
 pub copy_words-requires : goal.copy_words-requires

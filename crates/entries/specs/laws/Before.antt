@@ -11,8 +11,8 @@ use Rattle.places.specs.Columns.{place_at}
 use Rattle.places.proofs.laws.Columns.{inside_head, inside_tail}
 use Rattle.candidates.specs.Read.{table_in, side_of, counts_at}
 use Rattle.reached.specs.Look.{PastOrigin}
-use Rattle.candidates.specs.laws.Columns.{at_under}
-use Rattle.candidates.specs.laws.Read.{side_occurs}
+use Rattle.candidates.proofs.laws.Columns.{at_under}
+use Rattle.candidates.proofs.laws.Read.{side_occurs}
 use Rattle.entries.specs.declared.side.Task.{Task}
 use Rattle.entries.specs.Fill.{side_count}
 use Rattle.entries.specs.Next.{Next, Before}

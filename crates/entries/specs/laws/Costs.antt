@@ -12,7 +12,7 @@ use Rattle.places.specs.Entry.{boundless}
 use Rattle.queues.specs.Queue.{lines_of, Payable}
 use Rattle.candidates.specs.Read.{table_in, side_of, columns_in}
 use Rattle.passes.specs.Sweep.{Lent}
-use Rattle.candidates.specs.laws.Columns.{placed_at, within_at}
+use Rattle.candidates.proofs.laws.Columns.{placed_at, within_at}
 use Rattle.entries.specs.Filled.{Filled}
 use Rattle.entries.specs.laws.Entered.{below_side, side_before, sides_count}
 

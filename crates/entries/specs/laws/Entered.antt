@@ -26,10 +26,10 @@ use Rattle.places.specs.Columns.{columns, float_sizes, place_at}
 use Rattle.places.proofs.laws.Best.{no_reach}
 use Rattle.places.proofs.laws.Places.{place_inside, forward_inside}
 use Rattle.candidates.specs.Search.{Table, before, Search, white_from, best_start, most_from, priced, may_stop, begins, new_entry}
-use Rattle.candidates.specs.laws.Priced.{priced_least}
+use Rattle.candidates.proofs.laws.Priced.{priced_least}
 use Rattle.candidates.specs.Beside.{Sought}
-use Rattle.candidates.specs.laws.Found.{best_start_lem}
-use Rattle.candidates.specs.laws.Pages.{candidate_forward, candidate_earlier}
+use Rattle.candidates.proofs.laws.Found.{best_start_lem}
+use Rattle.candidates.proofs.laws.Pages.{candidate_forward, candidate_earlier}
 use Rattle.entries.specs.Fill.{side_count}
 use Rattle.entries.specs.Filled.{Side, placed_at, Light, Entered, Filled}
 

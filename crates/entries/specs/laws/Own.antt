@@ -23,8 +23,8 @@ use Rattle.candidates.specs.Beside.{Under, Bears}
 use Rattle.rules.specs.Parts.{all_placed}
 use Rattle.candidates.specs.Read.{search_of, columns_in, counts_at, load_of}
 use Rattle.passes.specs.Sweep.{Lent, Summed}
-use Rattle.candidates.specs.laws.Columns.{place_at_lem, within_at, sought_in}
-use Rattle.candidates.specs.laws.Pages.{goes_lines}
+use Rattle.candidates.proofs.laws.Columns.{place_at_lem, within_at, sought_in}
+use Rattle.candidates.proofs.laws.Pages.{goes_lines}
 use Rattle.rules.specs.laws.Page.{full_of}
 use Rattle.starts.specs.laws.Floats.{bears_own}
 use Rattle.passes.specs.laws.Lending.{lent_placed, can_slide}

@@ -8,7 +8,7 @@ use Rattle.window.specs.declared.slide.Window.{Window}
 use Rattle.queues.specs.declared.parts.Parts.{Parts}
 use Rattle.queues.specs.Queue.{lines_of}
 use Rattle.queues.specs.Parts.{parts_of, row_put, Moved}
-use Rattle.queues.specs.laws.Parts.{row_length, row_other, row_word, both_none, both_same, both_beside}
+use Rattle.queues.proofs.laws.Parts.{row_length, row_other, row_word, both_none, both_same, both_beside}
 use Rattle.candidates.specs.Read.{side_of}
 use Rattle.entries.specs.Next.{Holds, Queues}
 

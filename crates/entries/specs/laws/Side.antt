@@ -17,8 +17,8 @@ use Rattle.candidates.specs.Beside.{Bears}
 use Rattle.candidates.specs.Fronts.{best_front}
 use Rattle.candidates.specs.Read.{side_of, search_of, columns_in}
 use Rattle.passes.specs.Sweep.{Lent, Scratch}
-use Rattle.candidates.specs.laws.Columns.{columns_in_lem, sought_in}
-use Rattle.candidates.specs.laws.White.{white_lines}
+use Rattle.candidates.proofs.laws.Columns.{columns_in_lem, sought_in}
+use Rattle.candidates.proofs.laws.White.{white_lines}
 use Rattle.passes.specs.laws.Sweep.{window_best}
 use Rattle.passes.specs.laws.Lending.{lent_placed, can_move}
 use Rattle.passes.specs.laws.Fronts.{fronts_best, can_front}

@@ -8,14 +8,14 @@ use Rattle.std.proofs.Math.ListN.{length}
 use Rattle.galley.specs.Model.{model_of}
 use Rattle.queues.specs.declared.parts.Parts.{Parts}
 use Rattle.queues.specs.Parts.{parts_of, Moved}
-use Rattle.queues.specs.laws.Parts.{row_length}
+use Rattle.queues.proofs.laws.Parts.{row_length}
 use Rattle.candidates.specs.Search.{new_entry}
 use Rattle.candidates.specs.Read.{table_in, side_of}
 use Rattle.passes.specs.Sweep.{Lent}
 use Rattle.candidates.specs.Cells.{Changed}
-use Rattle.candidates.specs.laws.Cells.{stored_changes}
+use Rattle.candidates.proofs.laws.Cells.{stored_changes}
 use Rattle.passes.specs.laws.Cells.{knows_other}
-use Rattle.candidates.specs.laws.Read.{side_either}
+use Rattle.candidates.proofs.laws.Read.{side_either}
 use Rattle.entries.specs.declared.side.Task.{Task}
 use Rattle.entries.specs.declared.side.End.{End}
 use Rattle.entries.specs.declared.side.Windows.{Windows}

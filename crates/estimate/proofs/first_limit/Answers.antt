@@ -1,7 +1,7 @@
 -- `first_limit` meets its contract: no more is placed at the origin than there is.
 use native.Mathlib.Omega.{arith}
 use borrow.Author.Rules.{rules}
-use Rattle.candidates.specs.laws.Columns.{within_at}
+use Rattle.candidates.proofs.laws.Columns.{within_at}
 use Rattle.estimate.proofs.first_limit.Goals as goal
 
 pub set_pages-requires : goal.set_pages-requires

@@ -23,11 +23,11 @@ use Rattle.candidates.specs.Read.{table_in, side_of, search_of, counts_at}
 use Rattle.passes.specs.Sweep.{Lent}
 use Rattle.candidates.specs.Cells.{Scratched, fresh, more, ColumnRoom}
 use Rattle.starts.specs.Swept.{ColumnSwept}
-use Rattle.candidates.specs.laws.Columns.{within_at}
+use Rattle.candidates.proofs.laws.Columns.{within_at}
 use Rattle.passes.specs.laws.Pass.{least_low}
-use Rattle.candidates.specs.laws.Read.{side_occurs}
-use Rattle.candidates.specs.laws.Cells.{scratched_length, scratched_others}
-use Rattle.candidates.specs.laws.Clean.{clean_kept}
+use Rattle.candidates.proofs.laws.Read.{side_occurs}
+use Rattle.candidates.proofs.laws.Cells.{scratched_length, scratched_others}
+use Rattle.candidates.proofs.laws.Clean.{clean_kept}
 use Rattle.passes.specs.laws.Cells.{lent_kept}
 use Rattle.passes.specs.laws.Lending.{lent_room}
 use Rattle.pricing.specs.declared.Floats.{Floats}

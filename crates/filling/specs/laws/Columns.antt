@@ -16,10 +16,10 @@ use Rattle.places.proofs.laws.Cleared.{cleared_length, cleared_empty}
 use Rattle.places.specs.Columns.{columns, float_sizes}
 use Rattle.candidates.specs.Cells.{Scratched, fresh, Blank}
 use Rattle.candidates.specs.Read.{table_in, columns_in}
-use Rattle.candidates.specs.laws.Cells.{scratched_then}
-use Rattle.candidates.specs.laws.Clean.{blank_kept}
+use Rattle.candidates.proofs.laws.Cells.{scratched_then}
+use Rattle.candidates.proofs.laws.Clean.{blank_kept}
 use Rattle.reached.specs.Ring.{Named}
-use Rattle.candidates.specs.laws.Columns.{columns_in_lem}
+use Rattle.candidates.proofs.laws.Columns.{columns_in_lem}
 use Rattle.entries.specs.declared.side.Task.{Task}
 use Rattle.reached.specs.declared.recall.Recall.{Recall}
 use Rattle.entries.specs.Fill.{tall, side_count, fill_place}

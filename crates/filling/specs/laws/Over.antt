@@ -19,8 +19,8 @@ use Rattle.places.proofs.laws.Stored.{stored_twice, stored_swap}
 use Rattle.places.proofs.laws.Table.{table_other}
 use Rattle.candidates.specs.Search.{Table, before, Search, best_start, new_entry}
 use Rattle.candidates.specs.Beside.{Sought}
-use Rattle.candidates.specs.laws.Found.{best_start_lem}
-use Rattle.candidates.specs.laws.Pages.{candidate_earlier}
+use Rattle.candidates.proofs.laws.Found.{best_start_lem}
+use Rattle.candidates.proofs.laws.Pages.{candidate_earlier}
 use Rattle.passes.specs.laws.Sweep.{search_in, best_same}
 use Rattle.entries.specs.Fill.{Words, tall, held, fill_side, fill_sides, side_count, fill_place}
 use Rattle.filling.specs.Fill.{fill_column}

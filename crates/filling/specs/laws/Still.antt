@@ -18,10 +18,10 @@ use Rattle.places.proofs.laws.Best.{no_reach, best_none, best_unique}
 use Rattle.candidates.specs.Search.{best_start, priced, may_stop, begins, new_entry}
 use Rattle.candidates.specs.Choice.{Starts, Any}
 use Rattle.candidates.specs.Read.{table_in, side_of, search_of}
-use Rattle.candidates.specs.laws.Columns.{sought_in}
-use Rattle.candidates.specs.laws.Found.{best_start_lem}
-use Rattle.candidates.specs.laws.Read.{side_occurs}
-use Rattle.candidates.specs.laws.Pages.{candidate_earlier}
+use Rattle.candidates.proofs.laws.Columns.{sought_in}
+use Rattle.candidates.proofs.laws.Found.{best_start_lem}
+use Rattle.candidates.proofs.laws.Read.{side_occurs}
+use Rattle.candidates.proofs.laws.Pages.{candidate_earlier}
 use Rattle.passes.specs.laws.Lending.{lent_placed}
 use Rattle.entries.specs.declared.side.Task.{Task}
 use Rattle.entries.specs.Fill.{tall, fill_side, fill_sides, side_count, fill_place}

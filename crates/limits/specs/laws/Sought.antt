@@ -12,7 +12,7 @@ use Rattle.places.specs.Entry.{boundless, cleared}
 use Rattle.places.proofs.laws.Address.{area_needed}
 use Rattle.places.proofs.laws.Cleared.{cleared_forgets}
 use Rattle.candidates.specs.Read.{table_in, columns_in}
-use Rattle.candidates.specs.laws.Columns.{few_floats, columns_in_lem}
+use Rattle.candidates.proofs.laws.Columns.{few_floats, columns_in_lem}
 use Rattle.entries.specs.Fill.{tall, table_words}
 use Rattle.filling.specs.Fill.{filled}
 use Rattle.filling.specs.Next.{Fillable}

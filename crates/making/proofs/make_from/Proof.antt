@@ -3,7 +3,7 @@
 use borrow.Author.Rules.{rules}
 use native.Mathlib.Omega.{arith}
 use Rattle.galley.proofs.laws.Sound.{sound}
-use Rattle.candidates.specs.laws.Columns.{few_floats, columns_few}
+use Rattle.candidates.proofs.laws.Columns.{few_floats, columns_few}
 use Rattle.making.specs.laws.Made.{soluble_fillable, soluble_placed, soluble_solved, soluble_first, soluble_early, sought_early, made_best}
 use Rattle.making.proofs.make_from.Statement.{statement}
 use Rattle.making.proofs.make_from.Tie as tie

@@ -26,7 +26,7 @@ use Rattle.places.specs.Address.{area, words_needed}
 use Rattle.places.specs.Entry.{boundless, cleared}
 use Rattle.places.proofs.laws.Address.{area_grows, area_needed}
 use Rattle.candidates.specs.Read.{columns_in, counts_at, Placed}
-use Rattle.candidates.specs.laws.Columns.{columns_in_lem, within_at, place_at_lem}
+use Rattle.candidates.proofs.laws.Columns.{columns_in_lem, within_at, place_at_lem}
 use Rattle.entries.specs.Fill.{tall}
 use Rattle.filling.specs.Fill.{filled}
 use Rattle.filling.specs.Next.{Fillable}

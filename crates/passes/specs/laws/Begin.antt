@@ -9,7 +9,7 @@ use Rattle.queues.specs.Queue.{lines_of}
 use Rattle.queues.specs.Parts.{no_parts}
 use Rattle.window.specs.Windows.{window_at}
 use Rattle.window.specs.laws.Slide.{ends_first}
-use Rattle.queues.specs.laws.Parts.{both_none}
+use Rattle.queues.proofs.laws.Parts.{both_none}
 use Rattle.window.specs.laws.Windows.{kept_beside}
 use Rattle.passes.specs.declared.pass.Pass.{Pass}
 use Rattle.candidates.specs.Read.{side_of, columns_in}
@@ -17,8 +17,8 @@ use Rattle.passes.specs.Bound.{Standing, BoundFound}
 use Rattle.passes.specs.Sweep.{pass_load}
 use Rattle.candidates.specs.Cells.{fresh}
 use Rattle.passes.specs.Swept.{Taken, SideSweep, SideRun}
-use Rattle.candidates.specs.laws.Columns.{columns_few, few_floats}
-use Rattle.candidates.specs.laws.Read.{side_either}
+use Rattle.candidates.proofs.laws.Columns.{columns_few, few_floats}
+use Rattle.candidates.proofs.laws.Read.{side_either}
 use Rattle.passes.specs.laws.Lending.{can_stand, can_slide}
 use Rattle.passes.specs.laws.Pass.{least_low, end_inner}
 use Rattle.passes.specs.laws.Look.{start_quiet, swept_skip}

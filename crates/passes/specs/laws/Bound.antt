@@ -13,7 +13,7 @@ use Rattle.window.specs.Rows.{Beside}
 use Rattle.queues.specs.Queue.{queued, lines_in}
 use Rattle.window.specs.laws.Rows.{beside_none}
 use Rattle.window.specs.laws.Rows.{pushed_length, pushed_beside}
-use Rattle.queues.specs.laws.Pushed.{other_cost, pushed_own_cost}
+use Rattle.queues.proofs.laws.Pushed.{other_cost, pushed_own_cost}
 use Rattle.candidates.specs.Search.{Search}
 use Rattle.candidates.specs.Choice.{Candidate, Starts, Between}
 use Rattle.passes.specs.Bound.{lesser_of, bound_at, Bounded, BoundFound, BoundRun}

@@ -11,9 +11,9 @@ use Rattle.candidates.specs.Read.{table_in, side_of, search_of}
 use Rattle.passes.specs.Sweep.{Lent, Knows, Swept, Known}
 use Rattle.candidates.specs.Cells.{number, Scratched, Changed, ColumnRoom, Blank}
 use Rattle.passes.specs.laws.Sweep.{best_same}
-use Rattle.candidates.specs.laws.Read.{side_either}
-use Rattle.candidates.specs.laws.Cells.{scratched_length, scratched_others}
-use Rattle.candidates.specs.laws.Clean.{empty_unreached}
+use Rattle.candidates.proofs.laws.Read.{side_either}
+use Rattle.candidates.proofs.laws.Cells.{scratched_length, scratched_others}
+use Rattle.candidates.proofs.laws.Clean.{empty_unreached}
 
 -- What is lent for a column is so after stores in it.
 pub lent_kept : {bytes : List ℕ} {g : Galley} {w v : List ℕ} {j : ℕ} → Scratched g j w v → Lent bytes g w j → Lent bytes g v j

@@ -14,13 +14,13 @@ use Rattle.queues.specs.Queue.{added_of, front_of, Lines, Payable}
 use Rattle.queues.specs.Parts.{rest_from, whitened_of, Both, Fresh}
 use Rattle.window.specs.laws.Sums.{sums_small}
 use Rattle.window.specs.laws.Slide.{reaches_readable}
-use Rattle.queues.specs.laws.Parts.{later_left, later-right, later_least}
-use Rattle.queues.specs.laws.White.{split_within, full_best, rest_best, rest_whitenable}
+use Rattle.queues.proofs.laws.Parts.{later_left, later-right, later_least}
+use Rattle.queues.proofs.laws.White.{split_within, full_best, rest_best, rest_whitenable}
 use Rattle.candidates.specs.Fronts.{best_front, Fronted}
 use Rattle.candidates.specs.Read.{columns_in}
 use Rattle.passes.specs.Sweep.{Lent, Scratch, Summed}
-use Rattle.candidates.specs.laws.Columns.{few_floats, columns_few}
-use Rattle.candidates.specs.laws.Choice.{best_chosen}
+use Rattle.candidates.proofs.laws.Columns.{few_floats, columns_few}
+use Rattle.candidates.proofs.laws.Choice.{best_chosen}
 
 module _ {bytes : List ℕ} {g : Galley} {w : List ℕ} {j : ℕ} (lent : Lent bytes g w j) {sums words : List ℕ} (summed : Summed bytes g sums)
     (scratch : Scratch words) (load : Load) (order : load.htmin ≤ load.htmax) (i : ℕ) (line : i ≤ g.text.count) (window : Window)

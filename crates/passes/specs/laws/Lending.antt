@@ -16,8 +16,8 @@ use Rattle.window.specs.laws.Sums.{sums_small}
 use Rattle.candidates.specs.Read.{side_of, columns_in, load_of, Placed}
 use Rattle.passes.specs.Sweep.{Lent, Scratch, Summed}
 use Rattle.candidates.specs.Cells.{Wide, ColumnRoom}
-use Rattle.candidates.specs.laws.Columns.{few_floats}
-use Rattle.candidates.specs.laws.Read.{side_either, stands_in}
+use Rattle.candidates.proofs.laws.Columns.{few_floats}
+use Rattle.candidates.proofs.laws.Read.{side_either, stands_in}
 
 module _ {bytes : List ℕ} {g : Galley} {w : List ℕ} {j : ℕ} (lent : Lent bytes g w j) where
   -- A line of the column is a place.

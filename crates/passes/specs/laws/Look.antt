@@ -12,8 +12,8 @@ use Rattle.candidates.specs.Read.{table_in, side_of, search_of, counts_at}
 use Rattle.reached.specs.Look.{Quiet, LastFound, PastOrigin, Hinted, Told, Recalled}
 use Rattle.passes.specs.Sweep.{Lent, Knows, Known, Swept}
 use Rattle.candidates.specs.Cells.{number, Scratched}
-use Rattle.candidates.specs.laws.Read.{side_occurs}
-use Rattle.candidates.specs.laws.Cells.{scratched_others}
+use Rattle.candidates.proofs.laws.Read.{side_occurs}
+use Rattle.candidates.proofs.laws.Cells.{scratched_others}
 use Rattle.passes.specs.laws.Past.{knows_past}
 
 -- Lines that are not reached, and those after them.

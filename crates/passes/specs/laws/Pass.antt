@@ -25,15 +25,15 @@ use Rattle.candidates.specs.Read.{table_in, side_of, search_of, last_column, las
 use Rattle.passes.specs.Sweep.{Lent, pass_load, Passing, alone_of, weighed, Ended, Swept, sweep_end}
 use Rattle.candidates.specs.Cells.{number, Changed}
 use Rattle.passes.specs.Swept.{Early, Late}
-use Rattle.candidates.specs.laws.Heights.{kinds_some, beside_alone}
-use Rattle.candidates.specs.laws.Columns.{columns_in_lem, full_in, sought_in}
-use Rattle.candidates.specs.laws.White.{white_lines, white_alone}
+use Rattle.candidates.proofs.laws.Heights.{kinds_some, beside_alone}
+use Rattle.candidates.proofs.laws.Columns.{columns_in_lem, full_in, sought_in}
+use Rattle.candidates.proofs.laws.White.{white_lines, white_alone}
 use Rattle.passes.specs.laws.Sweep.{start_tall, window_low, window_best, alone_best, improved}
 use Rattle.passes.specs.laws.Bound.{dearer}
-use Rattle.candidates.specs.laws.Read.{side_either, side_occurs}
+use Rattle.candidates.proofs.laws.Read.{side_either, side_occurs}
 use Rattle.passes.specs.laws.Lending.{lent_placed, can_stand}
 use Rattle.passes.specs.laws.Look.{start_quiet}
-use Rattle.candidates.specs.laws.Cells.{taken_changes}
+use Rattle.candidates.proofs.laws.Cells.{taken_changes}
 use Rattle.passes.specs.laws.Cells.{swept_next}
 
 -- No least height is above the greatest.

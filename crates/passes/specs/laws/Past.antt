@@ -10,8 +10,8 @@ use Rattle.candidates.specs.Choice.{Candidate, Starts, Between}
 use Rattle.candidates.specs.Beside.{Under, alone}
 use Rattle.candidates.specs.Read.{side_of, search_of, counts_at}
 use Rattle.passes.specs.Sweep.{Lent, Knows, Known}
-use Rattle.candidates.specs.laws.Pages.{candidate_under, column_over}
-use Rattle.candidates.specs.laws.Columns.{sought_in, at_under}
+use Rattle.candidates.proofs.laws.Pages.{candidate_under, column_over}
+use Rattle.candidates.proofs.laws.Columns.{sought_in, at_under}
 use Rattle.passes.specs.laws.Lending.{lent_placed}
 
 -- Where no page to a place starts in the columns between, the starts from an earlier column on are known there too,

@@ -18,7 +18,7 @@ use Rattle.window.specs.Slide.{Rises}
 use Rattle.queues.specs.Parts.{Both, Movable, Moved}
 use Rattle.window.specs.Windows.{window_at, Windowable, WindowFound}
 use Rattle.window.specs.laws.Slide.{ends_next}
-use Rattle.queues.specs.laws.Parts.{both_same, both_beside}
+use Rattle.queues.proofs.laws.Parts.{both_same, both_beside}
 use Rattle.window.specs.laws.Windows.{window_beside, kept_beside, ends_rise}
 use Rattle.passes.specs.declared.pass.Pass.{Pass}
 use Rattle.candidates.specs.Fronts.{best_front, Fronted}
@@ -28,10 +28,10 @@ use Rattle.passes.specs.Bound.{Bounded, Comparable, Beaten}
 use Rattle.passes.specs.Sweep.{Lent, pass_load, weighed, Ended, Swept, sweep_end}
 use Rattle.candidates.specs.Cells.{number}
 use Rattle.passes.specs.Swept.{Windowed, Taken, Early, Late, SideSweep, SideRun, SideDone}
-use Rattle.candidates.specs.laws.Read.{side_either, side_occurs}
+use Rattle.candidates.proofs.laws.Read.{side_either, side_occurs}
 use Rattle.passes.specs.laws.Lending.{can_slide, can_move}
 use Rattle.passes.specs.laws.Fronts.{fronts_best, can_front}
-use Rattle.candidates.specs.laws.Cells.{scratched_then}
+use Rattle.candidates.proofs.laws.Cells.{scratched_then}
 use Rattle.passes.specs.laws.Cells.{lent_kept}
 use Rattle.passes.specs.laws.Bound.{bounded_beside, bounded_same}
 use Rattle.passes.specs.laws.Pass.{end_low, end_inner, pass_ended, pass_late, pass_beaten, pass_changed, pass_swept}

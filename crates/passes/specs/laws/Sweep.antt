@@ -22,9 +22,9 @@ use Rattle.candidates.specs.Better.{chosen, start_at}
 use Rattle.candidates.specs.Search.{Table, Search, goes, white_from, start_from, best_start}
 use Rattle.candidates.specs.Choice.{Candidate, Starts, Any, Above, Level, Between}
 use Rattle.candidates.specs.Beside.{Under, alone, Bears, Sought}
-use Rattle.candidates.specs.laws.Choice.{best_chosen}
-use Rattle.candidates.specs.laws.Found.{start_best, best_start_lem}
-use Rattle.candidates.specs.laws.Pages.{Keeps, goes_lines, goes_alone, candidate_earlier}
+use Rattle.candidates.proofs.laws.Choice.{best_chosen}
+use Rattle.candidates.proofs.laws.Found.{start_best, best_start_lem}
+use Rattle.candidates.proofs.laws.Pages.{Keeps, goes_lines, goes_alone, candidate_earlier}
 
 module _ (s : Search) (sought : Sought s) (b : ℕ) (left : b ≤ s.column) (under : Under s.galley b s.column) where
   -- Which of them a page goes from, by what it has beside its lines.

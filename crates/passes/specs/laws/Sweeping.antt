@@ -16,9 +16,9 @@ use Rattle.passes.specs.Sweep.{pass_load, Passing, weighed, Ended, Swept, Stoppa
 use Rattle.candidates.specs.Last.{LinesStand, LastBest}
 use Rattle.candidates.specs.Cells.{number, Scratched, fresh}
 use Rattle.passes.specs.Swept.{Sweep, SweepRun, SweepDone, SideSweep, SideDone, LastLine, LineDone}
-use Rattle.candidates.specs.laws.Read.{side_either}
+use Rattle.candidates.proofs.laws.Read.{side_either}
 use Rattle.passes.specs.laws.Lending.{lent_wide, can_stand, floats_separable, can_slide}
-use Rattle.candidates.specs.laws.Cells.{scratched_then}
+use Rattle.candidates.proofs.laws.Cells.{scratched_then}
 use Rattle.passes.specs.laws.Cells.{lent_kept, swept_side}
 use Rattle.passes.specs.laws.Pass.{least_low, pass_ended, pass_changed, pass_swept}
 use Rattle.passes.specs.laws.Look.{quiet_kept, last_kept, known_quiet}

@@ -8,11 +8,11 @@ use Rattle.places.specs.declared.Entry.TheVariants.{Unreached}
 use Rattle.places.specs.Table.{table_of}
 use Rattle.places.specs.Address.{Small, Stands}
 use Rattle.queues.specs.Parts.{later}
-use Rattle.queues.specs.laws.Parts.{later_left, later_least}
+use Rattle.queues.proofs.laws.Parts.{later_left, later_least}
 use Rattle.candidates.specs.Cells.{ColumnRoom}
 use Rattle.candidates.specs.Read.{table_in}
-use Rattle.candidates.specs.laws.Columns.{columns_few}
-use Rattle.candidates.specs.laws.Read.{stands_in}
+use Rattle.candidates.proofs.laws.Columns.{columns_few}
+use Rattle.candidates.proofs.laws.Read.{stands_in}
 use Rattle.reached.specs.Ring.{Present, every_line, HintFor}
 use Rattle.reached.specs.Look.{Quiet, Missed, Found, Hinted, Told}
 

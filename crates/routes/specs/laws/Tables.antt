@@ -6,7 +6,7 @@ use Rattle.galley.specs.declared.Galley.{Galley}
 use Rattle.galley.specs.Model.{model_of}
 use Rattle.galley.specs.Sound.{Sound}
 use Rattle.candidates.specs.Read.{columns_in}
-use Rattle.candidates.specs.laws.Columns.{few_floats}
+use Rattle.candidates.proofs.laws.Columns.{few_floats}
 use Rattle.filling.specs.Fill.{filled}
 use Rattle.filling.specs.laws.Fill.{length_filled}
 use Rattle.entries.specs.laws.Side.{needed_roomy}

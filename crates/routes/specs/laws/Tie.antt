@@ -18,7 +18,7 @@ use Rattle.places.specs.declared.Place.{Place as Start}
 use Rattle.places.specs.Columns.{columns, float_sizes}
 use Rattle.candidates.specs.Read.{table_in, columns_in}
 use Rattle.candidates.specs.Search.{Table}
-use Rattle.candidates.specs.laws.Columns.{columns_in_lem}
+use Rattle.candidates.proofs.laws.Columns.{columns_in_lem}
 use Rattle.walk.specs.declared.Stop.{Stop}
 use Rattle.walk.specs.Trace.{start_of, entry_of, back}
 use Rattle.walk.specs.Traceable.{blocks_in}

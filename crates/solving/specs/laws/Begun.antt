@@ -36,7 +36,7 @@ use Rattle.openings.specs.Opening.{OpeningJudged}
 use Rattle.places.specs.declared.Origin.{Origin}
 use Rattle.places.specs.Columns.{place_at}
 use Rattle.candidates.specs.Read.{columns_in, counts_at, row_of}
-use Rattle.candidates.specs.laws.Columns.{few_floats, columns_in_lem, row_figures, row_tables, place_at_lem, placed_at}
+use Rattle.candidates.proofs.laws.Columns.{few_floats, columns_in_lem, row_figures, row_tables, place_at_lem, placed_at}
 use Rattle.entries.specs.laws.Price.{sound_limits}
 use Rattle.solving.specs.Begun.{origin_after, Ending, Opened}
 

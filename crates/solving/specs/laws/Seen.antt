@@ -27,9 +27,9 @@ use Rattle.places.specs.Columns.{columns, float_sizes, place_at, column_in}
 use Rattle.places.proofs.laws.Places.{place_inside, line_at, column_at, place_of, place_tie, forward_earlier}
 use Rattle.candidates.specs.Search.{Table, before, Search, goes, white_from, best_start, most_from, priced, may_stop, begins, new_entry}
 use Rattle.candidates.specs.Choice.{Candidate, Starts, Any}
-use Rattle.candidates.specs.laws.Found.{best_start_lem}
-use Rattle.candidates.specs.laws.Priced.{priced_within, priced_least}
-use Rattle.candidates.specs.laws.Pages.{candidate_earlier}
+use Rattle.candidates.proofs.laws.Found.{best_start_lem}
+use Rattle.candidates.proofs.laws.Priced.{priced_within, priced_least}
+use Rattle.candidates.proofs.laws.Pages.{candidate_earlier}
 use Rattle.entries.specs.Filled.{Side, Filled}
 use Rattle.entries.specs.laws.Entered.{side_before}
 use Rattle.solving.specs.Shown.{at, origin_of, graph_of, shown, table_at, Proper}

@@ -9,7 +9,7 @@ use Rattle.galley.specs.Model.{model_of}
 use Rattle.places.specs.declared.Origin.{Origin}
 use Rattle.places.specs.Columns.{columns, float_sizes}
 use Rattle.candidates.specs.Read.{table_in, columns_in}
-use Rattle.candidates.specs.laws.Columns.{few_floats, columns_in_lem}
+use Rattle.candidates.proofs.laws.Columns.{few_floats, columns_in_lem}
 use Rattle.entries.specs.Fill.{tall}
 use Rattle.entries.specs.Filled.{Roomy, Light, Filled}
 use Rattle.filling.specs.laws.Fill.{length_filled, filled_all}

@@ -23,8 +23,8 @@ use Rattle.candidates.specs.Beside.{floats_high, float_kinds, alone, Bears}
 use Rattle.rules.specs.Parts.{all_placed}
 use Rattle.candidates.specs.Read.{search_of, columns_in, counts_at, row_of, load_of}
 use Rattle.starts.specs.Sweep.{Layable, floats_alone}
-use Rattle.candidates.specs.laws.Heights.{beside_none}
-use Rattle.candidates.specs.laws.Columns.{row_figures, row_tables, tables_low, within_at, place_at_lem, proper_at}
+use Rattle.candidates.proofs.laws.Heights.{beside_none}
+use Rattle.candidates.proofs.laws.Columns.{row_figures, row_tables, tables_low, within_at, place_at_lem, proper_at}
 use Rattle.rules.specs.laws.Page.{full_of}
 
 -- Of two kinds both are apart by one separation.

@@ -16,12 +16,12 @@ use Rattle.candidates.specs.Read.{side_of, search_of, counts_at, row_of}
 use Rattle.passes.specs.Sweep.{Lent, Summed, Known}
 use Rattle.candidates.specs.Cells.{Scratched, fresh, Blank}
 use Rattle.starts.specs.Swept.{ColumnSweep, ColumnSweepRun, ColumnSwept, RowSweep, RowSwept}
-use Rattle.candidates.specs.laws.Columns.{row_next, row_grows, row_of_lem, row_figures, row_tables, row_before, row_under, tables_low, within_at, under_at}
+use Rattle.candidates.proofs.laws.Columns.{row_next, row_grows, row_of_lem, row_figures, row_tables, row_before, row_under, tables_low, within_at, under_at}
 use Rattle.starts.specs.laws.Floats.{figures_alone}
 use Rattle.passes.specs.laws.Lending.{lent_room}
-use Rattle.candidates.specs.laws.Cells.{scratched_then}
+use Rattle.candidates.proofs.laws.Cells.{scratched_then}
 use Rattle.passes.specs.laws.Cells.{lent_kept, blank_known}
-use Rattle.candidates.specs.laws.Clean.{clean_kept}
+use Rattle.candidates.proofs.laws.Clean.{clean_kept}
 use Rattle.passes.specs.laws.Past.{known_past, start_under, start_short}
 use Rattle.passes.specs.laws.Look.{past_kept, recalled_kept, start_past}
 

@@ -1,7 +1,7 @@
 -- `last_stop` is the full place on the last side.
 use native.Mathlib.Omega.{arith}
 use borrow.Author.Rules.{rules}
-use Rattle.candidates.specs.laws.Columns.{columns_few}
+use Rattle.candidates.proofs.laws.Columns.{columns_few}
 use Rattle.walk.specs.laws.Walk.{columns_in_some}
 use Rattle.walk.proofs.last_stop.Statement.{statement}
 use Rattle.walk.proofs.last_stop.Tie as tie

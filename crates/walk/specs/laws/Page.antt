@@ -12,7 +12,7 @@ use Rattle.blocks.specs.Counts.{page_words, place_of}
 use Rattle.blocks.specs.laws.Counts.{floats_some, streams_of_lem}
 use Rattle.places.specs.declared.Place.{Place}
 use Rattle.candidates.specs.Read.{counts_at}
-use Rattle.candidates.specs.laws.Columns.{within_at}
+use Rattle.candidates.proofs.laws.Columns.{within_at}
 use Rattle.walk.specs.Traceable.{PageRoom}
 
 -- A page has a word for its lines and one for its figures at least.

@@ -16,8 +16,8 @@ use Rattle.places.specs.declared.Entry.TheVariants.{Unreached, Least}
 use Rattle.places.specs.Address.{Stands}
 use Rattle.candidates.specs.Search.{Table}
 use Rattle.candidates.specs.Read.{table_in, columns_in, counts_at}
-use Rattle.candidates.specs.laws.Columns.{place_at_lem}
-use Rattle.candidates.specs.laws.Read.{stands_in}
+use Rattle.candidates.proofs.laws.Columns.{place_at_lem}
+use Rattle.candidates.proofs.laws.Read.{stands_in}
 use Rattle.entries.specs.laws.Entered.{side_low, side_before}
 use Rattle.walk.specs.declared.Stop.{Stop}
 use Rattle.walk.specs.Trace.{start_of, entry_of, back, at_origin, count_back, write_back}

@@ -16,7 +16,7 @@ use Rattle.blocks.specs.declared.Counts.{Counts}
 use Rattle.blocks.specs.declared.heights.Heights.{Heights}
 use Rattle.blocks.specs.Counts.{place_of}
 use Rattle.candidates.specs.Read.{columns_in, counts_at, row_of}
-use Rattle.candidates.specs.laws.Columns.{few_floats, columns_few, row_next, row_grows, row_of_lem, row_in, columns_in_lem}
+use Rattle.candidates.proofs.laws.Columns.{few_floats, columns_few, row_next, row_grows, row_of_lem, row_in, columns_in_lem}
 use Rattle.weighing.specs.declared.columns.Part.{Part}
 use Rattle.weighing.specs.Count.{pairs_into, Weighable, nothing, with_one_more, Extendable, column_of, CountableColumn, ColumnCount, ColumnStep, row_over, rows_over, ColumnCounted, AllCount}
 use Rattle.weighing.specs.laws.Columns.{weighed_columns}

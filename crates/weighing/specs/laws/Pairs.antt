@@ -20,7 +20,7 @@ use Rattle.places.specs.Order.{Earlier}
 use Rattle.places.proofs.laws.Columns.{inside_all, inside_cons, inside_tail}
 use Rattle.places.proofs.laws.Places.{place_inside, forward_inside, forward_earlier, line_at, column_at}
 use Rattle.candidates.specs.Beside.{Under, beside, alone}
-use Rattle.candidates.specs.laws.Heights.{height_lines, height_alone, forward_under, beside_none, fits_later}
+use Rattle.candidates.proofs.laws.Heights.{height_lines, height_alone, forward_under, beside_none, fits_later}
 use Rattle.weighing.specs.Columns.{pairs_from}
 use Rattle.weighing.specs.Lines.{lines_fit, pairs_to, line_pairs}
 

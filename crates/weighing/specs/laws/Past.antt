@@ -21,8 +21,8 @@ use Rattle.places.specs.Columns.{columns, float_sizes, place_at}
 use Rattle.window.specs.laws.Sums.{sums_small}
 use Rattle.candidates.specs.Beside.{Under, alone}
 use Rattle.candidates.specs.Read.{columns_in, counts_at}
-use Rattle.candidates.specs.laws.Columns.{columns_in_lem, place_at_lem, proper_at, under_at, at_under}
-use Rattle.candidates.specs.laws.Heights.{kinds_some, beside_alone}
+use Rattle.candidates.proofs.laws.Columns.{columns_in_lem, place_at_lem, proper_at, under_at, at_under}
+use Rattle.candidates.proofs.laws.Heights.{kinds_some, beside_alone}
 use Rattle.weighing.specs.Columns.{pairs_from}
 use Rattle.weighing.specs.Count.{pairs_between, pairs_into, Weighable, Between}
 use Rattle.weighing.specs.laws.Pairs.{below_past, pairs_not_past, pairs_not_under, pairs_too_tall, pairs_own, pairs_some}

@@ -1,7 +1,7 @@
 -- `choose_later` meets its contract: each way is a clause of `chosen`, and where both are reached cost alone decides.
 use mathlib.Core.Path.{sym, ◌∙◌}
 use Rattle.candidates.specs.Better.{wins, chosen}
-use Rattle.candidates.specs.laws.Choice.{later_left_behind, later_taken}
+use Rattle.candidates.proofs.laws.Choice.{later_left_behind, later_taken}
 use borrow.Author.Rules.{rules}
 use Rattle.candidates.proofs.choice.choose_later.Goals as goal
 

@@ -5,7 +5,7 @@ use mathlib.Core.Path.{◌≡◌, refl}
 use mathlib.Core.Logic.{◌⊎◌, inl, inr}
 use Rattle.places.specs.Best.{Best}
 use Rattle.queues.specs.Queue.{lines_of, Lines}
-use Rattle.candidates.specs.laws.Lines.{lines_none, lines_next, lines_all}
+use Rattle.candidates.proofs.laws.Lines.{lines_none, lines_next, lines_all}
 use borrow.Author.Rules.{rules}
 use Rattle.candidates.proofs.last.best_line.Goals as goal
 

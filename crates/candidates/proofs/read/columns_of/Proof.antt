@@ -2,7 +2,7 @@
 use native.Mathlib.Omega.{arith}
 use ghost.Mode.{◌$◌}
 use Rattle.candidates.specs.Read.{columns_in}
-use Rattle.candidates.specs.laws.Columns.{columns_few}
+use Rattle.candidates.proofs.laws.Columns.{columns_few}
 use Rattle.candidates.proofs.read.columns_of.Statement.{statement}
 use Rattle.candidates.proofs.read.columns_of.Tie as tie
 

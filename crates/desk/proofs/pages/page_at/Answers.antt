@@ -2,7 +2,7 @@
 use borrow.Author.Rules.{rules}
 use native.Mathlib.Omega.{arith}
 use mathlib.Core.Path.{refl}
-use Rattle.desk.specs.laws.Pages.{inner_first, inner_room}
+use Rattle.desk.proofs.laws.Pages.{inner_first, inner_room}
 use Rattle.desk.proofs.pages.page_at.Goals as goal
 
 pub overflow_sub-before : goal.overflow_sub-before

@@ -2,7 +2,7 @@
 use borrow.Author.Rules.{rules}
 use native.Mathlib.Omega.{arith}
 use Rattle.desk.specs.Pages.{words_on}
-use Rattle.desk.specs.laws.Pages.{words_few}
+use Rattle.desk.proofs.laws.Pages.{words_few}
 use Rattle.desk.proofs.pages.words_on.Goals as goal
 
 pub overflow_mul-result : goal.overflow_mul-result

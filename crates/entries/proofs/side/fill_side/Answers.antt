@@ -1,7 +1,7 @@
 -- `fill_side` meets its contract: the queues move on by `move_on`, and the entry is stored at its place.
 use mathlib.Core.Path.{◌∙◌}
 use native.Mathlib.Omega.{arith}
-use Rattle.candidates.specs.laws.Columns.{few_floats, columns_few}
+use Rattle.candidates.proofs.laws.Columns.{few_floats, columns_few}
 use Rattle.passes.specs.laws.Lending.{can_stand}
 use Rattle.entries.specs.Fill.{tall, fill_side}
 use Rattle.entries.specs.laws.Side.{side_either_here, side_moves, side_entry}

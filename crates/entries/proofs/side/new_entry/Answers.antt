@@ -12,7 +12,7 @@ use Rattle.places.specs.Columns.{place_at}
 use Rattle.candidates.specs.Better.{chosen}
 use Rattle.places.specs.declared.Entry.TheVariants.{Least}
 use Rattle.candidates.specs.Search.{most_from, priced, new_entry}
-use Rattle.candidates.specs.laws.Priced.{priced_within, priced_beyond}
+use Rattle.candidates.proofs.laws.Priced.{priced_within, priced_beyond}
 use Rattle.candidates.specs.Read.{table_in}
 use Rattle.passes.specs.laws.Lending.{can_stand}
 use Rattle.entries.specs.laws.Own.{end_stops, end_cost}
@@ -109,7 +109,7 @@ entered c =
     let a = c.args in
     let lines = c.lines_above-lines in
     let price : c.price-price.result ≡ (let v = place_at (model_of a.s.now a.task.galley) a.end.at.lines a.end.column in
-        page_cost (model_of a.s.now a.task.galley) a.end.side (full (model_of a.s.now a.task.galley) v) v) =
+    page_cost (model_of a.s.now a.task.galley) a.end.side (full (model_of a.s.now a.task.galley) v) v) =
     c.price-price.ensures a.s.now a.end.at a.end.side (entry_proper c.requires) (sound_sane a.s.now a.task.galley c.requires.next.lent.sound) c.requires.above.full c.requires.turns c.requires.ending.found
     ∙ end_cost a.s.now a.task.galley a.end c.requires.ending.counts a.end.side in
     let chose : c.choose-start.result ≡ chosen (table_in a.task.galley a.work.now a.end.at.lines a.end.column a.end.side) lines.result =

@@ -1,7 +1,7 @@
 -- `fill` meets its contract: what is cleared is an empty table, and the local arrays are as long as 4,000 lines ask for.
 use native.Mathlib.Omega.{arith}
 use mathlib.Core.Path.{refl}
-use Rattle.candidates.specs.laws.Columns.{few_floats, columns_few}
+use Rattle.candidates.proofs.laws.Columns.{few_floats, columns_few}
 use Rattle.filling.specs.laws.Columns.{cleared_fillable, cleared_blank, cleared_whole}
 use borrow.Author.Rules.{rules}
 use Rattle.filling.proofs.fill.fill.Statement.{statement}

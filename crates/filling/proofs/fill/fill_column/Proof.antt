@@ -2,7 +2,7 @@
 -- nothing. Where the column has no start they leave it filled. Whatever is known of the columns before it stays known.
 use mathlib.Core.Path.{refl, ◌∙◌}
 use native.Mathlib.Omega.{arith}
-use Rattle.candidates.specs.laws.Columns.{few_floats}
+use Rattle.candidates.proofs.laws.Columns.{few_floats}
 use Rattle.passes.specs.laws.Lending.{lent_room}
 use Rattle.passes.specs.laws.Cells.{lent_kept}
 use Rattle.entries.specs.laws.Before.{columns_past}

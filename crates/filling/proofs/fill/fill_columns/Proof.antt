@@ -2,7 +2,7 @@
 -- what all columns make of those at the start.
 use Prim.Native.Nat.{◌-◌}
 use native.Mathlib.Omega.{arith}
-use Rattle.candidates.specs.laws.Columns.{few_floats}
+use Rattle.candidates.proofs.laws.Columns.{few_floats}
 use Rattle.reached.specs.laws.Ring.{fresh_named}
 use Rattle.filling.specs.Run.{ColumnsRun}
 use Rattle.filling.specs.laws.Columns.{columns_first, columns_done, columns_turn, columns_next}

@@ -8,7 +8,7 @@ use Rattle.blocks.specs.Heights.{no_heights}
 use Rattle.rules.specs.laws.Walked.{waiting_few}
 use Rattle.window.specs.Slide.{Slid}
 use Rattle.candidates.specs.Read.{counts_at}
-use Rattle.candidates.specs.laws.Columns.{few_floats, within_at}
+use Rattle.candidates.proofs.laws.Columns.{few_floats, within_at}
 use Rattle.passes.specs.laws.Lending.{floats_separable}
 use Rattle.pricing.specs.Stop.{floats_say}
 use Rattle.entries.specs.Next.{plain}

@@ -1,7 +1,7 @@
 -- `last_line` meets its contract: where the column is not the last nothing is left, else the lines and the floats alone are weighed.
 use native.Mathlib.Nat.{le_refl}
 use native.Mathlib.Omega.{arith}
-use Rattle.candidates.specs.laws.Columns.{few_floats, columns_few}
+use Rattle.candidates.proofs.laws.Columns.{few_floats, columns_few}
 use Rattle.passes.specs.laws.Lending.{lent_wide, floats_separable}
 use Rattle.passes.specs.laws.Sweeping.{last_taken, last_stand, last_ended, last_done}
 use borrow.Author.Rules.{rules}

@@ -3,7 +3,7 @@
 use Prim.Native.Nat.{◌-◌}
 use native.Mathlib.Nat.{le_refl}
 use native.Mathlib.Omega.{arith}
-use Rattle.candidates.specs.laws.Columns.{columns_few, few_floats}
+use Rattle.candidates.proofs.laws.Columns.{columns_few, few_floats}
 use Rattle.passes.specs.Swept.{SideRun}
 use Rattle.passes.specs.laws.Lending.{floats_separable}
 use Rattle.passes.specs.laws.Begin.{side_reaches, side_stands, side_first}

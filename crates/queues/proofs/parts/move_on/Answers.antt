@@ -1,7 +1,7 @@
 -- `move_on` meets its contract: each queue is moved on to its part, and the law of both says that what is stored for one leaves the
 -- other.
 use native.Mathlib.Omega.{arith}
-use Rattle.queues.specs.laws.Parts.{parts_moved}
+use Rattle.queues.proofs.laws.Parts.{parts_moved}
 use borrow.Author.Rules.{rules}
 use Rattle.queues.proofs.parts.move_on.Goals as goal
 

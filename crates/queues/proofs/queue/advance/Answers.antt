@@ -2,7 +2,7 @@
 -- front.
 use mathlib.Core.Path.{refl}
 use Rattle.queues.specs.Queue.{added_of, lines_in, tailed}
-use Rattle.queues.specs.laws.Held.{held_dropped}
+use Rattle.queues.proofs.laws.Held.{held_dropped}
 use borrow.Author.Rules.{rules}
 use Rattle.queues.proofs.queue.advance.Goals as goal
 

@@ -1,7 +1,7 @@
 -- `reach_in` meets its contract: a column that the ring covers and does not name is not reached, and of another the lines that are left to
 -- look at are looked at.
 use native.Mathlib.Omega.{arith}
-use Rattle.candidates.specs.laws.Columns.{columns_few}
+use Rattle.candidates.proofs.laws.Columns.{columns_few}
 use Rattle.reached.specs.laws.Look.{found_after, hint_holds}
 use borrow.Author.Rules.{rules}
 use Rattle.reached.proofs.look.reach_in.Goals as goal

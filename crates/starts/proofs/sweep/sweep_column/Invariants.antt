@@ -2,7 +2,7 @@
 -- the figures alone are too tall, no earlier row has a start, and none before the origin's figures is reached.
 use native.Mathlib.Omega.{arith}
 use Rattle.starts.specs.Swept.{ColumnSweepRun}
-use Rattle.candidates.specs.laws.Columns.{few_floats, within_at}
+use Rattle.candidates.proofs.laws.Columns.{few_floats, within_at}
 use Rattle.starts.specs.laws.Rows.{column_first, column_since, column_last, column_room, column_sweeps, column_next, column_tall}
 use borrow.Author.Rules.{rules}
 use Rattle.starts.proofs.sweep.sweep_column.Given as goal

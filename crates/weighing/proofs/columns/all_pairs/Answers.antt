@@ -1,7 +1,7 @@
 -- `all_pairs` meets its contract. The loop's invariant is `AllCount`: the pages that end in columns before q are counted.
 use Prim.Native.Nat.{◌-◌}
 use native.Mathlib.Omega.{arith}
-use Rattle.candidates.specs.laws.Columns.{few_floats}
+use Rattle.candidates.proofs.laws.Columns.{few_floats}
 use Rattle.weighing.specs.Count.{AllCount, KnownOf}
 use Rattle.weighing.specs.laws.Count.{all_first, all_few, all_next, all_last}
 use borrow.Author.Rules.{rules}

@@ -3,7 +3,7 @@
 use native.Mathlib.Omega.{arith}
 use mathlib.Core.Path.{◌≡◌}
 use Rattle.candidates.specs.Read.{counts_at}
-use Rattle.candidates.specs.laws.Columns.{few_floats}
+use Rattle.candidates.proofs.laws.Columns.{few_floats}
 use Rattle.weighing.specs.Count.{nothing, CountableColumn, ColumnCount, ColumnStep, KnownOf}
 use Rattle.weighing.specs.laws.From.{from_lays, from_between}
 use Rattle.weighing.specs.laws.Count.{column_short, column_first, column_few, table_room, table_next, figure_room, figure_next, column_last}

@@ -10,7 +10,7 @@ use Rattle.places.specs.Best.{Paid, Leads, Best}
 use Rattle.places.proofs.laws.Best.{no_reach, best_none, best_least, best_as}
 use Rattle.queues.specs.Queue.{Lines}
 use Rattle.candidates.specs.Better.{chosen, start_at}
-use Rattle.candidates.specs.laws.Choice.{best_chosen}
+use Rattle.candidates.proofs.laws.Choice.{best_chosen}
 
 module _ (col : ℕ → Entry) (add : ℕ → ℕ) (b : ℕ) where
   -- Line a alone.

@@ -10,11 +10,11 @@ use Rattle.desk.specs.declared.Desk.{Desk}
 use Rattle.desk.specs.Calls.{Call, Ask, Commit, Save, Back, Drop, Reply, words_at, Sitting}
 use Rattle.desk.specs.Sitting.{other_end, step, sat, replies}
 use Rattle.desk.specs.After.{leaves, answers, after_calls, answered}
-use Rattle.desk.specs.laws.Ends.{pages_long}
-use Rattle.desk.specs.laws.Sitting.{All, Lasts, step_all}
-use Rattle.desk.specs.laws.Stands.{Fits, Sized, Stands, Follows}
-use Rattle.desk.specs.laws.Trying.{ask_follows, commit_follows}
-use Rattle.desk.specs.laws.Layouts.{save_follows, back_follows, drop_follows}
+use Rattle.desk.proofs.laws.Ends.{pages_long}
+use Rattle.desk.proofs.laws.Sitting.{All, Lasts, step_all}
+use Rattle.desk.proofs.laws.Stands.{Fits, Sized, Stands, Follows}
+use Rattle.desk.proofs.laws.Trying.{ask_follows, commit_follows}
+use Rattle.desk.proofs.laws.Layouts.{save_follows, back_follows, drop_follows}
 
 -- Lists keep their length.
 pub sized_lasts : (g : Galley) (n : ℕ) → Fits g n → Lasts g (Sized n)

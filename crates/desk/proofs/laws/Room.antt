@@ -13,7 +13,7 @@ use Rattle.layouts.specs.declared.Layout.{Layout}
 use Rattle.layouts.specs.Names.{is_name, is_named, find_named, room_for, layout_of, no_layout, freed}
 use Rattle.desk.specs.Calls.{None, Some, is_some}
 use Rattle.desk.specs.Held.{held_in}
-use Rattle.desk.specs.laws.Held.{other_name, kept_named, found_named, none_same, same_none, room_is, freed_hit, freed_miss, freed_named, save_held, drop_held}
+use Rattle.desk.proofs.laws.Held.{other_name, kept_named, found_named, none_same, same_none, room_is, freed_hit, freed_miss, freed_named, save_held, drop_held}
 
 -- How many layouts are under a name; under no bytes they are free.
 unfoldable pub copies : List Layout → List ℕ → ℕ

@@ -12,7 +12,7 @@ use Rattle.window.specs.declared.slide.Load.{Load}
 use Rattle.window.specs.Slide.{white_of}
 use Rattle.candidates.specs.Search.{Search, white_from}
 use Rattle.candidates.specs.Beside.{alone, Bears}
-use Rattle.candidates.specs.laws.Heights.{height_lines, height_alone}
+use Rattle.candidates.proofs.laws.Heights.{height_lines, height_alone}
 
 module _ (s : Search) (b : ℕ) (last : Bool) (ends : full s.galley (place_at s.galley s.line s.column) ≡ last) where
   -- The white of a page is that of its loosest height, unless it is the last.

@@ -17,10 +17,10 @@ use Rattle.desk.specs.Sitting.{under, without, has_room, says, hold, put_or, nam
 use Rattle.desk.specs.Pages.{pages_on, words_on, in_force}
 use Rattle.desk.specs.Layouts.{refused, saved, came_back, dropped, save_desk, back_desk, drop_desk}
 use Rattle.desk.specs.Held.{held_in, cut, held_on}
-use Rattle.desk.specs.laws.Held.{found_held, save_held, drop_held}
-use Rattle.desk.specs.laws.Room.{copies, found_some, room_some, save_room, save_sole, drop_room, drop_sole}
-use Rattle.desk.specs.laws.Sitting.{under_without, times, length_without, without_once, more_once}
-use Rattle.desk.specs.laws.Stands.{Stands, Follows, stays, put_stands, lay_stands}
+use Rattle.desk.proofs.laws.Held.{found_held, save_held, drop_held}
+use Rattle.desk.proofs.laws.Room.{copies, found_some, room_some, save_room, save_sole, drop_room, drop_sole}
+use Rattle.desk.proofs.laws.Sitting.{under_without, times, length_without, without_once, more_once}
+use Rattle.desk.proofs.laws.Stands.{Stands, Follows, stays, put_stands, lay_stands}
 
 unheld : (p : Perhaps) → is_some p ≡ false → p ≡ None
 unheld None h = refl

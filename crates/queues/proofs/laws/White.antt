@@ -19,8 +19,8 @@ use Rattle.window.specs.Slide.{reached_of, white_of, Open}
 use Rattle.queues.specs.Queue.{added_of, front_of, Lines, Payable}
 use Rattle.queues.specs.Parts.{rest_from, whitened_of, Whitenable, Both, Fresh}
 use Rattle.window.specs.laws.Sums.{reach_stacked}
-use Rattle.queues.specs.laws.Front.{front_best}
-use Rattle.queues.specs.laws.Parts.{later-right}
+use Rattle.queues.proofs.laws.Front.{front_best}
+use Rattle.queues.proofs.laws.Parts.{later-right}
 
 -- What is best with one thing added to each line is best with another, where the two differ alike from line to line.
 best_shifted : {col : ℕ → Entry} {add add' : ℕ → ℕ} {low high b : ℕ} (more less : ℕ) (e f : Entry)

@@ -9,8 +9,8 @@ use Rattle.desk.specs.Sitting.{under, says, pend, hold}
 use Rattle.desk.specs.Pages.{pages_on, words_on, in_force, is_inner}
 use Rattle.desk.specs.Desk.{pended, altered, pending_on, put_in, lay_in}
 use Rattle.desk.specs.Held.{held_on}
-use Rattle.desk.specs.laws.Room.{copies, Sole}
-use Rattle.desk.specs.laws.Sitting.{Once}
+use Rattle.desk.proofs.laws.Room.{copies, Sole}
+use Rattle.desk.proofs.laws.Sitting.{Once}
 
 -- So many words are whole pages of two or three words each, as the galley has streams.
 pub record Fits (g : Galley) (n : ℕ) : Type 0 where

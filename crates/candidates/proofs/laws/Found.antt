@@ -13,7 +13,7 @@ use Rattle.places.proofs.laws.Best.{no_reach, best_none, best_least, best_as}
 use Rattle.candidates.specs.Better.{start_at}
 use Rattle.candidates.specs.Search.{Search, goes, white_from, start_from, on_lines, in_columns, best_start}
 use Rattle.candidates.specs.Choice.{Candidate, Starts, Any, Above, Level}
-use Rattle.candidates.specs.laws.Choice.{best_chosen}
+use Rattle.candidates.proofs.laws.Choice.{best_chosen}
 
 -- The first b columns.
 abbrev Left : ℕ → ℕ → ℕ → Type 0

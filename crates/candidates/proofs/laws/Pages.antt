@@ -18,7 +18,7 @@ use Rattle.places.proofs.laws.Places.{place_inside, forward_inside, forward_earl
 use Rattle.candidates.specs.Search.{Search, goes}
 use Rattle.candidates.specs.Choice.{Candidate}
 use Rattle.candidates.specs.Beside.{Under, beside, alone, Sought}
-use Rattle.candidates.specs.laws.Heights.{height_lines, height_alone, forward_under, fits_later}
+use Rattle.candidates.proofs.laws.Heights.{height_lines, height_alone, forward_under, fits_later}
 
 -- The page's heights keep to the specification.
 pub record Keeps (g : Galley) (v : Place) (tight loose : ℕ) : Type 0 where

@@ -14,7 +14,7 @@ use Rattle.window.specs.Rows.{Beside}
 use Rattle.queues.specs.Queue.{added_of, lines_in, Held, Advanced}
 use Rattle.queues.specs.Parts.{row_put, later, rest_from, Both, Movable, Moved}
 use Rattle.window.specs.laws.Rows.{beside_both}
-use Rattle.queues.specs.laws.Held.{held_none, held_same, beside_line, held_beside}
+use Rattle.queues.proofs.laws.Held.{held_none, held_same, beside_line, held_beside}
 
 -- The later of two lines is no earlier than either, and no later than what is no earlier than both.
 pub later_left : (a b : ℕ) → a ≤ later a b

@@ -22,8 +22,8 @@ use Rattle.desk.specs.Calls.{End, Ask, Commit, Marking, Number, words_at, Perhap
 use Rattle.desk.specs.Sitting.{pend, put_or, other_end, tried, step}
 use Rattle.desk.specs.Pages.{pages_on, words_on, in_force, is_inner, with_end}
 use Rattle.desk.specs.Desk.{pended, cleared, altered, after_ask, ask_marked, ask_off, ask_desk, pending_on, committed, commit_by, commit_desk}
-use Rattle.desk.specs.laws.Ends.{take_end, end_pages}
-use Rattle.desk.specs.laws.Stands.{Fits, Sized, Stands, Follows, stays, pend_stands, put_stands}
+use Rattle.desk.proofs.laws.Ends.{take_end, end_pages}
+use Rattle.desk.proofs.laws.Stands.{Fits, Sized, Stands, Follows, stays, pend_stands, put_stands}
 
 -- An inner page that is asked about is pending, and page 0 is none.
 pended_some : (d : Desk) (page : ℕ) (end : List ℕ) → is_inner d page ≡ true → pending_on (pended d page end) ≡ Some (altered d page end)

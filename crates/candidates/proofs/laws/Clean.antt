@@ -13,7 +13,7 @@ use Rattle.places.proofs.laws.Stored.{stored_twice, stored_swap}
 use Rattle.places.proofs.laws.Table.{table_same, table_other}
 use Rattle.candidates.specs.Read.{table_in, columns_in}
 use Rattle.candidates.specs.Cells.{Scratched, fresh, more, Empty, Blank, Clean}
-use Rattle.candidates.specs.laws.Cells.{scratched_length}
+use Rattle.candidates.proofs.laws.Cells.{scratched_length}
 
 module _ (g : Galley) (j : ℕ) (column : j < columns_in g) (two : g.spec.sides ≤ 2) where
   -- The words of a place are there.

@@ -10,7 +10,7 @@ use Rattle.places.specs.Address.{words_needed, Stands}
 use Rattle.places.proofs.laws.Address.{address_in, area_needed}
 use Rattle.candidates.specs.Search.{before}
 use Rattle.candidates.specs.Read.{side_of, columns_in, FewFloats}
-use Rattle.candidates.specs.laws.Columns.{columns_few}
+use Rattle.candidates.proofs.laws.Columns.{columns_few}
 
 -- The page before is on side 0 or 1.
 pub side_either : (g : Galley) (c : ℕ) → side_of g c ≤ 1

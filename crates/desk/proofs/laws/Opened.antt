@@ -27,11 +27,11 @@ use Rattle.layouts.specs.Names.{is_name, free_layout}
 use Rattle.desk.specs.Sitting.{under, begin}
 use Rattle.desk.specs.Desk.{pending_on}
 use Rattle.desk.specs.Held.{held_in, cut, held_on}
-use Rattle.desk.specs.laws.Held.{free_unnamed}
-use Rattle.desk.specs.laws.Opening.{Whole, marked_pages_lem, width_least, width_most, width_is, whole_long}
-use Rattle.desk.specs.laws.Room.{copies, no_bytes}
-use Rattle.desk.specs.laws.Sitting.{none_once}
-use Rattle.desk.specs.laws.Stands.{Fits, Stands}
+use Rattle.desk.proofs.laws.Held.{free_unnamed}
+use Rattle.desk.proofs.laws.Opening.{Whole, marked_pages_lem, width_least, width_most, width_is, whole_long}
+use Rattle.desk.proofs.laws.Room.{copies, no_bytes}
+use Rattle.desk.proofs.laws.Sitting.{none_once}
+use Rattle.desk.proofs.laws.Stands.{Fits, Stands}
 
 -- The desk is the one with the list and as many pages as the marking counts, which are at most 64.
 pub record Opened (bytes list : List ℕ) (d : Desk) : Type 0 where
