@@ -16,7 +16,7 @@ fill_within-requires c =
 -- The first try, within the limit of the turns.
 tried : (c : After-fill_within)
     → (let a = c.args in
-    Tried a.s.now a.g (within (limit_of a.turns) a.origin) a.work.now c.fill_within.new.1.1.1.0 c.fill_within.result)
+    Tried a.s.now a.g (within (limit_of a.turns) a.origin) a.work.now c.fill_within.new.work c.fill_within.result)
 tried c = rw (c.limited-near.ensures, c.limit_of.ensures) at c.fill_within.ensures
 
 pub returns-then-fill_within : goal.returns-then-fill_within
