@@ -96,7 +96,7 @@ module _ (h : model.Galley) (f : ℕ) (rs : List model.Galley) {bytes : List ℕ
       → offer_of g r (no_chapter rs) o next u ≡ kept_of (through h (model_of bytes g) (no_chapter rs) o next q)
   offers o next r q {u} e tabled =
       ap (λ r. passed r (turn_to g (no_chapter rs) o) (entry_of (table_in g u) (closing_from g o next))) e
-      ∙ offer_kept h a (no_chapter rs) o next q (λ t. tabled (ap is_reached e ∙ t))
+      ∙ offer_kept h bytes g a (no_chapter rs) o next q (λ t. tabled (ap is_reached e ∙ t))
 
   -- At equal cost the walks tell which starts are preferred.
   tie : (next : ℕ) (r q : theorems.Route) → through h (model_of bytes g) (no_chapter rs) 1 next (route h f rs 1) ≡ some r
@@ -104,8 +104,8 @@ module _ (h : model.Galley) (f : ℕ) (rs : List model.Galley) {bytes : List ℕ
   tie next r q d e =
       let (p, is) = through_from h (model_of bytes g) (no_chapter rs) 2 next (route h f rs 2) q e in
       later-right h a next r q
-      (offer_view h a (no_chapter rs) 1 next (route h f rs 1) (λ t. first (ap is_reached one ∙ t)) r d)
-      (offer_view h a (no_chapter rs) 2 next (route h f rs 2) (λ t. second (ap is_reached two ∙ t)) q e)
+      (offer_view h bytes g a (no_chapter rs) 1 next (route h f rs 1) (λ t. first (ap is_reached one ∙ t)) r d)
+      (offer_view h bytes g a (no_chapter rs) 2 next (route h f rs 2) (λ t. second (ap is_reached two ∙ t)) q e)
       (route_occurs h f rs 2 p is)
 
   pub arrived_right : (next : ℕ) → 1 ≤ next → next ≤ 2 → (r : Step) → r ≡ route_to g routes (no_chapter rs) next w v

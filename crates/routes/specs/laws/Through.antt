@@ -64,7 +64,7 @@ module _ (h g : model.Galley) (first : Bool) (o next : ℕ) (r : theorems.Route)
   through_some ps e = rw (e, through) refl
 
 -- A chapter alike another, opened on folio o, and its table from there.
-module _ (h : model.Galley) {bytes : List ℕ} {g : Galley} (a : Alike h (model_of bytes g)) (o next : ℕ) {w : List ℕ}
+module _ (h : model.Galley) (bytes : List ℕ) (g : Galley) (a : Alike h (model_of bytes g)) (o next : ℕ) {w : List ℕ}
     (tabled : Tabled bytes (on_folio o g) w) where
   -- The side on which a list closes that leads to the next folio.
   abbrev pub closes : ℕ
@@ -117,38 +117,38 @@ module _ (h : model.Galley) {bytes : List ℕ} {g : Galley} (a : Alike h (model_
         }
 
 -- What the code offers is what is kept of it.
-pub offer_kept : (h : model.Galley) {bytes : List ℕ} {g : Galley} → Alike h (model_of bytes g) → (first : Bool) (o next : ℕ) {w : List ℕ} (q : Option theorems.Route)
+pub offer_kept : (h : model.Galley) (bytes : List ℕ) (g : Galley) → Alike h (model_of bytes g) → (first : Bool) (o next : ℕ) {w : List ℕ} (q : Option theorems.Route)
     → (is_reached (kept_of q) ≡ true → Tabled bytes (on_folio o g) w)
     → passed (kept_of q) (turn_to g first o) (entry_of (table_in g w) (closing_from g o next)) ≡ kept_of (through h (model_of bytes g) first o next q)
-offer_kept h a first o next none tabled = unfold through in refl
-offer_kept h {bytes} {g} a first o next {w} (some r) tabled = go (entry_of (table_in g w) (closing_from g o next)) refl
+offer_kept h bytes g a first o next none tabled = unfold through in refl
+offer_kept h bytes g a first o next {w} (some r) tabled = go (entry_of (table_in g w) (closing_from g o next)) refl
   where
     table : Tabled bytes (on_folio o g) w
     table = tabled refl
 
     go : (e : Entry) → entry_of (table_in g w) (closing_from g o next) ≡ e
         → passed (kept_of (some r)) (turn_to g first o) e ≡ kept_of (through h (model_of bytes g) first o next (some r))
-    go entry.Unreached e = sym (ap kept_of (offered_none h a o next table first r e))
+    go entry.Unreached e = sym (ap kept_of (offered_none h bytes g a o next table first r e))
     go (entry.Least x s) e =
-        let k = offered_some h a o next table first r x s e in
-        let (high, low) = closed_costs table (closes h a o next table) (occurs h a o next table) x k.list in
+        let k = offered_some h bytes g a o next table first r x s e in
+        let (high, low) = closed_costs table (closes h bytes g a o next table) (occurs h bytes g a o next table) x k.list in
         rw (k.is, ← high, ← low) refl
 
 -- A route that is offered goes by the best list from a table, and has its starts.
-pub record View (h : model.Galley) {bytes : List ℕ} {g : Galley} (a : Alike h (model_of bytes g)) (o next : ℕ) (w : List ℕ) (r : theorems.Route) : Type 0 where
+pub record View (h : model.Galley) (bytes : List ℕ) (g : Galley) (a : Alike h (model_of bytes g)) (o next : ℕ) (w : List ℕ) (r : theorems.Route) : Type 0 where
   pub table : Tabled bytes (on_folio o g) w
   pub cost : ℕ
-  pub list : Closes table (closes h a o next table) (occurs h a o next table) cost
+  pub list : Closes table (closes h bytes g a o next table) (occurs h bytes g a o next table) cost
   pub starts : r.starts ≡ starts_of (zeros (model_of bytes g)) list.pages []
 
-pub offer_view : (h : model.Galley) {bytes : List ℕ} {g : Galley} (a : Alike h (model_of bytes g)) (first : Bool) (o next : ℕ) {w : List ℕ} (q : Option theorems.Route)
+pub offer_view : (h : model.Galley) (bytes : List ℕ) (g : Galley) (a : Alike h (model_of bytes g)) (first : Bool) (o next : ℕ) {w : List ℕ} (q : Option theorems.Route)
     → (is_reached (kept_of q) ≡ true → Tabled bytes (on_folio o g) w) → (r : theorems.Route) → through h (model_of bytes g) first o next q ≡ some r
-    → View h a o next w r
-offer_view h {bytes} {g} a first o next none tabled r is = absurd (no_route (unfold through in is))
+    → View h bytes g a o next w r
+offer_view h bytes g a first o next none tabled r is = absurd (no_route (unfold through in is))
   where
     no_route : ◌≡◌ {A = Option theorems.Route} none (some r) → ⊥
     no_route e = let z : ◌≡◌ {A = ℕ} 0 1 = cc in omega arith
-offer_view h {bytes} {g} a first o next {w} (some q) tabled r is = go (entry_of (table_in g w) (closing_from g o next)) refl
+offer_view h bytes g a first o next {w} (some q) tabled r is = go (entry_of (table_in g w) (closing_from g o next)) refl
   where
     table : Tabled bytes (on_folio o g) w
     table = tabled refl
@@ -157,13 +157,13 @@ offer_view h {bytes} {g} a first o next {w} (some q) tabled r is = go (entry_of 
     starts_in none = []
     starts_in (some q) = q.starts
 
-    go : (e : Entry) → entry_of (table_in g w) (closing_from g o next) ≡ e → View h a o next w r
+    go : (e : Entry) → entry_of (table_in g w) (closing_from g o next) ≡ e → View h bytes g a o next w r
     go entry.Unreached e =
-        let p = sym (offered_none h a o next table first q e) ∙ is in
+        let p = sym (offered_none h bytes g a o next table first q e) ∙ is in
         let z : ◌≡◌ {A = ℕ} 0 1 = cc in
         absurd (omega arith)
     go (entry.Least x s) e =
-        let k = offered_some h a o next table first q x s e in
+        let k = offered_some h bytes g a o next table first q x s e in
         let p = sym k.is ∙ is in
         record {
           table = table;

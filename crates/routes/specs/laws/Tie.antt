@@ -42,7 +42,7 @@ back_on g o t s =
     ap (λ (c : ℕ). record { place = start_of (entry_of t s) s.place; side = c }) (before_of g.spec.sides o g.folio s.side)
 
 module _ (h : model.Galley) {bytes : List ℕ} {g : Galley} (a : Alike h (model_of bytes g)) (next : ℕ) {w v : List ℕ} (r q : theorems.Route)
-    (x : View h a 1 next w r) (y : View h a 2 next v q) (double_sided : like h.spec.sides 2 ≡ 2) where
+    (x : View h bytes g a 1 next w r) (y : View h bytes g a 2 next v q) (double_sided : like h.spec.sides 2 ≡ 2) where
   starts_differ : ¬ (map place_of x.list.stops ≡ map place_of y.list.stops)
   starts_differ e =
       let one = x.table in
@@ -50,14 +50,14 @@ module _ (h : model.Galley) {bytes : List ℕ} {g : Galley} (a : Alike h (model_
       let long = ap length e in
       let first = length-map x.list.stops place_of in
       let second = length-map y.list.stops place_of in
-      let pages = closed_long one (closes h a 1 next one) (occurs h a 1 next one) x.cost x.list in
-      let others = closed_long two (closes h a 2 next two) (occurs h a 2 next two) y.cost y.list in
+      let pages = closed_long one (closes h bytes g a 1 next one) (occurs h bytes g a 1 next one) x.cost x.list in
+      let others = closed_long two (closes h bytes g a 2 next two) (occurs h bytes g a 2 next two) y.cost y.list in
       let same : length x.list.pages ≡ length y.list.pages = omega arith in
       sides_differ (sides_in g) next (like_alike h (model_of bytes g) a 2 ∙ double_sided)
-      (sym (closed_side one (closes h a 1 next one) (occurs h a 1 next one) x.cost x.list)
+      (sym (closed_side one (closes h bytes g a 1 next one) (occurs h bytes g a 1 next one) x.cost x.list)
       ∙ side_of_lem g.spec.sides 1 2 (length x.list.pages)
       ∙ ap (side (sides_in (on_folio 2 g))) same
-      ∙ closed_side two (closes h a 2 next two) (occurs h a 2 next two) y.cost y.list)
+      ∙ closed_side two (closes h bytes g a 2 next two) (occurs h bytes g a 2 next two) y.cost y.list)
 
   -- The starts of a list are those that the walk back meets.
   first_starts : r.starts ≡ map place_of x.list.stops
