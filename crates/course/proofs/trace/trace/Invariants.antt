@@ -1,0 +1,17 @@
+-- `trace` meets its contract: each turn follows one chapter back, and the folios from chapter k on are those of the whole way.
+use Prim.Native.Nat.{◌+◌, ◌≤◌}
+use borrow.Author.Rules.{rules}
+use native.Mathlib.Omega.{arith}
+use mathlib.Core.Path.{◌≡◌, ◌∙◌, ap}
+use lib.Seq.{drop-set-lt}
+use lib.ListN.{length, drop}
+use Rattle.course.specs.Trace.{followed, Following}
+use Rattle.course.specs.laws.Trace.{follow_first, follow_range, follow_next, follow_done}
+use Rattle.course.proofs.trace.trace.Given as goal
+
+abbrev pub invariant-loop-k : goal.invariant-loop-k
+invariant-loop-k l =
+    Following l.from l.chapters l.last (drop (l.chapters + 1) l.initial.folios) l.folios l.k × (length l.folios ≡ length l.initial.folios)
+
+abbrev pub decreases-loop-k : goal.decreases-loop-k
+decreases-loop-k l = l.k
