@@ -23,4 +23,4 @@ overflow_cast-result-2 c = omega (arith, c.list_needed-list.ensures, list_small 
 pub returns : goal.returns
 returns c =
     forecast_reads c.args.s.now c.args.g c.requires _ _ _ c.work_needed-work.ensures c.list_needed-list.ensures
-        c.ceiling_of-ceiling.ensures
+    c.ceiling_of-ceiling.ensures
