@@ -42,7 +42,8 @@ def named(sources, crates):
             own.setdefault(source.crate, set()).update(re.findall(r'^\s*(?:pub )?mod (\w+)', source.body, re.M))
     for source in sources:
         text = '\n'.join([source.body, *(f'{use.path}::' if source.is_code else use.path for use in source.uses)])
-        names = set(GHOST.findall(text)) | (set(CODE.findall(text)) - own[source.crate] if source.is_code else set())
+        brought = {name for use in source.uses if '::' in use.path for name in (use.path.split('::')[-1], *(known for _, known in use.names))}  # as std::io
+        names = set(GHOST.findall(text)) | (set(CODE.findall(text)) - own[source.crate] - brought if source.is_code else set())
         found.setdefault(source.crate, set()).update(names & (set(crates) | KIT) - {source.crate})
     return found
 
