@@ -46,13 +46,9 @@ needs:
 proofs: | needs
 	@tools/proofs
 
-# rt writes the stamp of a crate when it is proved, and leaves it where nothing changed.
-target/stamp/barleychime: proofs
-	@:
-
-$(ARCHIVE): target/stamp/barleychime
-	@echo 'the archive: $@'
-	@rt staticlib barleychime > target/staticlib.log 2>&1 || { cat target/staticlib.log; exit 1; }
+# The tool leaves the archive as it is where nothing changed that it is made of.
+$(ARCHIVE): proofs
+	@tools/archive barleychime
 
 $(SHARED): $(ARCHIVE)
 	@mkdir -p $(@D)
@@ -128,4 +124,4 @@ bench: $(ARCHIVE)
 	@bench/run
 
 clean:
-	rm -rf target host/library/target host/command/target bench/target
+	rm -rf target crates/*/out host/library/target host/command/target bench/target

@@ -23,7 +23,7 @@ def archive(crate='barleychime', variable='BARLEYCHIME_LIB'):
     named = os.environ.get(variable)
     if named:
         return pathlib.Path(named).resolve()
-    subprocess.run(['rt', 'staticlib', crate], cwd=ROOT, check=True, stdout=subprocess.DEVNULL, stderr=subprocess.DEVNULL)
+    subprocess.run([ROOT / 'tools/archive', crate], check=True, stdout=subprocess.DEVNULL, stderr=subprocess.DEVNULL)
     return ROOT / 'target' / 'staticlib' / f'lib{crate}.a'
 
 

@@ -17,7 +17,7 @@ fn main() {
     };
     println!("cargo:rerun-if-changed={}", archive.display());
     if archive.file_name() != Some(ARCHIVE.as_ref()) || !archive.is_file() {
-        let hint = "`rt staticlib barleychime` makes it, or BARLEYCHIME_LIB names it";
+        let hint = "`tools/archive barleychime` makes it, or BARLEYCHIME_LIB names it";
         println!("cargo::error={} is not there: {hint}", archive.display());
         return;
     }

@@ -44,12 +44,12 @@ def rows(text, heading):
         within = within or bool(cells) and cells[-1] == heading
 
 
-def file_of(place):
-    """The file that a place such as model/Height means; one that begins with crates/ is written in full."""
+def files_of(place):
+    """The files that a place such as model/Height means, of definitions and of laws; one that begins with crates/ is written in full."""
     if place.startswith('crates/'):
-        return ROOT / place
+        return [ROOT / place]
     crate, _, module = place.partition('/')
-    return CRATES / crate / 'specs' / f'{module}.antt'
+    return [CRATES / crate / part / f'{module}.antt' for part in ('specs', 'proofs')]
 
 
 def declared(path):
@@ -66,11 +66,11 @@ def unstated(text):
         if not all(NAMED.fullmatch(part) for part in cells[-1].split('; ')):
             yield f'{MODEL}: no definition is named as `name` in crate/File: {" | ".join(cells)}'
     for quoted, place in NAMED.findall(text):
-        path = file_of(place)
-        known = declared(path) if path.is_file() else None
+        paths = files_of(place)
+        known = set().union(*(declared(path) for path in paths if path.is_file())) if any(path.is_file() for path in paths) else None
         for name in re.findall(r'`([^`]+)`', quoted):
             if known is None:
-                yield f'{MODEL}: `{name}` in {place}: there is no file {path.relative_to(ROOT)}'
+                yield f'{MODEL}: `{name}` in {place}: there is no file {paths[0].relative_to(ROOT)}'
             elif name not in known:
                 yield f'{MODEL}: `{name}` in {place}: the file does not declare it'
 

@@ -39,23 +39,23 @@ ELSEWHERE = {  # the first line of what another part runs, and the part
     'PKG_CONFIG_PATH=$PWD/lib/pkgconfig pkg-config --cflags --libs barleychime': 'tests/package/tarball.py',
     'pip install share/barleychime/barleychime-*.whl': 'tests/package/tarball.py',
     'rt fmt                         the layout that the gate asks for': 'tests/layout',
-    'rt check NAME                  the verdict for the crate and what it stands on; unchanged crates are not proved again': 'tests/run',
 }
 NEVER = {  # the first line of what is not run, and why
     'parallel --sshlogin 4/one,4/two --transferfile {} --return {.}.list --cleanup --joblog series.log \\': 'two machines and ssh',
     '#!/bin/sh': 'Slurm',
-    'rt dev NAME                    the quick loop, in seconds; not the verdict': 'a crate that somebody works on',
-    'rt dev NAME --allow-holes      the same past holes (`?`), with the goal of each': 'a crate that somebody works on',
+    'rt check                       the crate, over what earlier checks kept in out/': 'a crate that somebody works on',
+    'rt check --allow-holes         the same past open goals, printing each': 'a crate that somebody works on',
+    'rt check --only PATH           one function, and the laws that its proof cites': 'a crate that somebody works on',
+    'rt ci NAME                     the verdict for the crate, its edits and what it stands on, from nothing; it is kept for the gate': 'a crate that somebody works on',
     'tsc --noEmit --allowJs --checkJs --target es2022 --module es2022 --moduleResolution node --lib es2022,dom,dom.iterable web/main.js':
         "Debian's node-typescript, which nothing else needs",
-    'rt staticlib barleychime && bench/run': 'a measurement, on an idle machine',
+    'tools/archive barleychime && bench/run': 'a measurement, on an idle machine',
     'bench/run 5 chapters': 'a measurement, on an idle machine',
     'python3 bench/solver/solve.py --seconds 1500 samples/real/gretl-p046.galley': "a solver of Debian's, which nothing else needs",
     'web/build && make && /usr/bin/python3 tests/web/times.py': 'a measurement, on an idle machine',
 }
 QUOTED = {  # the first line of what is quoted and no command, and the file that has it
-    'use native.Mathlib.Omega.{arith}': 'crates/places/proofs/clear/Proof.antt',
-    'clear-spec =': 'crates/places/proofs/clear/Proof.antt',
+    'pub loop-i-init : goal.loop-i-init': 'crates/places/proofs/clear/Answers.antt',
 }
 DRAWN = re.compile(r'^.* ──► ', re.M)  # a drawing and no command
 PACKED = re.compile(r'^ *(\d+)  ((?:[0-9a-f]{2} ?)+) +(\w+)(?:,.*| (\d+))$')  # offset, bytes, mark or field, number
@@ -247,7 +247,7 @@ def planted(tally, command, place, pages, data, root):
         'a byte that is another': unlike_packed(manual.replace('00 00 00 14  height 20', '00 00 00 15  height 21'), data),
         'a number that is not its bytes': unlike_packed(manual.replace('height 20', 'height 21'), data),
         'a field that is another': unlike_packed(manual.replace('14  height', '14  least'), data),
-        'a quotation that is another': unlike_quoted({'X.md': quoting.replace('loop-again e returns', 'loop-again returns')}, root),
+        'a quotation that is another': unlike_quoted({'X.md': quoting.replace('(cleared_already _ _', '(cleared_already _')}, root),
         'a byte less': unlike_packed(manual.replace(' 102  45 44        ED, the end\n', ''), data),
     }
     for what, found in faults.items():

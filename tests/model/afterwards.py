@@ -69,9 +69,9 @@ def opened(g, valid, opening):
 
 def asked_after(g, valid, opening, galley_text):
     asked = f'asks ({galley_text(g)})'
-    yield f'{asked} (making-after {numbers(opening)}) {opened(g, valid, opening)[0]}'
+    yield f'{asked} (making_after {numbers(opening)}) {opened(g, valid, opening)[0]}'
     if not openings.fault(g, opening):
-        yield f'{asked} (weighing-after {numbers(opening)}) (counts {beforehand.weighed(g, opening)} {beforehand.ceiling(g)})'
+        yield f'{asked} (weighing_after {numbers(opening)}) (counts {beforehand.weighed(g, opening)} {beforehand.ceiling(g)})'
 
 
 def few(chapters):

@@ -39,7 +39,7 @@ def galley_text(g):
             f'sides = {f"double {g.folio}" if s.sides == 2 else "single"}; alpha = {s.alpha}; beta = {s.beta}; lastmin = {s.lastmin or 0} }}')
     lines = listed(block(*line[:3], line.legal, 0) for line in g.lines)
     figures, tables = (listed(block(*each[:3], each.legal, each.cite) for each in floats) for floats in (g.figures, g.tables))
-    held = f'galleyOf ({spec}) {lines} {figures}'
+    held = f'galley_of ({spec}) {lines} {figures}'
     return f'tabling {tables} ({held})' if g.tables else held
 
 
@@ -159,19 +159,18 @@ OF_TABLES = [*(f'marked: {number}' for number in (*range(12, 19), 'accepted')), 
              '18 for tables alone', 'the later figure decides', 'the later table decides']
 
 
-HEAD = '''use mathlib.Core.Bool.{true, false}
-use mathlib.Core.List.{List, [], _∷_}
-use Rattle·model.specs.Galley.{single, double}
-use Rattle·cases·specs.specs.Case.{Case, making, marking, weighing, making-after, weighing-after, binding, galleyOf, makes, marks, refuses, counts, asks}
-use Rattle·cases·specs.specs.Galleys.{tabling}
+HEAD = '''use Rattle.std.specs.Prelude.{true, false, List, [], ◌∷◌}
+use Rattle.model.specs.Galley.{single, double}
+use Rattle.cases.specs.Case.{Case, making, marking, weighing, making_after, weighing_after, binding, galley_of, makes, marks, refuses, counts, asks}
+use Rattle.cases.specs.Galleys.{tabling}
 
 unfoldable pub table : List Case
 table =
 '''
 
 
-FALSIFIED = [('(marking', '(marks '), (' making ', '(makes '), (' weighing ', '(counts '), ('(making-after', '(makes '),
-             ('(weighing-after', '(counts '), ('(binding', '(makes ')]
+FALSIFIED = [('(marking', '(marks '), (' making ', '(makes '), (' weighing ', '(counts '), ('(making_after', '(makes '),
+             ('(weighing_after', '(counts '), ('(binding', '(makes ')]
 
 
 def agrees(table):

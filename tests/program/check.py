@@ -14,7 +14,7 @@ from reference import cases, galley, marking, sample, search  # noqa: E402
 from choice import chosen  # noqa: E402
 from tally import Tally  # noqa: E402
 
-PROGRAM = os.environ.get('BARLEYCHIME_PROGRAM') or ROOT / 'target' / 'bin' / 'paginate'
+PROGRAM = os.environ.get('BARLEYCHIME_PROGRAM') or ROOT / 'crates/paginate/out/paginate'
 SEED = 20261117
 WORK, LIST, INPUT = 10_248, 400, 8_192
 

@@ -10,7 +10,7 @@ from reference import folding  # noqa: E402
 from choice import chosen  # noqa: E402
 from tally import Tally  # noqa: E402
 
-PROGRAM = ROOT / 'target' / 'bin' / 'folding'
+PROGRAM = ROOT / 'crates/folding/out/folding'
 
 
 def formulas(tally):

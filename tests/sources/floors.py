@@ -5,10 +5,10 @@ A heading is `# Floor` or `# Floor over Floor, Floor`; below it stand the floor'
 import re
 
 HEADING = re.compile(r'# (\w+)(?: over ([\w, ]+))?')
-CRATE = re.compile(r'(\w+):(.*)')
-GHOST = re.compile(r'Rattle·([^.·]+)')
+CRATE = re.compile(r'(\w+)(?: staticlib)?:(.*)')
+GHOST = re.compile(r'(?<![\w.])Rattle\.(\w+)')
 CODE = re.compile(r'(?<![\w:·.])([a-z]\w*)::')
-KIT = {'std', 'check', 'libc', 'io', 'os', 'bytes'}
+KIT = {'check', 'libc', 'io', 'os', 'bytes', 'anyhow'} # std is always there, and never listed
 
 # What only the code generated from a crate's proofs names, and why: crate, dependency.
 GENERATED = set()
@@ -41,8 +41,9 @@ def named(sources, crates):
         if source.is_code:
             own.setdefault(source.crate, set()).update(re.findall(r'^\s*(?:pub )?mod (\w+)', source.body, re.M))
     for source in sources:
-        text = '\n'.join([source.body, *(use.path for use in source.uses)])
-        names = set(GHOST.findall(text)) | (set(CODE.findall(text)) - own[source.crate] if source.is_code else set())
+        text = '\n'.join([source.body, *(f'{use.path}::' if source.is_code else use.path for use in source.uses)])
+        brought = {name for use in source.uses if '::' in use.path for name in (use.path.split('::')[-1], *(known for _, known in use.names))}  # as std::io
+        names = set(GHOST.findall(text)) | (set(CODE.findall(text)) - own[source.crate] - brought if source.is_code else set())
         found.setdefault(source.crate, set()).update(names & (set(crates) | KIT) - {source.crate})
     return found
 

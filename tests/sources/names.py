@@ -2,10 +2,10 @@
 import pathlib
 import re
 
-USE = re.compile(r'^\s*(?:pub )?(?:ghost )?use\s+([^\s{;]+?)(?:\.\{(.*?)\})?(?: as ([^\s;]+))?;?\s*$', re.S)
-SIGNATURE = re.compile(r'^(\s*)(?:unfoldable |abbrev )*(?:pub )?((?:record|data) )?([^\s(){}:,;]+)((?: [({].*)?) ?:(?: |$)')
-CRATE_PATH = re.compile(r'Rattle·([^.·]+)(?:·specs|·proofs)?\.(.*)$')
-WORD = re.compile(r'[^\s(){}\[\],;⌜⌝]+')
+USE = re.compile(r'^\s*(?:pub )?(?:ghost )?use\s+([^\s{;]+?)(?:(?:\.|::)\{(.*?)\})?(?: as ([^\s;]+))?;?\s*$', re.S)
+SIGNATURE = re.compile(r'^(\s*)(?:unfoldable |abbrev |pub )*((?:record|data) )?([^\s(){}:,;]+)((?: [({].*)?) ?:(?: |$)')
+CRATE_PATH = re.compile(r'Rattle\.([^.]+)\.(.*)$')
+WORD = re.compile(r'[^\s(){}\[\],;«»]+')
 KEYWORDS = {'module', 'mod', 'open', 'let', 'in', 'where', 'λ', 'elim', 'record', 'data', 'unfolding'}
 
 
@@ -29,7 +29,7 @@ class Source:
         self.path = path
         self.crate = path.relative_to(crates).parts[0]
         self.is_code = path.suffix == '.rt'
-        self.is_proof = 'proofs' in path.relative_to(crates).parts
+        self.is_proof = of_function(path.relative_to(crates).parts)
         self.module = '.'.join(path.relative_to(crates).with_suffix('').parts[1:])
         self.uses, self.lines = [], []
         self.split((path.read_text() if text is None else text).split('\n'))
@@ -82,7 +82,7 @@ class Source:
             return True
         if again and again.group(3) != name and not again.group(4):
             return False
-        return bool(first) and (first.group(0) == name or name.strip('_') != name and name.strip('_') in line.split('=')[0])
+        return bool(first) and (first.group(0) == name or is_operator(name) and all(part in line.split('=')[0] for part in name.split('◌')))
 
     def owner(self, line):
         """The declaration that a line stands in."""
@@ -92,12 +92,21 @@ class Source:
         for match in WORD.finditer(line):
             word = match.group(0)
             yield word.rstrip('.')
-            yield from word.split('.')
+            yield from re.split(r'\W+', word) if self.is_code else word.split('.')
 
     def cites(self, name, line):
         """Whether a line has a name, which may be an operator with places for its arguments."""
-        core = name.strip('_')
-        return core in line if core != name or name == '[]' else name in self.words(line)
+        parts = [part for part in name.split('◌') if part]
+        return all(part in line for part in parts) if is_operator(name) or name == '[]' else name in self.words(line)
+
+
+def is_operator(name):
+    return '◌' in name
+
+
+def of_function(parts):
+    """Whether a file of a crate belongs to the proof of a function: laws stand in proofs/laws, or in a file right below proofs/."""
+    return len(parts) > 3 and parts[1] == 'proofs' and parts[2] != 'laws'
 
 
 def uncommented(line, is_code):
@@ -116,5 +125,5 @@ def outermost(declarations):
 def read(crates, changed=None):
     """All sources; `changed` gives other texts for some of the paths."""
     changed = changed or {}
-    paths = sorted(p for p in pathlib.Path(crates).rglob('*') if p.suffix in ('.rt', '.antt'))
+    paths = sorted(p for part in ('src', 'specs', 'proofs') for p in pathlib.Path(crates).glob(f'*/{part}/**/*') if p.suffix in ('.rt', '.antt'))
     return [Source(path, crates, changed.get(path)) for path in paths]

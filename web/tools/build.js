@@ -5,7 +5,7 @@ import path from 'node:path';
 import { fileURLToPath } from 'node:url';
 import zlib from 'node:zlib';
 import { bundle } from './bundle.js';
-import { compile, files, key, toolchain } from './engine.js';
+import { compile, files, key, proved, toolchain } from './engine.js';
 
 const ROOT = path.resolve(path.dirname(fileURLToPath(import.meta.url)), '..', '..');
 const WEB = path.join(ROOT, 'web'), TARGET = path.join(ROOT, 'target', 'web'), SAMPLES = path.join(ROOT, 'samples');
@@ -57,7 +57,8 @@ function page(samples) {
 
 async function build() {
   fs.mkdirSync(TARGET, { recursive: true });
-  if (unlessBuilt(WASM, key(ROOT, toolchain().kit), () => compile(ROOT, WASM))) console.log(`target/web/engine.wasm: ${fs.statSync(WASM).size} bytes`);
+  const { kit } = toolchain(), module = proved(ROOT);
+  if (unlessBuilt(WASM, key(module, kit), () => compile(module, WASM))) console.log(`target/web/engine.wasm: ${fs.statSync(WASM).size} bytes`);
   const sum = sha256('');
   for (const file of [WASM, path.join(ROOT, 'include', 'barleychime.h'), ...files(WEB), ...files(SAMPLES)]) { sum.update(`${path.relative(ROOT, file)}\0`); sum.update(fs.readFileSync(file)); }
   const { gather } = await import('./samples.js');
