@@ -2,4 +2,3 @@
 pub mod Bound
 pub mod Sweep
 pub mod Swept
-pub mod laws

@@ -14,7 +14,7 @@ use Rattle.galley.specs.Model.{sides_in, model_of}
 use Rattle.marking.specs.Mark.{mark_of}
 use Rattle.chapters.specs.Book.{Chapter, read, has_folio, book_of, models_of}
 use Rattle.folios.specs.Stating.{stating, opened}
-use Rattle.folios.specs.Opened.{reads_opened, model_opened}
+use Rattle.folios.proofs.Opened.{reads_opened, model_opened}
 use Rattle.folios.specs.Chapters.{AllPlain, BookPlain, book_plain}
 use Rattle.promises.specs.SecondDemand.{mark_is}
 use Rattle.promises.specs.Marks.{AllAccepted, sum_marks}

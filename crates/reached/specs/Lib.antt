@@ -2,4 +2,3 @@
 pub mod Ring
 pub mod Look
 pub mod Recall
-pub mod laws

@@ -3,4 +3,3 @@ pub mod Columns
 pub mod Lines
 pub mod Known
 pub mod Count
-pub mod laws

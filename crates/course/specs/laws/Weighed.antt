@@ -23,7 +23,7 @@ use Rattle.places.specs.Columns.{place_at}
 use Rattle.candidates.specs.Read.{columns_in}
 use Rattle.candidates.proofs.laws.Columns.{few_floats, columns_few, columns_in_lem}
 use Rattle.weighing.specs.Columns.{pairs_from}
-use Rattle.weighing.specs.laws.Columns.{weighed_columns}
+use Rattle.weighing.proofs.laws.Columns.{weighed_columns}
 use Rattle.chapters.specs.declared.Book.{Book}
 use Rattle.chapters.specs.Book.{Chapter, chapters_in, book_of, chapter_bytes}
 use Rattle.chapters.specs.laws.Later.{chapters_read}

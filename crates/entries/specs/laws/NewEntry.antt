@@ -29,10 +29,10 @@ use Rattle.candidates.specs.Read.{table_in, side_of, search_of}
 use Rattle.candidates.specs.Last.{LinesStand, LastBest}
 use Rattle.candidates.proofs.laws.Columns.{placed_at, within_at, sought_in}
 use Rattle.candidates.proofs.laws.White.{white_lines}
-use Rattle.passes.specs.laws.Sweep.{window_best, start_chosen}
-use Rattle.passes.specs.laws.Pass.{least_low}
+use Rattle.passes.proofs.laws.Sweep.{window_best, start_chosen}
+use Rattle.passes.proofs.laws.Pass.{least_low}
 use Rattle.candidates.proofs.laws.Read.{side_either}
-use Rattle.passes.specs.laws.Lending.{lent_placed, can_stand}
+use Rattle.passes.proofs.laws.Lending.{lent_placed, can_stand}
 use Rattle.entries.specs.declared.side.Task.{Task}
 use Rattle.entries.specs.declared.side.End.{End}
 use Rattle.entries.specs.Next.{StartsFor, bare, LinesAbove, EntryNext}

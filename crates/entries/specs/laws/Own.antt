@@ -26,8 +26,8 @@ use Rattle.passes.specs.Sweep.{Lent, Summed}
 use Rattle.candidates.proofs.laws.Columns.{place_at_lem, within_at, sought_in}
 use Rattle.candidates.proofs.laws.Pages.{goes_lines}
 use Rattle.rules.specs.laws.Page.{full_of}
-use Rattle.starts.specs.laws.Floats.{bears_own}
-use Rattle.passes.specs.laws.Lending.{lent_placed, can_slide}
+use Rattle.starts.proofs.laws.Floats.{bears_own}
+use Rattle.passes.proofs.laws.Lending.{lent_placed, can_slide}
 use Rattle.entries.specs.declared.side.End.{End}
 use Rattle.pricing.specs.Stop.{stops_at}
 

@@ -19,9 +19,9 @@ use Rattle.candidates.specs.Read.{side_of, search_of, columns_in}
 use Rattle.passes.specs.Sweep.{Lent, Scratch}
 use Rattle.candidates.proofs.laws.Columns.{columns_in_lem, sought_in}
 use Rattle.candidates.proofs.laws.White.{white_lines}
-use Rattle.passes.specs.laws.Sweep.{window_best}
-use Rattle.passes.specs.laws.Lending.{lent_placed, can_move}
-use Rattle.passes.specs.laws.Fronts.{fronts_best, can_front}
+use Rattle.passes.proofs.laws.Sweep.{window_best}
+use Rattle.passes.proofs.laws.Lending.{lent_placed, can_move}
+use Rattle.passes.proofs.laws.Fronts.{fronts_best, can_front}
 use Rattle.pricing.specs.declared.Stop.{Stop}
 use Rattle.entries.specs.declared.side.Task.{Task}
 use Rattle.entries.specs.declared.side.End.{End}

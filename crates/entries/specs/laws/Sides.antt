@@ -14,7 +14,7 @@ use Rattle.candidates.specs.Read.{table_in, side_of}
 use Rattle.passes.specs.Sweep.{Lent}
 use Rattle.candidates.specs.Cells.{Changed}
 use Rattle.candidates.proofs.laws.Cells.{stored_changes}
-use Rattle.passes.specs.laws.Cells.{knows_other}
+use Rattle.passes.proofs.laws.Cells.{knows_other}
 use Rattle.candidates.proofs.laws.Read.{side_either}
 use Rattle.entries.specs.declared.side.Task.{Task}
 use Rattle.entries.specs.declared.side.End.{End}

@@ -24,12 +24,12 @@ use Rattle.passes.specs.Sweep.{Lent}
 use Rattle.candidates.specs.Cells.{Scratched, fresh, more, ColumnRoom}
 use Rattle.starts.specs.Swept.{ColumnSwept}
 use Rattle.candidates.proofs.laws.Columns.{within_at}
-use Rattle.passes.specs.laws.Pass.{least_low}
+use Rattle.passes.proofs.laws.Pass.{least_low}
 use Rattle.candidates.proofs.laws.Read.{side_occurs}
 use Rattle.candidates.proofs.laws.Cells.{scratched_length, scratched_others}
 use Rattle.candidates.proofs.laws.Clean.{clean_kept}
-use Rattle.passes.specs.laws.Cells.{lent_kept}
-use Rattle.passes.specs.laws.Lending.{lent_room}
+use Rattle.passes.proofs.laws.Cells.{lent_kept}
+use Rattle.passes.proofs.laws.Lending.{lent_room}
 use Rattle.pricing.specs.declared.Floats.{Floats}
 use Rattle.entries.specs.declared.side.Task.{Task}
 use Rattle.entries.specs.Fill.{tall, fill_side, fill_sides, side_count, fill_place}

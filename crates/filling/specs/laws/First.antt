@@ -14,7 +14,7 @@ use Rattle.candidates.specs.Cells.{ColumnRoom, Blank}
 use Rattle.candidates.specs.Read.{table_in}
 use Rattle.reached.specs.Look.{Quiet, Found}
 use Rattle.candidates.proofs.laws.Clean.{empty_unreached}
-use Rattle.passes.specs.laws.Look.{quiet_then, known_before}
+use Rattle.passes.proofs.laws.Look.{quiet_then, known_before}
 use Rattle.entries.specs.declared.side.Task.{Task}
 use Rattle.filling.specs.Fill.{fill_column}
 use Rattle.entries.specs.Filled.{Side, Filled}

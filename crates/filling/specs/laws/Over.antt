@@ -21,7 +21,7 @@ use Rattle.candidates.specs.Search.{Table, before, Search, best_start, new_entry
 use Rattle.candidates.specs.Beside.{Sought}
 use Rattle.candidates.proofs.laws.Found.{best_start_lem}
 use Rattle.candidates.proofs.laws.Pages.{candidate_earlier}
-use Rattle.passes.specs.laws.Sweep.{search_in, best_same}
+use Rattle.passes.proofs.laws.Sweep.{search_in, best_same}
 use Rattle.entries.specs.Fill.{Words, tall, held, fill_side, fill_sides, side_count, fill_place}
 use Rattle.filling.specs.Fill.{fill_column}
 use Rattle.entries.specs.Filled.{Roomy}

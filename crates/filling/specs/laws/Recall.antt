@@ -9,8 +9,8 @@ use Rattle.reached.specs.declared.recall.Recall.{Recall}
 use Rattle.reached.specs.Look.{Quiet, Hinted, Told}
 use Rattle.reached.specs.Recall.{Agrees, Noted}
 use Rattle.passes.specs.Sweep.{Lent}
-use Rattle.passes.specs.laws.Lending.{lent_room}
-use Rattle.passes.specs.laws.Look.{quiet_then}
+use Rattle.passes.proofs.laws.Lending.{lent_room}
+use Rattle.passes.proofs.laws.Look.{quiet_then}
 use Rattle.entries.specs.declared.side.Task.{Task}
 use Rattle.entries.specs.Fill.{tall}
 use Rattle.entries.specs.laws.Side.{lent_roomy, lent_wide}

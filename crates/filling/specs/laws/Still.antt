@@ -22,7 +22,7 @@ use Rattle.candidates.proofs.laws.Columns.{sought_in}
 use Rattle.candidates.proofs.laws.Found.{best_start_lem}
 use Rattle.candidates.proofs.laws.Read.{side_occurs}
 use Rattle.candidates.proofs.laws.Pages.{candidate_earlier}
-use Rattle.passes.specs.laws.Lending.{lent_placed}
+use Rattle.passes.proofs.laws.Lending.{lent_placed}
 use Rattle.entries.specs.declared.side.Task.{Task}
 use Rattle.entries.specs.Fill.{tall, fill_side, fill_sides, side_count, fill_place}
 use Rattle.filling.specs.Fill.{fill_column}

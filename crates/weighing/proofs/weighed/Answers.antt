@@ -1,5 +1,5 @@
 -- `weighed` meets its contract: the local arrays are as long as 4,000 lines and the counts that are known ask for.
-use Rattle.weighing.specs.laws.Known.{knows_none}
+use Rattle.weighing.proofs.laws.Known.{knows_none}
 use borrow.Author.Rules.{rules}
 use Rattle.weighing.proofs.weighed.Goals as goal
 

@@ -2,7 +2,7 @@
 use mathlib.Core.Path.{◌∙◌}
 use native.Mathlib.Omega.{arith}
 use Rattle.candidates.proofs.laws.Columns.{few_floats, columns_few}
-use Rattle.passes.specs.laws.Lending.{can_stand}
+use Rattle.passes.proofs.laws.Lending.{can_stand}
 use Rattle.entries.specs.Fill.{tall, fill_side}
 use Rattle.entries.specs.laws.Side.{side_either_here, side_moves, side_entry}
 use borrow.Author.Rules.{rules}

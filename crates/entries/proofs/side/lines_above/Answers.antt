@@ -4,7 +4,7 @@ use borrow.Author.Tests.{not-true, not-false}
 use native.Mathlib.Omega.{arith}
 use Rattle.blocks.specs.Heights.{no_heights}
 use Rattle.entries.specs.laws.NewEntry.{above_stand, above_last}
-use Rattle.passes.specs.laws.Lending.{floats_separable}
+use Rattle.passes.proofs.laws.Lending.{floats_separable}
 use borrow.Author.Rules.{rules}
 use Rattle.entries.proofs.side.lines_above.Goals as goal
 

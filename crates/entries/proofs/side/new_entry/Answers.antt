@@ -14,7 +14,7 @@ use Rattle.places.specs.declared.Entry.TheVariants.{Least}
 use Rattle.candidates.specs.Search.{most_from, priced, new_entry}
 use Rattle.candidates.proofs.laws.Priced.{priced_within, priced_beyond}
 use Rattle.candidates.specs.Read.{table_in}
-use Rattle.passes.specs.laws.Lending.{can_stand}
+use Rattle.passes.proofs.laws.Lending.{can_stand}
 use Rattle.entries.specs.laws.Own.{end_stops, end_cost}
 use Rattle.entries.specs.laws.NewEntry.{entry_origin, entry_forbidden, entry_proper, entry_told, cost_low}
 use borrow.Author.Rules.{rules}

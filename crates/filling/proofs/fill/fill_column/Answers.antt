@@ -3,12 +3,12 @@
 use mathlib.Core.Path.{refl, ◌∙◌}
 use native.Mathlib.Omega.{arith}
 use Rattle.candidates.proofs.laws.Columns.{few_floats}
-use Rattle.passes.specs.laws.Lending.{lent_room}
-use Rattle.passes.specs.laws.Cells.{lent_kept}
+use Rattle.passes.proofs.laws.Lending.{lent_room}
+use Rattle.passes.proofs.laws.Cells.{lent_kept}
 use Rattle.entries.specs.laws.Before.{columns_past}
 use Rattle.filling.specs.laws.First.{column_none}
 use Rattle.filling.specs.laws.Column.{column_last, scratched_same}
-use Rattle.reached.specs.laws.Recall.{noted_none}
+use Rattle.reached.proofs.laws.Recall.{noted_none}
 use Rattle.filling.specs.laws.Recall.{filled_room, filled_quiet, column_noted}
 use borrow.Author.Rules.{rules}
 use Rattle.filling.proofs.fill.fill_column.Goals as goal

@@ -9,7 +9,7 @@ use Rattle.rules.specs.laws.Walked.{waiting_few}
 use Rattle.window.specs.Slide.{Slid}
 use Rattle.candidates.specs.Read.{counts_at}
 use Rattle.candidates.proofs.laws.Columns.{few_floats, within_at}
-use Rattle.passes.specs.laws.Lending.{floats_separable}
+use Rattle.passes.proofs.laws.Lending.{floats_separable}
 use Rattle.pricing.specs.Stop.{floats_say}
 use Rattle.entries.specs.Next.{plain}
 use Rattle.filling.specs.Run.{LastRun}

@@ -2,8 +2,8 @@
 use native.Mathlib.Nat.{le_refl}
 use native.Mathlib.Omega.{arith}
 use Rattle.candidates.proofs.laws.Columns.{few_floats, columns_few}
-use Rattle.passes.specs.laws.Lending.{lent_wide, floats_separable}
-use Rattle.passes.specs.laws.Sweeping.{last_taken, last_stand, last_ended, last_done}
+use Rattle.passes.proofs.laws.Lending.{lent_wide, floats_separable}
+use Rattle.passes.proofs.laws.Sweeping.{last_taken, last_stand, last_ended, last_done}
 use borrow.Author.Rules.{rules}
 use Rattle.passes.proofs.pass.last_line.Goals as goal
 

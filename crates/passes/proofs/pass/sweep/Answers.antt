@@ -2,7 +2,7 @@
 use Prim.Native.Nat.{◌-◌}
 use native.Mathlib.Omega.{arith}
 use Rattle.passes.specs.Swept.{SweepRun}
-use Rattle.passes.specs.laws.Sweeping.{sweep_first, sweep_none, sweep_stops, sweep_last, sweep_side, sweep_line, sweep_next}
+use Rattle.passes.proofs.laws.Sweeping.{sweep_first, sweep_none, sweep_stops, sweep_last, sweep_side, sweep_line, sweep_next}
 use borrow.Author.Rules.{rules}
 use Rattle.passes.proofs.pass.sweep.Goals as goal
 

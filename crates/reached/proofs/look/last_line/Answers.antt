@@ -2,7 +2,7 @@
 use Prim.Native.Nat.{◌+◌, ◌-◌, ◌≤◌}
 use native.Mathlib.Omega.{arith}
 use Rattle.reached.specs.Look.{Quiet}
-use Rattle.reached.specs.laws.Look.{quiet_back, room_small, room_stands}
+use Rattle.reached.proofs.laws.Look.{quiet_back, room_small, room_stands}
 use borrow.Author.Rules.{rules}
 use Rattle.reached.proofs.look.last_line.Goals as goal
 

@@ -2,7 +2,7 @@
 -- look at are looked at.
 use native.Mathlib.Omega.{arith}
 use Rattle.candidates.proofs.laws.Columns.{columns_few}
-use Rattle.reached.specs.laws.Look.{found_after, hint_holds}
+use Rattle.reached.proofs.laws.Look.{found_after, hint_holds}
 use borrow.Author.Rules.{rules}
 use Rattle.reached.proofs.look.reach_in.Goals as goal
 

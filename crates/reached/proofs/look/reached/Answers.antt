@@ -3,7 +3,7 @@ use Prim.Native.Nat.{ℕ, ◌-◌}
 use native.Mathlib.Omega.{arith}
 use mathlib.Core.Path.{◌≡◌, sym, ◌∙◌}
 use Rattle.reached.specs.Look.{Missed}
-use Rattle.reached.specs.laws.Look.{missed_next}
+use Rattle.reached.proofs.laws.Look.{missed_next}
 use borrow.Author.Rules.{rules}
 use Rattle.reached.proofs.look.reached.Goals as goal
 

@@ -1,7 +1,7 @@
 -- `note` meets its contract: a column without a reached line is left out, and any other is put in the ring with its lines.
 use native.Mathlib.Omega.{arith}
 use Rattle.candidates.proofs.laws.Columns.{columns_few}
-use Rattle.reached.specs.laws.Recall.{found_none, noted_none, noted_new}
+use Rattle.reached.proofs.laws.Recall.{found_none, noted_none, noted_new}
 use borrow.Author.Rules.{rules}
 use Rattle.reached.proofs.recall.note.Goals as goal
 

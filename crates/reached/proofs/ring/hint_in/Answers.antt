@@ -4,7 +4,7 @@ use native.Mathlib.Omega.{arith}
 use mathlib.Core.Path.{◌≡◌, refl, sym, ◌∙◌, ap}
 use lib.ListN.{length, get_or}
 use Rattle.reached.specs.Ring.{hint_name}
-use Rattle.reached.specs.laws.Ring.{absent_next}
+use Rattle.reached.proofs.laws.Ring.{absent_next}
 use borrow.Author.Rules.{rules}
 use Rattle.reached.proofs.ring.hint_in.Goals as goal
 

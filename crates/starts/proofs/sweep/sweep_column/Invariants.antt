@@ -3,7 +3,7 @@
 use native.Mathlib.Omega.{arith}
 use Rattle.starts.specs.Swept.{ColumnSweepRun}
 use Rattle.candidates.proofs.laws.Columns.{few_floats, within_at}
-use Rattle.starts.specs.laws.Rows.{column_first, column_since, column_last, column_room, column_sweeps, column_next, column_tall}
+use Rattle.starts.proofs.laws.Rows.{column_first, column_since, column_last, column_room, column_sweeps, column_next, column_tall}
 use borrow.Author.Rules.{rules}
 use Rattle.starts.proofs.sweep.sweep_column.Given as goal
 

@@ -1,7 +1,7 @@
 -- `least_beside` meets its contract: the line before `low` has its sums too.
 use Prim.Native.Nat.{◌-◌}
 use native.Mathlib.Omega.{arith}
-use Rattle.weighing.specs.laws.Lines.{compared_from}
+use Rattle.weighing.proofs.laws.Lines.{compared_from}
 use borrow.Author.Rules.{rules}
 use Rattle.weighing.proofs.lines.least_beside.Goals as goal
 

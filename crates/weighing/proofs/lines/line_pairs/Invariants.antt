@@ -3,7 +3,7 @@
 use Prim.Native.Nat.{◌+◌, ◌-◌}
 use native.Mathlib.Omega.{arith}
 use Rattle.weighing.specs.Lines.{Tallied}
-use Rattle.weighing.specs.laws.Lines.{tallied_start, tallied_next, tallied_end}
+use Rattle.weighing.proofs.laws.Lines.{tallied_start, tallied_next, tallied_end}
 use Rattle.weighing.proofs.lines.line_pairs.Given as goal
 
 abbrev pub invariant-loop-i : goal.invariant-loop-i

@@ -28,13 +28,13 @@ use Rattle.passes.specs.Swept.{Early, Late}
 use Rattle.candidates.proofs.laws.Heights.{kinds_some, beside_alone}
 use Rattle.candidates.proofs.laws.Columns.{columns_in_lem, full_in, sought_in}
 use Rattle.candidates.proofs.laws.White.{white_lines, white_alone}
-use Rattle.passes.specs.laws.Sweep.{start_tall, window_low, window_best, alone_best, improved}
-use Rattle.passes.specs.laws.Bound.{dearer}
+use Rattle.passes.proofs.laws.Sweep.{start_tall, window_low, window_best, alone_best, improved}
+use Rattle.passes.proofs.laws.Bound.{dearer}
 use Rattle.candidates.proofs.laws.Read.{side_either, side_occurs}
-use Rattle.passes.specs.laws.Lending.{lent_placed, can_stand}
-use Rattle.passes.specs.laws.Look.{start_quiet}
+use Rattle.passes.proofs.laws.Lending.{lent_placed, can_stand}
+use Rattle.passes.proofs.laws.Look.{start_quiet}
 use Rattle.candidates.proofs.laws.Cells.{taken_changes}
-use Rattle.passes.specs.laws.Cells.{swept_next}
+use Rattle.passes.proofs.laws.Cells.{swept_next}
 
 -- No least height is above the greatest.
 pub least_low : (bytes : List ℕ) (g : Galley) → Sound bytes g → (last : Bool) → floor (model_of bytes g) last ≤ g.spec.htmax

@@ -12,7 +12,7 @@ use Rattle.candidates.specs.Read.{side_of, search_of, counts_at}
 use Rattle.passes.specs.Sweep.{Lent, Knows, Known}
 use Rattle.candidates.proofs.laws.Pages.{candidate_under, column_over}
 use Rattle.candidates.proofs.laws.Columns.{sought_in, at_under}
-use Rattle.passes.specs.laws.Lending.{lent_placed}
+use Rattle.passes.proofs.laws.Lending.{lent_placed}
 
 -- Where no page to a place starts in the columns between, the starts from an earlier column on are known there too,
 pub knows_past : (bytes : List ℕ) (g : Galley) (w : List ℕ) (i j c b b' : ℕ) → b ≤ b'

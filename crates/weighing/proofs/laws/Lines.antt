@@ -19,7 +19,7 @@ use Rattle.window.specs.laws.Sums.{reach_grows}
 use Rattle.window.specs.laws.Slide.{end_passes_from, end_opens}
 use Rattle.weighing.specs.declared.lines.Tally.{Tally}
 use Rattle.weighing.specs.Lines.{lines_fit, pairs_to, line_pairs, Pairs, Same, Comparable, Compared, WithLine, Counted, Counting, Tallied}
-use Rattle.weighing.specs.laws.Pairs.{below_past}
+use Rattle.weighing.proofs.laws.Pairs.{below_past}
 
 module _ (sums : List ℕ) (first beside limit m : ℕ) where
   and_false : (a b : Bool) → b ≡ false → (a && b) ≡ false

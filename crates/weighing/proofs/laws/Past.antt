@@ -25,7 +25,7 @@ use Rattle.candidates.proofs.laws.Columns.{columns_in_lem, place_at_lem, proper_
 use Rattle.candidates.proofs.laws.Heights.{kinds_some, beside_alone}
 use Rattle.weighing.specs.Columns.{pairs_from}
 use Rattle.weighing.specs.Count.{pairs_between, pairs_into, Weighable, Between}
-use Rattle.weighing.specs.laws.Pairs.{below_past, pairs_not_past, pairs_not_under, pairs_too_tall, pairs_own, pairs_some}
+use Rattle.weighing.proofs.laws.Pairs.{below_past, pairs_not_past, pairs_not_under, pairs_too_tall, pairs_own, pairs_some}
 
 -- Columns from n on and before m that add nothing may be passed over.
 pub past : (n m : ℕ) (f : ℕ → ℕ) → n ≤ m → ((x : ℕ) → n ≤ x → x < m → f x ≡ 0) → below m f ≡ below n f

@@ -19,9 +19,9 @@ use Rattle.candidates.specs.Cells.{fresh}
 use Rattle.passes.specs.Swept.{Taken, SideSweep, SideRun}
 use Rattle.candidates.proofs.laws.Columns.{columns_few, few_floats}
 use Rattle.candidates.proofs.laws.Read.{side_either}
-use Rattle.passes.specs.laws.Lending.{can_stand, can_slide}
-use Rattle.passes.specs.laws.Pass.{least_low, end_inner}
-use Rattle.passes.specs.laws.Look.{start_quiet, swept_skip}
+use Rattle.passes.proofs.laws.Lending.{can_stand, can_slide}
+use Rattle.passes.proofs.laws.Pass.{least_low, end_inner}
+use Rattle.passes.proofs.laws.Look.{start_quiet, swept_skip}
 
 module _ {bytes : List ℕ} {g : Galley} {w₀ sums words₀ : List ℕ} {c : ℕ} {pass : Pass} {stop : ℕ}
     (asked : SideSweep bytes g w₀ sums words₀ c pass stop) where

@@ -23,12 +23,12 @@ use Rattle.starts.specs.Sweep.{Layable, floats_alone, row_top}
 use Rattle.starts.specs.Swept.{RowSweep, RowRun, RowSwept}
 use Rattle.passes.specs.Swept.{Sweep, SweepDone}
 use Rattle.candidates.proofs.laws.Columns.{few_floats, columns_few, row_next, row_grows, row_of_lem, row_figures, row_tables, row_in, within_at, under_at}
-use Rattle.starts.specs.laws.Floats.{alone_at, floats_lay, alone_low}
-use Rattle.passes.specs.laws.Lending.{lent_room}
+use Rattle.starts.proofs.laws.Floats.{alone_at, floats_lay, alone_low}
+use Rattle.passes.proofs.laws.Lending.{lent_room}
 use Rattle.candidates.proofs.laws.Cells.{scratched_then}
-use Rattle.passes.specs.laws.Cells.{lent_kept}
-use Rattle.passes.specs.laws.Past.{known_past, start_under, start_short}
-use Rattle.passes.specs.laws.Look.{quiet_then, past_kept, recalled_kept, start_past, past_quiet}
+use Rattle.passes.proofs.laws.Cells.{lent_kept}
+use Rattle.passes.proofs.laws.Past.{known_past, start_under, start_short}
+use Rattle.passes.proofs.laws.Look.{quiet_then, past_kept, recalled_kept, start_past, past_quiet}
 
 -- A row offers columns with no more tables than the end, and the end's own row one less.
 abbrev Offered : Row → ℕ → Type 0

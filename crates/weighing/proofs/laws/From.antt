@@ -13,10 +13,10 @@ use Rattle.candidates.specs.Beside.{Under, alone}
 use Rattle.candidates.specs.Read.{columns_in, counts_at, row_of}
 use Rattle.starts.specs.Sweep.{Layable, floats_alone}
 use Rattle.candidates.proofs.laws.Columns.{row_next, row_grows, row_of_lem, row_figures, row_tables, row_under, row_in, within_at, under_at}
-use Rattle.starts.specs.laws.Floats.{alone_at, floats_lay, alone_low}
+use Rattle.starts.proofs.laws.Floats.{alone_at, floats_lay, alone_low}
 use Rattle.weighing.specs.declared.columns.Part.{Part}
 use Rattle.weighing.specs.Count.{pairs_between, pairs_into, Between, PartOf, column_of, CountableColumn, row_over, rows_over}
-use Rattle.weighing.specs.laws.Past.{short_none, over_none, tall_none, between_at, weighable_between}
+use Rattle.weighing.proofs.laws.Past.{short_none, over_none, tall_none, between_at, weighable_between}
 
 module _ {bytes : List ℕ} {g : Galley} {sums : List ℕ} {first : Counts} {q : ℕ} (asked : CountableColumn bytes g sums first q) where
   abbrev end : Counts

@@ -8,7 +8,7 @@ use Rattle.reached.specs.declared.recall.Recall.{Recall}
 use Rattle.reached.specs.Ring.{hint_of, hint_name, Present, Named}
 use Rattle.reached.specs.Look.{Quiet, Found, Hinted, Reached}
 use Rattle.reached.specs.Recall.{Remembered, Agrees, Noted}
-use Rattle.reached.specs.laws.Ring.{hint_name_lem, hint_first_lem, hint_last_lem}
+use Rattle.reached.proofs.laws.Ring.{hint_name_lem, hint_first_lem, hint_last_lem}
 
 -- A word put in the ring.
 module _ (old : List ℕ) (h x : ℕ) (room : h < length old) where

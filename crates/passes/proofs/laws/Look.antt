@@ -14,7 +14,7 @@ use Rattle.passes.specs.Sweep.{Lent, Knows, Known, Swept}
 use Rattle.candidates.specs.Cells.{number, Scratched}
 use Rattle.candidates.proofs.laws.Read.{side_occurs}
 use Rattle.candidates.proofs.laws.Cells.{scratched_others}
-use Rattle.passes.specs.laws.Past.{knows_past}
+use Rattle.passes.proofs.laws.Past.{knows_past}
 
 -- Lines that are not reached, and those after them.
 pub quiet_then : {g : Galley} {w : List ℕ} {j n from mid to : ℕ} → Quiet g w j n from mid → Quiet g w j n mid to → Quiet g w j n from to

@@ -29,14 +29,14 @@ use Rattle.passes.specs.Sweep.{Lent, pass_load, weighed, Ended, Swept, sweep_end
 use Rattle.candidates.specs.Cells.{number}
 use Rattle.passes.specs.Swept.{Windowed, Taken, Early, Late, SideSweep, SideRun, SideDone}
 use Rattle.candidates.proofs.laws.Read.{side_either, side_occurs}
-use Rattle.passes.specs.laws.Lending.{can_slide, can_move}
-use Rattle.passes.specs.laws.Fronts.{fronts_best, can_front}
+use Rattle.passes.proofs.laws.Lending.{can_slide, can_move}
+use Rattle.passes.proofs.laws.Fronts.{fronts_best, can_front}
 use Rattle.candidates.proofs.laws.Cells.{scratched_then}
-use Rattle.passes.specs.laws.Cells.{lent_kept}
-use Rattle.passes.specs.laws.Bound.{bounded_beside, bounded_same}
-use Rattle.passes.specs.laws.Pass.{end_low, end_inner, pass_ended, pass_late, pass_beaten, pass_changed, pass_swept}
-use Rattle.passes.specs.laws.Look.{quiet_kept, last_kept, swept_skip}
-use Rattle.passes.specs.laws.Begin.{from_low, order, last_low}
+use Rattle.passes.proofs.laws.Cells.{lent_kept}
+use Rattle.passes.proofs.laws.Bound.{bounded_beside, bounded_same}
+use Rattle.passes.proofs.laws.Pass.{end_low, end_inner, pass_ended, pass_late, pass_beaten, pass_changed, pass_swept}
+use Rattle.passes.proofs.laws.Look.{quiet_kept, last_kept, swept_skip}
+use Rattle.passes.proofs.laws.Begin.{from_low, order, last_low}
 
 module _ {bytes : List ℕ} {g : Galley} {w₀ sums words₀ : List ℕ} {c : ℕ} {pass : Pass} {stop : ℕ}
     (asked : SideSweep bytes g w₀ sums words₀ c pass stop) where

@@ -17,13 +17,13 @@ use Rattle.passes.specs.Sweep.{Lent, Summed, Known}
 use Rattle.candidates.specs.Cells.{Scratched, fresh, Blank}
 use Rattle.starts.specs.Swept.{ColumnSweep, ColumnSweepRun, ColumnSwept, RowSweep, RowSwept}
 use Rattle.candidates.proofs.laws.Columns.{row_next, row_grows, row_of_lem, row_figures, row_tables, row_before, row_under, tables_low, within_at, under_at}
-use Rattle.starts.specs.laws.Floats.{figures_alone}
-use Rattle.passes.specs.laws.Lending.{lent_room}
+use Rattle.starts.proofs.laws.Floats.{figures_alone}
+use Rattle.passes.proofs.laws.Lending.{lent_room}
 use Rattle.candidates.proofs.laws.Cells.{scratched_then}
-use Rattle.passes.specs.laws.Cells.{lent_kept, blank_known}
+use Rattle.passes.proofs.laws.Cells.{lent_kept, blank_known}
 use Rattle.candidates.proofs.laws.Clean.{clean_kept}
-use Rattle.passes.specs.laws.Past.{known_past, start_under, start_short}
-use Rattle.passes.specs.laws.Look.{past_kept, recalled_kept, start_past}
+use Rattle.passes.proofs.laws.Past.{known_past, start_under, start_short}
+use Rattle.passes.proofs.laws.Look.{past_kept, recalled_kept, start_past}
 
 -- Before the first row no start is known, and every place is unreached.
 pub column_first : {bytes : List ℕ} {g : Galley} {w sums words seen : List ℕ} {j : ℕ} {begin : Begin}

@@ -6,7 +6,7 @@ use Rattle.window.specs.Slide.{too_tall, Reachable}
 use Rattle.window.specs.laws.Slide.{tall_on}
 use Rattle.passes.specs.declared.pass.Pass.{Pass}
 use Rattle.passes.specs.Sweep.{pass_load, sweep_end, Stoppable, Stopped}
-use Rattle.passes.specs.laws.Pass.{end_from_lem, end_inner}
+use Rattle.passes.proofs.laws.Pass.{end_from_lem, end_inner}
 
 module _ {g : Galley} {sums : List ℕ} {pass : Pass} (asked : Stoppable g sums pass) where
   -- A line after the last of the pass.

@@ -19,10 +19,10 @@ use Rattle.candidates.specs.Read.{columns_in, counts_at, row_of}
 use Rattle.candidates.proofs.laws.Columns.{few_floats, columns_few, row_next, row_grows, row_of_lem, row_in, columns_in_lem}
 use Rattle.weighing.specs.declared.columns.Part.{Part}
 use Rattle.weighing.specs.Count.{pairs_into, Weighable, nothing, with_one_more, Extendable, column_of, CountableColumn, ColumnCount, ColumnStep, row_over, rows_over, ColumnCounted, AllCount}
-use Rattle.weighing.specs.laws.Columns.{weighed_columns}
-use Rattle.weighing.specs.laws.From.{end_within, over, short, from_before, from_pairs, row_passed, rows_passed}
-use Rattle.weighing.specs.laws.Part.{part_nothing, part_more, part_room}
-use Rattle.weighing.specs.laws.Past.{past}
+use Rattle.weighing.proofs.laws.Columns.{weighed_columns}
+use Rattle.weighing.proofs.laws.From.{end_within, over, short, from_before, from_pairs, row_passed, rows_passed}
+use Rattle.weighing.proofs.laws.Part.{part_nothing, part_more, part_room}
+use Rattle.weighing.proofs.laws.Past.{past}
 
 -- The columns where pages start that end in column q.
 module _ {bytes : List ℕ} {g : Galley} {sums : List ℕ} {first : Counts} {q : ℕ} (asked : CountableColumn bytes g sums first q) where

@@ -10,7 +10,7 @@ use Rattle.candidates.specs.Choice.{Starts, Between}
 use Rattle.candidates.specs.Read.{table_in, side_of, search_of}
 use Rattle.passes.specs.Sweep.{Lent, Knows, Swept, Known}
 use Rattle.candidates.specs.Cells.{number, Scratched, Changed, ColumnRoom, Blank}
-use Rattle.passes.specs.laws.Sweep.{best_same}
+use Rattle.passes.proofs.laws.Sweep.{best_same}
 use Rattle.candidates.proofs.laws.Read.{side_either}
 use Rattle.candidates.proofs.laws.Cells.{scratched_length, scratched_others}
 use Rattle.candidates.proofs.laws.Clean.{empty_unreached}

@@ -17,11 +17,11 @@ use Rattle.candidates.specs.Last.{LinesStand, LastBest}
 use Rattle.candidates.specs.Cells.{number, Scratched, fresh}
 use Rattle.passes.specs.Swept.{Sweep, SweepRun, SweepDone, SideSweep, SideDone, LastLine, LineDone}
 use Rattle.candidates.proofs.laws.Read.{side_either}
-use Rattle.passes.specs.laws.Lending.{lent_wide, can_stand, floats_separable, can_slide}
+use Rattle.passes.proofs.laws.Lending.{lent_wide, can_stand, floats_separable, can_slide}
 use Rattle.candidates.proofs.laws.Cells.{scratched_then}
-use Rattle.passes.specs.laws.Cells.{lent_kept, swept_side}
-use Rattle.passes.specs.laws.Pass.{least_low, pass_ended, pass_changed, pass_swept}
-use Rattle.passes.specs.laws.Look.{quiet_kept, last_kept, known_quiet}
+use Rattle.passes.proofs.laws.Cells.{lent_kept, swept_side}
+use Rattle.passes.proofs.laws.Pass.{least_low, pass_ended, pass_changed, pass_swept}
+use Rattle.passes.proofs.laws.Look.{quiet_kept, last_kept, known_quiet}
 
 -- The last line.
 module _ {bytes : List ℕ} {g : Galley} {w sums : List ℕ} {c : ℕ} {pass : Pass} (asked : LastLine bytes g w sums c pass) where
