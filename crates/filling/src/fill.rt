@@ -12,7 +12,7 @@ use blocks::Counts;
 use blocks::heights::Heights;
 use entries::side::{End, Task, Windows};
 use galley::Galley;
-use places::{Entry, Origin};
+use places::Origin;
 use pricing::Floats;
 use reached::recall::Recall;
 use rules::waiting::Waiting;

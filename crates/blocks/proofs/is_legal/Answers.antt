@@ -1,5 +1,4 @@
 -- `blocks::is_legal` meets its contract: its tests are those of `legal_of`.
-use borrow.Author.Rules.{rules}
 use borrow.Author.Tests.{eq-eqb, ne_eqb}
 use Rattle.galley.specs.Model.{legal_of}
 use Rattle.blocks.proofs.is_legal.Goals as goal

@@ -1,5 +1,4 @@
 -- `bind` meets its contract: the best of the routes at the end is the best choice, or there is none, and the chapters along it are made.
-use borrow.Author.Rules.{rules}
 use native.Mathlib.Omega.{arith}
 use mathlib.Core.Path.{refl}
 use Rattle.book.specs.laws.Bind.{bind_read, bind_none, bind_found, bind_countable, bind_best}

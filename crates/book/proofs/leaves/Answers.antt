@@ -1,5 +1,4 @@
 -- `leaves` meets its contract: the last page lies on no earlier leaf than the first.
-use borrow.Author.Rules.{rules}
 use native.Mathlib.Omega.{arith}
 use Rattle.model.specs.Leaf.{sides_of}
 use Rattle.model.proofs.laws.Leaf.{leaf_mono}

@@ -1,5 +1,4 @@
 -- `make_book` meets its contract: a book that was read is made, and a refusal of reading is the book's.
-use borrow.Author.Rules.{rules}
 use mathlib.Core.Path.{sym, ◌∙◌}
 use Rattle.chapters.specs.laws.Answer.{answered, answered_refused}
 use Rattle.book.specs.laws.Bound.{bound_refused}

@@ -1,5 +1,4 @@
 -- `galley_in` meets its contract: bytes that hold a galley are not refused.
-use borrow.Author.Rules.{rules}
 use mathlib.Core.Path.{sym, ◌∙◌}
 use Rattle.chapters.specs.laws.Chapters.{unrefused}
 use Rattle.chapters.proofs.galley_in.Goals as goal

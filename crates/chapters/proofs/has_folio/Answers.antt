@@ -1,5 +1,4 @@
 -- `has_folio` meets its contract: line 1 begins past the specification's end.
-use borrow.Author.Rules.{rules}
 use Rattle.chapters.specs.Book.{has_folio}
 use Rattle.chapters.proofs.has_folio.Goals as goal
 

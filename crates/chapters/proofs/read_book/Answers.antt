@@ -1,6 +1,4 @@
 -- `read_book` meets its contract: 28, the first chapter's own refusal, or the later chapters.
-use borrow.Author.Rules.{rules}
-use borrow.Author.Tests.{not-true, not-false}
 use native.Mathlib.Omega.{arith}
 use mathlib.Core.Path.{sym, ◌∙◌, ap}
 use lib.Seq.{slice, length-take-le}

@@ -1,6 +1,4 @@
 -- `unfit_after` meets its contract: 29, then 30.
-use borrow.Author.Rules.{rules}
-use borrow.Author.Tests.{not-true, not-false}
 use Rattle.chapters.specs.Steps.{unfit_after}
 use Rattle.chapters.proofs.unfit_after.Goals as goal
 

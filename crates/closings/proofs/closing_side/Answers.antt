@@ -1,5 +1,4 @@
 -- `closing_side` meets its contract: it is the side of a page whose number is both folios together.
-use borrow.Author.Rules.{rules}
 use Rattle.closings.proofs.closing_side.Goals as goal
 
 pub returns : goal.returns

@@ -1,6 +1,5 @@
 -- `closing_stop` is the full place on the given side.
 use native.Mathlib.Omega.{arith}
-use borrow.Author.Rules.{rules}
 use Rattle.candidates.proofs.laws.Columns.{columns_few}
 use Rattle.walk.specs.laws.Walk.{columns_in_some}
 use Rattle.closings.proofs.closing_stop.Goals as goal

@@ -1,5 +1,4 @@
 -- `entry_at` reads the entry where a page stops, which stands in the work area.
-use borrow.Author.Rules.{rules}
 use Rattle.walk.specs.laws.Walk.{visits_stands}
 use Rattle.closings.proofs.entry_at.Goals as goal
 

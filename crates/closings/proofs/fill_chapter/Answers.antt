@@ -1,6 +1,5 @@
 -- `fill_chapter` fills the table from the beginning on: there is a column in which to begin.
 use native.Mathlib.Omega.{arith}
-use borrow.Author.Rules.{rules}
 use Rattle.walk.specs.laws.Walk.{columns_in_some}
 use Rattle.closings.proofs.fill_chapter.Goals as goal
 

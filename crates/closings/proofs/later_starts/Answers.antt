@@ -2,7 +2,6 @@
 -- from the first stops on.
 use native.Mathlib.Omega.{arith}
 use borrow.Author.Rules.{rules}
-use Rattle.closings.specs.Chapter.{Parting}
 use Rattle.closings.specs.laws.Parting.{parting_first, parted_none, parted_line, parted_column, parting_next}
 use Rattle.closings.proofs.later_starts.Goals as goal
 

@@ -1,9 +1,6 @@
 -- `later_starts` walks back through both tables side by side. The invariant says that what the walks from here on tell is what they tell
 -- from the first stops on.
-use native.Mathlib.Omega.{arith}
-use borrow.Author.Rules.{rules}
 use Rattle.closings.specs.Chapter.{Parting}
-use Rattle.closings.specs.laws.Parting.{parting_first, parted_none, parted_line, parted_column, parting_next}
 use Rattle.closings.proofs.later_starts.Given as goal
 
 abbrev pub invariant-loop-left : goal.invariant-loop-left

@@ -1,6 +1,5 @@
 -- `finish` meets its contract: within the limits no product or sum of the counts passes 32 bits (laws/Counts).
 use Prim.Native.Nat.{◌*◌, ◌≤◌}
-use borrow.Author.Rules.{rules}
 use native.Mathlib.Omega.{arith}
 use mathlib.Core.Path.{sym, ◌∙◌}
 use Rattle.rules.specs.Parts.{counts, finished}

@@ -1,5 +1,4 @@
 -- `leaves_turned` meets its contract: no page lies on a leaf before that of the first.
-use borrow.Author.Rules.{rules}
 use native.Mathlib.Omega.{arith}
 use Rattle.model.proofs.laws.Leaf.{leaf_mono}
 use Rattle.galley.specs.Model.{sides_in}

@@ -1,7 +1,6 @@
 -- `printed_cost` meets its contract: within the limits no product or sum of the counts passes 32 bits (laws/Counts), and two numbers of
 -- 32 bits side by side pass no 64.
 use Prim.Native.Nat.{◌+◌, ◌*◌, ◌≤◌}
-use borrow.Author.Rules.{rules}
 use native.Mathlib.Omega.{arith}
 use Rattle.rules.specs.Parts.{printed_cost}
 use Rattle.rules.specs.laws.Counts.{few_bounded}

@@ -1,5 +1,4 @@
 -- `with_page` meets its contract: each sum has room for one page more.
-use borrow.Author.Rules.{rules}
 use Prim.Native.Nat.{◌+◌}
 use native.Mathlib.Omega.{arith}
 use Rattle.rules.specs.laws.Walked.{waiting_at_few}

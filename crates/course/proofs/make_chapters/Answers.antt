@@ -2,11 +2,9 @@
 use Prim.Native.Nat.{◌+◌, ◌-◌, ◌≤◌, ◌<◌}
 use borrow.Author.Rules.{rules}
 use native.Mathlib.Omega.{arith}
-use mathlib.Core.Path.{◌≡◌, refl, ◌∙◌}
+use mathlib.Core.Path.{refl, ◌∙◌}
 use lib.ListN.{length}
-use Rattle.chapters.specs.Book.{chapters_in, book_of}
 use Rattle.chapters.specs.laws.Lengths.{lent_is}
-use Rattle.course.specs.Course.{Making}
 use Rattle.course.specs.laws.Room.{course_first, course_at, course_opens, course_chapter, course_next, course_done}
 use Rattle.course.proofs.make_chapters.Goals as goal
 use Rattle.course.proofs.make_chapters.Goals.{After-extent_of-extent}

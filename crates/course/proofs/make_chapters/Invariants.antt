@@ -1,13 +1,9 @@
 -- `make_chapters` meets its contract: each turn makes one chapter more, and with the chapters left they come to what all do.
-use Prim.Native.Nat.{◌+◌, ◌-◌, ◌≤◌, ◌<◌}
-use borrow.Author.Rules.{rules}
-use native.Mathlib.Omega.{arith}
-use mathlib.Core.Path.{◌≡◌, refl, ◌∙◌}
+use Prim.Native.Nat.{◌-◌}
+use mathlib.Core.Path.{◌≡◌}
 use lib.ListN.{length}
 use Rattle.chapters.specs.Book.{chapters_in, book_of}
-use Rattle.chapters.specs.laws.Lengths.{lent_is}
 use Rattle.course.specs.Course.{Making}
-use Rattle.course.specs.laws.Room.{course_first, course_at, course_opens, course_chapter, course_next, course_done}
 use Rattle.course.proofs.make_chapters.Given as goal
 
 abbrev pub invariant-loop-k : goal.invariant-loop-k

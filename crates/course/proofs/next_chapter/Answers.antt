@@ -1,5 +1,4 @@
 -- `next_chapter` meets its contract: the chapter is made in what is left of the page list behind the chapters before it.
-use borrow.Author.Rules.{rules}
 use mathlib.Core.Path.{refl}
 use Rattle.needs.specs.laws.Needs.{page_few}
 use Rattle.course.specs.laws.Course.{next_makeable, next_made}

@@ -1,6 +1,5 @@
 -- `with_chapter` meets its contract: each count of 32 bits is added to what is far from the end of 64 bits.
 use Prim.Native.Nat.{◌*◌, ◌≤◌}
-use borrow.Author.Rules.{rules}
 use native.Mathlib.Nat.{mul-le-mul}
 use native.Mathlib.Omega.{arith}
 use mathlib.Core.Path.{refl}

@@ -1,5 +1,4 @@
 -- `after_ask` meets its contract: the test is the definition's.
-use borrow.Author.Rules.{rules}
 use Rattle.desk.specs.Desk.{after_ask}
 use Rattle.desk.proofs.after_ask.Goals as goal
 

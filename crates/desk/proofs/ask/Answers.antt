@@ -1,6 +1,4 @@
 -- `ask` meets its contract: the test is the definition's, and the list that is marked is the altered one.
-use borrow.Author.Rules.{rules}
-use borrow.Author.Tests.{not-true, not-false}
 use native.Mathlib.Omega.{arith}
 use mathlib.Core.Path.{sym, ◌∙◌}
 use lib.Seq.{length-take-le}

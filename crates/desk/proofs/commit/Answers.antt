@@ -1,6 +1,4 @@
 -- `commit` meets its contract: the test is the definition's.
-use borrow.Author.Rules.{rules}
-use borrow.Author.Tests.{not-true, not-false}
 use mathlib.Core.Path.{sym, ◌∙◌}
 use Rattle.desk.specs.Desk.{commit_desk}
 use Rattle.desk.proofs.commit.Goals as goal

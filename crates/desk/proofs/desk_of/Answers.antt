@@ -1,5 +1,4 @@
 -- `desk_of` meets its contract: the list is copied over the first of 192 zeros.
-use borrow.Author.Rules.{rules}
 use Prim.Native.Nat.{ℕ}
 use mathlib.Core.List.{List, ◌++◌}
 use mathlib.Core.Path.{ap, ap₂, ◌∙◌}

@@ -1,5 +1,4 @@
 -- `is_accepted` meets its contract: each arm of the match is the clause of `accepted` for that case.
-use borrow.Author.Rules.{rules}
 use Rattle.desk.proofs.is_accepted.Goals as goal
 
 pub returns-in-Counted : goal.returns-in-Counted

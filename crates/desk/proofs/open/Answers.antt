@@ -1,5 +1,4 @@
 -- `open` meets its contract: each case of the reading is the clause of `open_read` for it.
-use borrow.Author.Rules.{rules}
 use Rattle.desk.specs.Opening.{open_read, open_desk}
 use Rattle.desk.proofs.open.Goals as goal
 

@@ -1,5 +1,4 @@
 -- `open_read` meets its contract: the test is the definition's, and a list that passes it fits a desk.
-use borrow.Author.Rules.{rules}
 use Rattle.desk.specs.Opening.{open_on}
 use Rattle.desk.proofs.laws.Opening.{open_short}
 use Rattle.desk.proofs.open_read.Goals as goal

@@ -1,6 +1,5 @@
 -- `first_limit` meets its contract: no more is placed at the origin than there is.
 use native.Mathlib.Omega.{arith}
-use borrow.Author.Rules.{rules}
 use Rattle.candidates.proofs.laws.Columns.{within_at}
 use Rattle.estimate.proofs.first_limit.Goals as goal
 

@@ -3,7 +3,6 @@ use Prim.Native.Nat.{◌<◌}
 use native.Mathlib.Omega.{arith}
 use mathlib.Core.Path.{sym}
 use mathlib.Core.Bool.{true≢false}
-use borrow.Author.Rules.{rules}
 use Rattle.estimate.proofs.float_fits.Goals as goal
 use Rattle.estimate.proofs.float_fits.Goals.{Then-block_fits}
 

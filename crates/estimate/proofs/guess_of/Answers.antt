@@ -1,7 +1,6 @@
 -- `guess_of` meets its contract: weights and leaves are few, so that the sums keep within a word.
 use native.Mathlib.Omega.{arith}
 use Rattle.estimate.specs.laws.Greedy.{spare_small}
-use borrow.Author.Rules.{rules}
 use Rattle.estimate.proofs.guess_of.Goals as goal
 
 pub overflow_mul-limit : goal.overflow_mul-limit

@@ -1,7 +1,5 @@
 -- `set_pages` meets its contract. The invariant: what is added so far leaves room for a leaf at each step that is left.
 use Prim.Native.Nat.{◌+◌, ◌*◌, ◌≤◌}
-use native.Mathlib.Omega.{arith}
-use borrow.Author.Rules.{rules}
 use Rattle.estimate.specs.Greedy.{Inside}
 use Rattle.estimate.proofs.set_pages.Given as goal
 

@@ -1,9 +1,8 @@
 -- `step` meets its contract: a block is placed only where there is one.
 use Prim.Native.Nat.{◌<◌}
 use native.Mathlib.Omega.{arith}
-use borrow.Author.Rules.{rules}
 use Rattle.estimate.proofs.step.Goals as goal
-use Rattle.estimate.proofs.step.Goals.{After-struct_known-1, After-struct_known-then-block_fits-1, After-struct_known-then-float_fits-2-1, Then-block_fits, Then-float_fits, Then-float_fits-2}
+use Rattle.estimate.proofs.step.Goals.{Then-block_fits, Then-float_fits, Then-float_fits-2}
 
 -- There is a next figure,
 figure : (c : Then-float_fits) → c.args.pages.figures < c.args.g.figures.count

@@ -1,5 +1,4 @@
 -- `forecast_of` meets its contract: a galley that reads is told of, and one that is refused is refused alike.
-use borrow.Author.Rules.{rules}
 use mathlib.Core.Path.{sym, ◌∙◌}
 use Rattle.forecast.specs.laws.Forecast.{forecast_refused}
 use Rattle.forecast.proofs.forecast_of.Goals as goal

@@ -1,5 +1,4 @@
 -- `are_cited` meets its contract: its tests are those of rule 17 for figures and tables.
-use borrow.Author.Rules.{rules}
 use mathlib.Core.Path.{sym}
 use Rattle.blocks.specs.laws.Counts.{within_proper}
 use Rattle.rules.specs.laws.Page.{cited_of}

@@ -1,5 +1,4 @@
 -- `end_fault` meets its contract: its two tests are those of rule 16, for the floor, and of rule 17.
-use borrow.Author.Rules.{rules}
 use mathlib.Core.Bool.{◌||◌}
 use mathlib.Core.Path.{◌∙◌, ap}
 use Rattle.judging.proofs.end_fault.Goals as goal

@@ -1,5 +1,4 @@
 -- `first_fault` meets its contract: its two tests are those of `fault_from`.
-use borrow.Author.Rules.{rules}
 use Rattle.rules.specs.Parts.{fault_from}
 use Rattle.judging.proofs.first_fault.Goals as goal
 

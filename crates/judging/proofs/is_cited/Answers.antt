@@ -1,5 +1,4 @@
 -- `is_cited` meets its contract: there is a float j where its test holds.
-use borrow.Author.Rules.{rules}
 use borrow.Author.Tests.{ltb-true}
 use lib.Dec.{ltb}
 use native.Mathlib.Omega.{arith}

@@ -1,6 +1,5 @@
 -- `is_counted` meets its contract: its three tests are those of `counted` for as many words a page as there are streams.
 use Prim.Native.Nat.{◌+◌, ◌*◌, ◌≤◌}
-use borrow.Author.Rules.{rules}
 use native.Mathlib.Nat.{mul-le-mul}
 use native.Mathlib.Omega.{arith}
 use Rattle.blocks.specs.laws.Counts.{blocks_of, words_least, words_most}

@@ -1,5 +1,4 @@
 -- `may_close` meets its contract: its tests are those of rule 14 for lines, figures and tables.
-use borrow.Author.Rules.{rules}
 use Rattle.galley.specs.Model.{text_of, floats_of}
 use Rattle.rules.specs.laws.Page.{closes_of}
 use Rattle.judging.proofs.may_close.Goals as goal

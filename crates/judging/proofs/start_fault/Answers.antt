@@ -1,5 +1,4 @@
 -- `start_fault` meets its contract: its two tests are those of rules 13 and 14.
-use borrow.Author.Rules.{rules}
 use mathlib.Core.Path.{◌∙◌}
 use Rattle.judging.proofs.start_fault.Goals as goal
 

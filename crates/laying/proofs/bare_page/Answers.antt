@@ -1,5 +1,4 @@
 -- `bare_page` meets its contract: its separations are few and small.
-use borrow.Author.Rules.{rules}
 use native.Mathlib.Omega.{arith}
 use Rattle.laying.specs.Heights.{bare_page}
 use Rattle.laying.specs.laws.Heights.{bare_separable}

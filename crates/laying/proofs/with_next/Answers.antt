@@ -1,6 +1,5 @@
 -- `with_next` meets its contract: its tests find the stream of the next block, and there is room for one more of any.
 use native.Mathlib.Omega.{arith}
-use borrow.Author.Rules.{rules}
 use borrow.Author.Tests.{lt-ltb, le-ltb}
 use mathlib.Core.Path.{refl, ◌∙◌}
 use Rattle.laying.specs.Heights.{next_stream, with_next}

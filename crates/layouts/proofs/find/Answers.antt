@@ -2,7 +2,7 @@
 use Prim.Native.Nat.{◌-◌}
 use borrow.Author.Rules.{rules}
 use mathlib.Core.Path.{sym, ◌∙◌}
-use Rattle.layouts.specs.laws.Layouts.{Seeking, seek_starts, seek_here, seek_goes_on, seek_ends}
+use Rattle.layouts.specs.laws.Layouts.{seek_starts, seek_here, seek_goes_on, seek_ends}
 use Rattle.layouts.proofs.find.Goals as goal
 
 pub loop-at-init : goal.loop-at-init

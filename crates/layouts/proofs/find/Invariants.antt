@@ -1,8 +1,6 @@
 -- `find` meets its contract. The invariant: the layout that is sought is not before number `at`.
 use Prim.Native.Nat.{◌-◌}
-use borrow.Author.Rules.{rules}
-use mathlib.Core.Path.{sym, ◌∙◌}
-use Rattle.layouts.specs.laws.Layouts.{Seeking, seek_starts, seek_here, seek_goes_on, seek_ends}
+use Rattle.layouts.specs.laws.Layouts.{Seeking}
 use Rattle.layouts.proofs.find.Given as goal
 
 abbrev pub invariant-loop-at : goal.invariant-loop-at

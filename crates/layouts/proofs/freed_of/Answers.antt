@@ -1,5 +1,4 @@
 -- `freed_of` meets its contract: the test is the definition's.
-use borrow.Author.Rules.{rules}
 use Rattle.layouts.specs.Names.{freed}
 use Rattle.layouts.proofs.freed_of.Goals as goal
 

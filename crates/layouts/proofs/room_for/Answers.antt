@@ -1,5 +1,4 @@
 -- `room_for` meets its contract: the test is the definition's, since there are eight layouts.
-use borrow.Author.Rules.{rules}
 use borrow.Author.Tests.{lt-ltb, le-ltb}
 use native.Mathlib.Omega.{arith}
 use lib.ListN.{length}

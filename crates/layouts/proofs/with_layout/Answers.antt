@@ -1,5 +1,4 @@
 -- `with_layout` meets its contract: one layout is stored, with the name's bytes and zeros after them.
-use borrow.Author.Rules.{rules}
 use Rattle.layouts.proofs.with_layout.Goals as goal
 
 pub returns : goal.returns

@@ -1,7 +1,6 @@
 -- `without` meets its contract. The invariant: the layouts before number `at` are freed of the name, the others are as they were.
 use Prim.Native.Nat.{◌-◌}
-use borrow.Author.Rules.{rules}
-use Rattle.layouts.specs.laws.Layouts.{Freeing, free_starts, free_goes_on, free_ends}
+use Rattle.layouts.specs.laws.Layouts.{Freeing}
 use Rattle.layouts.proofs.without.Given as goal
 
 abbrev pub invariant-loop-at : goal.invariant-loop-at

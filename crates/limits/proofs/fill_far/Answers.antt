@@ -1,5 +1,4 @@
 -- `fill_far` meets its contract: whatever the first try left in the work area, the second one fills it anew.
-use borrow.Author.Rules.{rules}
 use native.Mathlib.Omega.{arith}
 use mathlib.Core.Path.{refl}
 use Rattle.limits.specs.Sought.{within, limit_of, Tried}

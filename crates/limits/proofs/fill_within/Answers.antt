@@ -1,5 +1,4 @@
 -- `fill_within` meets its contract: the filled words are a work area, and its last stop is asked.
-use borrow.Author.Rules.{rules}
 use Rattle.limits.specs.laws.Sought.{filled_area, last_visits}
 use Rattle.limits.proofs.fill_within.Goals as goal
 

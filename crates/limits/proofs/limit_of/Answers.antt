@@ -1,5 +1,4 @@
 -- `limit_of` meets its contract: each way out is a case of the definition.
-use borrow.Author.Rules.{rules}
 use borrow.Author.Tests.{lt-ltb, le-ltb}
 use Rattle.limits.specs.Sought.{limit_of}
 use Rattle.limits.proofs.limit_of.Goals as goal

@@ -1,5 +1,4 @@
 -- `make` meets its contract: it is making after no opening.
-use borrow.Author.Rules.{rules}
 use Rattle.making.specs.laws.Nothing.{nothing_made}
 use Rattle.making.proofs.make.Goals as goal
 

@@ -1,5 +1,4 @@
 -- `make_after` meets its contract: a galley that reads is made, and one that is refused is refused alike.
-use borrow.Author.Rules.{rules}
 use mathlib.Core.Path.{sym, ◌∙◌}
 use Rattle.making.specs.laws.Made.{made_refused}
 use Rattle.making.proofs.make_after.Goals as goal

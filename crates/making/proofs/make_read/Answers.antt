@@ -1,5 +1,4 @@
 -- `make_read` meets its contract: each refusal leaves what the definition says, and without one the list is sought.
-use borrow.Author.Rules.{rules}
 use native.Mathlib.Omega.{arith}
 use mathlib.Core.Path.{refl, sym}
 use Rattle.galley.proofs.laws.Sound.{sound}

@@ -2,8 +2,6 @@
 use mathlib.Core.Path.{sym, ◌∙◌}
 use Rattle.galley.proofs.laws.Sound.{sound}
 use Rattle.marking.specs.Mark.{mark_read, mark_of}
-use native.Mathlib.Omega.{arith}
-use ghost.Mode.{◌$◌}
 use Rattle.marking.proofs.mark.Goals as goal
 
 pub mark_read-requires : goal.mark_read-requires

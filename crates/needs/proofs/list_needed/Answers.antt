@@ -1,5 +1,4 @@
 -- `list_needed` meets its contract: the words of all blocks, a page each.
-use borrow.Author.Rules.{rules}
 use native.Mathlib.Omega.{arith}
 use Rattle.needs.specs.laws.Needs.{list_small}
 use Rattle.needs.proofs.list_needed.Goals as goal

@@ -1,5 +1,4 @@
 -- `judge_opening` meets its contract: an incomplete page turns it away, then the first fault, then 21.
-use borrow.Author.Rules.{rules}
 use native.Mathlib.Omega.{arith}
 use mathlib.Core.Path.{◌≡◌}
 use Prim.Native.Nat.{ℕ}

@@ -1,5 +1,4 @@
 -- `opening_end` meets its contract: 21 exactly where every block is placed.
-use borrow.Author.Rules.{rules}
 use mathlib.Core.Path.{sym, ◌∙◌}
 use Rattle.openings.proofs.opening_end.Goals as goal
 

@@ -2,13 +2,11 @@
 -- were; each turn's store is the law of one word more.
 use mathlib.Core.Path.{◌≡◌, refl, sym, ap, ◌∙◌}
 use mathlib.Core.List.{List}
-use Prim.Native.Nat.{ℕ, ◌≤◌, ◌-◌}
+use Prim.Native.Nat.{ℕ, ◌-◌}
 use native.Mathlib.Omega.{arith}
-use lib.ListN.{length, set}
-use Rattle.places.specs.Entry.{cleared}
+use lib.ListN.{set}
 use Rattle.places.proofs.laws.Cleared.{cleared_already, cleared_next}
 use borrow.Author.Rules.{rules}
-use ghost.Mode.{◌$◌}
 use Rattle.places.proofs.clear.Goals as goal
 
 pub loop-i-init : goal.loop-i-init

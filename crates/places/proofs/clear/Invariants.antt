@@ -1,14 +1,9 @@
 -- `clear` meets its contract. The loop's invariant: the first i words are cleared, and the rest and the length are as they
 -- were; each turn's store is the law of one word more.
-use mathlib.Core.Path.{◌≡◌, refl, sym, ap, ◌∙◌}
-use mathlib.Core.List.{List}
-use Prim.Native.Nat.{ℕ, ◌≤◌, ◌-◌}
-use native.Mathlib.Omega.{arith}
-use lib.ListN.{length, set}
+use mathlib.Core.Path.{◌≡◌}
+use Prim.Native.Nat.{◌≤◌, ◌-◌}
+use lib.ListN.{length}
 use Rattle.places.specs.Entry.{cleared}
-use Rattle.places.proofs.laws.Cleared.{cleared_already, cleared_next}
-use borrow.Author.Rules.{rules}
-use ghost.Mode.{◌$◌}
 use Rattle.places.proofs.clear.Given as goal
 
 abbrev pub invariant-loop-i : goal.invariant-loop-i

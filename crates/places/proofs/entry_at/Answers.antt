@@ -5,7 +5,6 @@ use native.Mathlib.Omega.{arith}
 use lib.ListN.{get_or}
 use borrow.Author.Tests.{eq-eqb, ne_eqb}
 use Rattle.places.specs.Entry.{entry_at}
-use borrow.Author.Rules.{rules}
 use Rattle.places.proofs.entry_at.Goals as goal
 
 pub returns-then-work-at-eq1 : goal.returns-then-work-at-eq1

@@ -2,7 +2,6 @@
 use mathlib.Core.Path.{ap, ◌∙◌}
 use Rattle.places.specs.Entry.{entry_at}
 use Rattle.places.specs.Table.{table_of}
-use borrow.Author.Rules.{rules}
 use Rattle.places.proofs.entry_of.Goals as goal
 
 pub returns : goal.returns

@@ -3,7 +3,6 @@ use Prim.Native.Nat.{suc, ◌+◌}
 use native.Mathlib.Omega.{arith}
 use mathlib.Core.Path.{◌≡◌, refl}
 use lib.ListN.{length-set}
-use borrow.Author.Rules.{rules}
 use Rattle.places.proofs.put.Goals as goal
 
 pub returns : goal.returns

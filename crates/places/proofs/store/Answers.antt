@@ -1,6 +1,5 @@
 -- `store` meets its contract: in each arm the entry is known, and what `put` ensures is the clause of `stored` for it.
 use Rattle.places.specs.Entry.{stored}
-use borrow.Author.Rules.{rules}
 use Rattle.places.proofs.store.Goals as goal
 
 pub returns-in-Unreached : goal.returns-in-Unreached

@@ -1,5 +1,4 @@
 -- `ending_side` meets its contract: by the test on `sides`.
-use borrow.Author.Rules.{rules}
 use borrow.Author.Tests.{eq-eqb, ne_eqb}
 use Rattle.pricing.specs.Stop.{ending_side}
 use Rattle.pricing.proofs.ending_side.Goals as goal

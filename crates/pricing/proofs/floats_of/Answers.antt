@@ -1,5 +1,4 @@
 -- `floats_of` meets its contract: rules 14 and 17 of each stream of floats.
-use borrow.Author.Rules.{rules}
 use Rattle.galley.specs.Model.{floats_of}
 use Rattle.pricing.proofs.floats_of.Goals as goal
 

@@ -1,9 +1,7 @@
 -- `price` meets its contract: by the tests on the way each answer is the case of the price for them, and the limits on the
 -- weights keep it within a word.
-use borrow.Author.Tests.{not-true, not-false}
 use native.Mathlib.Omega.{arith}
 use Rattle.pricing.specs.laws.Price.{price_of_lem, price_small}
-use borrow.Author.Rules.{rules}
 use Rattle.pricing.proofs.price.Goals as goal
 
 pub returns-then-last : goal.returns-then-last

@@ -1,5 +1,4 @@
 -- `stop_at` meets its contract: rule 14 of the lines, and what the floats say.
-use borrow.Author.Rules.{rules}
 use Rattle.galley.specs.Model.{text_of}
 use Rattle.pricing.proofs.stop_at.Goals as goal
 

@@ -1,6 +1,4 @@
 -- `records::folio_at` meets its contract. The folio is the word that the definition reads.
-use native.Mathlib.Omega.{arith}
-use ghost.Mode.{◌$◌}
 use Rattle.records.proofs.folio_at.Goals as goal
 
 pub returns : goal.returns

@@ -1,7 +1,6 @@
 -- `records::is_short` meets its contract. No size is above 34.
 use mathlib.Core.Path.{sym}
 use native.Mathlib.Omega.{arith}
-use borrow.Author.Rules.{rules}
 use borrow.Author.Tests.{le-ltb}
 use Rattle.galley.specs.Place.{kind_of}
 use Rattle.galley.proofs.laws.Place.{kind_sized}

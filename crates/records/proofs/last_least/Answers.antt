@@ -1,6 +1,5 @@
 -- `records::last_least` meets its contract. By its test; the second edition has four bytes more.
 use native.Mathlib.Omega.{arith}
-use borrow.Author.Rules.{rules}
 use Rattle.records.proofs.last_least.Goals as goal
 
 pub word_at-requires : goal.word_at-requires

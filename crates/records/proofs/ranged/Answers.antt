@@ -1,5 +1,4 @@
 -- `records::ranged` meets its contract. By its test.
-use borrow.Author.Rules.{rules}
 use Rattle.records.proofs.ranged.Goals as goal
 
 pub returns-else-fine : goal.returns-else-fine

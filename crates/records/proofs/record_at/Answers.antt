@@ -2,7 +2,6 @@
 use mathlib.Core.Path.{◌≡◌, sym, ◌∙◌}
 use native.Mathlib.Omega.{arith}
 use borrow.Author.Tests.{lt-ltb, le-ltb, ltb-false}
-use borrow.Author.Rules.{rules}
 use Rattle.model.specs.Gather.{pick}
 use Rattle.galley.specs.Place.{kind_of}
 use Rattle.galley.specs.Record.{fields_of, record_at}

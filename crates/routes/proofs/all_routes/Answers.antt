@@ -1,7 +1,6 @@
 -- `all_routes` goes on chapter by chapter. The invariant says that the routes before chapter k are those of the theorem.
 use Prim.Native.Nat.{◌-◌}
 use borrow.Author.Rules.{rules}
-use Rattle.routes.specs.Next.{Routing}
 use Rattle.routes.specs.laws.Book.{book_lies, book_first, routing_first, routing_room, routing_next, routing_done}
 use Rattle.routes.proofs.all_routes.Goals as goal
 

@@ -1,7 +1,6 @@
 -- `best_end` tells the folio after the best choice: each way out is a case of the definition.
 use mathlib.Core.Path.{sym, ◌∙◌}
 use mathlib.Core.Bool.{true, false}
-use borrow.Author.Rules.{rules}
 use Rattle.routes.specs.Routes.{best_end}
 use Rattle.routes.specs.laws.Offer.{end_both}
 use Rattle.routes.proofs.best_end.Goals as goal

@@ -1,6 +1,5 @@
 -- `chapter_routes` goes on by the chapter where it lies.
 use native.Mathlib.Omega.{arith}
-use borrow.Author.Rules.{rules}
 use Rattle.routes.specs.laws.Extent.{extent_within, lent_room, lent_onward}
 use Rattle.routes.proofs.chapter_routes.Goals as goal
 

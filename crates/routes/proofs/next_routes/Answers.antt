@@ -1,7 +1,6 @@
 -- `next_routes` fills both tables, reads the routes from them, and keeps where they come from.
 use native.Mathlib.Omega.{arith}
 use lib.ListN.{length-set}
-use borrow.Author.Rules.{rules}
 use Rattle.routes.specs.laws.Next.{next_halves, next_halved, onward_next}
 use Rattle.routes.proofs.next_routes.Goals as goal
 

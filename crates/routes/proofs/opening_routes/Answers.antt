@@ -1,6 +1,5 @@
 -- `opening_routes` reads the first chapter where it lies.
 use native.Mathlib.Omega.{arith}
-use borrow.Author.Rules.{rules}
 use Rattle.routes.specs.laws.Extent.{extent_within, lent_reads, lent_opens}
 use Rattle.routes.proofs.opening_routes.Goals as goal
 

@@ -2,8 +2,7 @@
 use Prim.Native.Nat.{ℕ, ◌+◌, ◌-◌}
 use native.Mathlib.Omega.{arith}
 use mathlib.Core.Path.{◌≡◌, ap, ◌∙◌}
-use ghost.Mode.{◌$◌}
-use Rattle.sections.specs.Copying.{overwritten, Copied}
+use Rattle.sections.specs.Copying.{overwritten}
 use Rattle.sections.specs.laws.Copying.{copy_starts, copy_goes_on}
 use Rattle.sections.proofs.copy_numbers.Goals as goal
 

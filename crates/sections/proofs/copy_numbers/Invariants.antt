@@ -1,10 +1,6 @@
 -- `copy_numbers` meets its contract. The invariant: the first `i` words are numbers of the table, the others are as they were.
-use Prim.Native.Nat.{ℕ, ◌+◌, ◌-◌}
-use native.Mathlib.Omega.{arith}
-use mathlib.Core.Path.{◌≡◌, ap, ◌∙◌}
-use ghost.Mode.{◌$◌}
-use Rattle.sections.specs.Copying.{overwritten, Copied}
-use Rattle.sections.specs.laws.Copying.{copy_starts, copy_goes_on}
+use Prim.Native.Nat.{◌-◌}
+use Rattle.sections.specs.Copying.{Copied}
 use Rattle.sections.proofs.copy_numbers.Given as goal
 
 abbrev pub invariant-loop-i : goal.invariant-loop-i

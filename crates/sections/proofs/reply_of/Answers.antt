@@ -1,6 +1,4 @@
 -- `reply_of` meets its contract: it goes by the definition's test.
-use borrow.Author.Rules.{rules}
-use borrow.Author.Tests.{not-true, not-false}
 use Rattle.sections.specs.Answer.{answer_of}
 use Rattle.sections.proofs.reply_of.Goals as goal
 

@@ -4,7 +4,6 @@ use mathlib.Core.Path.{sym, ap, ◌∙◌}
 use mathlib.Core.List.{List}
 use lib.ListN.{length}
 use Prim.Native.Nat.{ℕ}
-use ghost.Mode.{◌$◌}
 use Rattle.sections.specs.Folding.{start_of}
 use Rattle.sections.specs.Answer.{Size, numbers_after}
 use Rattle.sections.specs.Copying.{overwritten}

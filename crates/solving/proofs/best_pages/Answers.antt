@@ -2,14 +2,13 @@
 -- the whole gives its counts; or the full place is not reached, and there is none.
 use Prim.Native.Nat.{◌+◌, ◌*◌, ◌≤◌}
 use borrow.Author.Rules.{rules}
-use borrow.Author.Tests.{not-true, not-false}
 use native.Mathlib.Omega.{arith}
 use lib.ListN.{length}
 use mathlib.Core.Path.{refl}
 use Rattle.galley.proofs.laws.Sound.{sound}
 use Rattle.solving.specs.laws.Solved.{solved_lent, walk_visits, walk_able, walk_none, walk_room, walk_small, walk_writable, walk_written}
 use Rattle.solving.proofs.best_pages.Goals as goal
-use Rattle.solving.proofs.best_pages.Goals.{After-count_pages-p, After-page_words, After-slice_known-3-1}
+use Rattle.solving.proofs.best_pages.Goals.{After-count_pages-p, After-page_words}
 
 pub last_stop-last-requires : goal.last_stop-last-requires
 last_stop-last-requires c =

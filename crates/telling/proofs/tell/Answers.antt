@@ -1,5 +1,4 @@
 -- `tell` meets its contract: what is stored and what is returned are the answer's numbers and the two words of the count.
-use borrow.Author.Rules.{rules}
 use native.Mathlib.Omega.{arith}
 use mathlib.Core.Path.{ap}
 use Rattle.telling.specs.Words.{words_of_numbers}

@@ -14,7 +14,6 @@ use Rattle.model.specs.White.{white}
 use Rattle.model.specs.Order.{then_by, by, lex, oddly, starts_of}
 use Rattle.model.specs.Book.{sides_on, open_on, Choice, Tie, tie_of, tie_order}
 use Rattle.model.proofs.laws.Order.{Preference}
-use Rattle.model.proofs.laws.Best as first
 use Rattle.theorems.specs.books.Folios.{like, like_range}
 use Rattle.theorems.specs.books.Backward.{pages_in, Chosen, sum_back, ties_back}
 use Rattle.theorems.specs.books.Turns.{Alike, turns_back}

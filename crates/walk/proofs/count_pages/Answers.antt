@@ -2,8 +2,6 @@
 use Prim.Native.Nat.{◌-◌}
 use native.Mathlib.Omega.{arith}
 use mathlib.Core.Path.{sym, ◌∙◌}
-use borrow.Author.Rules.{rules}
-use Rattle.walk.specs.Traceable.{Counting}
 use Rattle.walk.specs.laws.Walk.{counting_first, counting_next, counting_done, counting_most}
 use Rattle.walk.proofs.count_pages.Goals as goal
 

@@ -1,10 +1,6 @@
 -- `count_pages` counts the pages on the way back. The invariant says that the count from here on is the whole count.
 use Prim.Native.Nat.{◌-◌}
-use native.Mathlib.Omega.{arith}
-use mathlib.Core.Path.{sym, ◌∙◌}
-use borrow.Author.Rules.{rules}
 use Rattle.walk.specs.Traceable.{Counting}
-use Rattle.walk.specs.laws.Walk.{counting_first, counting_next, counting_done, counting_most}
 use Rattle.walk.proofs.count_pages.Given as goal
 
 abbrev pub invariant-loop-p : goal.invariant-loop-p

@@ -1,6 +1,5 @@
 -- `last_stop` is the full place on the last side.
 use native.Mathlib.Omega.{arith}
-use borrow.Author.Rules.{rules}
 use Rattle.candidates.proofs.laws.Columns.{columns_few}
 use Rattle.walk.specs.laws.Walk.{columns_in_some}
 use Rattle.walk.proofs.last_stop.Goals as goal

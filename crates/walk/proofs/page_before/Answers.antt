@@ -1,5 +1,4 @@
 -- `page_before` goes one page back: to the start that the entry holds, on the side before.
-use borrow.Author.Rules.{rules}
 use Rattle.galley.specs.Model.{sides_in}
 use Rattle.entries.specs.laws.Entered.{side_low}
 use Rattle.walk.specs.laws.Walk.{visits_stands}

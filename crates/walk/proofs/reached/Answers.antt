@@ -1,5 +1,4 @@
 -- `reached` tells whether a page stops there: each arm is a case of the definition.
-use borrow.Author.Rules.{rules}
 use Rattle.walk.specs.laws.Walk.{visits_stands}
 use Rattle.walk.proofs.reached.Goals as goal
 

@@ -1,7 +1,6 @@
 -- `write_page` meets its contract: two stores are the words of a page without tables, and three those of one with tables.
 use native.Mathlib.Omega.{arith}
 use lib.ListN.{length-set}
-use borrow.Author.Rules.{rules}
 use Rattle.walk.specs.laws.Page.{counts_small, word_two, word_three, page_two, page_three}
 use Rattle.walk.proofs.write_page.Goals as goal
 

@@ -1,8 +1,6 @@
 -- `write_pages` writes the pages on the way back. The invariant says that the writing from here on is the whole writing, and
 -- that there is room for the pages left, whose number is the measure.
 use native.Mathlib.Omega.{arith}
-use borrow.Author.Rules.{rules}
-use Rattle.walk.specs.Traceable.{Writing}
 use Rattle.walk.specs.laws.Walk.{writing_first, writing_room, writing_next, writing_done}
 use Rattle.walk.proofs.write_pages.Goals as goal
 

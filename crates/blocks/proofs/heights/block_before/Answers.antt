@@ -1,6 +1,5 @@
 -- `blocks::heights::block_before` meets its contract. There is no block to add, or it comes with the space after it where that
 -- is on the page.
-use borrow.Author.Rules.{rules}
 use borrow.Author.Tests.{le-leb, lt-leb}
 use Rattle.blocks.proofs.heights.block_before.Goals as goal
 

@@ -1,6 +1,5 @@
 -- `blocks::heights::with_block` meets its contract. A space before block k + 1 is on the page only where there is a block k.
 use native.Mathlib.Omega.{arith}
-use borrow.Author.Rules.{rules}
 use borrow.Author.Tests.{ltb-true}
 use Rattle.blocks.proofs.heights.with_block.Goals as goal
 

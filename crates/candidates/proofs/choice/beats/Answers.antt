@@ -1,5 +1,4 @@
 -- `beats` meets its contract: it computes the definition.
-use borrow.Author.Rules.{rules}
 use Rattle.candidates.proofs.choice.beats.Goals as goal
 
 pub returns : goal.returns

@@ -1,7 +1,6 @@
 -- `choose` meets its contract: each way is a clause of `chosen`, and where the second entry is reached the test decides.
 use mathlib.Core.Path.{sym, ◌∙◌}
 use Rattle.candidates.specs.Better.{chosen}
-use borrow.Author.Rules.{rules}
 use Rattle.candidates.proofs.choice.choose.Goals as goal
 
 pub returns-in_default : goal.returns-in_default

@@ -2,7 +2,6 @@
 use mathlib.Core.Path.{sym, ◌∙◌}
 use Rattle.candidates.specs.Better.{wins, chosen}
 use Rattle.candidates.proofs.laws.Choice.{later_left_behind, later_taken}
-use borrow.Author.Rules.{rules}
 use Rattle.candidates.proofs.choice.choose_later.Goals as goal
 
 pub returns-in_default : goal.returns-in_default

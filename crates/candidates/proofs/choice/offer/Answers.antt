@@ -2,7 +2,6 @@
 use mathlib.Core.Path.{sym, ◌∙◌}
 use Rattle.places.specs.Table.{table_of}
 use Rattle.candidates.specs.Better.{taken}
-use borrow.Author.Rules.{rules}
 use Rattle.candidates.proofs.choice.offer.Goals as goal
 
 pub returns-in_default : goal.returns-in_default

@@ -1,7 +1,6 @@
 -- `start_at` meets its contract: each way is a clause of the definition, and a small cost has room for white.
 use native.Mathlib.Omega.{arith}
 use Rattle.candidates.specs.Better.{start_at}
-use borrow.Author.Rules.{rules}
 use Rattle.candidates.proofs.choice.start_at.Goals as goal
 
 pub returns-in_default : goal.returns-in_default

@@ -1,6 +1,5 @@
 -- `wins` meets its contract: each arm is a clause of the definition.
 use Rattle.candidates.specs.Better.{wins}
-use borrow.Author.Rules.{rules}
 use Rattle.candidates.proofs.choice.wins.Goals as goal
 
 pub returns-in-Unreached : goal.returns-in-Unreached

@@ -1,6 +1,5 @@
 -- `best_front` meets its contract: each part of it is that of the definition, by its own contract.
 use mathlib.Core.Path.{◌∙◌}
-use borrow.Author.Rules.{rules}
 use Rattle.candidates.proofs.fronts.best_front.Goals as goal
 
 pub whitened-requires : goal.whitened-requires

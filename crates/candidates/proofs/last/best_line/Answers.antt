@@ -1,12 +1,10 @@
 -- `best_line` meets its contract. The loop's invariant: of the window's lines before a the entry is the best.
-use Prim.Native.Nat.{◌-◌, ◌≤◌}
+use Prim.Native.Nat.{◌-◌}
 use native.Mathlib.Omega.{arith}
-use mathlib.Core.Path.{◌≡◌, refl}
-use mathlib.Core.Logic.{◌⊎◌, inl, inr}
-use Rattle.places.specs.Best.{Best}
-use Rattle.queues.specs.Queue.{lines_of, Lines}
+use mathlib.Core.Path.{refl}
+use mathlib.Core.Logic.{inl, inr}
+use Rattle.queues.specs.Queue.{lines_of}
 use Rattle.candidates.proofs.laws.Lines.{lines_none, lines_next, lines_all}
-use borrow.Author.Rules.{rules}
 use Rattle.candidates.proofs.last.best_line.Goals as goal
 
 pub loop-a-init : goal.loop-a-init

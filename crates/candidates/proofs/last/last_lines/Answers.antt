@@ -2,7 +2,6 @@
 use native.Mathlib.Nat.{le_refl}
 use native.Mathlib.Omega.{arith}
 use Rattle.window.specs.laws.Slide.{ends_first}
-use borrow.Author.Rules.{rules}
 use Rattle.candidates.proofs.last.last_lines.Goals as goal
 
 pub slide-window-requires : goal.slide-window-requires

@@ -1,5 +1,4 @@
 -- `is_origin` meets its contract: its three tests are those of `begins`.
-use borrow.Author.Rules.{rules}
 use Rattle.candidates.specs.Search.{begins}
 use Rattle.candidates.proofs.read.is_origin.Goals as goal
 

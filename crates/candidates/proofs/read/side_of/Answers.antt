@@ -2,7 +2,6 @@
 use borrow.Author.Tests.{eq-eqb, ne_eqb}
 use Rattle.model.specs.Leaf.{sides_of}
 use Rattle.theorems.specs.pages.Graph.{side}
-use borrow.Author.Rules.{rules}
 use Rattle.candidates.proofs.read.side_of.Goals as goal
 
 pub returns-then-g-eq2 : goal.returns-then-g-eq2

@@ -1,5 +1,4 @@
 -- `add_up` meets its contract: the start after the last chapter is the sum of all lengths.
-use borrow.Author.Rules.{rules}
 use borrow.Author.Tests.{eq-eqb, ne_eqb, lt-ltb, le-ltb}
 use Rattle.chapters.specs.Book.{adds_up}
 use Rattle.chapters.specs.laws.Lengths.{start_all}

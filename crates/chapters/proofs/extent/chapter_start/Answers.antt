@@ -1,6 +1,5 @@
 -- `chapter_start` meets its contract: the sum so far is where chapter i begins, and each length adds less than 2³².
-use Prim.Native.Nat.{◌-◌, ◌*◌, ◌≤◌}
-use borrow.Author.Rules.{rules}
+use Prim.Native.Nat.{◌-◌}
 use native.Mathlib.Omega.{arith}
 use mathlib.Core.Path.{◌≡◌, ◌∙◌, ap}
 use Rattle.chapters.specs.Book.{all_bytes, chapter_start}

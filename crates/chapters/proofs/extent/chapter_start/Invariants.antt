@@ -1,10 +1,7 @@
 -- `chapter_start` meets its contract: the sum so far is where chapter i begins, and each length adds less than 2³².
 use Prim.Native.Nat.{◌-◌, ◌*◌, ◌≤◌}
-use borrow.Author.Rules.{rules}
-use native.Mathlib.Omega.{arith}
-use mathlib.Core.Path.{◌≡◌, ◌∙◌, ap}
-use Rattle.chapters.specs.Book.{all_bytes, chapter_start}
-use Rattle.chapters.specs.laws.Lengths.{start_next}
+use mathlib.Core.Path.{◌≡◌}
+use Rattle.chapters.specs.Book.{chapter_start}
 use Rattle.chapters.proofs.extent.chapter_start.Given as goal
 
 abbrev pub invariant-loop-i : goal.invariant-loop-i

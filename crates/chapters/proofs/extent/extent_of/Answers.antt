@@ -1,5 +1,4 @@
 -- `extent_of` meets its contract: a chapter ends its length after its start.
-use borrow.Author.Rules.{rules}
 use native.Mathlib.Omega.{arith}
 use Rattle.chapters.proofs.extent.extent_of.Goals as goal
 

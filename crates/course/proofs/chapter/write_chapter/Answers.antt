@@ -1,6 +1,5 @@
 -- `write_chapter` meets its contract: the table is filled from the beginning on, and the walk back from the side counts and writes the
 -- best list that closes there.
-use borrow.Author.Rules.{rules}
 use native.Mathlib.Omega.{arith}
 use Rattle.course.specs.laws.Chapter.{make_room, make_walkable, make_small, make_writable, make_written}
 use Rattle.course.proofs.chapter.write_chapter.Goals as goal

@@ -2,10 +2,9 @@
 use Prim.Native.Nat.{◌+◌, ◌≤◌}
 use borrow.Author.Rules.{rules}
 use native.Mathlib.Omega.{arith}
-use mathlib.Core.Path.{◌≡◌, ◌∙◌, ap}
+use mathlib.Core.Path.{◌∙◌, ap}
 use lib.Seq.{drop-set-lt}
-use lib.ListN.{length, drop}
-use Rattle.course.specs.Trace.{followed, Following}
+use Rattle.course.specs.Trace.{followed}
 use Rattle.course.specs.laws.Trace.{follow_first, follow_range, follow_next, follow_done}
 use Rattle.course.proofs.trace.trace.Goals as goal
 use Rattle.course.proofs.trace.trace.Goals.{After-size-next}

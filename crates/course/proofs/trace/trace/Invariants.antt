@@ -1,12 +1,8 @@
 -- `trace` meets its contract: each turn follows one chapter back, and the folios from chapter k on are those of the whole way.
-use Prim.Native.Nat.{◌+◌, ◌≤◌}
-use borrow.Author.Rules.{rules}
-use native.Mathlib.Omega.{arith}
-use mathlib.Core.Path.{◌≡◌, ◌∙◌, ap}
-use lib.Seq.{drop-set-lt}
+use Prim.Native.Nat.{◌+◌}
+use mathlib.Core.Path.{◌≡◌}
 use lib.ListN.{length, drop}
-use Rattle.course.specs.Trace.{followed, Following}
-use Rattle.course.specs.laws.Trace.{follow_first, follow_range, follow_next, follow_done}
+use Rattle.course.specs.Trace.{Following}
 use Rattle.course.proofs.trace.trace.Given as goal
 
 abbrev pub invariant-loop-k : goal.invariant-loop-k

@@ -1,6 +1,5 @@
 -- `all_weighed` meets its contract: the chapters counted and those left come to all.
 use Prim.Native.Nat.{◌+◌, ◌-◌, ◌≤◌}
-use borrow.Author.Rules.{rules}
 use native.Mathlib.Omega.{arith}
 use lib.ListN.{length}
 use Rattle.chapters.specs.Book.{chapters_in, book_of}

@@ -1,12 +1,7 @@
 -- `all_weighed` meets its contract: the chapters counted and those left come to all.
-use Prim.Native.Nat.{◌+◌, ◌-◌, ◌≤◌}
-use borrow.Author.Rules.{rules}
-use native.Mathlib.Omega.{arith}
-use lib.ListN.{length}
+use Prim.Native.Nat.{◌-◌}
 use Rattle.chapters.specs.Book.{chapters_in, book_of}
-use Rattle.chapters.specs.laws.Lengths.{lent_is}
 use Rattle.course.specs.Weighed.{Weighing}
-use Rattle.course.specs.laws.Weighed.{weighing_first, weighing_at, weighing_next, weighing_done}
 use Rattle.course.proofs.weighed.all_weighed.Given as goal
 
 abbrev pub invariant-loop-k : goal.invariant-loop-k

@@ -1,5 +1,4 @@
 -- `chapter_weighed` meets its contract: what is weighed from nothing placed on is all that is weighed.
-use borrow.Author.Rules.{rules}
 use Rattle.galley.proofs.laws.Sound.{sound}
 use Rattle.course.specs.laws.Weighed.{none_within, chapter_weighed}
 use Rattle.course.proofs.weighed.chapter_weighed.Goals as goal

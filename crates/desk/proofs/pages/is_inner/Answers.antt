@@ -1,5 +1,4 @@
 -- `is_inner` meets its contract: the tests are the definition's, in its order.
-use borrow.Author.Rules.{rules}
 use Rattle.desk.specs.Pages.{is_inner}
 use Rattle.desk.proofs.pages.is_inner.Goals as goal
 

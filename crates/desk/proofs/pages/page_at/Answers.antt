@@ -1,5 +1,4 @@
 -- `page_at` meets its contract: an inner page is few pages and few words from the first.
-use borrow.Author.Rules.{rules}
 use native.Mathlib.Omega.{arith}
 use mathlib.Core.Path.{refl}
 use Rattle.desk.proofs.laws.Pages.{inner_first, inner_room}

@@ -1,5 +1,4 @@
 -- `width_of` meets its contract: the test is the definition's.
-use borrow.Author.Rules.{rules}
 use borrow.Author.Tests.{eq-eqb, ne_eqb}
 use Rattle.desk.specs.Pages.{width_of}
 use Rattle.desk.proofs.pages.width_of.Goals as goal

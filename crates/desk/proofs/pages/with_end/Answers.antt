@@ -1,5 +1,4 @@
 -- `with_end` meets its contract: an inner page's words are among the 192, and each is stored.
-use borrow.Author.Rules.{rules}
 use borrow.Author.Tests.{eq-eqb, ne_eqb}
 use Rattle.desk.specs.Pages.{with_end}
 use Rattle.desk.proofs.pages.with_end.Goals as goal

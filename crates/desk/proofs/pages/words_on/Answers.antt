@@ -1,5 +1,4 @@
 -- `words_on` meets its contract: pages and words of a page are few enough to multiply.
-use borrow.Author.Rules.{rules}
 use native.Mathlib.Omega.{arith}
 use Rattle.desk.specs.Pages.{words_on}
 use Rattle.desk.proofs.laws.Pages.{words_few}

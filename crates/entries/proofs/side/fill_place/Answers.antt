@@ -4,12 +4,11 @@ use native.Mathlib.Omega.{arith}
 use mathlib.Core.Path.{◌≡◌}
 use lib.Dec.{eqb}
 use Rattle.pricing.specs.Stop.{turns_on}
-use Rattle.entries.specs.Run.{SidesRun}
 use Rattle.pricing.specs.laws.Price.{turns_on_lem}
 use Rattle.entries.specs.laws.Sides.{sides_first, sides_last, sides_side, sides_small, sides_next}
 use borrow.Author.Rules.{rules}
 use Rattle.entries.proofs.side.fill_place.Goals as goal
-use Rattle.entries.proofs.side.fill_place.Goals.{After-fill_side-moved, After-struct_known-1, In-loop-c}
+use Rattle.entries.proofs.side.fill_place.Goals.{After-fill_side-moved, In-loop-c}
 
 pub loop-c-init : goal.loop-c-init
 loop-c-init c = sides_first c.requires

@@ -5,7 +5,6 @@ use native.Mathlib.Omega.{arith}
 use Rattle.blocks.specs.Heights.{no_heights}
 use Rattle.entries.specs.laws.NewEntry.{above_stand, above_last}
 use Rattle.passes.proofs.laws.Lending.{floats_separable}
-use borrow.Author.Rules.{rules}
 use Rattle.entries.proofs.side.lines_above.Goals as goal
 
 pub load_of-load-requires : goal.load_of-load-requires

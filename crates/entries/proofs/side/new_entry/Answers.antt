@@ -2,7 +2,6 @@
 -- low enough for the sum with the price to be a number of 64 bits.
 use mathlib.Core.Path.{◌≡◌, sym, ◌∙◌}
 use native.Mathlib.Omega.{arith}
-use borrow.Author.Tests.{not-true, not-false}
 use Rattle.theorems.specs.turns.Waiting.{page_cost}
 use Rattle.theorems.specs.pages.Graph.{full}
 use Rattle.galley.specs.Model.{model_of}
@@ -17,7 +16,6 @@ use Rattle.candidates.specs.Read.{table_in}
 use Rattle.passes.proofs.laws.Lending.{can_stand}
 use Rattle.entries.specs.laws.Own.{end_stops, end_cost}
 use Rattle.entries.specs.laws.NewEntry.{entry_origin, entry_forbidden, entry_proper, entry_told, cost_low}
-use borrow.Author.Rules.{rules}
 use Rattle.entries.proofs.side.new_entry.Goals as goal
 use Rattle.entries.proofs.side.new_entry.Goals.{After-choose-start, After-joined, After-price-price}
 

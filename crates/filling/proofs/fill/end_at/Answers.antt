@@ -1,5 +1,4 @@
 -- `end_at` meets its contract: what the place says is asked, and the rest is put beside it.
-use borrow.Author.Rules.{rules}
 use Rattle.filling.proofs.fill.end_at.Goals as goal
 
 pub returns : goal.returns

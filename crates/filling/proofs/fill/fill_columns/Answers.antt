@@ -4,7 +4,6 @@ use Prim.Native.Nat.{◌-◌}
 use native.Mathlib.Omega.{arith}
 use Rattle.candidates.proofs.laws.Columns.{few_floats}
 use Rattle.reached.proofs.laws.Ring.{fresh_named}
-use Rattle.filling.specs.Run.{ColumnsRun}
 use Rattle.filling.specs.laws.Columns.{columns_first, columns_done, columns_turn, columns_next}
 use borrow.Author.Rules.{rules}
 use Rattle.filling.proofs.fill.fill_columns.Goals as goal

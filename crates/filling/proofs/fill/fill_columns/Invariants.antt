@@ -1,12 +1,7 @@
 -- `fill_columns` meets its contract. The loop's invariant is `ColumnsRun`: what is left of the columns makes of the words
 -- what all columns make of those at the start.
 use Prim.Native.Nat.{◌-◌}
-use native.Mathlib.Omega.{arith}
-use Rattle.candidates.proofs.laws.Columns.{few_floats}
-use Rattle.reached.proofs.laws.Ring.{fresh_named}
 use Rattle.filling.specs.Run.{ColumnsRun}
-use Rattle.filling.specs.laws.Columns.{columns_first, columns_done, columns_turn, columns_next}
-use borrow.Author.Rules.{rules}
 use Rattle.filling.proofs.fill.fill_columns.Given as goal
 
 abbrev pub invariant-loop-j : goal.invariant-loop-j

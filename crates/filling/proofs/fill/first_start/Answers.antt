@@ -2,7 +2,6 @@
 -- nothing to look for.
 use native.Mathlib.Omega.{arith}
 use borrow.Author.Rules.{rules}
-use borrow.Author.Tests.{not-true}
 use Rattle.filling.specs.laws.First.{blank_found}
 use Rattle.filling.proofs.fill.first_start.Goals as goal
 

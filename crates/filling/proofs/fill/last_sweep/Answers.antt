@@ -1,7 +1,7 @@
 -- `last_sweep` meets its contract. The loop's invariant is `LastRun`: the column is filled above line i, and the queues hold
 -- the starts of the window. Above the first line nothing is reached, so that the column is as if filled there; and so are the lines that
 -- are left where no line from the window's first on is reached or has a start.
-use Prim.Native.Nat.{◌+◌, ◌-◌}
+use Prim.Native.Nat.{◌-◌}
 use native.Mathlib.Omega.{arith}
 use mathlib.Core.Path.{◌≡◌, ◌∙◌}
 use Rattle.blocks.specs.Heights.{no_heights}
@@ -12,11 +12,10 @@ use Rattle.candidates.proofs.laws.Columns.{few_floats, within_at}
 use Rattle.passes.proofs.laws.Lending.{floats_separable}
 use Rattle.pricing.specs.Stop.{floats_say}
 use Rattle.entries.specs.Next.{plain}
-use Rattle.filling.specs.Run.{LastRun}
 use Rattle.filling.specs.laws.Column.{first_slides, last_first, last_done, last_slides, last_looks, last_over, last_place_lem, last_next}
 use borrow.Author.Rules.{rules}
 use Rattle.filling.proofs.fill.last_sweep.Goals as goal
-use Rattle.filling.proofs.fill.last_sweep.Goals.{After-end_at-end, After-slide-span-in-loop-i, In-loop-i}
+use Rattle.filling.proofs.fill.last_sweep.Goals.{After-end_at-end, After-slide-span-in-loop-i}
 
 pub load_of-load-requires : goal.load_of-load-requires
 load_of-load-requires c =

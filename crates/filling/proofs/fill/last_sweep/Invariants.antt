@@ -2,19 +2,7 @@
 -- the starts of the window. Above the first line nothing is reached, so that the column is as if filled there; and so are the lines that
 -- are left where no line from the window's first on is reached or has a start.
 use Prim.Native.Nat.{◌+◌, ◌-◌}
-use native.Mathlib.Omega.{arith}
-use mathlib.Core.Path.{◌≡◌, ◌∙◌}
-use Rattle.blocks.specs.Heights.{no_heights}
-use Rattle.rules.specs.laws.Walked.{waiting_few}
-use Rattle.window.specs.Slide.{Slid}
-use Rattle.candidates.specs.Read.{counts_at}
-use Rattle.candidates.proofs.laws.Columns.{few_floats, within_at}
-use Rattle.passes.proofs.laws.Lending.{floats_separable}
-use Rattle.pricing.specs.Stop.{floats_say}
-use Rattle.entries.specs.Next.{plain}
 use Rattle.filling.specs.Run.{LastRun}
-use Rattle.filling.specs.laws.Column.{first_slides, last_first, last_done, last_slides, last_looks, last_over, last_place_lem, last_next}
-use borrow.Author.Rules.{rules}
 use Rattle.filling.proofs.fill.last_sweep.Given as goal
 
 abbrev pub invariant-loop-i : goal.invariant-loop-i

@@ -1,6 +1,5 @@
 -- `next_start` meets its contract: a line that is not above `low` is kept, and else all from there on are looked at.
 use native.Mathlib.Omega.{arith}
-use borrow.Author.Rules.{rules}
 use Rattle.filling.proofs.fill.next_start.Goals as goal
 
 pub returns-then-low-last : goal.returns-then-low-last

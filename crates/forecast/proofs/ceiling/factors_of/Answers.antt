@@ -1,6 +1,5 @@
 -- `factors_of` meets its contract: it computes the definition, and no more blocks stand together than there are.
 use Prim.Native.Nat.{◌+◌, ◌*◌, ◌≤◌}
-use borrow.Author.Rules.{rules}
 use native.Mathlib.Nat.{mul-le-mul}
 use native.Mathlib.Omega.{arith}
 use Rattle.galley.specs.Model.{stream_of}

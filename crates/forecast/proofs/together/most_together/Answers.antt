@@ -5,7 +5,6 @@ use native.Mathlib.Omega.{arith}
 use mathlib.Core.Path.{◌≡◌, ◌∙◌}
 use borrow.Author.Tests.{ltb-true}
 use Rattle.model.specs.Height.{stacked}
-use Rattle.forecast.specs.Together.{Longest}
 use Rattle.forecast.specs.laws.Together.{longest_start, longest_grows, longest_moves, longest_most, heights_of, run_low, run_next, run_rest, most_same}
 use Rattle.forecast.proofs.together.most_together.Goals as goal
 use Rattle.forecast.proofs.together.most_together.Goals.{After-tight_of-height, After-tight_of-height-then-limit-height}

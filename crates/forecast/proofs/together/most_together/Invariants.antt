@@ -1,12 +1,8 @@
 -- `forecast::together::most_together` meets its contract. The invariant: no run of blocks so far is longer than the one looked at and not
 -- too high, and one of its length is not.
-use Prim.Native.Nat.{◌+◌, ◌-◌}
-use native.Mathlib.Omega.{arith}
-use mathlib.Core.Path.{◌≡◌, ◌∙◌}
-use borrow.Author.Tests.{ltb-true}
-use Rattle.model.specs.Height.{stacked}
+use Prim.Native.Nat.{◌-◌}
 use Rattle.forecast.specs.Together.{Longest}
-use Rattle.forecast.specs.laws.Together.{longest_start, longest_grows, longest_moves, longest_most, heights_of, run_low, run_next, run_rest, most_same}
+use Rattle.forecast.specs.laws.Together.{heights_of}
 use Rattle.forecast.proofs.together.most_together.Given as goal
 
 abbrev pub invariant-loop-b : goal.invariant-loop-b

@@ -1,5 +1,4 @@
 -- `galley::place::kind_of` meets its contract. Each arm says which mark it is, and its row is the definition's.
-use borrow.Author.Rules.{rules}
 use borrow.Author.Tests.{ne_eqb}
 use Rattle.galley.specs.Place.{kind_of}
 use Rattle.galley.proofs.place.kind_of.Goals as goal

@@ -1,6 +1,5 @@
 -- `galley::place::unfit_for` meets its contract. The tests are the definition's, one after the other.
 use mathlib.Core.Path.{◌≡◌}
-use borrow.Author.Rules.{rules}
 use Rattle.model.specs.Gather.{pick}
 use Rattle.galley.specs.Place.{too_early, too_many, unfit}
 use Rattle.galley.proofs.place.unfit_for.Goals as goal

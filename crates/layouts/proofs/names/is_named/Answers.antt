@@ -6,7 +6,7 @@ use native.Mathlib.Omega.{arith}
 use mathlib.Core.Path.{◌≡◌}
 use lib.ListN.{length}
 use Rattle.layouts.specs.Names.{is_named}
-use Rattle.layouts.specs.laws.Names.{Matching, match_starts, match_differs, match_goes_on, match_ends}
+use Rattle.layouts.specs.laws.Names.{match_starts, match_differs, match_goes_on, match_ends}
 use Rattle.layouts.proofs.names.is_named.Goals as goal
 
 pub returns-then-layout-name : goal.returns-then-layout-name

@@ -1,12 +1,7 @@
 -- `is_named` meets its contract. The invariant: the bytes before number `i` are the same, so that the rest decides.
 use Prim.Native.Nat.{◌-◌}
-use borrow.Author.Rules.{rules}
-use borrow.Author.Tests.{eq-eqb, ne_eqb}
-use native.Mathlib.Omega.{arith}
-use mathlib.Core.Path.{◌≡◌}
 use lib.ListN.{length}
-use Rattle.layouts.specs.Names.{is_named}
-use Rattle.layouts.specs.laws.Names.{Matching, match_starts, match_differs, match_goes_on, match_ends}
+use Rattle.layouts.specs.laws.Names.{Matching}
 use Rattle.layouts.proofs.names.is_named.Given as goal
 
 abbrev pub invariant-loop-i : goal.invariant-loop-i

@@ -1,12 +1,10 @@
 -- `pad` meets its contract. The invariant: the first `i` bytes are copied, the others are zeros.
 use Prim.Native.Nat.{ℕ, ◌-◌}
-use borrow.Author.Rules.{rules}
 use native.Mathlib.Omega.{arith}
 use mathlib.Core.Path.{◌≡◌, ap, ◌∙◌}
 use mathlib.Core.List.{List, ◌++◌}
 use lib.ListN.{length, take, drop, replicate}
 use lib.Seq.{take-length}
-use Rattle.layouts.specs.Words.{Copied}
 use Rattle.layouts.specs.Names.{padded}
 use Rattle.layouts.specs.laws.Words.{copy_starts, copy_goes_on}
 use Rattle.layouts.proofs.names.pad.Goals as goal

@@ -4,8 +4,6 @@ use native.Mathlib.Omega.{arith}
 use mathlib.Core.Path.{◌≡◌, ap, ◌∙◌}
 use mathlib.Core.List.{◌++◌}
 use lib.ListN.{take, drop}
-use ghost.Mode.{◌$◌}
-use Rattle.layouts.specs.Words.{Copied}
 use Rattle.layouts.specs.laws.Words.{copy_starts, copy_goes_on}
 use Rattle.layouts.proofs.words.copy_words.Goals as goal
 

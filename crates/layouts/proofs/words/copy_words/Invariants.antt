@@ -1,12 +1,6 @@
 -- `copy_words` meets its contract. The invariant: the first `i` words are copied, the others are as they were.
-use Prim.Native.Nat.{ℕ, ◌-◌}
-use native.Mathlib.Omega.{arith}
-use mathlib.Core.Path.{◌≡◌, ap, ◌∙◌}
-use mathlib.Core.List.{◌++◌}
-use lib.ListN.{take, drop}
-use ghost.Mode.{◌$◌}
+use Prim.Native.Nat.{◌-◌}
 use Rattle.layouts.specs.Words.{Copied}
-use Rattle.layouts.specs.laws.Words.{copy_starts, copy_goes_on}
 use Rattle.layouts.proofs.words.copy_words.Given as goal
 
 abbrev pub invariant-loop-i : goal.invariant-loop-i

@@ -1,5 +1,4 @@
 -- `judge_list` meets its contract: the first fault refuses the list, else 18 does or its pages are counted.
-use borrow.Author.Rules.{rules}
 use native.Mathlib.Omega.{arith}
 use mathlib.Core.Path.{◌∙◌}
 use Rattle.marking.specs.laws.Listed.{list_broken, list_limits, list_kept}

@@ -1,7 +1,6 @@
 -- `judge_pages` meets its contract. The outer invariant is the run over the pages so far (laws/Run), the inner one the page under
 -- way with the blocks that it has so far (laws/Page); each way of leaving a page is one law of laws/Page.
 use Prim.Native.Nat.{ℕ, ◌-◌, ◌/◌, ◌≤◌, ◌<◌}
-use borrow.Author.Rules.{rules}
 use lib.ListN.{length}
 use mathlib.Core.Path.{◌≡◌, sym, ◌∙◌}
 use mathlib.Core.List.{List}
@@ -12,11 +11,10 @@ use Rattle.galley.specs.declared.Galley.{Galley}
 use Rattle.blocks.specs.laws.Counts.{words_least}
 use Rattle.marking.specs.declared.pages.Judged.TheVariants.{Broken}
 use Rattle.marking.specs.Judged.{first_fault, JudgedPages}
-use Rattle.laying.specs.laws.Next.{left}
-use Rattle.marking.specs.laws.Page.{run_few, Begun, page_left, page_there, page_few, run_over, begins, begun_proper, begun_refused, begun_ahead, Underway, underway_bare, underway_open, underway_more, underway_less, underway_over, underway_ended, underway_next, underway_walking, underway_addable}
-use Rattle.marking.specs.laws.Run.{Run, run_start}
+use Rattle.marking.specs.laws.Page.{run_few, Begun, page_left, page_there, page_few, run_over, begins, begun_proper, begun_refused, begun_ahead, underway_bare, underway_open, underway_more, underway_less, underway_over, underway_ended, underway_next, underway_walking, underway_addable}
+use Rattle.marking.specs.laws.Run.{run_start}
 use Rattle.marking.proofs.pages.judge_pages.Goals as goal
-use Rattle.marking.proofs.pages.judge_pages.Goals.{After-page_at-v, After-start_fault-start, Else-done-pages}
+use Rattle.marking.proofs.pages.judge_pages.Goals.{After-start_fault-start, Else-done-pages}
 
 pub pages-init : goal.pages-init
 pages-init c =

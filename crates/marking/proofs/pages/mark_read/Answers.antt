@@ -1,5 +1,4 @@
 -- `mark_read` meets its contract: rule 12 is the model's test of the list's length, and then the pages are judged.
-use borrow.Author.Rules.{rules}
 use native.Mathlib.Omega.{arith}
 use lib.ListN.{length}
 use Prim.Native.Nat.{◌/◌}

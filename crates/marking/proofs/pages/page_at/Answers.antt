@@ -1,7 +1,6 @@
 -- `page_at` meets its contract: its test is that of `counts_in`, and a third word is there where there are tables.
 use native.Mathlib.Omega.{arith}
 use mathlib.Core.Path.{◌≡◌}
-use borrow.Author.Rules.{rules}
 use borrow.Author.Tests.{eq-eqb, ne_eqb}
 use Rattle.blocks.specs.Counts.{page_words, counts_in}
 use Rattle.blocks.specs.laws.Counts.{words_least}

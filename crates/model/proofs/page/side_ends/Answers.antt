@@ -1,5 +1,5 @@
 -- `side_ends` meets its contract: in double-sided work by `ends_folio`, else by the other clause of `ends`.
-use Rattle.std.proofs.Common.{sym, eq-eqb, ne_eqb}
+use Rattle.std.proofs.Common.{sym, ne_eqb}
 use Rattle.model.specs.Leaf.{ends, sides_of}
 use Rattle.model.proofs.laws.Leaf.{ends_folio}
 use Rattle.model.proofs.page.side_ends.Goals as goal

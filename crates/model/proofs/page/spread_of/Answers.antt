@@ -1,5 +1,5 @@
 -- `spread_of` meets its contract: by the test on `sides`, each arm is the clause of `leaf` for that sidedness.
-use Rattle.std.proofs.Common.{arith, eq-eqb, ne_eqb}
+use Rattle.std.proofs.Common.{arith, ne_eqb}
 use Rattle.model.specs.Leaf.{leaf, sides_of}
 use Rattle.model.proofs.page.spread_of.Goals as goal
 

@@ -4,9 +4,8 @@ use Prim.Native.Nat.{◌-◌}
 use native.Mathlib.Omega.{arith}
 use mathlib.Core.Path.{◌≡◌}
 use Rattle.queues.specs.Queue.{lines_in}
-use Rattle.passes.specs.Bound.{lesser_of, BoundRun}
+use Rattle.passes.specs.Bound.{lesser_of}
 use Rattle.passes.proofs.laws.Bound.{bound_first, bound_next, bound_last}
-use borrow.Author.Rules.{rules}
 use Rattle.passes.proofs.bound.bound_lines.Goals as goal
 use Rattle.passes.proofs.bound.bound_lines.Goals.{After-lesser-least-in-loop-a}
 

@@ -1,12 +1,7 @@
 -- `bound_lines` meets its contract. The loop's invariant is `BoundRun`: the lines from a on are bounded, and none of them costs less than
 -- what is in hand.
 use Prim.Native.Nat.{◌-◌}
-use native.Mathlib.Omega.{arith}
-use mathlib.Core.Path.{◌≡◌}
-use Rattle.queues.specs.Queue.{lines_in}
-use Rattle.passes.specs.Bound.{lesser_of, BoundRun}
-use Rattle.passes.proofs.laws.Bound.{bound_first, bound_next, bound_last}
-use borrow.Author.Rules.{rules}
+use Rattle.passes.specs.Bound.{BoundRun}
 use Rattle.passes.proofs.bound.bound_lines.Given as goal
 
 abbrev pub invariant-loop-a : goal.invariant-loop-a

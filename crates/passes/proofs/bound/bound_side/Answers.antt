@@ -1,7 +1,6 @@
 -- `bound_side` meets its contract: where no line is bounded there is nothing to show.
 use native.Mathlib.Nat.{le_refl}
 use native.Mathlib.Omega.{arith}
-use borrow.Author.Rules.{rules}
 use Rattle.passes.proofs.bound.bound_side.Goals as goal
 
 pub entry_of-near-requires : goal.entry_of-near-requires

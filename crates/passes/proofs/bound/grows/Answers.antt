@@ -1,6 +1,5 @@
 -- `grows` meets its contract: each way is a clause of the definition.
 use Rattle.passes.specs.Bound.{grows_of}
-use borrow.Author.Rules.{rules}
 use Rattle.passes.proofs.bound.grows.Goals as goal
 
 pub returns-in_default : goal.returns-in_default

@@ -1,6 +1,5 @@
 -- `lesser` meets its contract: each way is a clause of the definition.
 use Rattle.passes.specs.Bound.{lesser_of}
-use borrow.Author.Rules.{rules}
 use Rattle.passes.proofs.bound.lesser.Goals as goal
 
 pub returns-in_default : goal.returns-in_default

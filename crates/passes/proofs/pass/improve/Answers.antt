@@ -1,6 +1,5 @@
 -- `improve` meets its contract: it offers what it has chosen, each choice by its own contract.
 use mathlib.Core.Path.{◌∙◌}
-use borrow.Author.Rules.{rules}
 use Rattle.passes.proofs.pass.improve.Goals as goal
 
 pub alone-requires : goal.alone-requires

@@ -4,7 +4,6 @@ use native.Mathlib.Omega.{arith}
 use Rattle.candidates.proofs.laws.Columns.{few_floats, columns_few}
 use Rattle.passes.proofs.laws.Lending.{lent_wide, floats_separable}
 use Rattle.passes.proofs.laws.Sweeping.{last_taken, last_stand, last_ended, last_done}
-use borrow.Author.Rules.{rules}
 use Rattle.passes.proofs.pass.last_line.Goals as goal
 
 pub overflow_add-pass : goal.overflow_add-pass

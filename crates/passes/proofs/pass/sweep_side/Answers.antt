@@ -4,7 +4,6 @@ use Prim.Native.Nat.{◌-◌}
 use native.Mathlib.Nat.{le_refl}
 use native.Mathlib.Omega.{arith}
 use Rattle.candidates.proofs.laws.Columns.{columns_few, few_floats}
-use Rattle.passes.specs.Swept.{SideRun}
 use Rattle.passes.proofs.laws.Lending.{floats_separable}
 use Rattle.passes.proofs.laws.Begin.{side_reaches, side_stands, side_first}
 use Rattle.passes.proofs.laws.Side.{side_last, side_line, side_slides, side_compares, side_beaten, side_moves, side_fronted, side_ended, side_next}

@@ -2,7 +2,6 @@
 -- other.
 use native.Mathlib.Omega.{arith}
 use Rattle.queues.proofs.laws.Parts.{parts_moved}
-use borrow.Author.Rules.{rules}
 use Rattle.queues.proofs.parts.move_on.Goals as goal
 
 pub advance-full-requires : goal.advance-full-requires

@@ -4,7 +4,6 @@ use native.Mathlib.Omega.{arith}
 use mathlib.Core.Path.{◌≡◌, refl}
 use lib.ListN.{length-set}
 use Rattle.queues.specs.Parts.{row_put}
-use borrow.Author.Rules.{rules}
 use Rattle.queues.proofs.parts.put_row.Goals as goal
 
 pub bounds-rows-at-2 : goal.bounds-rows-at-2

@@ -1,7 +1,6 @@
 -- `whitened` meets its contract: the cost of a start, where there is one, has what the page lacks in place of the height up to its line.
 use native.Mathlib.Omega.{arith}
 use Rattle.queues.specs.Parts.{whitened_of}
-use borrow.Author.Rules.{rules}
 use Rattle.queues.proofs.parts.whitened.Goals as goal
 
 pub returns-in_default : goal.returns-in_default

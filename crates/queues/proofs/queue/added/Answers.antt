@@ -1,6 +1,5 @@
 -- `added` meets its contract: by whether pages lack something, each arm is that of the definition.
 use Rattle.queues.specs.Queue.{added_of}
-use borrow.Author.Rules.{rules}
 use Rattle.queues.proofs.queue.added.Goals as goal
 
 pub returns-then-lacks : goal.returns-then-lacks

@@ -3,7 +3,6 @@
 use mathlib.Core.Path.{refl}
 use Rattle.queues.specs.Queue.{added_of, lines_in, tailed}
 use Rattle.queues.proofs.laws.Held.{held_dropped}
-use borrow.Author.Rules.{rules}
 use Rattle.queues.proofs.queue.advance.Goals as goal
 
 pub returns : goal.returns

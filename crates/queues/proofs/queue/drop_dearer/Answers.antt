@@ -4,9 +4,7 @@ use mathlib.Core.Path.{◌≡◌, sym, ap, ◌∙◌}
 use native.Mathlib.Omega.{arith}
 use borrow.Author.Tests.{ltb-true, ltb-false}
 use Rattle.queues.specs.Queue.{cost_at}
-use Rattle.queues.specs.Run.{DearerRun}
 use Rattle.queues.proofs.laws.Run.{down_next}
-use borrow.Author.Rules.{rules}
 use Rattle.queues.proofs.queue.drop_dearer.Goals as goal
 
 pub returns-then-less : goal.returns-then-less

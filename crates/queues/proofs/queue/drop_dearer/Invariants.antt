@@ -1,12 +1,6 @@
 -- `drop_dearer` meets its contract. The loop's invariant: the entries dropped cost x or more, to which each turn adds one.
-use Prim.Native.Nat.{ℕ, ◌-◌, ◌≤◌}
-use mathlib.Core.Path.{◌≡◌, sym, ap, ◌∙◌}
-use native.Mathlib.Omega.{arith}
-use borrow.Author.Tests.{ltb-true, ltb-false}
-use Rattle.queues.specs.Queue.{cost_at}
+use Prim.Native.Nat.{◌-◌}
 use Rattle.queues.specs.Run.{DearerRun}
-use Rattle.queues.proofs.laws.Run.{down_next}
-use borrow.Author.Rules.{rules}
 use Rattle.queues.proofs.queue.drop_dearer.Given as goal
 
 abbrev pub invariant-loop-t : goal.invariant-loop-t

@@ -1,10 +1,7 @@
 -- `drop_passed` meets its contract. The loop's invariant: the lines dropped are before `low`, to which each turn adds one.
-use Prim.Native.Nat.{◌-◌, ◌*◌, ◌≤◌}
-use native.Mathlib.Omega.{arith}
+use Prim.Native.Nat.{◌-◌, ◌≤◌}
 use Rattle.window.specs.First.{First}
 use Rattle.queues.specs.Queue.{line_at}
-use Rattle.window.specs.laws.First.{first_start, first_next, first_found}
-use ghost.Mode.{◌$◌}
 use Rattle.queues.proofs.queue.drop_passed.Given as goal
 
 abbrev pub invariant-loop-h : goal.invariant-loop-h

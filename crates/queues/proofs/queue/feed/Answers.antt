@@ -8,14 +8,12 @@ use lib.ListN.{length}
 use Rattle.places.specs.Best.{Paid}
 use Rattle.window.specs.Rows.{Beside}
 use Rattle.queues.specs.Queue.{added_of, lines_in, tailed, Held}
-use Rattle.queues.specs.Run.{FeedRun}
 use Rattle.window.specs.laws.Rows.{beside_none}
 use Rattle.queues.proofs.laws.Held.{paid_of, held_passed}
 use Rattle.window.specs.laws.Rows.{pushed_length, pushed_beside}
 use Rattle.queues.proofs.laws.Pushed.{held_pushed}
-use borrow.Author.Rules.{rules}
 use Rattle.queues.proofs.queue.feed.Goals as goal
-use Rattle.queues.proofs.queue.feed.Goals.{After-entry_of-entry, After-place_of-place}
+use Rattle.queues.proofs.queue.feed.Goals.{After-entry_of-entry}
 
 pub loop-a-init : goal.loop-a-init
 loop-a-init c =

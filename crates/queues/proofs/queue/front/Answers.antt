@@ -1,7 +1,6 @@
 -- `front` meets its contract: by whether the queue has an entry, each arm is that of the definition.
 use borrow.Author.Tests.{lt-ltb, le-ltb}
 use Rattle.queues.specs.Queue.{front_of}
-use borrow.Author.Rules.{rules}
 use Rattle.queues.proofs.queue.front.Goals as goal
 
 pub returns-then-queue : goal.returns-then-queue

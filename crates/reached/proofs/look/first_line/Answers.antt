@@ -1,9 +1,7 @@
 -- `first_line` meets its contract. The loop's invariant: no line from `from` on and before a is reached.
-use Prim.Native.Nat.{◌+◌, ◌-◌, ◌≤◌}
+use Prim.Native.Nat.{◌-◌}
 use native.Mathlib.Omega.{arith}
-use Rattle.reached.specs.Look.{Quiet}
 use Rattle.reached.proofs.laws.Look.{quiet_next, room_small, room_stands}
-use borrow.Author.Rules.{rules}
 use Rattle.reached.proofs.look.first_line.Goals as goal
 
 pub loop-a-init : goal.loop-a-init

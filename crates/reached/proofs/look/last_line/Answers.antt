@@ -1,9 +1,7 @@
 -- `last_line` meets its contract. The loop's invariant: no line from `last` on is reached.
-use Prim.Native.Nat.{◌+◌, ◌-◌, ◌≤◌}
+use Prim.Native.Nat.{◌-◌}
 use native.Mathlib.Omega.{arith}
-use Rattle.reached.specs.Look.{Quiet}
 use Rattle.reached.proofs.laws.Look.{quiet_back, room_small, room_stands}
-use borrow.Author.Rules.{rules}
 use Rattle.reached.proofs.look.last_line.Goals as goal
 
 pub place_of-place-requires : goal.place_of-place-requires

@@ -1,9 +1,6 @@
 -- `last_line` meets its contract. The loop's invariant: no line from `last` on is reached.
 use Prim.Native.Nat.{◌+◌, ◌-◌, ◌≤◌}
-use native.Mathlib.Omega.{arith}
 use Rattle.reached.specs.Look.{Quiet}
-use Rattle.reached.proofs.laws.Look.{quiet_back, room_small, room_stands}
-use borrow.Author.Rules.{rules}
 use Rattle.reached.proofs.look.last_line.Given as goal
 
 abbrev pub invariant-loop-last : goal.invariant-loop-last

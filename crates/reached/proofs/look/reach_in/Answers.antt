@@ -3,7 +3,6 @@
 use native.Mathlib.Omega.{arith}
 use Rattle.candidates.proofs.laws.Columns.{columns_few}
 use Rattle.reached.proofs.laws.Look.{found_after, hint_holds}
-use borrow.Author.Rules.{rules}
 use Rattle.reached.proofs.look.reach_in.Goals as goal
 
 pub hint_for-hint-requires : goal.hint_for-hint-requires

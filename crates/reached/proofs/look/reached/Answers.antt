@@ -2,9 +2,7 @@
 use Prim.Native.Nat.{ℕ, ◌-◌}
 use native.Mathlib.Omega.{arith}
 use mathlib.Core.Path.{◌≡◌, sym, ◌∙◌}
-use Rattle.reached.specs.Look.{Missed}
 use Rattle.reached.proofs.laws.Look.{missed_next}
-use borrow.Author.Rules.{rules}
 use Rattle.reached.proofs.look.reached.Goals as goal
 
 pub loop-c-init : goal.loop-c-init

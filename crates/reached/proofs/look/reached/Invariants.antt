@@ -1,10 +1,6 @@
 -- `reached` meets its contract. The loop's invariant: the place is reached on none of the sides before c.
-use Prim.Native.Nat.{ℕ, ◌-◌}
-use native.Mathlib.Omega.{arith}
-use mathlib.Core.Path.{◌≡◌, sym, ◌∙◌}
+use Prim.Native.Nat.{◌-◌}
 use Rattle.reached.specs.Look.{Missed}
-use Rattle.reached.proofs.laws.Look.{missed_next}
-use borrow.Author.Rules.{rules}
 use Rattle.reached.proofs.look.reached.Given as goal
 
 abbrev pub invariant-loop-c : goal.invariant-loop-c

@@ -2,7 +2,6 @@
 use native.Mathlib.Omega.{arith}
 use Rattle.candidates.proofs.laws.Columns.{columns_few}
 use Rattle.reached.proofs.laws.Recall.{found_none, noted_none, noted_new}
-use borrow.Author.Rules.{rules}
 use Rattle.reached.proofs.recall.note.Goals as goal
 
 pub reach_of-reach-requires : goal.reach_of-reach-requires

@@ -3,7 +3,6 @@ use native.Mathlib.Omega.{arith}
 use mathlib.Core.Path.{ap}
 use lib.ListN.{set}
 use Rattle.queues.proofs.laws.Parts.{later_left, later-right}
-use borrow.Author.Rules.{rules}
 use Rattle.reached.proofs.recall.remember.Goals as goal
 
 pub returns : goal.returns

@@ -2,7 +2,6 @@
 use native.Mathlib.Omega.{arith}
 use mathlib.Core.Path.{refl}
 use mathlib.Core.Logic.{inl, inr}
-use borrow.Author.Rules.{rules}
 use Rattle.reached.proofs.ring.hint_for.Goals as goal
 
 pub returns-then-column-since : goal.returns-then-column-since

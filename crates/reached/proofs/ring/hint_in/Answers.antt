@@ -1,11 +1,9 @@
 -- `hint_in` meets its contract. The loop's invariant: no word before `at` names the column. The word 0 names none.
-use Prim.Native.Nat.{ℕ, ◌+◌, ◌-◌, ◌<◌}
+use Prim.Native.Nat.{◌+◌, ◌-◌}
 use native.Mathlib.Omega.{arith}
-use mathlib.Core.Path.{◌≡◌, refl, sym, ◌∙◌, ap}
-use lib.ListN.{length, get_or}
+use mathlib.Core.Path.{refl, sym, ◌∙◌, ap}
 use Rattle.reached.specs.Ring.{hint_name}
 use Rattle.reached.proofs.laws.Ring.{absent_next}
-use borrow.Author.Rules.{rules}
 use Rattle.reached.proofs.ring.hint_in.Goals as goal
 
 pub loop-at-init : goal.loop-at-init

@@ -1,11 +1,8 @@
 -- `hint_in` meets its contract. The loop's invariant: no word before `at` names the column. The word 0 names none.
 use Prim.Native.Nat.{ℕ, ◌+◌, ◌-◌, ◌<◌}
-use native.Mathlib.Omega.{arith}
-use mathlib.Core.Path.{◌≡◌, refl, sym, ◌∙◌, ap}
+use mathlib.Core.Path.{◌≡◌}
 use lib.ListN.{length, get_or}
 use Rattle.reached.specs.Ring.{hint_name}
-use Rattle.reached.proofs.laws.Ring.{absent_next}
-use borrow.Author.Rules.{rules}
 use Rattle.reached.proofs.ring.hint_in.Given as goal
 
 abbrev pub invariant-loop-at : goal.invariant-loop-at

@@ -1,7 +1,6 @@
 -- `crossing` gives what is turned to a chapter: each way out is a case of the definition.
 use mathlib.Core.Path.{sym, ◌∙◌}
 use mathlib.Core.Bool.{true, false}
-use borrow.Author.Rules.{rules}
 use Rattle.routes.specs.laws.Offer.{turn_later}
 use Rattle.routes.proofs.offer.crossing.Goals as goal
 

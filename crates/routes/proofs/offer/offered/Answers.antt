@@ -1,6 +1,5 @@
 -- `offered` reads the entry where a list closes that leads to the next folio, and goes on by it.
 use native.Mathlib.Omega.{arith}
-use borrow.Author.Rules.{rules}
 use Rattle.routes.specs.laws.Offer.{closing_from_lem, lent_counted, turn_small, passed_from}
 use Rattle.routes.proofs.offer.offered.Goals as goal
 

@@ -1,7 +1,6 @@
 -- `preferred` takes the less dear of two offers, and at equal cost that with the later starts: each way out is a case of the definition.
 use mathlib.Core.Path.{◌≡◌, refl, sym, ◌∙◌}
 use mathlib.Core.Bool.{true, false}
-use borrow.Author.Rules.{rules}
 use Rattle.routes.specs.Offer.{later_from}
 use Rattle.routes.specs.laws.Offer.{decided_second, decided_first, decided_both}
 use Rattle.routes.proofs.offer.preferred.Goals as goal

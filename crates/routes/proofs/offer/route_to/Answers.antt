@@ -1,5 +1,4 @@
 -- `route_to` takes the preferred of both offers, where the next folio occurs.
-use borrow.Author.Rules.{rules}
 use Rattle.routes.specs.laws.Offer.{arriving_comparing, arrived_none, arrived_best}
 use Rattle.routes.proofs.offer.route_to.Goals as goal
 

@@ -2,7 +2,6 @@
 use Prim.Native.Nat.{◌*◌, ◌≤◌}
 use native.Mathlib.Omega.{arith}
 use mathlib.Core.Path.{◌∙◌}
-use borrow.Author.Rules.{rules}
 use Rattle.routes.specs.laws.Offer.{none_cheap, least_cheap, passed_least}
 use Rattle.routes.proofs.offer.through.Goals as goal
 use Rattle.routes.proofs.offer.through.Goals.{In-Least}

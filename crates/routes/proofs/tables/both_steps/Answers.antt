@@ -1,7 +1,6 @@
 -- `both_steps` reads the routes from both halves of the work area.
 use mathlib.Core.Path.{refl, sym}
 use lib.Seq.{length-take-le}
-use borrow.Author.Rules.{rules}
 use Rattle.routes.specs.laws.Tables.{rest_arriving, rest_arrived}
 use Rattle.routes.proofs.tables.both_steps.Goals as goal
 

@@ -2,7 +2,6 @@
 use native.Mathlib.Omega.{arith}
 use mathlib.Core.Path.{refl, sym}
 use lib.Seq.{length-take-le}
-use borrow.Author.Rules.{rules}
 use Rattle.routes.specs.laws.Tables.{first_room, second_room, both_filled}
 use Rattle.routes.proofs.tables.fill_folios.Goals as goal
 

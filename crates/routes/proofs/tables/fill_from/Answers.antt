@@ -1,5 +1,4 @@
 -- `fill_from` fills the table where a route leads to its folio.
-use borrow.Author.Rules.{rules}
 use Rattle.routes.specs.laws.Tables.{room_on, filled_from, left_from}
 use Rattle.routes.proofs.tables.fill_from.Goals as goal
 

@@ -1,5 +1,4 @@
 -- `cite_of` meets its contract: there is a float j where its test holds.
-use borrow.Author.Rules.{rules}
 use borrow.Author.Tests.{lt-ltb, le-ltb}
 use native.Mathlib.Omega.{arith}
 use Rattle.rules.specs.Parts.{cite_of}

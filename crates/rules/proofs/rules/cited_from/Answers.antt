@@ -1,5 +1,4 @@
 -- `cited_from` meets its contract: the later of the two lines.
-use borrow.Author.Rules.{rules}
 use borrow.Author.Tests.{lt-ltb, le-ltb}
 use Rattle.rules.specs.Parts.{later}
 use Rattle.rules.proofs.rules.cited_from.Goals as goal

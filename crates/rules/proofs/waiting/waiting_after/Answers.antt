@@ -1,5 +1,4 @@
 -- `waiting_after` meets its contract: a walk over each stream.
-use borrow.Author.Rules.{rules}
 use Rattle.rules.proofs.waiting.waiting_after.Goals as goal
 
 pub returns : goal.returns

@@ -1,5 +1,4 @@
 -- `waiting_at` meets its contract: what waits counts exactly where a leaf ends.
-use borrow.Author.Rules.{rules}
 use Rattle.rules.specs.Waiting.{waiting_at}
 use Rattle.rules.proofs.waiting.waiting_at.Goals as goal
 

@@ -1,11 +1,9 @@
 -- `waiting_floats` meets its contract. The invariant: those found so far and those that the walk from here on finds are all that
 -- wait; each way that a turn ends is one law of laws/Waiting.
-use Prim.Native.Nat.{◌+◌, ◌-◌, ◌≤◌}
+use Prim.Native.Nat.{◌+◌, ◌-◌}
 use mathlib.Core.Path.{◌≡◌}
-use ghost.Mode.{◌$◌}
 use native.Mathlib.Omega.{arith}
 use Rattle.galley.specs.Model.{floats_of}
-use Rattle.rules.specs.Waiting.{waits}
 use Rattle.rules.specs.laws.Waiting.{waits_more, waits_stop, waits_end, waits_known}
 use Rattle.rules.proofs.waiting.waiting_floats.Goals as goal
 

@@ -2,11 +2,8 @@
 -- wait; each way that a turn ends is one law of laws/Waiting.
 use Prim.Native.Nat.{◌+◌, ◌-◌, ◌≤◌}
 use mathlib.Core.Path.{◌≡◌}
-use ghost.Mode.{◌$◌}
-use native.Mathlib.Omega.{arith}
 use Rattle.galley.specs.Model.{floats_of}
 use Rattle.rules.specs.Waiting.{waits}
-use Rattle.rules.specs.laws.Waiting.{waits_more, waits_stop, waits_end, waits_known}
 use Rattle.rules.proofs.waiting.waiting_floats.Given as goal
 
 abbrev pub invariant-loop-found : goal.invariant-loop-found

@@ -1,6 +1,4 @@
 -- `waiting_on` meets its contract: what waited and is not placed on the page still waits, and the walk goes on from there.
-use native.Mathlib.Omega.{arith}
-use ghost.Mode.{◌$◌}
 use Rattle.rules.specs.laws.Walked.{walking_on}
 use Rattle.rules.proofs.waiting.waiting_on.Goals as goal
 

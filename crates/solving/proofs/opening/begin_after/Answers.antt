@@ -2,7 +2,6 @@
 use Prim.Native.Nat.{ℕ}
 use native.Mathlib.Omega.{arith}
 use mathlib.Core.Path.{◌≡◌, ◌∙◌, sym}
-use borrow.Author.Rules.{rules}
 use Rattle.solving.specs.laws.Begun.{ends_limits, ends_opened}
 use Rattle.solving.proofs.opening.begin_after.Goals as goal
 

@@ -1,10 +1,7 @@
 -- `copy_words` meets its contract. The invariant: the first `i` words are the opening's, the others are as they were.
 use Prim.Native.Nat.{◌-◌}
-use native.Mathlib.Omega.{arith}
 use lib.ListN.{length}
-use borrow.Author.Rules.{rules}
 use Rattle.solving.specs.Copied.{Copied}
-use Rattle.solving.specs.laws.Copied.{copy_starts, copy_goes_on, copy_ends}
 use Rattle.solving.proofs.opening.copy_words.Given as goal
 
 abbrev pub invariant-loop-i : goal.invariant-loop-i

@@ -1,7 +1,5 @@
 -- `row_top` meets its contract: by the test on the figures.
-use native.Mathlib.Omega.{arith}
 use borrow.Author.Tests.{lt-ltb, le-ltb}
-use ghost.Mode.{◌$◌}
 use Rattle.starts.specs.Sweep.{row_top}
 use Rattle.starts.proofs.sweep.row_top.Goals as goal
 

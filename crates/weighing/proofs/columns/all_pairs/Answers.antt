@@ -2,9 +2,7 @@
 use Prim.Native.Nat.{◌-◌}
 use native.Mathlib.Omega.{arith}
 use Rattle.candidates.proofs.laws.Columns.{few_floats}
-use Rattle.weighing.specs.Count.{AllCount, KnownOf}
 use Rattle.weighing.proofs.laws.Count.{all_first, all_few, all_next, all_last}
-use borrow.Author.Rules.{rules}
 use Rattle.weighing.proofs.columns.all_pairs.Goals as goal
 
 pub loop-q-init : goal.loop-q-init

@@ -1,10 +1,6 @@
 -- `all_pairs` meets its contract. The loop's invariant is `AllCount`: the pages that end in columns before q are counted.
 use Prim.Native.Nat.{◌-◌}
-use native.Mathlib.Omega.{arith}
-use Rattle.candidates.proofs.laws.Columns.{few_floats}
 use Rattle.weighing.specs.Count.{AllCount, KnownOf}
-use Rattle.weighing.proofs.laws.Count.{all_first, all_few, all_next, all_last}
-use borrow.Author.Rules.{rules}
 use Rattle.weighing.proofs.columns.all_pairs.Given as goal
 
 abbrev pub invariant-loop-q : goal.invariant-loop-q

@@ -4,7 +4,6 @@ use native.Mathlib.Omega.{arith}
 use mathlib.Core.Path.{ap}
 use borrow.Author.Tests.{lt-ltb, le-ltb}
 use Rattle.weighing.specs.Count.{pairs_between}
-use borrow.Author.Rules.{rules}
 use Rattle.weighing.proofs.columns.pairs_between.Goals as goal
 use Rattle.weighing.proofs.columns.pairs_between.Goals.{After-slice_known-then-some-1}
 

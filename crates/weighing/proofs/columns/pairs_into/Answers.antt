@@ -1,15 +1,12 @@
 -- `pairs_into` meets its contract. Both loops have one invariant, `ColumnCount`: the pages from all columns past that of these parts are
 -- counted. A turn counts one column more; those between it and the next add nothing.
 use native.Mathlib.Omega.{arith}
-use mathlib.Core.Path.{◌≡◌}
-use Rattle.candidates.specs.Read.{counts_at}
 use Rattle.candidates.proofs.laws.Columns.{few_floats}
-use Rattle.weighing.specs.Count.{nothing, CountableColumn, ColumnCount, ColumnStep, KnownOf}
+use Rattle.weighing.specs.Count.{ColumnStep}
 use Rattle.weighing.proofs.laws.From.{from_lays, from_between}
 use Rattle.weighing.proofs.laws.Count.{column_short, column_first, column_few, table_room, table_next, figure_room, figure_next, column_last}
-use borrow.Author.Rules.{rules}
 use Rattle.weighing.proofs.columns.pairs_into.Goals as goal
-use Rattle.weighing.proofs.columns.pairs_into.Goals.{After-floats_alone-arg-1, After-known-1, After-pairs_between-pairs, After-struct_known-in-loop-tables-2-3-1, After-with_one_more-arg-1, After-with_one_more-arg-in-loop-tables-1, At-loop-tables-2}
+use Rattle.weighing.proofs.columns.pairs_into.Goals.{After-pairs_between-pairs, After-with_one_more-arg-1, After-with_one_more-arg-in-loop-tables-1}
 
 pub returns-then-end-first : goal.returns-then-end-first
 returns-then-end-first c =

@@ -1,13 +1,7 @@
 -- `pairs_into` meets its contract. Both loops have one invariant, `ColumnCount`: the pages from all columns past that of these parts are
 -- counted. A turn counts one column more; those between it and the next add nothing.
-use native.Mathlib.Omega.{arith}
-use mathlib.Core.Path.{◌≡◌}
 use Rattle.candidates.specs.Read.{counts_at}
-use Rattle.candidates.proofs.laws.Columns.{few_floats}
-use Rattle.weighing.specs.Count.{nothing, CountableColumn, ColumnCount, ColumnStep, KnownOf}
-use Rattle.weighing.proofs.laws.From.{from_lays, from_between}
-use Rattle.weighing.proofs.laws.Count.{column_short, column_first, column_few, table_room, table_next, figure_room, figure_next, column_last}
-use borrow.Author.Rules.{rules}
+use Rattle.weighing.specs.Count.{nothing, ColumnCount, KnownOf}
 use Rattle.weighing.proofs.columns.pairs_into.Given as goal
 
 abbrev pub invariant-loop-tables-2 : goal.invariant-loop-tables-2

@@ -1,5 +1,4 @@
 -- `with_one_more` meets its contract: the heights are those of the block before.
-use borrow.Author.Rules.{rules}
 use Rattle.weighing.proofs.columns.with_one_more.Goals as goal
 
 pub returns : goal.returns

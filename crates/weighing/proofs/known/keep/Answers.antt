@@ -1,7 +1,6 @@
 -- `keep` meets its contract: a row after the first says what the tally does, and the first may say anything.
 use Rattle.weighing.proofs.laws.Known.{knows_headed, knows_pushed}
 use native.Mathlib.Omega.{arith}
-use borrow.Author.Rules.{rules}
 use Rattle.weighing.proofs.known.keep.Goals as goal
 
 pub returns : goal.returns

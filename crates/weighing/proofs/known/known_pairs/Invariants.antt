@@ -1,8 +1,5 @@
 -- `known_pairs` meets its contract: the row that it returns from covers what stands beside the lines.
 use Prim.Native.Nat.{◌-◌, ◌≤◌}
-use native.Mathlib.Omega.{arith}
-use mathlib.Core.Path.{refl}
-use borrow.Author.Rules.{rules}
 use Rattle.weighing.proofs.known.known_pairs.Given as goal
 
 abbrev pub invariant-loop-k : goal.invariant-loop-k

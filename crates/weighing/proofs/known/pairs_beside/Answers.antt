@@ -1,6 +1,5 @@
 -- `pairs_beside` meets its contract: what a row says is so, and a tally that is kept says what was counted.
 use Rattle.weighing.proofs.laws.Known.{known_counts, knows_headed}
-use borrow.Author.Rules.{rules}
 use Rattle.weighing.proofs.known.pairs_beside.Goals as goal
 
 pub returns-then-told-lt-UNKNOWN : goal.returns-then-told-lt-UNKNOWN

@@ -2,7 +2,6 @@
 use Prim.Native.Nat.{◌-◌}
 use native.Mathlib.Omega.{arith}
 use Rattle.weighing.proofs.laws.Lines.{compared_from}
-use borrow.Author.Rules.{rules}
 use Rattle.weighing.proofs.lines.least_beside.Goals as goal
 
 pub too_much-requires : goal.too_much-requires

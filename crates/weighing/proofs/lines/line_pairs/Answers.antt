@@ -1,8 +1,7 @@
 -- `line_pairs` meets its contract. The invariant: the pairs that end before line i are counted, for what stands beside the lines and for
 -- all else that the tally says.
-use Prim.Native.Nat.{◌+◌, ◌-◌}
+use Prim.Native.Nat.{◌-◌}
 use native.Mathlib.Omega.{arith}
-use Rattle.weighing.specs.Lines.{Tallied}
 use Rattle.weighing.proofs.laws.Lines.{tallied_start, tallied_next, tallied_end}
 use Rattle.weighing.proofs.lines.line_pairs.Goals as goal
 

@@ -1,6 +1,5 @@
 -- `most_beside` meets its contract: both lines have their sums.
 use Rattle.weighing.proofs.laws.Lines.{compared_from}
-use borrow.Author.Rules.{rules}
 use Rattle.weighing.proofs.lines.most_beside.Goals as goal
 
 pub too_much-requires : goal.too_much-requires

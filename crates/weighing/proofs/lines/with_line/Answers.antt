@@ -1,7 +1,6 @@
 -- `with_line` meets its contract: what is left of a tally is narrowed at both ends, and of none there is nothing to say.
 use native.Mathlib.Omega.{arith}
 use mathlib.Core.Path.{refl}
-use borrow.Author.Rules.{rules}
 use Rattle.weighing.proofs.lines.with_line.Goals as goal
 
 pub returns : goal.returns

@@ -4,7 +4,6 @@ use native.Mathlib.Omega.{arith}
 use mathlib.Core.Path.{◌≡◌, refl}
 use lib.ListN.{length-set}
 use Rattle.window.specs.Rows.{pushed}
-use borrow.Author.Rules.{rules}
 use Rattle.window.proofs.rows.push.Goals as goal
 
 pub bounds-words-k-2 : goal.bounds-words-k-2

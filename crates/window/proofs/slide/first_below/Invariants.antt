@@ -1,12 +1,8 @@
 -- `first_below` meets its contract. The loop's invariant: the pages from the lines passed all reach the limit, to which each turn
 -- adds one.
 use Prim.Native.Nat.{suc, ◌+◌, ◌-◌, ◌≤◌}
-use native.Mathlib.Omega.{arith}
 use Rattle.window.specs.First.{First}
 use Rattle.window.specs.Sums.{spaced_at}
-use Rattle.window.specs.laws.First.{first_start, first_next, first_found}
-use Rattle.window.specs.laws.Slide.{reaches_readable}
-use borrow.Author.Rules.{rules}
 use Rattle.window.proofs.slide.first_below.Given as goal
 
 abbrev pub invariant-loop-a : goal.invariant-loop-a

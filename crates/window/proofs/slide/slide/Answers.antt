@@ -1,6 +1,5 @@
 -- `slide` meets its contract: the three ends are the first lines found, and the law of the window says what they open.
 use Rattle.window.specs.laws.Slide.{slide_opens}
-use borrow.Author.Rules.{rules}
 use Rattle.window.proofs.slide.slide.Goals as goal
 
 pub returns : goal.returns

@@ -4,10 +4,8 @@ use Prim.Native.Nat.{◌+◌, ◌-◌, ◌*◌, ◌≤◌}
 use native.Mathlib.Omega.{arith}
 use mathlib.Core.Path.{ap, ◌∙◌}
 use lib.ListN.{length}
-use Rattle.window.specs.Run.{SumsRun}
 use Rattle.window.specs.laws.Rows.{pushed_length}
 use Rattle.window.specs.laws.Sums.{sums_first, sums_fit, sums_next, sums_last}
-use ghost.Mode.{◌$◌}
 use Rattle.window.proofs.sums.gather.Goals as goal
 use Rattle.window.proofs.sums.gather.Goals.{After-field-most, At-loop-k}
 

@@ -1,13 +1,7 @@
 -- `gather` meets its contract. The loop's invariant: the rows up to line k are written, and how far it reaches is in hand; each turn
 -- writes the next row, and so does the end, where that is one of no line.
-use Prim.Native.Nat.{◌+◌, ◌-◌, ◌*◌, ◌≤◌}
-use native.Mathlib.Omega.{arith}
-use mathlib.Core.Path.{ap, ◌∙◌}
-use lib.ListN.{length}
+use Prim.Native.Nat.{◌-◌}
 use Rattle.window.specs.Run.{SumsRun}
-use Rattle.window.specs.laws.Rows.{pushed_length}
-use Rattle.window.specs.laws.Sums.{sums_first, sums_fit, sums_next, sums_last}
-use ghost.Mode.{◌$◌}
 use Rattle.window.proofs.sums.gather.Given as goal
 
 abbrev pub invariant-loop-k : goal.invariant-loop-k

@@ -10,7 +10,6 @@ use Rattle.window.specs.Windows.{window_at}
 use Rattle.window.specs.laws.Rows.{beside_none}
 use Rattle.window.specs.laws.Rows.{pushed_beside}
 use Rattle.window.specs.laws.Windows.{window_stored}
-use borrow.Author.Rules.{rules}
 use Rattle.window.proofs.windows.window_of.Goals as goal
 
 pub returns-then-c-gt0 : goal.returns-then-c-gt0
