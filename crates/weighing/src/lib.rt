@@ -15,7 +15,9 @@ mod columns; // columns.rt: the pairs of columns where pages start and end
 mod known; // known.rt: the counts that are known
 pub mod lines; // lines.rt: the pairs of lines, for what a page has beside them
 
-// The pages of a galley that are weighed and start at or past what is placed first, each once.
+// The pages of a galley that are weighed and start at or past what is placed first, each once. A function by itself in the archive, too, so
+// that its sums do not stand on the stack beside those of the table that is filled.
+#[inline(never)]
 pub fn weighed(s: &[u8], g: Galley, first: Counts) -> u64
     requires { (Sound s.now g) × (Within g first) }
     ensures { result ≡ weighed_from (model_of s.now g) (place_of g first) }
