@@ -17,7 +17,7 @@ use Rattle.model.specs.Book.{open_on, first_folio, Choice, choices, book_pages, 
 use Rattle.model.proofs.laws.Lists.{◌∈◌, ∈-unmap}
 use Rattle.model.proofs.laws.Book.{∈-ungathered}
 use Rattle.theorems.specs.pages.Graph.{side}
-use Rattle.theorems.specs.books.Folios.{like, x_on, white_on_lem}
+use Rattle.theorems.specs.books.Folios.{like, x_on_lem, white_on_lem}
 use Rattle.theorems.specs.books.Closing.{best_closing}
 use Rattle.theorems.specs.books.Backward.{pages_in}
 use Rattle.theorems.specs.books.Turns.{no_chapter}
@@ -157,7 +157,7 @@ module _ (h : Galley) (gs : List Galley) (all : AllAlike h gs) (some_folio_lem :
             is = is;
             course = c;
             pages = unfold book_pages in course_sum (λ g ps. length ps) (λ g f e sh ps. refl) h f some_folio_lem (h ∷ gs) alike b.choice os next c;
-            x = unfold book_x in course_sum x_of (λ g f e sh ps. x_on g f e sh ps) h f some_folio_lem (h ∷ gs) alike b.choice os next c;
+            x = unfold book_x in course_sum x_of (λ g f e sh ps. x_on_lem g f e sh ps) h f some_folio_lem (h ∷ gs) alike b.choice os next c;
             white = unfold book_white in course_sum white (λ g f e sh ps. white_on_lem g f e ps) h f some_folio_lem (h ∷ gs) alike b.choice os next c;
           }
 

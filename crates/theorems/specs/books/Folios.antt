@@ -110,9 +110,9 @@ module _ (g : Galley) (f e : ℕ) (sh : Shifted (sides_on f g.spec.sides) (sides
       omega arith
 
   -- with the same turns to floats,
-  pub x_on : (ps : List Place) → x_of (open_on f g) ps ≡ x_of (open_on e g) ps
+  pub x_on_lem : (ps : List Place) → x_of (open_on f g) ps ≡ x_of (open_on e g) ps
   unfolding x_of open_on
-  x_on ps = sum_ext _ _ _ (λ s p q. sum_ext _ _ _ (λ k p q. apart_on ps s k))
+  x_on_lem ps = sum_ext _ _ _ (λ s p q. sum_ext _ _ _ (λ k p q. apart_on ps s k))
 
   -- the same leaves,
   pub y_on : (ps : List Place) → y_of (open_on f g) ps ≡ y_of (open_on e g) ps
@@ -122,7 +122,7 @@ module _ (g : Galley) (f e : ℕ) (sh : Shifted (sides_on f g.spec.sides) (sides
   -- the same turns,
   pub turns_on_lem : (ps : List Place) → turns (open_on f g) ps ≡ turns (open_on e g) ps
   unfolding turns open_on
-  turns_on_lem ps = rw (x_on ps, y_on ps)
+  turns_on_lem ps = rw (x_on_lem ps, y_on ps)
 
   -- the same ties
   pub tie_on : (ps : List Place) → tie_of (open_on f g) ps ≡ tie_of (open_on e g) ps
