@@ -19,15 +19,16 @@ from reference.galley import read, write  # noqa: E402
 
 STANDS = 'samples/real/TABLE.md'
 FILLS = (100, 90, 70)
-OLDER = ('gretl-p046', 'gretl-p441', 'handbook-p047')  # recorded before there was a package
+# recorded before there was a package
+OLDER = ('gretl-p046', 'gretl-p441', 'handbook-p047', 'memdesign-p049', 'memman-p211', 'memman-p211-tables', 'mpman-p003', 'mpman-p081')
 HEAD = '| chapter | fill | LaTeX, single-sided | engine, single-sided | LaTeX, double-sided | engine, double-sided |\n'
 RULE = '|---|---|---|---|---|---|\n'
 
 
 def by_number(path):
-    """memman-9 is before memman-15."""
-    name, _, number = path.stem.rpartition('-')
-    return name, int(number.removeprefix('p'))
+    """memman-9 is before memman-15, and memman-p211-tables behind memman-p211."""
+    name, number, kind = re.fullmatch(r'(.*?)-p?(\d+)(.*)', path.stem).groups()
+    return name, int(number), kind
 
 
 def tables(command, root):
@@ -49,7 +50,7 @@ def row(command, path, fill):
     cells = [path.stem, f'{fill} %']
     for sides in (1, 2):
         tried = respec(galley, htmin=galley.spec.htmax * fill // 100, sides=sides)
-        cells += [latex(command, tried, words), engine(command, tried)]
+        cells += [latex(command, tried, words, path.stem in OLDER), engine(command, tried)]
     return cells
 
 
@@ -69,10 +70,10 @@ def distances(galley, ends):
     return x, y, galley.spec.alpha * x + galley.spec.beta * y
 
 
-def latex(command, galley, words):
-    """X + Y = T by the goal functions, and the first rule that the engine says is broken."""
+def latex(command, galley, words, older):
+    """X + Y = T by the goal functions, of older recordings as they are, and the first rule that the engine says is broken."""
     ends = marking.places(galley, words)
-    counted = turns(*distances(galley, ends))
+    counted = turns(*(marking.turns if older else distances)(galley, ends))
     with tempfile.NamedTemporaryFile(suffix='.galley') as file:
         file.write(write(galley))
         file.flush()
