@@ -2,7 +2,7 @@
 -- refusal leaves the page list untouched. `mark` is proved to answer `mark_of`, and `make` to do what `Made` says. (That every call
 -- ends, with nothing undefined, is what the proofs of both say of any bytes, words and lent memory: neither has a `requires`.)
 use Rattle.std.specs.Prelude.{ℕ, zero, suc, pred, ◌≡◌, refl, ◌⊎◌, Bool, true, false, ◌||◌, List, [], ◌∷◌, ◌++◌, length, drop, ltb}
-use Rattle.std.proofs.Common.{arith, sym, ◌∙◌, subst, inl, inr}
+use Rattle.std.proofs.Common.{arith, sym, ◌∙◌, inl, inr}
 use Rattle.std.proofs.Math.Option.{Option, none, some}
 use Rattle.model.specs.declared.answer.Answer.{Answer}
 use Rattle.model.specs.declared.answer.Answer.TheVariants.{Refused}
@@ -21,7 +21,7 @@ use Rattle.places.specs.Entry.{cleared}
 use Rattle.marking.specs.Mark.{mark_of}
 use Rattle.needs.specs.Needs.{work_needed, list_needed}
 use Rattle.making.specs.Make.{make_read, make_of, work_read, work_after, list_read, list_after, Made}
-use Rattle.promises.specs.Answers.{ByMarking, ByMaking, picked, of_marking, of_making}
+use Rattle.promises.specs.Answers.{ByMarking, ByMaking, picked, of_marking}
 
 -- The numbers of an answer are those of a finished call, with number and place 0, or of a refusal with one of the numbers that may be,
 -- its place, and no counts (document 01, "Numbers that turn work away"; document 02, S-10).
@@ -30,7 +30,7 @@ pub data Answered (May : ℕ → Type 0) : Numbers → Type 0 where
   refused : {n at : ℕ} → May n → Answered May (record { number = n; place = at; pages = 0; x = 0; y = 0; turns = 0; white = 0 })
 
 -- The same of an answer.
-abbrev Ends : (ℕ → Type 0) → Answer → Type 0
+abbrev pub Ends : (ℕ → Type 0) → Answer → Type 0
 Ends May a = Answered May (numbers_of a)
 
 -- The number of the first broken rule is one of a list's, or there is none.
@@ -70,7 +70,7 @@ marked_ends g words =
     (judge_ends g (counts_of g (pages_of g words)) 1 (model.zeros g) (pages_of g words) (counts_end ByMarking g (pages_of g words)))
     (refused (inr (omega arith, omega arith)))
 
-made_ends : (g : model.Galley) → Ends ByMaking (made g)
+pub made_ends : (g : model.Galley) → Ends ByMaking (made g)
 unfolding made
 made_ends g = go (best g)
   where
@@ -132,12 +132,6 @@ refused_work bytes work list n at e other = go (galley_of bytes) e
 
 -- What the contract of `make` promises of its answer and of the lent memory, whatever that held.
 module _ {bytes work list : List ℕ} {answer : Answer} {count : ℕ} {work' list' : List ℕ} (m : Made bytes work list answer count work' list') where
-  -- Any galley and any lent memory gets a finished pagination or one numbered refusal.
-  pub making_answers : Answered ByMaking (numbers_of answer)
-  making_answers =
-      subst (λ a. Ends ByMaking a) (sym m.answers)
-      (of_making (Ends ByMaking) bytes (length work) (length list) (λ n at h. refused h) (λ g e. made_ends (model_of bytes g)))
-
   -- A refusal leaves the page list untouched.
   pub refusal_keeps_list : (n at : ℕ) → answer ≡ Refused n at → list' ≡ list
   refusal_keeps_list n at e = m.listed ∙ refused_list bytes (length work) list n at (sym m.answers ∙ e)

@@ -99,30 +99,14 @@ module _ (most : ℕ) (g : model.Galley) (limits : Limits g) (dear : Dearest mos
       go (Counted p x y t w) words (best_list m long best whiter) = subst (λ a. Within most a) m (marked_within words)
 
 module _ (most : ℕ) (bytes : List ℕ) (costs : Costs most bytes) where
-  marking_within : (words : List ℕ) → Within most (mark_of bytes words)
+  pub marking_within : (words : List ℕ) → Within most (mark_of bytes words)
   marking_within words =
       of_marking (Within most) bytes words (λ n at l h. (omega arith, omega arith))
       (λ g e. marked_within most (model_of bytes g) (reads_limits bytes g e) (costs g e) words)
 
-  making_within : {work list : List ℕ} {answer : Answer} {count : ℕ} {work' list' : List ℕ}
+  pub making_within : {work list : List ℕ} {answer : Answer} {count : ℕ} {work' list' : List ℕ}
       → Made bytes work list answer count work' list' → Within most answer
   making_within {work} {list} m =
       subst (λ a. Within most a) (sym m.answers)
       (of_making (Within most) bytes (length work) (length list) (λ n at h. (omega arith, omega arith))
       (λ g e. made_within most (model_of bytes g) (reads_limits bytes g e) (costs g e)))
-
--- Marking reports at most 1,066,499,000 turns and 424,900,000 of white,
-pub marking_limit : (bytes words : List ℕ) → Within most_turns (mark_of bytes words)
-marking_limit bytes = marking_within most_turns bytes (reads_costs bytes)
-
--- and without tables at most 843,999,000 turns.
-pub marking_untabled : (bytes words : List ℕ) → Untabled bytes → Within most_untabled (mark_of bytes words)
-marking_untabled bytes words untabled = marking_within most_untabled bytes (untabled_costs bytes untabled) words
-
--- So does making: `Made` is the contract of `make`.
-module _ {bytes work list : List ℕ} {answer : Answer} {count : ℕ} {work' list' : List ℕ} (m : Made bytes work list answer count work' list') where
-  pub making_limit : Within most_turns answer
-  making_limit = making_within most_turns bytes (reads_costs bytes) m
-
-  pub making_untabled : Untabled bytes → Within most_untabled answer
-  making_untabled untabled = making_within most_untabled bytes (untabled_costs bytes untabled) m

@@ -1,7 +1,7 @@
 -- Loosening the least fill (document 02, S-14): with a lower htMin, and all else alike, no galley loses a list, and making turns no more
 -- leaves. `make` is proved to answer `make_of`, `make_after` to answer `make_after_of`, and `mark` to answer `mark_of`.
 use Rattle.std.specs.Prelude.{ℕ, ◌≤◌, ◌≡◌, refl, List, [], ◌++◌, ltb}
-use Rattle.std.proofs.Common.{arith, sym, ◌∙◌, inl, inr}
+use Rattle.std.proofs.Common.{arith, ◌∙◌, inl, inr}
 use Rattle.std.proofs.Math.Path.{ap}
 use Rattle.std.proofs.Math.Bool.{Bool, true, false}
 use Rattle.std.proofs.Math.Option.{Option, none, some}
@@ -12,10 +12,9 @@ use Rattle.model.specs.Gather.{pick}
 use Rattle.model.specs.Galley as model
 use Rattle.model.specs.Answers.{numbers_of, accepted, marked}
 use Rattle.model.specs.Opening.{opening_turned, made_after}
-use Rattle.model.specs.Loosened.{with_htmin}
 use Rattle.model.proofs.laws.Opening.{made_after_nothing}
 use Rattle.model.proofs.laws.Loosened.{marked_loosened, standing_loosened}
-use Rattle.theorems.specs.pages.LeastAfter.{ByOpening, MakingAfter, turned_away, no_list, best_list, making_after}
+use Rattle.theorems.specs.pages.LeastAfter.{ByOpening, MakingAfter, turned_away, no_list, best_list}
 use Rattle.galley.specs.declared.Galley.{Galley}
 use Rattle.galley.specs.declared.Reading.TheVariants as reads
 use Rattle.galley.specs.Whole.{galley_of}
@@ -37,13 +36,13 @@ pub record Loosens (higher lower : Answer) : Type 0 where
 
 module _ (bytes : List ℕ) (g : Galley) (read : galley_of bytes ≡ reads.Galley g) (work list : ℕ) where
   -- What making answers with enough memory,
-  after_is : (opening : List ℕ) → work_needed g ≤ work → list_needed g ≤ list
+  pub after_is : (opening : List ℕ) → work_needed g ≤ work → list_needed g ≤ list
       → make_after_of bytes opening work list ≡ made_after (model_of bytes g) opening
   unfolding make_after_of make_after_read
   after_is opening enough room = rw read (simp (le-ltb work (work_needed g) enough, le-ltb list (list_needed g) room))
 
   -- and wherever it answers with a pagination.
-  after_made : (opening : List ℕ) → accepted (make_after_of bytes opening work list) ≡ true
+  pub after_made : (opening : List ℕ) → accepted (make_after_of bytes opening work list) ≡ true
       → make_after_of bytes opening work list ≡ made_after (model_of bytes g) opening
   unfolding make_after_of make_after_read
   after_made opening a = rw read (go (ltb work (work_needed g)) (ltb list (list_needed g)) (rw read at a))
@@ -67,15 +66,15 @@ none_turned none e = refl
 none_turned (some refusal) e = let z : ◌≡◌ {A = ℕ} 0 1 = cc in absurd (omega arith)
 
 -- Of a refusal nothing is promised.
-refusal_loosens : {higher lower : Answer} → (accepted higher ≡ true → ⊥) → Loosens higher lower
+pub refusal_loosens : {higher lower : Answer} → (accepted higher ≡ true → ⊥) → Loosens higher lower
 refusal_loosens refused = record { finishes = λ a. absurd (refused a); turns = λ a. absurd (refused a) }
 
-turned_refused : (a : Answer) → ByOpening a → accepted a ≡ true → ⊥
+pub turned_refused : (a : Answer) → ByOpening a → accepted a ≡ true → ⊥
 turned_refused a (at, inl e) h = let z : ◌≡◌ {A = ℕ} 0 1 = cc in omega arith
 turned_refused a (at, inr e) h = let z : ◌≡◌ {A = ℕ} 0 1 = cc in omega arith
 
 -- In the page model: what is made after an opening is no worse than any list that is accepted and begins with it.
-made_best : (m : model.Galley) (opening words : List ℕ) {p x y t w : ℕ} → opening_turned m opening ≡ none
+pub made_best : (m : model.Galley) (opening words : List ℕ) {p x y t w : ℕ} → opening_turned m opening ≡ none
     → marked m (opening ++ words) ≡ Counted p x y t w → {a : Answer} {list : List ℕ} → MakingAfter m opening a list
     → Loosens (Counted p x y t w) a
 made_best m opening words through is (turned_away e by) = let z : ◌≡◌ {A = ℕ} 0 1 = cc in absurd (omega arith)
@@ -83,15 +82,6 @@ made_best m opening words through is (no_list e empty) =
     let a = empty words in let b = ap accepted is in let z : ◌≡◌ {A = ℕ} 0 1 = cc in absurd (omega arith)
 made_best m opening words through is (best_list vs e is' long best whiter) =
     record { finishes = λ _. refl; turns = λ _. let few = rw is at (best words (ap accepted is)) in omega arith }
-
--- The list that is made for the higher htMin is one for the lower.
-made_loosened : (m : model.Galley) (h : ℕ) → h ≤ m.spec.htmin → (opening : List ℕ) {a a' : Answer} {list list' : List ℕ}
-    → MakingAfter m opening a list → MakingAfter (with_htmin h m) opening a' list' → Loosens a a'
-made_loosened m h low opening {a = a} (turned_away e by) made' = refusal_loosens (turned_refused a by)
-made_loosened m h low opening (no_list e empty) made' = refusal_loosens (λ a. let z : ◌≡◌ {A = ℕ} 0 1 = cc in omega arith)
-made_loosened m h low opening (best_list words e is long best whiter) made' =
-    made_best (with_htmin h m) opening words (standing_loosened m h low opening e)
-    (marked_loosened m h low (opening ++ words) (ap accepted is) ∙ is) made'
 
 -- Two galleys that are read from bytes alike in all but htMin, which is no higher in the second.
 module _ {bytes bytes' : List ℕ} (like : Alike bytes bytes') (g g' : Galley) (read : galley_of bytes ≡ reads.Galley g)
@@ -117,24 +107,3 @@ module _ {bytes bytes' : List ℕ} (like : Alike bytes bytes') (g g' : Galley) (
       let e = standing_loosened higher g'.spec.htmin (omega arith) opening (none_turned (opening_turned higher opening) s) in
       ap (λ (t : Option Answer). elim t [ none ↦ true | some refusal ↦ false ])
       (ap (λ m. opening_turned m opening) (models_alike like g g' read read') ∙ e)
-
-  module _ (work list work' list' : ℕ) (enough : work_needed g' ≤ work') (room : list_needed g' ≤ list') where
-    -- Making after one opening given to both, with any memory lent for the higher htMin and enough for the lower.
-    pub making_loosened : (opening : List ℕ) → Loosens (make_after_of bytes opening work list) (make_after_of bytes' opening work' list')
-    making_loosened opening =
-        let m = model_of bytes g in
-        let lower : make_after_of bytes' opening work' list' ≡ made_after (with_htmin g'.spec.htmin m) opening =
-        after_is bytes' g' read' work' list' opening enough room ∙ ap (λ m. made_after m opening) (models_alike like g g' read read') in
-        let both = made_loosened m g'.spec.htmin (omega arith) opening (making_after m opening) (making_after (with_htmin g'.spec.htmin m) opening) in
-        record {
-          finishes = λ a.
-              let e = after_made bytes g read work list opening a in
-              ap accepted lower ∙ both.finishes (sym (ap accepted e) ∙ a);
-          turns = λ a.
-              let e = after_made bytes g read work list opening a in
-              rw (lower, e) (both.turns (sym (ap accepted e) ∙ a));
-        }
-
-    -- Making without an opening is the case of the empty one.
-    pub making_loosened_whole : Loosens (make_of bytes work list) (make_of bytes' work' list')
-    making_loosened_whole = rw (after_nothing bytes g read work list, after_nothing bytes' g' read' work' list') at (making_loosened [])

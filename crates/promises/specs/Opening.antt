@@ -29,14 +29,14 @@ use Rattle.solving.specs.laws.Solved.{reads_limits}
 use Rattle.forecast.specs.Forecast.{forecast_read, forecast_of}
 use Rattle.promises.specs.Answers.{ByMaking, picked}
 use Rattle.promises.specs.FirstDemand.{Answered, finished, refused}
-use Rattle.promises.specs.Limit.{Within, most_turns, most_untabled, Untabled, Costs, reads_costs, untabled_costs, marked_within}
+use Rattle.promises.specs.Limit.{Within, Costs, marked_within}
 
 -- The numbers with which making after an opening may refuse: those of making, and 20 and 21.
 abbrev pub ByMakingAfter : ℕ → Type 0
 ByMakingAfter n = ByMaking n ⊎ ((n ≡ 20) ⊎ (n ≡ 21))
 
 -- What has to be shown of an answer: of each refusal before the opening is looked at, and of what the page model answers.
-of_making_after : (P : Answer → Type 0) (bytes opening : List ℕ) (work list : ℕ)
+pub of_making_after : (P : Answer → Type 0) (bytes opening : List ℕ) (work list : ℕ)
     → ((n at : ℕ) → (1 ≤ n) × (n ≤ 10) → P (Refused n at))
     → ((g : Galley) → galley_of bytes ≡ reads.Galley g → P (made_after (model_of bytes g) opening)) → P (make_after_of bytes opening work list)
 unfolding make_after_of make_after_read
@@ -57,7 +57,7 @@ turned_number a (at, inr e) = subst (λ a. Answered ByMakingAfter (numbers_of a)
 
 -- What the page model answers is told by the meaning of making.
 module _ (g : model.Galley) (ows : List ℕ) where
-  after_ends : {a : Answer} {ws : List ℕ} → MakingAfter g ows a ws → Answered ByMakingAfter (numbers_of a)
+  pub after_ends : {a : Answer} {ws : List ℕ} → MakingAfter g ows a ws → Answered ByMakingAfter (numbers_of a)
   after_ends (turned_away {a} t h) = turned_number a h
   after_ends (no_list s empty) = refused {n = 11} (inl (omega arith, omega arith))
   after_ends (best_list rest s m long best whiter) = finished
@@ -72,14 +72,6 @@ module _ (g : model.Galley) (ows : List ℕ) where
 -- What is promised of making after an opening.
 module _ {bytes opening work list : List ℕ} {answer : Answer} {count : ℕ} {work' list' : List ℕ}
     (m : MadeAfter bytes opening work list answer count work' list') where
-  -- Any galley, any opening and any lent memory gets a finished pagination or one numbered refusal.
-  pub after_answers : Answered ByMakingAfter (numbers_of answer)
-  after_answers =
-      subst (λ a. Answered ByMakingAfter (numbers_of a)) (sym m.answers)
-      (of_making_after (λ a. Answered ByMakingAfter (numbers_of a)) bytes opening (length work) (length list)
-      (λ n at h. refused (inl (h.0, omega (arith, h.1))))
-      (λ g e. after_ends (model_of bytes g) opening (making_after (model_of bytes g) opening)))
-
   -- A refusal leaves the page list untouched.
   pub after_keeps_list : (n at : ℕ) → answer ≡ Refused n at → list' ≡ list
   unfolding make_after_of make_after_read list_made_after list_made_read
@@ -153,7 +145,7 @@ module _ {bytes opening work list : List ℕ} {answer : Answer} {count : ℕ} {w
           (le_trans (weighed_from_le (model_of bytes g) (end_of (model.zeros (model_of bytes g)) (pages_of (model_of bytes g) opening))) (weighed_ceiling (model_of bytes g)))
       go (reads.Refused n at) = omega arith
 
-  after_within : {most : ℕ} → Costs most bytes → Within most answer
+  pub after_within : {most : ℕ} → Costs most bytes → Within most answer
   after_within {most} costs =
       subst (λ a. Within most a) (sym m.answers)
       (of_making_after (λ a. Within most a) bytes opening (length work) (length list) (λ n at h. (omega arith, omega arith))
@@ -170,10 +162,3 @@ module _ {bytes opening work list : List ℕ} {answer : Answer} {count : ℕ} {w
       limited g e (best_list rest s m long best whiter) =
           subst (λ a. Within most a) m
           (marked_within most (model_of bytes g) (reads_limits bytes g e) (costs g e) (opening ++ rest))
-
-  -- It reports at most 1,066,499,000 turns and 424,900,000 of white, and without tables at most 843,999,000 turns.
-  pub after_limit : Within most_turns answer
-  after_limit = after_within (reads_costs bytes)
-
-  pub after_untabled : Untabled bytes → Within most_untabled answer
-  after_untabled untabled = after_within (untabled_costs bytes untabled)

@@ -5,17 +5,17 @@ use Rattle.std.proofs.Common.{arith, sym, ◌∙◌, ap, subst}
 use Rattle.std.proofs.Math.Path.{refl}
 use Rattle.model.specs.Galley as model
 use Rattle.model.specs.Answers.{numbers_of, accepted, marked}
-use Rattle.model.specs.Book.{sides_on, open_on, folio_in, first_folio}
+use Rattle.model.specs.Book.{sides_on, open_on, folio_in}
 use Rattle.galley.specs.declared.Galley.{Galley}
 use Rattle.galley.specs.declared.Reading.TheVariants as reads
 use Rattle.galley.specs.Range.{FolioRanged}
 use Rattle.galley.specs.Whole.{galley_of}
 use Rattle.galley.specs.Model.{sides_in, model_of}
 use Rattle.marking.specs.Mark.{mark_of}
-use Rattle.chapters.specs.Book.{Chapter, read, has_folio, book_of, models_of}
+use Rattle.chapters.specs.Book.{Chapter, has_folio, models_of}
 use Rattle.folios.specs.Stating.{stating, opened}
 use Rattle.folios.proofs.Opened.{reads_opened, model_opened}
-use Rattle.folios.specs.Chapters.{AllPlain, BookPlain, book_plain}
+use Rattle.folios.specs.Chapters.{AllPlain}
 use Rattle.promises.specs.SecondDemand.{mark_is}
 use Rattle.promises.specs.Marks.{AllAccepted, sum_marks}
 use Rattle.promises.specs.Lost.{page_accepted}
@@ -67,7 +67,7 @@ abbrev pub marked_pages : ℕ → List model.Galley → List (List ℕ) → ℕ
 marked_pages = sum_marks (λ n. n.pages)
 
 -- Each later chapter opened on its folio is marked so,
-later_inside : (f : ℕ) (cs : List Chapter) (lists : List (List ℕ)) → AllPlain cs → 1 ≤ f → LaterOutside f cs lists → AllAccepted f (models_of cs) lists
+pub later_inside : (f : ℕ) (cs : List Chapter) (lists : List (List ℕ)) → AllPlain cs → 1 ≤ f → LaterOutside f cs lists → AllAccepted f (models_of cs) lists
 unfolding LaterOutside AllAccepted models_of
 later_inside f [] [] plain some o = tt
 later_inside f [] (ws ∷ rest) plain some o = o
@@ -78,7 +78,7 @@ later_inside f (c ∷ cs) (ws ∷ rest) plain some (few, taken, later) =
     (sym (ap accepted is) ∙ taken, subst (λ a. AllAccepted (f + (numbers_of a).pages) (models_of cs) rest) is next)
 
 -- and the other way round, where the last folio is at most 9,999.
-later_outside : (f : ℕ) (cs : List Chapter) (lists : List (List ℕ)) → AllPlain cs → 1 ≤ f → f + marked_pages f (models_of cs) lists ≤ 10000
+pub later_outside : (f : ℕ) (cs : List Chapter) (lists : List (List ℕ)) → AllPlain cs → 1 ≤ f → f + marked_pages f (models_of cs) lists ≤ 10000
     → AllAccepted f (models_of cs) lists → LaterOutside f cs lists
 unfolding LaterOutside AllAccepted models_of sum_marks
 later_outside f [] [] plain some last a = tt
@@ -91,34 +91,3 @@ later_outside f (c ∷ cs) (ws ∷ rest) plain some last (taken, later) =
     let is = chapter_marked c.bytes c.galley plain.0.reads plain.0.none f some few ws in
     let next = later_outside (f + (numbers_of (marked m ws)).pages) cs rest plain.1 (omega arith) (omega arith) later in
     (few, ap accepted is ∙ taken, subst (λ a. LaterOutside (f + (numbers_of a).pages) cs rest) (sym is) next)
-
--- For a book that was read: what marking accepts so, of bytes alone, are lists that `AllAccepted` is about, and the other way round where
--- the last folio can be stated.
-pub book_outside : (bytes lengths : List ℕ) (cs : List Chapter) → book_of bytes lengths ≡ read cs → (lists : List (List ℕ))
-    → (let f = first_folio (models_of cs) in
-    (Outside cs lists → AllAccepted f (models_of cs) lists)
-    × (f + marked_pages f (models_of cs) lists ≤ 10000 → AllAccepted f (models_of cs) lists → Outside cs lists))
-unfolding Outside AllAccepted models_of sum_marks first_folio
-book_outside bytes lengths cs e lists = go cs lists (book_plain bytes lengths cs e)
-  where
-    go : (cs : List Chapter) (lists : List (List ℕ)) → BookPlain cs
-        → (let f = first_folio (models_of cs) in
-        (Outside cs lists → AllAccepted f (models_of cs) lists)
-        × (f + marked_pages f (models_of cs) lists ≤ 10000 → AllAccepted f (models_of cs) lists → Outside cs lists))
-    go [] [] plain = (λ o. tt, λ last a. tt)
-    go [] (ws ∷ rest) plain = (λ o. o, λ last a. a)
-    go (c ∷ cs) [] plain = (λ o. o, λ last a. a)
-    go (c ∷ cs) (ws ∷ rest) (reads, plain) =
-        let f = folio_in (sides_in c.galley) in
-        let m = open_on f (model_of c.bytes c.galley) in
-        let is = first_chapter_marked c.bytes c.galley reads ws in (
-          λ (taken, later).
-              let page = page_accepted m ws (sym (ap accepted is) ∙ taken) in
-              let pages = ap (λ a. (numbers_of a).pages) is in
-              let next = later_inside (f + (numbers_of (mark_of c.bytes ws)).pages) cs rest plain (omega arith) later in
-              (sym (ap accepted is) ∙ taken, subst (λ a. AllAccepted (f + (numbers_of a).pages) (models_of cs) rest) is next),
-          λ last (taken, later).
-              let page = page_accepted m ws taken in
-              let next = later_outside (f + (numbers_of (marked m ws)).pages) cs rest plain (omega arith) (omega arith) later in
-              (ap accepted is ∙ taken, subst (λ a. LaterOutside (f + (numbers_of a).pages) cs rest) (sym is) next),
-        )

@@ -1,7 +1,7 @@
 -- The figures that wait at a place of a galley that reads without refusal: document 02, S-2.
 use Rattle.std.specs.Prelude.{ℕ, zero, suc, ◌-◌, ◌≤◌, ◌≡◌, refl, Bool, true, false, List, [], ◌∷◌, length, leb}
-use Rattle.std.proofs.Common.{arith, sym, ◌∙◌}
-use Rattle.std.proofs.Math.Path.{ap, subst}
+use Rattle.std.proofs.Common.{arith}
+use Rattle.std.proofs.Math.Path.{ap}
 use Rattle.model.specs.Gather.{pick, row}
 use Rattle.model.specs.Galley as model
 use Rattle.galley.specs.declared.Galley.{Galley}
@@ -9,7 +9,7 @@ use Rattle.galley.specs.declared.Reading.TheVariants as reads
 use Rattle.galley.specs.Whole.{galley_of}
 use Rattle.galley.specs.Model.{floats_of, model_of}
 use Rattle.blocks.specs.laws.Counts.{floats_some}
-use Rattle.rules.specs.Waiting.{waiting_from, waiting_floats, waits, EachOnce}
+use Rattle.rules.specs.Waiting.{waiting_from, waiting_floats, EachOnce}
 use Rattle.rules.specs.laws.Sane.{reads_sane}
 use Rattle.rules.specs.laws.Waiting.{each_once}
 use Rattle.rules.specs.laws.Walked.{sane_ordered}
@@ -19,7 +19,7 @@ abbrev pub next : ℕ → ℕ → List ℕ
 next k many = row (suc k) many (λ f. f)
 
 -- Those that are met on the way are the next ones.
-met_next : (st : model.Stream) (i left k : ℕ) → waiting_from st i left k ≡ next k (length (waiting_from st i left k))
+pub met_next : (st : model.Stream) (i left k : ℕ) → waiting_from st i left k ≡ next k (length (waiting_from st i left k))
 unfolding waiting_from row
 met_next st i zero k = refl
 met_next st i (suc left) k = go (leb (st.cite (suc k)) i) (met_next st i left (suc k))
@@ -38,14 +38,6 @@ module _ (bytes : List ℕ) (g : Galley) (read : galley_of bytes ≡ reads.Galle
       → EachOnce ((model_of bytes g).stream s) i j (waiting_floats ((model_of bytes g).stream s) i j)
   waiting_stream s h l i j within =
       each_once ((model_of bytes g).stream s) i (sane_ordered (model_of bytes g) (reads_sane bytes g read) s h l) j within
-
-  -- So the number that `waiting_floats` returns tells the list: that many floats from j + 1 on are each of those, once, and no other.
-  pub waiting_told : (s : ℕ) → 1 ≤ s → s ≤ (model_of bytes g).floats → (i j : ℕ) → j ≤ ((model_of bytes g).stream s).size
-      → (r : ℕ) → r ≡ waits ((model_of bytes g).stream s) i j → EachOnce ((model_of bytes g).stream s) i j (next j r)
-  unfolding waiting_floats
-  waiting_told s h l i j within r is =
-      let st : model.Stream = (model_of bytes g).stream s in
-      subst (EachOnce st i j) (met_next st i (st.size - j) j ∙ ap (next j) (sym is)) (waiting_stream s h l i j within)
 
   -- The figures are one such stream: for every i from 0 to m, and beyond, and every j from 0 to n.
   pub waiting_figures : (i j : ℕ) → j ≤ g.figures.count
