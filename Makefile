@@ -14,7 +14,9 @@ SONAME := libbarleychime.so.$(firstword $(subst ., ,$(VERSION)))
 ARCHIVE := target/staticlib/libbarleychime.a
 SHARED := target/shared/libbarleychime.so
 COMMAND := host/command/target/release/barleychime
-STAGE := target/stage
+STAGED := target/stage.tar
+# What is staged has links, and rt takes none in the folder that it proves: it stands outside until it is packed.
+STAGE := $(shell mktemp -u -d -t barleychime-XXXXXX)
 FILES := share/barleychime/FILES
 MAN := share/man/man1/barleychime.1
 BASH := share/bash-completion/completions/barleychime
@@ -67,7 +69,7 @@ python: $(SHARED)
 
 # Everything that is installed, as it stands below PREFIX.
 staged: command $(SHARED)
-	@rm -rf $(STAGE)
+	@rm -f $(STAGED)
 	@install -D -m 755 $(COMMAND) $(STAGE)/bin/barleychime
 	@install -D -m 644 include/barleychime.h $(STAGE)/include/barleychime.h
 	@install -D -m 644 $(ARCHIVE) $(STAGE)/lib/libbarleychime.a
@@ -89,13 +91,14 @@ staged: command $(SHARED)
 	@ln -s ../../barleychime/samples $(STAGE)/share/doc/barleychime/samples
 	@sed -n '/^```c$$/,/^```$$/p' docs/EMBEDDING.md | sed '/^```/d' > $(STAGE)/share/doc/barleychime/pages.c
 	@cd $(STAGE) && touch $(FILES) && find . \( -type f -o -type l \) -printf '%P\n' | LC_ALL=C sort > $(FILES)
+	@tar -C $(STAGE) -T $(STAGE)/$(FILES) -cf $(STAGED) && rm -rf $(STAGE)
 	@echo 'all is built; `make install` installs it below $(PREFIX)'
 
 # Only copies, so that root builds nothing.
 install:
-	@[ -f $(STAGE)/$(FILES) ] || { echo 'make install: nothing is built yet: run make first' >&2; exit 1; }
+	@[ -f $(STAGED) ] || { echo 'make install: nothing is built yet: run make first' >&2; exit 1; }
 	@mkdir -p "$(INTO)"
-	@tar -C $(STAGE) -T $(STAGE)/$(FILES) -cf - | tar -C "$(INTO)" --no-same-owner -xf -
+	@tar -C "$(INTO)" --no-same-owner -xf $(STAGED)
 	@if [ -z "$(DESTDIR)" ] && [ "$$(id -u)" -eq 0 ]; then tools/noticed "$(PREFIX)"; fi
 	@echo 'installed below $(INTO)'
 
@@ -108,13 +111,14 @@ uninstall:
 	@echo 'removed from $(INTO)'
 
 dist: all python
-	@rm -rf target/dist && mkdir -p target/dist/$(TARBALL)
-	@cp -a $(STAGE)/. target/dist/$(TARBALL)
-	@cp target/python/barleychime-$(VERSION)-*.whl target/dist/$(TARBALL)/share/barleychime/
-	@install -m 644 docs/TARBALL.md target/dist/$(TARBALL)/README.md
-	@tools/proved > target/dist/$(TARBALL)/PROVED
-	@cd target/dist/$(TARBALL) && find . -type f ! -name SHA256SUMS -printf '%P\0' | LC_ALL=C sort -z | xargs -0 sha256sum > SHA256SUMS
-	@tar -C target/dist --sort=name --owner=0 --group=0 --numeric-owner -czf target/dist/$(TARBALL).tar.gz $(TARBALL)
+	@rm -rf target/dist && mkdir -p target/dist $(STAGE)/$(TARBALL)
+	@tar -C $(STAGE)/$(TARBALL) -xf $(STAGED)
+	@cp target/python/barleychime-$(VERSION)-*.whl $(STAGE)/$(TARBALL)/share/barleychime/
+	@install -m 644 docs/TARBALL.md $(STAGE)/$(TARBALL)/README.md
+	@tools/proved > $(STAGE)/$(TARBALL)/PROVED
+	@cd $(STAGE)/$(TARBALL) && find . -type f ! -name SHA256SUMS -printf '%P\0' | LC_ALL=C sort -z | xargs -0 sha256sum > SHA256SUMS
+	@tar -C $(STAGE) --sort=name --owner=0 --group=0 --numeric-owner -czf target/dist/$(TARBALL).tar.gz $(TARBALL)
+	@rm -rf $(STAGE)
 	@cd target/dist && sha256sum $(TARBALL).tar.gz | tee $(TARBALL).tar.gz.sha256
 
 test:

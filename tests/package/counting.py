@@ -51,7 +51,7 @@ def check(tally):
     said = f'{HEAD}1 of 3: model proved\n2 of 3: galley proved\n3 of 3 crates proved\n'
     tally.same('every crate is proved', tried(lambda tree: tree.proofs(whole)), (0, said))
     tally.same('nothing is proved again', tried(lambda tree: (tree.proofs(whole), tree.proofs('', 9))[1]), (0, f'{HEAD}3 of 3 crates proved\n'))
-    kept = 'a stand-in\nmodel: logic=proved functions=4\ncases: unchanged since it was proved\ngalley: logic=proved functions=9\n'
+    kept = 'a stand-in\nmodel: logic=proved functions=4\ncases: ok, as rt all check says\ngalley: logic=proved functions=9\n'
     tally.same('what was said is kept', tried(lambda tree: (tree.proofs(whole), tree.tool('proved'))[1]), (0, kept))
     section = '== galley\nfn galley::read: the goal does not follow\nlogic=not-proved\n'
     refused = f'{PROVED}{section}== summary\nmodel: ok\ncases: ok\ngalley: failed (1)\n2 of 3 crates ok\n'

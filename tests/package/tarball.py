@@ -42,7 +42,7 @@ def unpacked(tally, folder):
     tally.same('the sum of the tarball', ran('sha256sum', '--quiet', '-c', beside, cwd=tarballs[0].parent), (0, b'', ''))
     proved = (here / 'PROVED').read_text()
     for crate in re.findall(r'^(\w+)[\w= ]*:', (ROOT / 'crates.txt').read_text(), re.M):
-        said = re.findall(rf'^{crate}: (?:logic=proved functions=|is kept: an earlier run on this machine proved the same files)', proved, re.M)
+        said = re.findall(rf'^{crate}: (?:logic=proved functions=|is kept: an earlier run on this machine proved the same files|ok, as rt all check says)', proved, re.M)
         tally.same(f'{crate} is said to be proved', len(said), 1)
     return here
 
@@ -94,7 +94,8 @@ def installed(tally, folder):
     tally.same('make install', make('install', *given), (0, f'installed below {into}\n', ''))
     listed = (into / 'share/barleychime/FILES').read_text().splitlines()
     tally.same('what is installed', files(into), sorted(listed))
-    tally.same('as it was staged', files(into), files(ROOT / 'target/stage'))
+    staged = ran('tar', '-tf', ROOT / 'target/stage.tar', cwd=folder)[1].decode()
+    tally.same('as it was staged', files(into), sorted(staged.splitlines()))
     tally.same('the command is installed', ran(into / 'bin/barleychime', '--version', cwd=folder)[:1], (0,))
     modes = [(into / name).stat().st_mode & 0o777 for name in ('bin/barleychime', 'include/barleychime.h')]
     tally.same('nobody else may write it', modes, [0o755, 0o644])
@@ -104,7 +105,7 @@ def installed(tally, folder):
     tally.same('the documents have no folder left', (into / 'share/doc/barleychime').exists(), False)
     status, _, said = make('uninstall', *given)
     tally.same('nothing to remove', (status, f'nothing is installed below {into}' in said), (2, True))
-    status, _, said = make('install', f'STAGE={folder}/none', *given)
+    status, _, said = make('install', f'STAGED={folder}/none', *given)
     tally.same('nothing to install', (status, 'run make first' in said), (2, True))
     steps = make('--dry-run', 'install')[1]
     tally.same('installing builds nothing', [word for word in ('cargo', 'rt ', 'cc ', 'web/build') if word in steps], [])
