@@ -14,7 +14,7 @@ overflow_cast-needed c =
 pub returns-then-work-needed : goal.returns-then-work-needed
 returns-then-work-needed c =
     rw c.turned_away.ensures
-    (made_nine c.requires _ _ _ _ c.work_needed-needed.ensures c.if-work-needed.true _ (omega arith))
+    (made_nine c.requires _ _ _ _ c.work_needed-needed.ensures (omega (arith, c.if-work-needed.true)) _ (omega arith))
 
 pub overflow_cast-room : goal.overflow_cast-room
 overflow_cast-room c =

@@ -11,7 +11,8 @@ use Rattle.layouts.proofs.names.is_named.Goals as goal
 
 pub returns-then-layout-name : goal.returns-then-layout-name
 unfolding is_named
-returns-then-layout-name c = simp (ne_eqb _ _ c.if-layout-name.true)
+returns-then-layout-name c =
+    simp (ne_eqb c.args.layout.len (length c.args.name.now) (λ e. omega (arith, c.if-layout-name.true)))
 
 pub loop-i-init : goal.loop-i-init
 loop-i-init c =
