@@ -16,7 +16,7 @@ from forecast import shown, time_of_chapter, told_in_words  # noqa: E402
 from reference import book, cases, marking, sample, search  # noqa: E402
 from reference.galley import read, write  # noqa: E402
 
-REAL = {'gretl': ('gretl-p046', 'gretl-p441'), 'mpman': ('mpman-2', 'mpman-4')}
+REAL = {'gretl': ('gretl-p046', 'gretl-p441'), 'mpman': ('mpman-p003', 'mpman-p081'), 'manual': ('mpman-2', 'mpman-4')}
 
 
 def files(folder, data):

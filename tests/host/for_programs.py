@@ -26,7 +26,7 @@ def inputs(folder, root):
 
 CALLS = [
     'make {a}', 'make {k}', 'make {cut}', 'make {none}', 'make --advise {none}', 'make --after {high} {a}', 'make --after {best} {a}', 'make {nowhere}',
-    'make --after {junk} {a}', 'make {gretl-p441}', 'make {memman-23}',
+    'make --after {junk} {a}', 'make {gretl-p441}', 'make {memman-p211-tables}',
     'mark {a} {best}', 'mark {a} {best} {longer} {high} {back} {junk} {empty} {head} {nowhere}', 'mark {k} {tabled}', 'mark {cut} {best}', 'mark {nowhere} {best}',
     'explain {a} {best} {longer} {high} {back} {junk} {empty}', 'explain {k} {tabled}', 'explain {cut} {best}', 'explain {none} {high}', 'explain {nowhere} {best}',
     'book {a} {a}', 'book {gretl-p046} {gretl-p441}', 'book {a} {k} {cut}', 'book {none} {a}', 'book {nowhere}',

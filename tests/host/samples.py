@@ -1,12 +1,33 @@
 """The samples: what README and samples/README.md have people run, and the real chapters against the reference."""
 
+from dataclasses import replace
+
 from reference import marking, search
-from reference.galley import read
+from reference.galley import Table, read, streams_of, write
 
 # A galley as text, by what its lists' names begin with.
 CASES = {'a': 'case-a', 'c': 'case-c', 'left': 'left-hand', 'kept': 'kept', 'close': 'full-close', 'tables': 'tables',
          'white': 'white-space'}
 SMALL = 6_000  # bytes of a galley that the reference makes in a moment
+TABLED, EVERY = 'memman-p211', 3  # the chapter that is there with tables too, and which of its figures they are: every third
+
+
+def with_tables(galley, words):
+    """The galley with every third figure as a table, and its page list."""
+    numbered = list(enumerate(galley.figures, 1))
+    tables = [Table(*figure[:4]) for number, figure in numbered if number % EVERY == 0]
+    figures = [figure for number, figure in numbered if number % EVERY]
+    tabled = replace(galley, streams=streams_of(galley.lines, figures, tables))
+    return tabled, [(i, j - j // EVERY, j // EVERY) for i, j in marking.places(galley, words)]
+
+
+def derived(tally, real):
+    """The chapter with tables is what it is said to be."""
+    galley, words = read((real / f'{TABLED}.galley').read_bytes())[1], (real / f'{TABLED}.latex').read_text().split()
+    tabled, pages = with_tables(galley, tuple(map(int, words)))
+    tally.same(f'{TABLED} with tables', (real / f'{TABLED}-tables.galley').read_bytes(), write(tabled))
+    listed = ''.join(' '.join(map(str, end)) + '\n' for end in pages)
+    tally.same(f"{TABLED} with tables, LaTeX's pages", (real / f'{TABLED}-tables.latex').read_text(), listed)
 
 
 def run(tally, command, root, folder):
@@ -31,6 +52,7 @@ def run(tally, command, root, folder):
     texts = sorted(path.stem for path in (root / 'samples').glob('*.txt'))
     tally.same('every text has its answer', texts, sorted(CASES.values()))
     tally.group('samples')
+    derived(tally, root / 'samples/real')
     for path in sorted((root / 'samples/real').glob('*.galley')):
         real(tally, command, path)
     tally.group('real chapters')

@@ -35,8 +35,8 @@ def called(program, stack, files):
 
 def calls(command, root, folder):
     """What is called, with the answer that is due: (whether it marks, name, files, nine words)."""
-    made, none = root / 'samples/real/mpman-2.galley', root / 'samples/real/mpman-4.galley'
-    tabled, cut = root / 'samples/real/memman-23.galley', folder / 'cut.galley'
+    made, none = root / 'samples/real/mpman-p003.galley', root / 'samples/real/mpman-p081.galley'
+    tabled, cut = root / 'samples/real/memman-p211-tables.galley', folder / 'cut.galley'
     cut.write_bytes(made.read_bytes()[:-1])
     refused, in_vain = nine(('refused', 1, made.stat().st_size - 2)), nine(('refused', 11, 0), weighed(none))
     (lists, best), (tabled_lists, tabled_best) = (best_list(command, path, folder) for path in (made, tabled))

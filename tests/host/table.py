@@ -96,7 +96,7 @@ def engine(command, galley):
 
 
 def told(readme):
-    """The turns of LaTeX and of the engine that README.md gives as an example: mpman-2 at 90 %, double-sided."""
+    """The turns of LaTeX and of the engine that README.md gives as an example: mpman-p003 at 90 %, double-sided."""
     sentence = r"MetaPost's manual .*?90 % full, double-sided: (\d+) turns .*? and (\d+) as the engine does"
     found = re.search(sentence, ' '.join(readme.split()))
     return found and found.groups()
@@ -112,7 +112,7 @@ def run(tally, command, root):
     tally.same(STANDS, [table in stands for table in made], [True, True])
     readme = (root / 'README.md').read_text()
     tally.same('a link in README.md', f']({STANDS})' in readme, True)
-    row_told = next(line for line in made[0].splitlines() if line.startswith('| mpman-2 | 90 % |'))
+    row_told = next(line for line in made[1].splitlines() if line.startswith('| mpman-p003 | 90 % |'))
     tally.same('the example in README.md', told(readme), tuple(re.findall(r'= (\d+)', row_told)[2:]))
     tally.group('table of real chapters')
 

@@ -32,8 +32,8 @@ def turns(browser):
 
 
 def by_keys(tally, browser, command, folder):
-    sample(browser, 'memdesign-14')
-    galley = REAL / 'memdesign-14.galley'
+    sample(browser, 'memdesign-p049')
+    galley = REAL / 'memdesign-p049.galley'
     page, *_, change = gain(browser)
     before = turns(browser)
     browser.js('app.hand.select(arguments[0])', page)
@@ -102,8 +102,8 @@ def written(tally, browser, command, galley):
 
 
 def by_pointer(tally, browser, command, folder):
-    sample(browser, 'memdesign-14')
-    galley = REAL / 'memdesign-14.galley'
+    sample(browser, 'memdesign-p049')
+    galley = REAL / 'memdesign-p049.galley'
     page, *end, change = gain(browser)
     before = turns(browser)
     browser.js('app.hand.select(arguments[0])', page)
@@ -150,7 +150,7 @@ def touched(tally, browser):
 
 def long(tally, browser, command, folder):
     """A list of more pages than the engine's desk takes goes by markings, and the page says so."""
-    sample(browser, 'mpman-2')
+    sample(browser, 'mpman-p003')
     tally.same('marking is said', [browser.value('app.bench.marking'), '64' in browser.text('#lmode')], [True, True])
     found = gain(browser)
     tally.same('some end gains', found is not None, True)
@@ -158,7 +158,7 @@ def long(tally, browser, command, folder):
     before = turns(browser)
     browser.keys('b', Keys.ENTER)
     tally.same('committed above 64 pages', turns(browser) < before, True)
-    native.same_in_force(tally, browser, command, REAL / 'mpman-2.galley', folder, 'above 64 pages')
+    native.same_in_force(tally, browser, command, REAL / 'mpman-p003.galley', folder, 'above 64 pages')
     browser.keys('s')
     browser.driver.switch_to.active_element.send_keys(Keys.ENTER)
     tally.same('a layout is kept by the page', browser.value('app.bench.layouts().length'), 1)

@@ -25,7 +25,7 @@ def run(tally, browser, command, folder):
     browser.give(('short.galley', b'GS\0'))
     browser.until('!document.getElementById("notice").hidden', 'a sentence')
     tally.same('a refused galley leaves what is open', [browser.value('app.best.p'), 'short.galley' in browser.text('#notice')], [5, True])
-    browser.give(ROOT / 'samples/real/mpman-4.galley')
+    browser.give(ROOT / 'samples/real/mpman-p081.galley')
     browser.until('app.best && !app.best.ok', 'a galley without a pagination')
     for tab in ('show', 'desk'):
         browser.js('app.go(arguments[0])', tab)

@@ -11,7 +11,7 @@ import handed  # noqa: E402
 from command import Command  # noqa: E402
 
 OPENINGS, STEPS = 5, 40
-REAL = ['gretl-p046', 'memdesign-14', 'memman-23', 'mpman-2']
+REAL = ['gretl-p046', 'memdesign-p049', 'memman-p211-tables', 'mpman-p003']
 
 
 def opened(browser, page):

@@ -11,8 +11,8 @@ REAL = ROOT / 'samples/real'
 
 def printed(tally, browser, command, folder):
     """Pages up to a chosen one stay, and the rest is made again after them, as the command makes it."""
-    at_desk.sample(browser, 'memman-23')
-    galley = REAL / 'memman-23.galley'
+    at_desk.sample(browser, 'memman-p211-tables')
+    galley = REAL / 'memman-p211-tables.galley'
     browser.js('app.hand.select(4)')
     browser.keys('p')
     browser.until('app.bench.printed === 4 && app.after', 'the rest is made')
@@ -62,7 +62,7 @@ def together(tally, browser, command, folder):
 
 def book(tally, browser, command, folder):
     """Several galleys are a book, as the command binds it; a chapter opens with its list; a refused book is told."""
-    names = ['mpman-2', 'mpman-4']
+    names = ['mpman-p003', 'mpman-p081']
     said = command.text('book', *(str(REAL / f'{name}.galley') for name in names))[1].splitlines()
     browser.js('app.sample(app.inside.find((s) => s.galleys))')
     browser.until('app.tab === "book" && app.book.made', 'the book is made')
@@ -82,7 +82,7 @@ def book(tally, browser, command, folder):
     browser.click('#view-book table th a, #view-book table th button')
     browser.until('app.tab === "show" && app.best', 'a chapter opens')
     tally.same('a chapter has its list of the book, and it is accepted', browser.value('app.lists.map((l) => l.mark.ok).join()'), 'true')
-    browser.give(REAL / 'gretl-p046.galley', REAL / 'mpman-2.galley')
+    browser.give(REAL / 'gretl-p046.galley', REAL / 'mpman-p003.galley')
     browser.until('app.tab === "book" && app.book.made && !app.book.made.ok', 'a refused book')
     tally.same('a book of unlike chapters is told', ['29' in browser.text('#view-book'), browser.value('app.book.made.number')], [True, 29])
 

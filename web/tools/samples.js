@@ -7,9 +7,9 @@ import { Engine } from '../engine/engine.js';
 import { looksPacked, pack } from '../galley/galley.js';
 
 const REAL = [
-  ['memman-23', 'a chapter of a manual, with tables: 37 pages, and a class of 12 lists', 9, 3],
-  ['mpman-2', 'a whole manual: 75 pages, above the 64 of the engine’s desk', 2, 0],
-  ['memdesign-14', '30 pages of a book on design', 2, 0],
+  ['memman-p211-tables', 'a chapter of a manual, with tables: 37 pages, and a class of 12 lists', 9, 3],
+  ['mpman-p003', 'a whole manual: 73 pages, above the 64 of the engine’s desk', 2, 0],
+  ['memdesign-p049', '30 pages of a book on design', 2, 0],
   ['handbook-p047', '22 pages of a handbook', 2, 0],
   ['gretl-p046', '11 pages with graphs, and a class of 20 lists', 14, 6],
   ['gretl-p441', '4 pages, small enough to follow by hand', 1, 1],
@@ -22,7 +22,7 @@ const SMALL = [
   ['white-space', 'white', 'equal turns, other white space'],
 ];
 const MOST_MOVED = 50;                            // lines that may take the room of a float
-const BOOKS = [['mpman', 'a book: a manual and its appendix of tables, which has no pagination by itself', ['mpman-2', 'mpman-4']]];
+const BOOKS = [['mpman', 'a book: a manual and its appendix of tables, which has no pagination by itself', ['mpman-p003', 'mpman-p081']]];
 
 /** Numbers from a seed, the same everywhere: n gives one of 0 to n - 1. @param {number} seed */
 function drawn(seed) {
