@@ -4,7 +4,7 @@ use Rattle.model.specs.Gather.{one, sum}
 use Rattle.model.specs.Galley.{Stream, Galley, count}
 use Rattle.model.specs.Height.{has, stacked}
 use Rattle.model.specs.Rules.{floor}
-use Rattle.model.proofs.laws.Lists.{Inside}
+use Rattle.model.specs.laws.Lists.{Inside}
 use Rattle.theorems.specs.pages.Graph.{full}
 use Rattle.places.specs.Columns.{columns, float_sizes, floats_at, place_at}
 use Rattle.window.specs.declared.slide.Load.{Load}

@@ -4,7 +4,7 @@ use Rattle.model.specs.Gather.{pick}
 use Rattle.model.specs.Galley.{Sides, single, double, Galley}
 use Rattle.theorems.specs.pages.Graph.{side, full}
 use Rattle.model.specs.Rules.{forward, closes, fits, fills, cited}
-use Rattle.model.proofs.laws.White.{page_white}
+use Rattle.model.specs.laws.White.{page_white}
 use Rattle.theorems.specs.turns.Waiting.{page_cost}
 use Rattle.theorems.specs.turns.Rank.{rank}
 use Rattle.places.specs.declared.Origin.{Origin}

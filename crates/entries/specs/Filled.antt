@@ -3,8 +3,8 @@ use Rattle.std.specs.Prelude.{ℕ, ◌+◌, ◌*◌, ◌≤◌, ◌<◌, ◌≡�
 use Rattle.model.specs.Galley.{Sides, Galley}
 use Rattle.theorems.specs.turns.Bounds.{dearest}
 use Rattle.theorems.specs.pages.Graph.{side}
-use Rattle.model.proofs.laws.Rules.{placed}
-use Rattle.model.proofs.laws.Lists.{Inside}
+use Rattle.model.specs.laws.Rules.{placed}
+use Rattle.model.specs.laws.Lists.{Inside}
 use Rattle.places.specs.declared.Place.{Place}
 use Rattle.places.specs.declared.Origin.{Origin}
 use Rattle.places.specs.declared.Entry.TheVariants.{Least}

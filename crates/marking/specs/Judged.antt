@@ -7,7 +7,7 @@ use Rattle.model.specs.Galley as model
 use Rattle.model.specs.Rules.{broken}
 use Rattle.model.specs.Answers.{pages_of}
 use Rattle.model.specs.Opening.{end_of}
-use Rattle.model.proofs.laws.White.{page_white}
+use Rattle.model.specs.laws.White.{page_white}
 use Rattle.theorems.specs.turns.Waiting.{waiting, page_sum, at_end}
 use Rattle.galley.specs.declared.Galley.{Galley}
 use Rattle.galley.specs.Model.{model_of}

@@ -14,3 +14,4 @@ pub mod Weighed
 pub mod Opening
 pub mod Loosened
 pub mod Book
+pub mod laws

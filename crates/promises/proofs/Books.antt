@@ -10,7 +10,7 @@ use Rattle.model.specs.declared.answer.Answer.{Answer}
 use Rattle.model.specs.Galley.{Galley}
 use Rattle.model.specs.Answers.{numbers_of, words_of}
 use Rattle.model.specs.Book.{first_folio, Choice, gathered, choices, book_turns, book_white, book_counts, book_made, book_words}
-use Rattle.model.proofs.laws.Lists.{◌∈◌}
+use Rattle.model.specs.laws.Lists.{◌∈◌}
 use Rattle.theorems.specs.books.Binding.{Binding, no_choice, best_choice, binding}
 use Rattle.chapters.specs.Book.{Chapter, read, book_of, models_of, book_work, book_list}
 use Rattle.course.specs.Weighed.{all_weighed}

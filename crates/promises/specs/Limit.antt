@@ -10,7 +10,7 @@ use Rattle.model.specs.Galley as model
 use Rattle.model.specs.Turns.{turns}
 use Rattle.model.specs.Answers.{numbers_of, accepted, counts_of, marked}
 use Rattle.model.specs.Best.{allowed, made, made_words}
-use Rattle.model.proofs.laws.Judge.{accepts}
+use Rattle.model.specs.laws.Judge.{accepts}
 use Rattle.model.proofs.laws.Valid.{valid_accepted, accepted_valid}
 use Rattle.theorems.specs.turns.Bounds.{all_floats, dearest, costs_most, Limits, turns_limit, white_limit}
 use Rattle.theorems.specs.turns.Costs.{turns_are_costs}

@@ -14,7 +14,7 @@ use Rattle.model.specs.Best.{allowed}
 use Rattle.model.specs.Opening.{pages_turned, opening_turned}
 use Rattle.model.proofs.laws.Gather.{and_left, and_right}
 use Rattle.model.proofs.laws.Rules.{kept, forward_at}
-use Rattle.model.proofs.laws.Judge.{accepts}
+use Rattle.model.specs.laws.Judge.{accepts}
 use Rattle.model.proofs.laws.Words.{length_chunks, length_pages, counted_at}
 use Rattle.model.proofs.laws.Valid.{same_true, count_sizes, marked_accepted, marked_counts}
 use Rattle.galley.specs.declared.Galley.{Galley}

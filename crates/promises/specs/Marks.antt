@@ -12,7 +12,8 @@ use Rattle.model.specs.White.{white}
 use Rattle.model.specs.Answers.{numbers_of, accepted, words_of, counts_of, marked}
 use Rattle.model.specs.Best.{valid}
 use Rattle.model.specs.Book.{open_on, first_folio, Choice, gathered, choices, summed, book_pages, book_x, book_white, book_y, book_turns, book_counts}
-use Rattle.model.proofs.laws.Lists.{◌∈◌, ∈-map, ∈-unmap}
+use Rattle.model.specs.laws.Lists.{◌∈◌}
+use Rattle.model.proofs.laws.Lists.{∈-map, ∈-unmap}
 use Rattle.model.proofs.laws.Valid.{accepted_valid}
 use Rattle.model.proofs.laws.Book.{∈-gathered, ∈-ungathered}
 use Rattle.theorems.specs.turns.LeastTurns.{valid_counts}

@@ -2,7 +2,7 @@
 use Rattle.std.specs.Prelude.{ℕ, suc, ◌+◌, ◌-◌, ◌*◌, ◌≤◌, ◌<◌, ◌≡◌, Bool, ◌&&◌, ◌||◌, List, ltb, leb}
 use Rattle.model.specs.Gather.{pick}
 use Rattle.model.specs.Galley as model
-use Rattle.model.proofs.laws.Boxes.{below}
+use Rattle.model.specs.laws.Boxes.{below}
 use Rattle.galley.specs.declared.Galley.{Galley}
 use Rattle.galley.specs.declared.Stream.{Stream}
 use Rattle.galley.specs.Model.{text_of, floats_of, model_of}

@@ -3,7 +3,7 @@ use Rattle.std.specs.Prelude.{ℕ, ◌+◌, ◌-◌, ◌*◌, ◌≤◌, ◌<◌
 use Rattle.model.specs.Gather.{one, total}
 use Rattle.model.specs.Galley.{Stream}
 use Rattle.model.specs.Height.{stacked}
-use Rattle.model.proofs.laws.Boxes.{below}
+use Rattle.model.specs.laws.Boxes.{below}
 use Rattle.window.specs.Slide.{Reaches}
 use Rattle.window.specs.Sums.{spaced_at, bare_at, SmallPair, Sums}
 use Rattle.weighing.specs.declared.lines.Tally.{Tally}

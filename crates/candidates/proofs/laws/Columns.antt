@@ -9,8 +9,8 @@ use native.Mathlib.Omega.{arith}
 use Rattle.std.proofs.Math.Path.{sym, ap}
 use Rattle.model.specs.Gather.{pick, total}
 use Rattle.model.specs.Galley.{count}
-use Rattle.model.proofs.laws.Rules.{placed}
-use Rattle.model.proofs.laws.Lists.{Inside}
+use Rattle.model.specs.laws.Rules.{placed}
+use Rattle.model.specs.laws.Lists.{Inside}
 use Rattle.theorems.specs.pages.Graph.{full}
 use Rattle.galley.specs.declared.Galley.{Galley}
 use Rattle.galley.specs.Model.{model_of}

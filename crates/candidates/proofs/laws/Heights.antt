@@ -15,7 +15,7 @@ use Rattle.model.specs.Rules.{forward, fits}
 use Rattle.model.proofs.laws.Gather.{sum_ext, sum_zero, sum_has, length_row}
 use Rattle.model.proofs.laws.Height.{between_none, tightest_grows}
 use Rattle.model.proofs.laws.Rules.{forward_at, forward_of}
-use Rattle.model.proofs.laws.Lists.{Inside}
+use Rattle.model.specs.laws.Lists.{Inside}
 use Rattle.model.proofs.laws.Valid.{count_sizes}
 use Rattle.places.specs.Columns.{columns, floats_at, float_sizes, place_at}
 use Rattle.places.proofs.laws.Columns.{inside_cons, inside_tail, column_grows, column_of_floats}

@@ -9,7 +9,7 @@ use Rattle.model.specs.Galley.{Galley, Place, count}
 use Rattle.model.specs.Height.{stacked, tightest, loosest}
 use Rattle.model.specs.Rules.{forward, fits, floor, fills}
 use Rattle.model.proofs.laws.Gather.{and_left, and_right, and_both}
-use Rattle.model.proofs.laws.Lists.{Inside}
+use Rattle.model.specs.laws.Lists.{Inside}
 use Rattle.theorems.specs.pages.Graph.{full}
 use Rattle.places.specs.Order.{Earlier}
 use Rattle.places.specs.Columns.{place_at}

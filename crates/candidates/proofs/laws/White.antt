@@ -5,7 +5,7 @@ use Rattle.std.proofs.Common.{◌∙◌}
 use Rattle.model.specs.Gather.{pick}
 use Rattle.model.specs.Height.{loosest}
 use Rattle.model.specs.White.{white_on}
-use Rattle.model.proofs.laws.White.{page_white}
+use Rattle.model.specs.laws.White.{page_white}
 use Rattle.theorems.specs.pages.Graph.{full}
 use Rattle.places.specs.Columns.{place_at}
 use Rattle.window.specs.declared.slide.Load.{Load}

@@ -13,8 +13,8 @@ use Rattle.model.specs.Turns.{turns}
 use Rattle.model.specs.White.{white}
 use Rattle.model.specs.Order.{starts_of}
 use Rattle.model.specs.Answers.{words_of}
-use Rattle.model.proofs.laws.Rules.{placed}
-use Rattle.model.proofs.laws.Lists.{◌∈◌}
+use Rattle.model.specs.laws.Rules.{placed}
+use Rattle.model.specs.laws.Lists.{◌∈◌}
 use Rattle.model.proofs.laws.Valid.{placed_sizes, valid_accepted}
 use Rattle.model.proofs.laws.Best.{MakesOf, makes}
 use Rattle.theorems.specs.optimality.Cell.{Right, Trace}

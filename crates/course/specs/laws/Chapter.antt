@@ -9,7 +9,7 @@ use Rattle.model.specs.Galley as model
 use Rattle.model.specs.Galley.{Place, streams}
 use Rattle.model.specs.Answers.{words_of, marked}
 use Rattle.model.specs.Best.{valid}
-use Rattle.model.proofs.laws.Lists.{◌∈◌}
+use Rattle.model.specs.laws.Lists.{◌∈◌}
 use Rattle.model.proofs.laws.Best.{MakesOf, makes, impossible}
 use Rattle.model.proofs.laws.Words.{length_words}
 use Rattle.model.proofs.laws.Valid.{few_pages, valid_accepted}

@@ -9,7 +9,7 @@ use Rattle.model.specs.Gather.{one, sum, total}
 use Rattle.model.specs.Galley as model
 use Rattle.model.specs.Galley.{Place}
 use Rattle.model.specs.Weighed.{weighs, past, weighed_from}
-use Rattle.model.proofs.laws.Boxes.{below}
+use Rattle.model.specs.laws.Boxes.{below}
 use Rattle.model.proofs.laws.Weighed.{weighed_from_nothing}
 use Rattle.galley.specs.declared.Galley.{Galley}
 use Rattle.galley.specs.declared.Reading.TheVariants as reads

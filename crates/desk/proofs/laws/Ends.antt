@@ -3,7 +3,8 @@ use Rattle.std.specs.Prelude.{ℕ, zero, suc, ◌+◌, ◌-◌, ◌*◌, ◌≤�
 use Rattle.std.proofs.Common.{suc-mul, arith, sym, ap, ◌∙◌, length-set, length-drop, take-append-drop, length-take-le}
 use Rattle.model.specs.Answers.{chunks, words_of}
 use Rattle.model.specs.Gather.{pick}
-use Rattle.model.proofs.laws.Words.{Shaped, length_chunks, chunks_shaped, words_chunks, length_words}
+use Rattle.model.specs.laws.Words.{Shaped}
+use Rattle.model.proofs.laws.Words.{length_chunks, chunks_shaped, words_chunks, length_words}
 use Rattle.desk.specs.Pages.{page_at, two_set, with_end}
 
 -- The first words of a list with one word set are those words with it set.

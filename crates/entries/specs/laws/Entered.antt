@@ -12,7 +12,7 @@ use Rattle.model.specs.Galley as model
 use Rattle.model.specs.Leaf.{sides_of}
 use Rattle.model.proofs.laws.Gather.{and_left, and_right}
 use Rattle.model.proofs.laws.Rules.{placed_grows}
-use Rattle.model.proofs.laws.Lists.{Inside}
+use Rattle.model.specs.laws.Lists.{Inside}
 use Rattle.theorems.specs.turns.Waiting.{page_cost}
 use Rattle.model.proofs.laws.White.{page_white_le}
 use Rattle.theorems.specs.turns.Rank.{rank}

@@ -17,7 +17,8 @@ use Rattle.model.specs.Answers.{numbers_of, same, ended, refuse, judge}
 use Rattle.model.specs.Best.{allowed}
 use Rattle.model.specs.Opening.{end_of, pages_turned}
 use Rattle.model.specs.White.{whites}
-use Rattle.model.proofs.laws.White.{page_white, whites_next}
+use Rattle.model.specs.laws.White.{page_white}
+use Rattle.model.proofs.laws.White.{whites_next}
 use Rattle.theorems.specs.pages.Opening.{open_white}
 use Rattle.marking.specs.Judged.{refusal, fault_in, lacked}
 

@@ -14,7 +14,8 @@ use Rattle.model.specs.Answers.{accepted, same, judge, counted, counts_of, pages
 use Rattle.model.specs.Best.{allowed}
 use Rattle.model.specs.Opening.{end_of}
 use Rattle.model.proofs.laws.Rules.{kept}
-use Rattle.model.proofs.laws.Judge.{accepts, judge_accepts}
+use Rattle.model.specs.laws.Judge.{accepts}
+use Rattle.model.proofs.laws.Judge.{judge_accepts}
 use Rattle.model.proofs.laws.Words.{length_pages, counted_at}
 use Rattle.theorems.specs.turns.Pages.{along, accepts_along}
 use Rattle.theorems.specs.turns.LeafEnds.{Orderly, x_by_ends}

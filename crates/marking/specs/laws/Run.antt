@@ -17,7 +17,7 @@ use Rattle.model.specs.Answers.{pages_of}
 use Rattle.model.specs.Best.{allowed}
 use Rattle.model.specs.Opening.{end_of}
 use Rattle.model.proofs.laws.Rules.{kept}
-use Rattle.model.proofs.laws.White.{page_white}
+use Rattle.model.specs.laws.White.{page_white}
 use Rattle.theorems.specs.turns.Waiting.{page_sum, at_end}
 use Rattle.galley.specs.declared.Galley.{Galley}
 use Rattle.galley.specs.Sound.{Sound}

@@ -12,7 +12,7 @@ use Rattle.model.specs.White.{white}
 use Rattle.model.specs.Order.{then_by, by, before}
 use Rattle.model.specs.Best.{valid, first_of, best}
 use Rattle.model.proofs.laws.Gather.{and_left, and_right, implies_at}
-use Rattle.model.proofs.laws.Lists.{◌∈◌}
+use Rattle.model.specs.laws.Lists.{◌∈◌}
 use Rattle.model.proofs.laws.Valid.{Accepted, valid_accepted}
 use Rattle.model.proofs.laws.Order.{Preference, preference_refl, before_preference, before_antisymm}
 

@@ -8,7 +8,7 @@ use Rattle.model.specs.Galley.{Galley}
 use Rattle.model.specs.Order.{then_by, by, lex, geb}
 use Rattle.model.specs.Book.{gathered, Tie, tie_order, book_before}
 use Rattle.model.proofs.laws.Gather.{and_left}
-use Rattle.model.proofs.laws.Lists.{◌∈◌}
+use Rattle.model.specs.laws.Lists.{◌∈◌}
 use Rattle.model.proofs.laws.Order.{Preference, leb_preference, geb_preference, by_preference, then_by_preference, then_by_last, lex_preference, lex_antisymm, geb_antisymm}
 
 module _ {A B : Type 0} (f : A → List B) where

@@ -9,12 +9,8 @@ use Rattle.model.specs.Gather.{one, sum, total}
 use Rattle.model.specs.Galley.{Place}
 use Rattle.model.specs.Best.{prefixed, box}
 use Rattle.model.specs.Weighed.{sum_of, product}
-use Rattle.model.proofs.laws.Lists.{◌∈◌}
-
--- f 0 + f 1 + … + f (n − 1): over n things numbered from 0.
-unfoldable pub below : ℕ → (ℕ → ℕ) → ℕ
-below zero f = 0
-below (suc n) f = below n f + f n
+use Rattle.model.specs.laws.Lists.{◌∈◌}
+use Rattle.model.specs.laws.Boxes.{below}
 
 pub below_ext : (n : ℕ) (f h : ℕ → ℕ) → ((k : ℕ) → k < n → f k ≡ h k) → below n f ≡ below n h
 unfolding below

@@ -8,12 +8,8 @@ use Rattle.model.specs.Gather.{pick}
 use Rattle.model.specs.Galley.{Galley, Place, sizes}
 use Rattle.model.specs.Rules.{broken}
 use Rattle.model.specs.Answers.{accepted, same, ended, refuse, judge}
-use Rattle.model.specs.Best.{Allowed, allowed}
-
--- Each page, numbered from q and starting at u, is allowed, and the last ends at l.
-unfoldable pub accepts : Allowed → Place → ℕ → Place → List Place → Bool
-accepts ok l q u [] = same u l
-accepts ok l q u (v ∷ vs) = ok q (ended vs) u v && accepts ok l (suc q) v vs
+use Rattle.model.specs.Best.{allowed}
+use Rattle.model.specs.laws.Judge.{accepts}
 
 accepted_pick : (b : Bool) (good : Answer) (n at : ℕ) → accepted good ≡ true → accepted (pick b good (Refused n at)) ≡ b
 accepted_pick true good n at h = h

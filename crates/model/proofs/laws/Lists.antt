@@ -1,5 +1,5 @@
 -- "Every valid list" has a list exactly where the rules accept it.
-use Prim.Native.Nat.{ℕ, zero, suc, ◌+◌, ◌≤◌}
+use Prim.Native.Nat.{ℕ, zero, suc, ◌≤◌}
 use Rattle.std.proofs.Math.Nat.{le-suc_iff}
 use Rattle.std.proofs.Common.{le_refl, le_of_suc-le-suc, arith, sym, ◌∙◌, ap, inl, inr}
 use Rattle.std.proofs.Math.Path.{◌≡◌, refl, subst}
@@ -12,12 +12,9 @@ use Rattle.model.specs.Galley.{Place}
 use Rattle.model.specs.Answers.{same, ended}
 use Rattle.model.specs.Best.{prefixed, box, keep, onward, lists, Allowed}
 use Rattle.model.proofs.laws.Gather.{and_left, and_right, and_both, or_left, or_right}
-use Rattle.model.proofs.laws.Judge.{accepts}
+use Rattle.model.specs.laws.Judge.{accepts}
+use Rattle.model.specs.laws.Lists.{◌∈◌, Inside, AllInside}
 
-abbrev pub ◌∈◌ : {A : Type 0} → A → List A → Type 0
-◌∈◌ a l = Memᴰ a l
-
-infix 40 ◌∈◌
 module _ {A B : Type 0} where
   pub ∈-map : (f : A → B) (a : A) (l : List A) → a ∈ l → f a ∈ map f l
   ∈-map f a [] m = elim m [ ]
@@ -61,11 +58,6 @@ module _ {A : Type 0} where
           → (a ∈ x ∷ l) × (test a ≡ true)
       go true p m below = first p (Memᴰ.cases_cons m) below
       go false p m below = more (below m)
-
--- No count of v is above that of l, and they have as many.
-pub record Inside (l v : Place) : Type 0 where
-  pub long : length v ≡ length l
-  pub under : (i : ℕ) → get_or v i 0 ≤ get_or l i 0
 
 ∈-prefixed : (n k : ℕ) (v : Place) (vs : List Place) → k ≤ n → v ∈ vs → (k ∷ v) ∈ prefixed n vs
 unfolding prefixed
@@ -117,11 +109,6 @@ unfolding box
 
     go : ((k : ℕ) × (w : Place) × (v ≡ k ∷ w) × (k ≤ n) × (w ∈ box l)) → ((w : Place) → w ∈ box l → Inside l w) → Inside (n ∷ l) v
     go r below = subst (λ x. Inside (n ∷ l) x) (sym r.2) (inside r.0 r.1 r.3 (below r.1 r.4))
-
--- Each place of a list is inside l.
-abbrev pub AllInside : Place → List Place → Type 0
-AllInside l [] = Unit
-AllInside l (v ∷ vs) = Inside l v × AllInside l vs
 
 module _ (ok : Allowed) (l : Place) where
   ended_either : (q : ℕ) (u v : Place) (ws : List Place) → ok q (ended ws) u v ≡ true → ok q true u v || ok q false u v ≡ true

@@ -18,9 +18,10 @@ use Rattle.model.specs.Best.{allowed, valid}
 use Rattle.model.specs.Opening.{pages_turned, opening_turned}
 use Rattle.model.specs.Loosened.{with_htmin}
 use Rattle.model.proofs.laws.Gather.{and_left, and_right, and_both}
-use Rattle.model.proofs.laws.Rules.{Kept, kept, kept_allowed}
-use Rattle.model.proofs.laws.Judge.{accepts}
-use Rattle.model.proofs.laws.Lists.{◌∈◌}
+use Rattle.model.specs.laws.Rules.{Kept}
+use Rattle.model.proofs.laws.Rules.{kept, kept_allowed}
+use Rattle.model.specs.laws.Judge.{accepts}
+use Rattle.model.specs.laws.Lists.{◌∈◌}
 use Rattle.model.proofs.laws.Valid.{Accepted, valid_accepted, MarkAccepted, marked_accepted, marked_counts}
 
 module _ (g : Galley) (h : ℕ) (low : h ≤ g.spec.htmin) where

@@ -15,7 +15,8 @@ use Rattle.model.specs.Answers.{same, chunks, pages_of, words_of, counts_of}
 use Rattle.model.specs.Best.{keep, valid, best, made, made_words}
 use Rattle.model.specs.Opening.{begins, valid_after, best_after, pages_turned, opening_turned, made_after, made_words_after}
 use Rattle.model.proofs.laws.Gather.{and_left, and_right, and_both}
-use Rattle.model.proofs.laws.Lists.{◌∈◌, ∈-keep, ∈-kept}
+use Rattle.model.specs.laws.Lists.{◌∈◌}
+use Rattle.model.proofs.laws.Lists.{∈-keep, ∈-kept}
 use Rattle.model.proofs.laws.Valid.{same_true, same_refl, count_sizes, count_zeros, Accepted, valid_accepted}
 use Rattle.model.proofs.laws.Best.{LeastOf, MakesOf, first_makes, first_is, first_none}
 

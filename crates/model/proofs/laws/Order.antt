@@ -14,7 +14,7 @@ use Rattle.model.specs.Answers.{ended}
 use Rattle.model.specs.Order.{then_by, by, lex, geb, starts_of, before}
 use Rattle.model.specs.Best.{Allowed, allowed}
 use Rattle.model.proofs.laws.Gather.{and_left, and_right, and_both, implies_at, implies_of}
-use Rattle.model.proofs.laws.Judge.{accepts}
+use Rattle.model.specs.laws.Judge.{accepts}
 use Rattle.model.proofs.laws.Valid.{Accepted, same_true}
 
 -- Of any two one comes no later than the other, and what comes before an earlier one comes before a later one.

@@ -8,14 +8,7 @@ use Rattle.model.specs.Height.{has, kinds, loosest}
 use Rattle.model.specs.Rules.{forward, closes, fits, floor, fills, cited, first_broken, broken}
 use Rattle.model.specs.Best.{allowed}
 use Rattle.model.proofs.laws.Gather.{and_left, and_right, and_both, every_at, every_of, total_some, total_has, total_lt}
-
--- The page keeps rules 13 to 17.
-pub record Kept (g : Galley) (q : ℕ) (last : Bool) (u v : Place) : Type 0 where
-  pub rule13 : forward g u v ≡ true
-  pub rule14 : closes g v ≡ true
-  pub rule15 : fits g u v ≡ true
-  pub rule16 : fills g last u v ≡ true
-  pub rule17 : cited g q last v ≡ true
+use Rattle.model.specs.laws.Rules.{placed, Kept}
 
 none_broken : (a b c d e : Bool) → first_broken a b c d e ≡ 0
     → (a ≡ true) × (b ≡ true) × (c ≡ true) × (d ≡ true) × (e ≡ true)
@@ -98,10 +91,6 @@ forward_of g u v f =
         let here = total_has g.floats (λ s. one (ltb (count u s) (count v s))) s p in
         let is : one (ltb (count u s) (count v s)) ≡ 1 = simp (lt-ltb _ _ l) in
         omega arith
-
--- The blocks placed at a place.
-unfoldable pub placed : Galley → Place → ℕ
-placed g u = total g.floats (count u)
 
 -- A page that goes forward places a block at least.
 pub placed_grows : (g : Galley) (u v : Place) → forward g u v ≡ true → placed g u < placed g v

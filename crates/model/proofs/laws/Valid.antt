@@ -15,10 +15,14 @@ use Rattle.model.specs.Galley.{Galley, Place, count, streams, zeros, sizes, bloc
 use Rattle.model.specs.Answers.{accepted, same, ended, judge, counted, counts_of, pages_of, words_of, marked}
 use Rattle.model.specs.Best.{allowed, valid}
 use Rattle.model.proofs.laws.Gather.{and_left, and_right, and_both, total_ext, length_row, row_at}
-use Rattle.model.proofs.laws.Rules.{kept, Forward, forward_at, placed, placed_grows}
-use Rattle.model.proofs.laws.Judge.{accepts, judge_accepts, judge_good}
-use Rattle.model.proofs.laws.Words.{Shaped, counted_at, length_pages, pages_shaped, words_pages, pages_words, counted_of}
-use Rattle.model.proofs.laws.Lists.{◌∈◌, ∈-keep, ∈-kept, Inside, AllInside, listed, unlisted}
+use Rattle.model.specs.laws.Rules.{placed}
+use Rattle.model.proofs.laws.Rules.{kept, Forward, forward_at, placed_grows}
+use Rattle.model.specs.laws.Judge.{accepts}
+use Rattle.model.proofs.laws.Judge.{judge_accepts, judge_good}
+use Rattle.model.specs.laws.Words.{Shaped}
+use Rattle.model.proofs.laws.Words.{counted_at, length_pages, pages_shaped, words_pages, pages_words, counted_of}
+use Rattle.model.specs.laws.Lists.{◌∈◌, Inside, AllInside}
+use Rattle.model.proofs.laws.Lists.{∈-keep, ∈-kept, listed, unlisted}
 
 -- The test for the same place is equality.
 pub same_true : (u v : Place) → same u v ≡ true → u ≡ v

@@ -18,7 +18,8 @@ use Rattle.model.specs.Rules.{forward, fits}
 use Rattle.model.specs.Best.{box}
 use Rattle.model.specs.Weighed.{sum_of, product, weighs, weighed, past, weighed_from, most_together, ceiling}
 use Rattle.model.proofs.laws.Gather.{and_left, and_right, and_both, every_of, total_le, total_has, row_at}
-use Rattle.model.proofs.laws.Lists.{Inside, ∈-unbox}
+use Rattle.model.specs.laws.Lists.{Inside}
+use Rattle.model.proofs.laws.Lists.{∈-unbox}
 use Rattle.model.proofs.laws.Rules.{forward_at}
 use Rattle.model.proofs.laws.Valid.{length_sizes, count_zeros}
 use Rattle.model.proofs.laws.Boxes.{sum_of_le, sum_box, total_mul, total_same, product_mul}

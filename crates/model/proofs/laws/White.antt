@@ -1,17 +1,13 @@
 -- White page by page, and how much of it there can be.
-use Rattle.std.specs.Prelude.{ℕ, pred, ◌+◌, ◌*◌, ◌≤◌, ◌≡◌, refl, Bool, true, false, List, [], ◌∷◌, length}
+use Rattle.std.specs.Prelude.{pred, ◌+◌, ◌*◌, ◌≤◌, ◌≡◌, refl, Bool, true, false, List, [], ◌∷◌, length}
 use Rattle.std.proofs.Common.{suc-mul, mul-le-mul_right, arith}
-use Rattle.model.specs.Gather.{pick}
 use Rattle.model.specs.Galley.{Galley, Place, zeros, sizes, blocks}
 use Rattle.model.specs.White.{white_on, whites, white}
 use Rattle.model.specs.Answers.{ended}
 use Rattle.model.specs.Best.{allowed}
-use Rattle.model.proofs.laws.Judge.{accepts}
+use Rattle.model.specs.laws.Judge.{accepts}
 use Rattle.model.proofs.laws.Valid.{pages_fit}
-
--- What the page from u to v adds to W: its white, and nothing where it is the last.
-unfoldable pub page_white : Galley → Bool → Place → Place → ℕ
-page_white g last u v = pick last 0 (white_on g u v)
+use Rattle.model.specs.laws.White.{page_white}
 
 -- W page by page: what the first page adds, and what those after it do.
 pub whites_next : (g : Galley) (u v : Place) (vs : List Place) → whites g u (v ∷ vs) ≡ page_white g (ended vs) u v + whites g v vs

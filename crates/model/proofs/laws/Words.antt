@@ -1,5 +1,5 @@
 -- A page list's words and its places say the same: k words to a place, both ways without loss.
-use Prim.Native.Nat.{ℕ, zero, suc, ◌+◌, ◌-◌, ◌*◌, ◌/◌, ◌%◌, ◌≤◌, ◌<◌}
+use Prim.Native.Nat.{ℕ, zero, suc, ◌*◌, ◌/◌, ◌%◌, ◌≤◌, ◌<◌}
 use Rattle.std.proofs.Math.Nat.{suc-mul, zero-mul, mul-div_cancel, div-add-mod', mul_comm, mul-mod_left, le_of_mul-le-mul_right}
 use Rattle.std.proofs.Common.{mul-le-mul_left, sym, ◌∙◌, subst, length-append, length-drop, take-append-drop, length-take-le, take_at, drop_at}
 use native.Mathlib.Omega.{arith}
@@ -12,11 +12,7 @@ use borrow.Author.Tests.{eqb-true, eq-eqb, leb-true, le-leb, ltb-true, lt-ltb}
 use Rattle.model.specs.Galley.{Galley, Place, streams, blocks}
 use Rattle.model.specs.Answers.{chunks, pages_of, words_of, counted}
 use Rattle.model.proofs.laws.Gather.{and_left, and_right, and_both}
-
--- Every place of the list has k counts.
-abbrev pub Shaped : ℕ → List Place → Type 0
-Shaped k [] = Unit
-Shaped k (v ∷ vs) = (length v ≡ k) × Shaped k vs
+use Rattle.model.specs.laws.Words.{Shaped}
 
 pub length_chunks : (p k : ℕ) (ws : List ℕ) → length (chunks p k ws) ≡ p
 unfolding chunks

@@ -2,7 +2,7 @@
 use Rattle.std.specs.Prelude.{ℕ, zero, suc, ◌+◌, ◌*◌, ◌/◌, ◌%◌, ◌≤◌, ◌<◌, ◌≡◌, refl, List, [], ◌∷◌}
 use Rattle.std.proofs.Common.{get_or, suc-mul, mul-le-mul_right, mod-eq_of_lt, div-add-mod', mod-lt, div-lt_iff_lt-mul, arith, ◌∙◌, ap}
 use Rattle.std.proofs.Math.Nat.{mul-add-div_right, mul-add-mod_self_right, div-eq_of_lt}
-use Rattle.model.proofs.laws.Lists.{Inside}
+use Rattle.model.specs.laws.Lists.{Inside}
 use Rattle.places.specs.Columns.{columns, column_of, floats_at}
 
 -- What is inside, count by count.

@@ -11,8 +11,9 @@ use Rattle.model.specs.Answers.{same}
 use Rattle.model.specs.Order.{lex, geb}
 use Rattle.model.specs.Rules.{forward}
 use Rattle.model.proofs.laws.Gather.{length_row}
-use Rattle.model.proofs.laws.Rules.{Forward, forward_at, placed, placed_grows}
-use Rattle.model.proofs.laws.Lists.{Inside}
+use Rattle.model.specs.laws.Rules.{placed}
+use Rattle.model.proofs.laws.Rules.{Forward, forward_at, placed_grows}
+use Rattle.model.specs.laws.Lists.{Inside}
 use Rattle.model.proofs.laws.Valid.{same_true, same_refl}
 use Rattle.places.specs.Columns.{columns, floats_at, float_sizes, float_place, place_at, column_in}
 use Rattle.places.proofs.laws.Columns.{inside_head, inside_tail, inside_cons, column_below, floats_of_column, floats_inside, column_of_floats, column_grows, column_empty, floats_all}

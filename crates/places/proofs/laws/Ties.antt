@@ -6,7 +6,7 @@ use Rattle.std.proofs.lemmas.Bool.{lt-leb}
 use Rattle.model.specs.Gather.{implies}
 use Rattle.model.specs.Order.{lex, geb}
 use Rattle.model.proofs.laws.Gather.{and_left, and_right, implies_at}
-use Rattle.model.proofs.laws.Lists.{Inside}
+use Rattle.model.specs.laws.Lists.{Inside}
 use Rattle.places.specs.Columns.{columns, column_of}
 use Rattle.places.specs.Order.{NoLater}
 use Rattle.places.proofs.laws.Columns.{inside_tail, column_below}

@@ -15,7 +15,7 @@ use Rattle.model.specs.Galley.{Galley, Place, Sane, streams, sizes, blocks}
 use Rattle.model.specs.Answers.{words_of}
 use Rattle.model.specs.Opening.{best_after}
 use Rattle.model.proofs.laws.Gather.{length_row}
-use Rattle.model.proofs.laws.Rules.{placed}
+use Rattle.model.specs.laws.Rules.{placed}
 use Rattle.model.proofs.laws.Valid.{placed_sizes}
 use Rattle.theorems.specs.optimality.Cell.{Right, Trace}
 use Rattle.theorems.specs.optimality.Theorem.{step_back, trace_length}

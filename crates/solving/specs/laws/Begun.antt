@@ -14,7 +14,7 @@ use Rattle.model.specs.Answers.{pages_of}
 use Rattle.model.specs.Opening.{opening_turned}
 use Rattle.model.proofs.laws.Gather.{and_both}
 use Rattle.model.proofs.laws.Words.{length_pages}
-use Rattle.model.proofs.laws.Rules.{placed}
+use Rattle.model.specs.laws.Rules.{placed}
 use Rattle.theorems.specs.turns.Rank.{rank}
 use Rattle.theorems.specs.turns.Bounds.{heaviest, weight_limit}
 use Rattle.theorems.specs.pages.Graph.{beginning, full}

@@ -9,7 +9,7 @@ use Rattle.std.proofs.Math.Path.{ap}
 use Rattle.std.proofs.Math.Logic.{inl, inr}
 use Rattle.model.specs.Galley.{Galley, Place, count, sizes}
 use Rattle.model.proofs.laws.Rules.{kept}
-use Rattle.model.proofs.laws.Lists.{Inside}
+use Rattle.model.specs.laws.Lists.{Inside}
 use Rattle.theorems.specs.optimality.Graph as graph
 use Rattle.theorems.specs.optimality.Cell.{Cell, base, inner, Right}
 use Rattle.theorems.specs.optimality.Storing as storing

@@ -11,7 +11,7 @@ use Rattle.model.specs.Galley.{Sides, single, double, Galley, Place, count}
 use Rattle.model.specs.Rules.{forward, closes, fits, fills, cited}
 use Rattle.model.proofs.laws.Gather.{and_left, and_right, and_both}
 use Rattle.model.proofs.laws.Rules.{kept, kept_allowed}
-use Rattle.model.proofs.laws.White.{page_white}
+use Rattle.model.specs.laws.White.{page_white}
 use Rattle.theorems.specs.turns.Waiting.{page_cost}
 use Rattle.theorems.specs.turns.Rank.{rank}
 use Rattle.theorems.specs.optimality.Graph as graph

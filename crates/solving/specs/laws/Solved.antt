@@ -11,8 +11,9 @@ use Rattle.model.specs.Galley.{Place, streams}
 use Rattle.model.specs.Answers.{pages_of, words_of, marked}
 use Rattle.model.specs.Best.{valid}
 use Rattle.model.specs.Opening.{made_words_after}
-use Rattle.model.proofs.laws.Lists.{◌∈◌}
-use Rattle.model.proofs.laws.Words.{Shaped, length_words}
+use Rattle.model.specs.laws.Lists.{◌∈◌}
+use Rattle.model.specs.laws.Words.{Shaped}
+use Rattle.model.proofs.laws.Words.{length_words}
 use Rattle.model.proofs.laws.Valid.{few_pages, valid_accepted}
 use Rattle.theorems.specs.turns.LeastTurns.{valid_counts}
 use Rattle.theorems.specs.turns.Bounds.{Limits, Narrow}

@@ -11,7 +11,7 @@ use Rattle.model.specs.Galley.{Place}
 use Rattle.model.specs.Answers.{pages_of, words_of, counts_of}
 use Rattle.model.specs.Best.{valid}
 use Rattle.model.specs.Opening.{valid_after, best_after, opening_turned, made_after, made_words_after}
-use Rattle.model.proofs.laws.Lists.{◌∈◌}
+use Rattle.model.specs.laws.Lists.{◌∈◌}
 use Rattle.model.proofs.laws.Best.{MakesOf, makes, impossible}
 use Rattle.model.proofs.laws.Opening.{after_valid, after_makes}
 

@@ -10,7 +10,8 @@ use Rattle.model.specs.Galley.{Galley, Place, zeros}
 use Rattle.model.specs.Order.{starts_of}
 use Rattle.model.specs.Best.{valid}
 use Rattle.model.specs.Book.{open_on, Choice, choices, summed, Tie, tie_of, ties_of}
-use Rattle.model.proofs.laws.Lists.{◌∈◌, ∈-map, ∈-unmap}
+use Rattle.model.specs.laws.Lists.{◌∈◌}
+use Rattle.model.proofs.laws.Lists.{∈-map, ∈-unmap}
 use Rattle.model.proofs.laws.Valid.{valid_accepted}
 use Rattle.model.proofs.laws.Order.{starts_same}
 use Rattle.model.proofs.laws.Book.{∈-gathered, ∈-ungathered}

@@ -9,7 +9,7 @@ use Rattle.model.specs.Galley.{Galley}
 use Rattle.model.specs.White.{white}
 use Rattle.model.specs.Order.{then_by, by}
 use Rattle.model.specs.Book.{first_folio, Choice, choices, book_turns, book_white, ties_of, tie_order, book_before, best_book}
-use Rattle.model.proofs.laws.Lists.{◌∈◌}
+use Rattle.model.specs.laws.Lists.{◌∈◌}
 use Rattle.model.proofs.laws.Order.{then_by_last, lex_antisymm}
 use Rattle.model.proofs.laws.Best.{first_of_is, first_of_none}
 use Rattle.model.proofs.laws.Book.{tie_antisymm, book_preference}

@@ -10,7 +10,7 @@ use Rattle.model.specs.Galley.{Galley}
 use Rattle.model.specs.Order.{then_by, by}
 use Rattle.model.specs.Answers.{words_of}
 use Rattle.model.specs.Book.{first_folio, Choice, gathered, choices, book_turns, book_white, book_before, best_book, book_counts, book_made, book_words}
-use Rattle.model.proofs.laws.Lists.{◌∈◌}
+use Rattle.model.specs.laws.Lists.{◌∈◌}
 use Rattle.model.proofs.laws.Best.{Found, nothing, found, first_of_found}
 use Rattle.model.proofs.laws.Book.{book_preference}
 use Rattle.theorems.specs.books.Through.{in_turn}

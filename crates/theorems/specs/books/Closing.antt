@@ -13,7 +13,8 @@ use Rattle.model.specs.White.{white}
 use Rattle.model.specs.Order.{starts_of, before}
 use Rattle.model.specs.Answers.{same}
 use Rattle.model.specs.Best.{keep, valid, first_of}
-use Rattle.model.proofs.laws.Lists.{◌∈◌, ∈-keep, ∈-kept}
+use Rattle.model.specs.laws.Lists.{◌∈◌}
+use Rattle.model.proofs.laws.Lists.{∈-keep, ∈-kept}
 use Rattle.model.proofs.laws.Valid.{same_true, count_sizes, count_zeros, Accepted, valid_accepted}
 use Rattle.model.proofs.laws.Best.{LeastOf, MakesOf, first_makes, first_is, first_none}
 use Rattle.theorems.specs.optimality.Graph.{unreached, least, Way, total, First}

@@ -14,7 +14,8 @@ use Rattle.model.specs.Turns.{x_of}
 use Rattle.model.specs.White.{white}
 use Rattle.model.specs.Best.{valid}
 use Rattle.model.specs.Book.{open_on, first_folio, Choice, choices, book_pages, book_x, book_white}
-use Rattle.model.proofs.laws.Lists.{◌∈◌, ∈-unmap}
+use Rattle.model.specs.laws.Lists.{◌∈◌}
+use Rattle.model.proofs.laws.Lists.{∈-unmap}
 use Rattle.model.proofs.laws.Book.{∈-ungathered}
 use Rattle.theorems.specs.pages.Graph.{side}
 use Rattle.theorems.specs.books.Folios.{like, x_on_lem, white_on_lem}

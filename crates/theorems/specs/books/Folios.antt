@@ -16,8 +16,8 @@ use Rattle.model.specs.Order.{oddly}
 use Rattle.model.specs.Best.{allowed, valid}
 use Rattle.model.specs.Book.{sides_on, open_on, tie_of}
 use Rattle.model.proofs.laws.Gather.{sum_ext}
-use Rattle.model.proofs.laws.Lists.{◌∈◌}
-use Rattle.model.proofs.laws.Judge.{accepts}
+use Rattle.model.specs.laws.Lists.{◌∈◌}
+use Rattle.model.specs.laws.Judge.{accepts}
 use Rattle.model.proofs.laws.Valid.{valid_accepted}
 use Rattle.theorems.specs.pages.Graph.{side}
 

@@ -19,7 +19,7 @@ use Rattle.model.specs.Order.{then_by, by, lex, before}
 use Rattle.model.specs.Answers.{counts_of, words_of}
 use Rattle.model.specs.Best.{valid, best, made, made_words}
 use Rattle.model.specs.Book.{sides_on, open_on, folio_in, first_folio, Choice, gathered, choices, summed, book_pages, book_x, book_white, book_y, book_turns, tie_of, tie_order, ties_of, book_before, best_book, book_counts, book_made, book_words}
-use Rattle.model.proofs.laws.Lists.{◌∈◌}
+use Rattle.model.specs.laws.Lists.{◌∈◌}
 use Rattle.model.proofs.laws.Best.{Makes, impossible, makes, best_makes}
 use Rattle.model.proofs.laws.Book.{∈-gathered, ∈-ungathered}
 use Rattle.theorems.specs.books.Choosing.{AllAlike}

@@ -14,7 +14,7 @@ use Rattle.model.specs.White.{white}
 use Rattle.model.specs.Order.{then_by, by, lex, geb, oddly, starts_of, before}
 use Rattle.model.specs.Book.{sides_on, open_on, Choice, tie_of, tie_order}
 use Rattle.model.proofs.laws.Gather.{and_left, and_right, and_both, implies_at, implies_of}
-use Rattle.model.proofs.laws.Lists.{◌∈◌}
+use Rattle.model.specs.laws.Lists.{◌∈◌}
 use Rattle.model.proofs.laws.Order.{Preference, leb_preference, by_preference, then_by_preference, lex_preference}
 use Rattle.model.proofs.laws.Best.{LeastOf, MakesOf, impossible, makes}
 use Rattle.model.proofs.laws.Book.{tie_preference}

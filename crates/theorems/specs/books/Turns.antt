@@ -14,7 +14,7 @@ use Rattle.model.specs.Turns.{x_of, y_of, turns}
 use Rattle.model.specs.Best.{valid}
 use Rattle.model.specs.Book.{sides_on, open_on, Choice, choices, book_pages, book_x, book_y, book_turns}
 use Rattle.model.proofs.laws.Leaf.{leaf_next, leaf_mono}
-use Rattle.model.proofs.laws.Lists.{◌∈◌}
+use Rattle.model.specs.laws.Lists.{◌∈◌}
 use Rattle.model.proofs.laws.Valid.{valid_accepted}
 use Rattle.theorems.specs.books.Backward.{pages_in, Chosen, sum_back, chosen_front, sum_front, pages_sum}
 

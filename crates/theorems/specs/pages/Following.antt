@@ -13,10 +13,11 @@ use Rattle.model.specs.White.{white}
 use Rattle.model.specs.Order.{then_by, by, starts_of, before}
 use Rattle.model.specs.Best.{allowed}
 use Rattle.model.proofs.laws.Gather.{and_right, and_both}
-use Rattle.model.proofs.laws.Judge.{accepts}
-use Rattle.model.proofs.laws.Words.{Shaped}
+use Rattle.model.specs.laws.Judge.{accepts}
+use Rattle.model.specs.laws.Words.{Shaped}
 use Rattle.model.proofs.laws.Valid.{Accepted}
-use Rattle.model.proofs.laws.White.{page_white, whites_next, white_le}
+use Rattle.model.specs.laws.White.{page_white}
+use Rattle.model.proofs.laws.White.{whites_next, white_le}
 use Rattle.theorems.specs.turns.Waiting.{page_sum, page_cost, costs}
 use Rattle.theorems.specs.turns.Rank.{rank, ranked, rank_order}
 use Rattle.theorems.specs.turns.Bounds.{Narrow}

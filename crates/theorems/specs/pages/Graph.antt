@@ -5,8 +5,8 @@ use Rattle.model.specs.Galley.{Sides, single, double, Galley, Place, zeros, size
 use Rattle.model.specs.Answers.{same}
 use Rattle.model.specs.Order.{lex, geb, oddly}
 use Rattle.model.specs.Best.{allowed}
-use Rattle.model.proofs.laws.Lists.{Inside}
-use Rattle.model.proofs.laws.White.{page_white}
+use Rattle.model.specs.laws.Lists.{Inside}
+use Rattle.model.specs.laws.White.{page_white}
 use Rattle.theorems.specs.optimality.Graph.{Graph}
 use Rattle.theorems.specs.turns.Waiting.{page_cost}
 use Rattle.theorems.specs.turns.Rank.{rank}

@@ -7,7 +7,8 @@ use Rattle.std.proofs.Math.Path.{◌≡◌, ap}
 use Rattle.std.proofs.Math.ListN.{get_or}
 use Rattle.model.specs.Galley.{Sides, Galley, Place, count, blocks}
 use Rattle.model.specs.Order.{lex, geb, oddly}
-use Rattle.model.proofs.laws.Rules.{kept, forward_at, placed, placed_grows}
+use Rattle.model.specs.laws.Rules.{placed}
+use Rattle.model.proofs.laws.Rules.{kept, forward_at, placed_grows}
 use Rattle.model.proofs.laws.Valid.{placed_sizes}
 use Rattle.model.proofs.laws.Order.{preference_refl, lex_preference, lex_antisymm, geb_preference, geb_antisymm}
 use Rattle.theorems.specs.optimality.Graph.{Laws}

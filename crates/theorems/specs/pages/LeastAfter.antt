@@ -19,8 +19,9 @@ use Rattle.model.specs.Answers.{numbers_of, accepted, same, pages_of, words_of, 
 use Rattle.model.specs.Best.{allowed, valid}
 use Rattle.model.specs.Opening.{valid_after, best_after, pages_turned, opening_turned, made_after, made_words_after}
 use Rattle.model.proofs.laws.Gather.{and_both}
-use Rattle.model.proofs.laws.Lists.{◌∈◌}
-use Rattle.model.proofs.laws.Words.{Shaped, chunks_shaped, words_chunks, length_words}
+use Rattle.model.specs.laws.Lists.{◌∈◌}
+use Rattle.model.specs.laws.Words.{Shaped}
+use Rattle.model.proofs.laws.Words.{chunks_shaped, words_chunks, length_words}
 use Rattle.model.proofs.laws.Valid.{valid_accepted, accepted_valid}
 use Rattle.model.proofs.laws.Best.{MakesOf, impossible, makes, least_turns, least_white}
 use Rattle.model.proofs.laws.Opening.{after_valid, valid_after_lem, after_makes}

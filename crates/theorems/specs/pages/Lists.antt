@@ -15,9 +15,9 @@ use Rattle.model.specs.Answers.{ended}
 use Rattle.model.specs.Best.{allowed}
 use Rattle.model.proofs.laws.Gather.{and_left, and_right, length_row}
 use Rattle.model.proofs.laws.Rules.{kept, forward_at}
-use Rattle.model.proofs.laws.Judge.{accepts}
-use Rattle.model.proofs.laws.Words.{Shaped}
-use Rattle.model.proofs.laws.Lists.{Inside, AllInside}
+use Rattle.model.specs.laws.Judge.{accepts}
+use Rattle.model.specs.laws.Words.{Shaped}
+use Rattle.model.specs.laws.Lists.{Inside, AllInside}
 use Rattle.model.proofs.laws.Valid.{same_true, same_refl, length_sizes, inside_shaped, all_inside}
 use Rattle.theorems.specs.optimality.Graph.{Way, total}
 use Rattle.model.specs.White.{whites}

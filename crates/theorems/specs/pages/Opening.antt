@@ -14,11 +14,12 @@ use Rattle.model.specs.Best.{allowed}
 use Rattle.model.specs.Opening.{end_of}
 use Rattle.model.proofs.laws.Gather.{and_left, and_right}
 use Rattle.model.proofs.laws.Leaf.{leaf_next, leaf_mono}
-use Rattle.model.proofs.laws.Rules.{kept, forward_at, placed, placed_grows}
-use Rattle.model.proofs.laws.Words.{Shaped}
-use Rattle.model.proofs.laws.Lists.{Inside}
+use Rattle.model.specs.laws.Rules.{placed}
+use Rattle.model.proofs.laws.Rules.{kept, forward_at, placed_grows}
+use Rattle.model.specs.laws.Words.{Shaped}
+use Rattle.model.specs.laws.Lists.{Inside}
 use Rattle.model.proofs.laws.Valid.{page_inside}
-use Rattle.model.proofs.laws.White.{page_white}
+use Rattle.model.specs.laws.White.{page_white}
 use Rattle.theorems.specs.turns.Waiting.{waiting, page_sum, at_end, page_cost}
 use Rattle.theorems.specs.turns.Rank.{rank}
 use Rattle.theorems.specs.turns.Bounds.{heaviest, weight_le}

@@ -4,7 +4,7 @@ use Rattle.std.specs.Prelude.{ℕ, suc, ◌+◌, ◌≤◌, ◌<◌, ◌≡◌, 
 use Rattle.std.proofs.Math.Decide.{dec_lt}
 use Rattle.std.proofs.Common.{arith, sym, ◌∙◌, ap}
 use Rattle.model.specs.Galley.{Galley, Place, sizes}
-use Rattle.model.proofs.laws.Lists.{Inside}
+use Rattle.model.specs.laws.Lists.{Inside}
 use Rattle.theorems.specs.optimality.Graph.{unreached, least, Way, total, First, Optimal}
 use Rattle.theorems.specs.optimality.Cell.{Table, Right, Trace, Answer}
 use Rattle.theorems.specs.optimality.Theorem.{optimality}

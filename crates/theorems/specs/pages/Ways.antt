@@ -10,10 +10,11 @@ use Rattle.model.specs.Order.{starts_of}
 use Rattle.model.specs.Best.{allowed}
 use Rattle.model.proofs.laws.Gather.{and_left, and_both}
 use Rattle.model.proofs.laws.Rules.{kept, forward_at}
-use Rattle.model.proofs.laws.Judge.{accepts}
-use Rattle.model.proofs.laws.Lists.{Inside, AllInside}
+use Rattle.model.specs.laws.Judge.{accepts}
+use Rattle.model.specs.laws.Lists.{Inside, AllInside}
 use Rattle.model.proofs.laws.Valid.{same_true, count_sizes}
-use Rattle.model.proofs.laws.White.{page_white, whites_next}
+use Rattle.model.specs.laws.White.{page_white}
+use Rattle.model.proofs.laws.White.{whites_next}
 use Rattle.theorems.specs.optimality.Graph.{Way, total}
 use Rattle.theorems.specs.turns.Waiting.{page_sum, page_cost, costs}
 use Rattle.theorems.specs.turns.Rank.{rank, ranked}

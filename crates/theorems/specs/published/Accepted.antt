@@ -8,8 +8,8 @@ use Rattle.model.specs.Best.{allowed}
 use Rattle.model.specs.Pagination.{Map, Pagination, place_on, list_on}
 use Rattle.model.proofs.laws.Gather.{length_row}
 use Rattle.model.proofs.laws.Rules.{kept, kept_allowed, Forward, forward_at}
-use Rattle.model.proofs.laws.Judge.{accepts}
-use Rattle.model.proofs.laws.Words.{Shaped}
+use Rattle.model.specs.laws.Judge.{accepts}
+use Rattle.model.specs.laws.Words.{Shaped}
 use Rattle.model.proofs.laws.Valid.{count_sizes, count_zeros}
 use Rattle.theorems.specs.published.Fits.{fits_count}
 use Rattle.theorems.specs.published.Heights.{After}

@@ -8,7 +8,8 @@ use Rattle.model.specs.Height.{height, tightest, loosest}
 use Rattle.model.specs.Leaf.{leaf}
 use Rattle.model.specs.Rules.{floor, fits, fills}
 use Rattle.model.specs.Pagination.{Map, Pagination, height_on}
-use Rattle.model.proofs.laws.Rules.{Kept, Forward, forward_at, forward_of}
+use Rattle.model.specs.laws.Rules.{Kept}
+use Rattle.model.proofs.laws.Rules.{Forward, forward_at, forward_of}
 use Rattle.theorems.specs.published.Fits.{fits_page, fits_none, fits_all, fits_up, fits_last}
 use Rattle.theorems.specs.published.Heights.{After, height_on_lem}
 use Rattle.theorems.specs.published.Keeping.{closes_at, closes_of}

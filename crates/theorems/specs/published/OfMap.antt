@@ -12,8 +12,8 @@ use Rattle.model.specs.Turns.{page_of}
 use Rattle.model.specs.Best.{Allowed}
 use Rattle.model.specs.Pagination.{Map, place_on, list_on}
 use Rattle.model.proofs.laws.Gather.{and_both, length_row, row_at}
-use Rattle.model.proofs.laws.Judge.{accepts}
-use Rattle.model.proofs.laws.Words.{Shaped}
+use Rattle.model.specs.laws.Judge.{accepts}
+use Rattle.model.specs.laws.Words.{Shaped}
 use Rattle.model.proofs.laws.Valid.{same_refl}
 use Rattle.theorems.specs.published.Fits.{Fits, count_fits}
 use Rattle.theorems.specs.published.Heights.{After}

@@ -12,8 +12,8 @@ use Rattle.model.specs.Turns.{page_of}
 use Rattle.model.specs.Best.{Allowed}
 use Rattle.model.specs.Pagination.{Map, place_on, list_on}
 use Rattle.model.proofs.laws.Gather.{and_left, and_right}
-use Rattle.model.proofs.laws.Judge.{accepts}
-use Rattle.model.proofs.laws.Words.{Shaped}
+use Rattle.model.specs.laws.Judge.{accepts}
+use Rattle.model.specs.laws.Words.{Shaped}
 use Rattle.model.proofs.laws.Valid.{same_true}
 
 -- The place after i pages of a list that starts at u.

@@ -11,7 +11,7 @@ use Rattle.model.specs.Answers.{accepted, marked, pages_of, words_of, counts_of}
 use Rattle.model.specs.Best.{valid}
 use Rattle.model.specs.Pagination.{Map, Pagination, list_on, x_on, turns_on, white_over}
 use Rattle.model.proofs.laws.Words.{pages_words}
-use Rattle.model.proofs.laws.Lists.{◌∈◌}
+use Rattle.model.specs.laws.Lists.{◌∈◌}
 use Rattle.model.proofs.laws.Valid.{Accepted, valid_accepted, accepted_valid, marked_counts}
 use Rattle.theorems.specs.published.OfMap.{length_list, list_shaped}
 use Rattle.theorems.specs.published.Accepted.{accepted_pagination, pagination_accepts}

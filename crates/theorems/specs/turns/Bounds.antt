@@ -8,8 +8,9 @@ use Rattle.model.specs.Turns.{turns}
 use Rattle.model.specs.White.{white}
 use Rattle.model.specs.Best.{allowed}
 use Rattle.model.proofs.laws.Gather.{sum_le}
-use Rattle.model.proofs.laws.Judge.{accepts}
-use Rattle.model.proofs.laws.White.{page_white, page_white_le, white_le}
+use Rattle.model.specs.laws.Judge.{accepts}
+use Rattle.model.specs.laws.White.{page_white}
+use Rattle.model.proofs.laws.White.{page_white_le, white_le}
 use Rattle.theorems.specs.turns.Waiting.{dangles, waiting_in, waiting, page_sum, page_cost, costs}
 use Rattle.model.proofs.laws.Valid.{pages_fit}
 use Rattle.theorems.specs.turns.Costs.{turns_are_costs}

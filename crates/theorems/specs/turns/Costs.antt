@@ -9,8 +9,9 @@ use Rattle.model.specs.Rules.{forward, cited}
 use Rattle.model.specs.Turns.{turns}
 use Rattle.model.specs.Best.{allowed}
 use Rattle.model.proofs.laws.Gather.{implies_at, or_left, each_at}
-use Rattle.model.proofs.laws.Rules.{Kept, kept, forward_at}
-use Rattle.model.proofs.laws.Judge.{accepts}
+use Rattle.model.specs.laws.Rules.{Kept}
+use Rattle.model.proofs.laws.Rules.{kept, forward_at}
+use Rattle.model.specs.laws.Judge.{accepts}
 use Rattle.theorems.specs.turns.Waiting.{waiting, at_end, turned, page_cost, costs}
 use Rattle.theorems.specs.turns.Pages.{About, along, accepts_along, page_sum_ext, page_sum_mix}
 use Rattle.theorems.specs.turns.Full.{waiting_full}

@@ -13,7 +13,7 @@ use Rattle.model.specs.Turns.{turns}
 use Rattle.model.specs.White.{white}
 use Rattle.model.specs.Answers.{numbers_of, accepted, words_of, counts_of, marked}
 use Rattle.model.specs.Best.{valid, best, made, made_words}
-use Rattle.model.proofs.laws.Lists.{◌∈◌}
+use Rattle.model.specs.laws.Lists.{◌∈◌}
 use Rattle.model.proofs.laws.Words.{pages_words, length_words}
 use Rattle.model.proofs.laws.Valid.{valid_accepted, accepted_valid, marked_counts}
 use Rattle.model.proofs.laws.Best.{Least, Makes, impossible, makes, best_makes, least_turns, least_white}

@@ -5,7 +5,7 @@ use Rattle.model.specs.Galley.{Place}
 use Rattle.model.specs.Answers.{same, ended}
 use Rattle.model.specs.Best.{Allowed}
 use Rattle.model.proofs.laws.Gather.{and_left, and_right}
-use Rattle.model.proofs.laws.Judge.{accepts}
+use Rattle.model.specs.laws.Judge.{accepts}
 use Rattle.model.proofs.laws.Valid.{same_true}
 use Rattle.theorems.specs.turns.Waiting.{page_sum}
 

@@ -10,7 +10,8 @@ use Rattle.model.specs.Galley.{Galley, Place, streams, sizes}
 use Rattle.model.specs.Best.{box}
 use Rattle.model.specs.Weighed.{sum_of, weighs, past, weighed_from}
 use Rattle.model.proofs.laws.Gather.{sum_add, sum_zero, total_ext}
-use Rattle.model.proofs.laws.Boxes.{below, below_ext, below_add, sum_box}
+use Rattle.model.specs.laws.Boxes.{below}
+use Rattle.model.proofs.laws.Boxes.{below_ext, below_add, sum_box}
 use Rattle.places.specs.Columns.{columns, floats_at, float_sizes, place_at}
 use Rattle.places.proofs.laws.Columns.{columns_some}
 use Rattle.weighing.specs.Columns.{pairs_from}

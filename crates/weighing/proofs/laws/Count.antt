@@ -7,7 +7,7 @@ use Rattle.std.proofs.Math.Path.{refl}
 use Rattle.std.proofs.Common.{sym, ◌∙◌, inl, inr}
 use borrow.Author.Tests.{ltb-true, ltb-false, leb-false}
 use Rattle.model.specs.Weighed.{weighed_from}
-use Rattle.model.proofs.laws.Boxes.{below}
+use Rattle.model.specs.laws.Boxes.{below}
 use Rattle.model.proofs.laws.Gather.{or_cases}
 use Rattle.galley.specs.declared.Galley.{Galley}
 use Rattle.galley.specs.Model.{model_of}

@@ -12,7 +12,8 @@ use Rattle.std.proofs.lemmas.Bool.{lt-leb}
 use Rattle.model.specs.Galley.{Stream}
 use Rattle.model.specs.Height.{stacked}
 use Rattle.model.proofs.laws.Gather.{and_both}
-use Rattle.model.proofs.laws.Boxes.{below, total_below, width}
+use Rattle.model.specs.laws.Boxes.{below}
+use Rattle.model.proofs.laws.Boxes.{total_below, width}
 use Rattle.window.specs.Sums.{spaced_at, bare_at, Pair, Sums}
 use Rattle.window.specs.Slide.{FirstBelow, Reaches}
 use Rattle.window.specs.laws.Sums.{reach_grows}

@@ -13,8 +13,9 @@ use Rattle.model.specs.Height.{stacked, tightest}
 use Rattle.model.specs.Rules.{forward, fits}
 use Rattle.model.specs.Weighed.{weighs, past}
 use Rattle.model.proofs.laws.Gather.{and_left, and_right, and_both, sum_add, sum_zero, total_ext}
-use Rattle.model.proofs.laws.Boxes.{below, width}
-use Rattle.model.proofs.laws.Lists.{Inside}
+use Rattle.model.specs.laws.Boxes.{below}
+use Rattle.model.proofs.laws.Boxes.{width}
+use Rattle.model.specs.laws.Lists.{Inside}
 use Rattle.places.specs.Columns.{columns, float_sizes, place_at}
 use Rattle.places.specs.Order.{Earlier}
 use Rattle.places.proofs.laws.Columns.{inside_all, inside_cons, inside_tail}

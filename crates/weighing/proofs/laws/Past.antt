@@ -10,7 +10,7 @@ use borrow.Author.Tests.{lt-ltb, le-ltb, ltb-true, ltb-false, le-leb, leb-true, 
 use Rattle.model.specs.Gather.{pick, every}
 use Rattle.model.specs.Galley.{Place, count}
 use Rattle.model.specs.Weighed as model
-use Rattle.model.proofs.laws.Boxes.{below}
+use Rattle.model.specs.laws.Boxes.{below}
 use Rattle.model.proofs.laws.Gather.{each_of, every_at}
 use Rattle.galley.specs.declared.Galley.{Galley}
 use Rattle.galley.specs.Model.{text_of, float_streams, model_of}
