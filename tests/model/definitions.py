@@ -10,11 +10,15 @@ ROOT = pathlib.Path(__file__).resolve().parents[2]
 
 def copy_to(folder):
     """The definitions and the cases as a repository of their own, without what would refuse a wrong definition before the cases
-    do: the laws, which stand with the proofs, and the model's functions, which stand after its types."""
+    do: the laws and what they speak of, and the model's functions, which stand after its types."""
     for crate in ('model', 'cases'):
         copied(crate, folder)
     model = folder / 'crates/model'
     shutil.rmtree(model / 'proofs')
+    shutil.rmtree(model / 'specs/laws')
+    (model / 'specs/laws.antt').unlink()
+    library = model / 'specs/Lib.antt'
+    library.write_text(library.read_text().replace('pub mod laws\n', ''))
     for source in (model / 'src').glob('*.rt'):
         source.write_text(re.sub(r'^pub fn .*', '', source.read_text(), flags=re.DOTALL | re.MULTILINE))
 
