@@ -195,8 +195,9 @@ def whole_table(folder):
 
 
 def same_chapters(job):
-    """The chapters of samples/real are those that the document has, with LaTeX's own pages."""
-    there = {path.stem: (path.read_bytes(), path.with_suffix('.latex').read_text()) for path in (ROOT / 'samples/real').glob(f'{job.path.stem}-*.galley')}
+    """The chapters of samples/real, older recordings apart, are those that the document has, with LaTeX's own pages."""
+    numbered = (ROOT / 'samples/real').glob(f'{job.path.stem}-[0-9]*.galley')
+    there = {path.stem: (path.read_bytes(), path.with_suffix('.latex').read_text()) for path in numbered}
     made = {name: (galley, latex) for name, galley, latex in whole.chapters(Job.program, job.path)}
     yield f'{job.path.stem}: its chapters', sorted(made), sorted(there)
     yield f'{job.path.stem}: chapters that are others than in samples/real', [name for name in made if made[name] != there.get(name)], []
