@@ -3,7 +3,7 @@
 #![tactic(auto)]
 
 ghost use Rattle.std.specs.Prelude.{◌≡◌, Bool, ◌&&◌, ◌||◌, List, ℕ, ◌≤◌, length, leb, ltb};
-ghost use Rattle.model.specs.Gather.{implies, one};
+ghost use Rattle.model.specs.Gather.{implies};
 ghost use Rattle.model.specs.Rules.{forward, closes, floor, cited};
 ghost use Rattle.model.specs.Answers.{counted};
 ghost use Rattle.model.specs.Leaf.{ends};
@@ -68,18 +68,12 @@ pub fn are_cited(s: &[u8], g: Galley, asked: bool, v: Counts) -> bool
         & is_cited(s, g.tables, asked, v.lines, v.tables)
 }
 
-// 1 for a test that holds, else 0.
-fn one(test: bool) -> u32
-    ensures { (result ≡ one test) × (result ≤ 1) }
-{
-    if test { 1 } else { 0 }
-}
-
 // How many kinds a page from u to v has: of streams that it has a block of.
 pub fn kinds_on(u: Counts, v: Counts) -> u32
     ensures { (result ≡ kinds_on u v) × (result ≤ 3) }
 {
-    one(u.lines < v.lines) + (one(u.figures < v.figures) + one(u.tables < v.tables))
+    u32::from(u.lines < v.lines)
+        + (u32::from(u.figures < v.figures) + u32::from(u.tables < v.tables))
 }
 
 // The first that is broken of a rule and the one after it, or 0.

@@ -1,5 +1,5 @@
 -- The parts of one page's test and of the counts, as the functions of this crate divide them.
-use Rattle.std.specs.Prelude.{ℕ, ◌+◌, ◌*◌, ◌-◌, ◌≤◌, Bool, ◌&&◌, List, eqb, ltb}
+use Rattle.std.specs.Prelude.{ℕ, ◌+◌, ◌*◌, ◌-◌, ◌≤◌, Bool, ◌&&◌, List, max, eqb, ltb}
 use Rattle.model.specs.Gather.{pick, one}
 use Rattle.model.specs.Galley as model
 use Rattle.model.specs.Rules.{forward, closes}
@@ -30,14 +30,10 @@ pub record Ahead (g : Galley) (u v : Counts) : Type 0 where
 unfoldable pub cite_of : model.Stream → ℕ → ℕ
 cite_of st j = pick (ltb 0 j) (st.cite j) 0
 
--- The later of two lines.
-unfoldable pub later : ℕ → ℕ → ℕ
-later a b = pick (ltb a b) b a
-
 -- The line from which on the last float placed of each stream is cited: from there on a page with these floats keeps rule 17, where
 -- that is asked.
 abbrev pub cited_from : List ℕ → Galley → Counts → ℕ
-cited_from bytes g v = later (cite_of (floats_of bytes g.figures) v.figures) (cite_of (floats_of bytes g.tables) v.tables)
+cited_from bytes g v = max (cite_of (floats_of bytes g.figures) v.figures) (cite_of (floats_of bytes g.tables) v.tables)
 
 -- Of rule n and the rule after it, given what each says of the page, the number of the first that fails, or 0.
 unfoldable pub fault_from : ℕ → Bool → Bool → ℕ

@@ -4,11 +4,6 @@ use native.Mathlib.Omega.{arith}
 use Rattle.rules.specs.Parts.{cite_of}
 use Rattle.rules.proofs.rules.cite_of.Goals as goal
 
-pub field-requires : goal.field-requires
-field-requires c =
-    let so = c.requires in
-    record { within = so.0.within; low = omega (arith, c.if-j-gt0.true); high = so.1; field = omega arith }
-
 pub returns-then-j-gt0 : goal.returns-then-j-gt0
 unfolding cite_of
 returns-then-j-gt0 c = rw (lt-ltb 0 _ c.if-j-gt0.true, ← c.field.ensures, c.size.ensures)
