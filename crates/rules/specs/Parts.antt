@@ -1,5 +1,5 @@
 -- The parts of one page's test and of the counts, as the functions of this crate divide them.
-use Rattle.std.specs.Prelude.{ℕ, ◌+◌, ◌*◌, ◌-◌, ◌≤◌, Bool, ◌&&◌, List, max, eqb, ltb}
+use Rattle.std.specs.Prelude.{ℕ, ◌+◌, ◌*◌, ◌-◌, ◌≤◌, Bool, ◌&&◌, Option, None, Some, List, max, eqb, ltb}
 use Rattle.model.specs.Gather.{pick, one}
 use Rattle.model.specs.Galley as model
 use Rattle.model.specs.Rules.{forward, closes}
@@ -35,12 +35,12 @@ cite_of st j = pick (ltb 0 j) (st.cite j) 0
 abbrev pub cited_from : List ℕ → Galley → Counts → ℕ
 cited_from bytes g v = max (cite_of (floats_of bytes g.figures) v.figures) (cite_of (floats_of bytes g.tables) v.tables)
 
--- Of rule n and the rule after it, given what each says of the page, the number of the first that fails, or 0.
-unfoldable pub fault_from : ℕ → Bool → Bool → ℕ
-fault_from n this next = pick this (pick next 0 (n + 1)) n
+-- Of rule n and the rule after it, given what each says of the page, the number of the first that fails.
+unfoldable pub fault_from : ℕ → Bool → Bool → Option ℕ
+fault_from n this next = pick this (pick next None (Some (n + 1))) (Some n)
 
--- Rules 13 and 14, which ask for no height: the number of the first that fails, or 0.
-abbrev pub start_fault : model.Galley → model.Place → model.Place → ℕ
+-- Rules 13 and 14, which ask for no height: the number of the first that fails.
+abbrev pub start_fault : model.Galley → model.Place → model.Place → Option ℕ
 start_fault g u v = fault_from 13 (forward g u v) (closes g v)
 
 -- Y of p pages: the leaves turned from the first to the last (document 01, "Spreads and turns").
