@@ -44,7 +44,11 @@ fn leaves_turned(g: Galley, pages: u32) -> u32
 pub fn all_placed(g: Galley, at: Counts) -> bool
     ensures { result ≡ all_placed g at }
 {
-    (at.lines == g.text.count) & ((at.figures == g.figures.count) & (at.tables == g.tables.count))
+    at == Counts {
+        lines: g.text.count,
+        figures: g.figures.count,
+        tables: g.tables.count,
+    }
 }
 
 // What so many printed pages cost, after which a page follows: the floats that waited where a leaf ends, by α, and the leaves turned, by β,

@@ -25,9 +25,6 @@ pub returns : goal.returns
 unfolding finished
 returns c = rw (sym c.all_placed.ensures ∙ c.if-all_placed.false)
 
-pub overflow_mul-result : goal.overflow_mul-result
-overflow_mul-result c = omega (arith, weighted (goal.at.overflow_mul-result c).After-leaves_turned-y)
-
 pub overflow_mul-result-then-all_placed : goal.overflow_mul-result-then-all_placed
 overflow_mul-result-then-all_placed c = omega (arith, weighted (goal.at.overflow_mul-result-then-all_placed c).After-leaves_turned-y)
 
