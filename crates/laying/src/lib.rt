@@ -11,7 +11,7 @@ use blocks::heights::Heights;
 use galley::Galley;
 
 // The place up to which a page has its blocks, and its heights with them and with all its separations.
-#[derive(Clone, Copy, PartialEq, Eq, Debug)]
+#[derive(Clone, Copy)]
 pub struct Laid {
     pub on: Counts,
     pub heights: Heights,
