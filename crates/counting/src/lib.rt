@@ -59,7 +59,7 @@ pub fn printed_cost(g: Galley, pages: u32, sums: Sums) -> u64
 {
     let y = leaves_turned(g, pages + 1);
     let turns = g.spec.alpha * sums.x + g.spec.beta * y;
-    turns as u64 * 4294967296 + sums.white as u64
+    u64::from(turns) * 4294967296 + u64::from(sums.white)
 }
 
 // 18 where the last page does not end at the full place, else p, X, Y, T, W.

@@ -41,8 +41,7 @@ fn room_after(s: &[u8], stream: Stream, k: usize, room: u32, apart: u32) -> u32
 {
     let least = blocks::field(s, stream, k, galley::LEAST);
     let height = blocks::field(s, stream, k, galley::HEIGHT);
-    room.saturating_sub(height)
-        .saturating_sub(least.max(apart))
+    room.saturating_sub(height).saturating_sub(least.max(apart))
 }
 
 // Whether there is a next block of a stream that fits the present page. A page with all its room left takes every block, however high, so

@@ -101,14 +101,7 @@ pub fn start_fault(s: &[u8], g: Galley, u: Counts, v: Counts) -> Option<u32>
 }
 
 // The first of 16 and 17 that a page of this loosest height breaks.
-pub fn end_fault(
-    s: &[u8],
-    g: Galley,
-    loose: u32,
-    page: Page,
-    last: bool,
-    v: Counts,
-) -> Option<u32>
+pub fn end_fault(s: &[u8], g: Galley, loose: u32, page: Page, last: bool, v: Counts) -> Option<u32>
     requires { (Sound s.now g) × (Within g v) }
     ensures { result ≡ fault_from 16 (leb (floor (model_of s.now g) last) loose) (cited (model_of s.now g) page.0 last (place_of g v)) }
 {

@@ -61,12 +61,30 @@ pub fn with_next(s: &[u8], g: Galley, u: Counts, v: Counts, laid: Laid) -> Laid
     let Laid { on, heights } = laid;
     if on.lines < v.lines {
         let more = blocks::heights::with_block(s, g.text, heights, u.lines, on.lines);
-        return laid_on(Counts { lines: on.lines + 1, ..on }, more);
+        return laid_on(
+            Counts {
+                lines: on.lines + 1,
+                ..on
+            },
+            more,
+        );
     }
     if on.figures < v.figures {
         let more = blocks::heights::with_block(s, g.figures, heights, u.figures, on.figures);
-        return laid_on(Counts { figures: on.figures + 1, ..on }, more);
+        return laid_on(
+            Counts {
+                figures: on.figures + 1,
+                ..on
+            },
+            more,
+        );
     }
     let more = blocks::heights::with_block(s, g.tables, heights, u.tables, on.tables);
-    laid_on(Counts { tables: on.tables + 1, ..on }, more)
+    laid_on(
+        Counts {
+            tables: on.tables + 1,
+            ..on
+        },
+        more,
+    )
 }

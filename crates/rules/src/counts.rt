@@ -15,5 +15,9 @@ pub struct Sums {
 pub fn white_at(g: Galley, last: bool, loose: u32) -> u32
     ensures { (result ≡ white_at g last loose) × (result ≤ g.spec.htmax) }
 {
-    if last { 0 } else { g.spec.htmax.saturating_sub(loose) }
+    if last {
+        0
+    } else {
+        g.spec.htmax.saturating_sub(loose)
+    }
 }

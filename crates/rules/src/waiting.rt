@@ -57,5 +57,9 @@ pub fn waiting_at(g: Galley, page: Page, waiting: usize) -> u32
     requires { (1 ≤ g.folio) × (waiting ≤ 250) }
     ensures { result ≡ waiting_at g page.0 waiting }
 {
-    if model::page::ends_spread(g.spec.sides, g.folio, page) { waiting as u32 } else { 0 }
+    if model::page::ends_spread(g.spec.sides, g.folio, page) {
+        waiting as u32
+    } else {
+        0
+    }
 }

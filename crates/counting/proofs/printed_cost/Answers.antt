@@ -17,7 +17,7 @@ weighted c =
 
 pub returns : goal.returns
 unfolding printed_cost
-returns c = rw c.leaves_turned-y.ensures
+returns c = rw (c.from.ensures, c.from-2.ensures, c.leaves_turned-y.ensures)
 
 pub overflow_mul-turns-2 : goal.overflow_mul-turns-2
 overflow_mul-turns-2 c = omega (arith, weighted (goal.at.overflow_mul-turns-2 c).After-leaves_turned-y)

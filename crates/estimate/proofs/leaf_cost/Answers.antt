@@ -1,6 +1,6 @@
 -- `leaf_cost` meets its contract: no more than 250 floats wait, and no weight is above 1,000.
 use Rattle.std.proofs.Common.{◌+◌, ◌*◌, ◌≤◌, arith}
-use Rattle.rules.specs.laws.Walked.{walking_none, waiting_few}
+use Rattle.rules.specs.laws.Walked.{waiting_few}
 use Rattle.pricing.specs.laws.Price.{price_small}
 use Rattle.estimate.proofs.leaf_cost.Goals as goal
 use Rattle.estimate.proofs.leaf_cost.Goals.{After-waiting_after-waiting}

@@ -1,7 +1,5 @@
 -- `bare_page` meets its contract: its separations are few and small.
-use native.Mathlib.Omega.{arith}
 use Rattle.laying.specs.Heights.{bare_page}
-use Rattle.laying.specs.laws.Heights.{bare_separable}
 use Rattle.laying.proofs.bare_page.Goals as goal
 
 pub returns : goal.returns

@@ -1,10 +1,10 @@
 -- The model's tests of one page, said of lines, figures and tables.
 use Prim.Native.Nat.{ℕ, zero, suc, ◌+◌, ◌≤◌}
-use Rattle.std.proofs.Common.{arith, sym, ◌∙◌, lt-ltb, ltb-true, ltb-false, leb-true, le-leb}
+use Rattle.std.proofs.Common.{arith, sym, ◌∙◌, lt-ltb, ltb-true, leb-true, le-leb}
 use Rattle.std.specs.Prelude.{◌≡◌, refl, false, ◌&&◌, ◌||◌, List, max, ltb}
 use Rattle.std.proofs.Math.Bool.{Bool, true}
 use Rattle.std.proofs.Math.Dec.{leb}
-use Rattle.model.specs.Gather.{pick, implies, one, total, every}
+use Rattle.model.specs.Gather.{implies, one, total, every}
 use Rattle.model.specs.Galley.{Stream, count}
 use Rattle.model.specs.Height.{has, kinds}
 use Rattle.model.specs.Leaf.{ends}

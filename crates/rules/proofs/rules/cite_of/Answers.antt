@@ -1,6 +1,5 @@
 -- `cite_of` meets its contract: there is a float j where its test holds.
 use borrow.Author.Tests.{lt-ltb, le-ltb}
-use native.Mathlib.Omega.{arith}
 use Rattle.rules.specs.Parts.{cite_of}
 use Rattle.rules.proofs.rules.cite_of.Goals as goal
 

@@ -1,9 +1,5 @@
 -- `may_end` meets its contract: its test is the premise of `may_end`, and there is a block k where it holds.
-use borrow.Author.Tests.{ltb-true}
-use lib.Dec.{ltb}
-use native.Mathlib.Omega.{arith}
 use Rattle.model.specs.Rules.{may_end}
-use Rattle.model.proofs.laws.Gather.{and_left, and_right}
 use Rattle.rules.proofs.rules.may_end.Goals as goal
 
 pub returns-then-k-stream : goal.returns-then-k-stream
