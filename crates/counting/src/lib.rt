@@ -7,7 +7,7 @@ ghost use Rattle.rules.specs.Sums.{Addable, with_page};
 
 use blocks::Counts;
 use galley::Galley;
-use model::answer::Answer;
+use model::answer::{Answer, Counted, Refusal};
 use model::page::Page;
 use rules::counts::Sums;
 use rules::waiting::Waiting;
@@ -67,18 +67,18 @@ pub fn finish(g: Galley, pages: u32, at: Counts, sums: Sums) -> Answer
     requires { CountLimits g pages sums.x }
     ensures { result ≡ finished g pages at sums }
 {
-    if all_placed(g, at) {
-        let y = leaves_turned(g, pages);
-        return Answer::Counted {
-            pages,
-            x: sums.x,
-            y,
-            turns: g.spec.alpha * sums.x + g.spec.beta * y,
-            white: sums.white,
-        };
+    if !all_placed(g, at) {
+        return Err(Refusal {
+            number: 18,
+            place: pages,
+        });
     }
-    Answer::Refused {
-        number: 18,
-        place: pages,
-    }
+    let y = leaves_turned(g, pages);
+    Ok(Counted {
+        pages,
+        x: sums.x,
+        y,
+        turns: g.spec.alpha * sums.x + g.spec.beta * y,
+        white: sums.white,
+    })
 }

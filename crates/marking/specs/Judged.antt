@@ -1,11 +1,9 @@
 -- How pages are judged, those of a list that is marked and those of an opening alike: by the first that breaks a rule.
 use Rattle.std.specs.Prelude.{ℕ, zero, suc, ◌+◌, ◌*◌, ◌≤◌, ◌≡◌, List, [], ◌∷◌, eqb}
 use Rattle.std.proofs.Math.Option.{Option, none, some}
-use Rattle.model.specs.declared.answer.Answer.{Answer}
-use Rattle.model.specs.declared.answer.Answer.TheVariants.{Refused}
 use Rattle.model.specs.Galley as model
 use Rattle.model.specs.Rules.{broken}
-use Rattle.model.specs.Answers.{pages_of}
+use Rattle.model.specs.Answers.{pages_of, Answer, refused}
 use Rattle.model.specs.Opening.{end_of}
 use Rattle.model.specs.laws.White.{page_white}
 use Rattle.theorems.specs.turns.Waiting.{waiting, page_sum, at_end}
@@ -21,7 +19,7 @@ use Rattle.marking.specs.Parts.{pages_in}
 -- A broken rule refuses its page; otherwise it is as after the page.
 unfoldable pub refusal : ℕ → ℕ → Option Answer → Option Answer
 refusal zero q after = after
-refusal (suc n) q after = some (Refused (suc n) q)
+refusal (suc n) q after = some (refused (suc n) q)
 
 -- The refusal of the first page that breaks one of 13 to 17, of pages numbered from q that start at place u; page `last` alone counts as
 -- the last of its list.
@@ -57,7 +55,7 @@ pub record KeptPages (bytes : List ℕ) (g : Galley) (ws : List ℕ) (last : ℕ
 
 -- The refusal that was found.
 abbrev pub fault_told : Judged → Option Answer
-fault_told (Broken n q) = some (Refused n q)
+fault_told (Broken n q) = some (refused n q)
 fault_told (Kept at sums) = none
 
 -- The pages of a list are judged, of which page `last` counts as the last.

@@ -4,8 +4,6 @@ use Rattle.model.specs.Gather.{pick, one}
 use Rattle.model.specs.Galley as model
 use Rattle.model.specs.Rules.{forward, closes}
 use Rattle.model.specs.Leaf.{leaf}
-use Rattle.model.specs.declared.answer.Answer.{Answer}
-use Rattle.model.specs.declared.answer.Answer.TheVariants.{Counted, Refused}
 use Rattle.theorems.specs.turns.Rank.{rank}
 use Rattle.galley.specs.declared.Galley.{Galley}
 use Rattle.galley.specs.Range.{SpecRanged}
@@ -13,6 +11,7 @@ use Rattle.galley.specs.Model.{floats_of, sides_in}
 use Rattle.blocks.specs.declared.Counts.{Counts}
 use Rattle.rules.specs.declared.counts.Sums.{Sums}
 use Rattle.blocks.specs.Counts.{Within}
+use Rattle.model.specs.Answers.{Answer, counted_as, refused}
 
 -- The kinds on a page from u to v: how many streams it has a block of (document 02, S-4).
 abbrev pub kinds_on : Counts → Counts → ℕ
@@ -50,7 +49,7 @@ leaves_turned g p = leaf (sides_in g) p - leaf (sides_in g) 1
 -- The counts of p pages with X and W known.
 unfoldable pub counts : Galley → ℕ → Sums → Answer
 counts g p sums =
-    let y = leaves_turned g p in Counted p sums.x y (g.spec.alpha * sums.x + g.spec.beta * y) sums.white
+    let y = leaves_turned g p in counted_as p sums.x y (g.spec.alpha * sums.x + g.spec.beta * y) sums.white
 
 -- Every block is placed.
 abbrev pub all_placed : Galley → Counts → Bool
@@ -59,7 +58,7 @@ all_placed g at =
 
 -- The answer once p pages are judged: 18 where the last does not end at the full place, else the counts.
 unfoldable pub finished : Galley → ℕ → Counts → Sums → Answer
-finished g p at sums = pick (all_placed g at) (counts g p sums) (Refused 18 p)
+finished g p at sums = pick (all_placed g at) (counts g p sums) (refused 18 p)
 
 -- What p printed pages cost with their white, where so many floats waited at the ends of their leaves: there is a page after them, so
 -- that every leaf that one of them ends is turned (document 02, S-6 and S-10).

@@ -4,13 +4,11 @@ use Rattle.std.proofs.Common.{mul_comm, arith, ◌∙◌}
 use Rattle.std.proofs.Math.Path.{sym, ap}
 use Rattle.std.proofs.Math.Bool.{true, false}
 use Rattle.std.proofs.Math.ListN.{length}
-use Rattle.model.specs.declared.answer.Answer.{Answer}
-use Rattle.model.specs.declared.answer.Answer.TheVariants.{Refused}
 use Rattle.model.specs.Gather.{pick}
 use Rattle.model.specs.Galley.{Place, zeros, sizes, blocks}
 use Rattle.model.specs.Turns.{x_of, y_of, turns}
 use Rattle.model.specs.White.{white}
-use Rattle.model.specs.Answers.{accepted, same, judge, counted, counts_of, pages_of, marked}
+use Rattle.model.specs.Answers.{accepted, same, judge, counted, counts_of, pages_of, marked, Answer, refused}
 use Rattle.model.specs.Best.{allowed}
 use Rattle.model.specs.Opening.{end_of}
 use Rattle.model.proofs.laws.Rules.{kept}
@@ -53,7 +51,7 @@ counted_listed bytes g so ws h pages is =
     }
 
 pub marked_refused : (bytes : List ℕ) (g : Galley) (ws : List ℕ) → counted (model_of bytes g) ws ≡ false
-    → Refused 12 0 ≡ marked (model_of bytes g) ws
+    → refused 12 0 ≡ marked (model_of bytes g) ws
 unfolding marked
 marked_refused bytes g ws h = rw h
 
@@ -71,7 +69,7 @@ ended_of {bytes} {g} {at = at} k =
 module _ {bytes : List ℕ} {g : Galley} {ws : List ℕ} {pages : ℕ} (asked : CountedPages bytes g ws pages) where
   -- Without a fault it is refused by 18, or its pages are counted.
   abbrev ended : Bool → Answer
-  ended full = pick full (counts_of (model_of bytes g) (pages_of (model_of bytes g) ws)) (Refused 18 pages)
+  ended full = pick full (counts_of (model_of bytes g) (pages_of (model_of bytes g) ws)) (refused 18 pages)
 
   -- The first fault refuses it.
   marked_by : marked (model_of bytes g) ws
@@ -83,7 +81,7 @@ module _ {bytes : List ℕ} {g : Galley} {ws : List ℕ} {pages : ℕ} (asked : 
       rw asked.counted
       (judge_fault M (counts_of M (pages_of M ws)) 0 pages (zeros M) (pages_of M ws) (asked.is ∙ pages_in_lem bytes g ws))
 
-  pub list_broken : (n q : ℕ) → JudgedPages bytes g ws pages (Broken n q) → Refused n q ≡ marked (model_of bytes g) ws
+  pub list_broken : (n q : ℕ) → JudgedPages bytes g ws pages (Broken n q) → refused n q ≡ marked (model_of bytes g) ws
   list_broken n q r =
       let full = same (end_of (zeros (model_of bytes g)) (pages_of (model_of bytes g) ws)) (sizes (model_of bytes g)) in
       sym (marked_by ∙ ap (λ f. or_else f (ended full)) (sym r.fault))
@@ -141,6 +139,6 @@ module _ {bytes : List ℕ} {g : Galley} {ws : List ℕ} {pages : ℕ} (asked : 
     unfolding finished
     list_kept = go (all_placed g at) marked_kept
       where
-        go : (b : Bool) → marked (model_of bytes g) ws ≡ ended b → pick b (counts g pages sums) (Refused 18 pages) ≡ marked (model_of bytes g) ws
+        go : (b : Bool) → marked (model_of bytes g) ws ≡ ended b → pick b (counts g pages sums) (refused 18 pages) ≡ marked (model_of bytes g) ws
         go true e = counts_are e ∙ sym e
         go false e = sym e

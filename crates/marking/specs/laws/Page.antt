@@ -2,7 +2,6 @@
 use Rattle.std.specs.Prelude.{ℕ, ◌+◌, ◌*◌, ◌/◌, ◌≤◌, ◌<◌, ◌≡◌, true, false, List, length, eqb, leb}
 use Rattle.std.proofs.Common.{mul-le-mul, arith, sym, ◌∙◌}
 use Rattle.std.proofs.Math.Option.{none, some}
-use Rattle.model.specs.declared.answer.Answer.TheVariants.{Refused}
 use Rattle.model.specs.Rules.{floor, cited, broken}
 use Rattle.galley.specs.declared.Galley.{Galley}
 use Rattle.galley.specs.Model.{model_of}
@@ -25,6 +24,7 @@ use Rattle.laying.specs.laws.Next.{left}
 use Rattle.laying.specs.laws.Heights.{SoFar, so_far_bare, so_far_open, so_far_next, so_far_less, page_over, page_fits, page_loose, page_fills}
 use Rattle.marking.specs.laws.Rest.{rest_long}
 use Rattle.marking.specs.laws.Run.{Run, page_at, broken_at, run_refused, run_next, run_kept}
+use Rattle.model.specs.Answers.{refused}
 
 -- Page `done` + 1 goes from `at` to v, and `start` is the first of 13 and 14 that it breaks, or 0.
 pub record Begun (bytes : List ℕ) (g : Galley) (ws : List ℕ) (last done : ℕ) (at : Counts) (w : Waiting) (sums : Sums) (v : Counts) (start : ℕ) : Type 0 where
@@ -81,11 +81,11 @@ module _ {bytes : List ℕ} {g : Galley} {ws : List ℕ} {last done : ℕ} {at :
 
   -- A rule that is broken on the page ends the run.
   refused : (n : ℕ) → n ≡ broken (model_of bytes g) (done + 1) (eqb (done + 1) last) (place_of g at) (place_of g v) → 0 < n
-      → some (Refused n (done + 1)) ≡ first_fault bytes g ws last
+      → some (refused n (done + 1)) ≡ first_fault bytes g ws last
   refused n e h = run_refused bytes g p.listed.sound ws last p.listed.whole p.run p.more n (rw p.here at e) h
 
   -- 13 or 14.
-  pub begun_refused : 0 < start → some (Refused start (done + 1)) ≡ first_fault bytes g ws last
+  pub begun_refused : 0 < start → some (refused start (done + 1)) ≡ first_fault bytes g ws last
   begun_refused h =
       refused start (broken_start (model_of bytes g) (done + 1) (eqb (done + 1) last) (place_of g at) (place_of g v) start p.fault h) h
 
@@ -130,7 +130,7 @@ module _ {bytes : List ℕ} {g : Galley} {ws : List ℕ} {last done : ℕ} {at :
     underway_less = so_far_less bytes g at v u.so_far u.begun.listed.sound u.ahead.within more
 
   -- 15 ends the run as soon as the page is too high.
-  pub underway_over : g.spec.htmax < laid.heights.tight → some (Refused 15 (done + 1)) ≡ first_fault bytes g ws last
+  pub underway_over : g.spec.htmax < laid.heights.tight → some (refused 15 (done + 1)) ≡ first_fault bytes g ws last
   underway_over over =
       refused u.begun 15
       (broken_over (model_of bytes g) (done + 1) (eqb (done + 1) last) (place_of g at) (place_of g v) start u.begun.fault u.fine
@@ -148,7 +148,7 @@ module _ {bytes : List ℕ} {g : Galley} {ws : List ℕ} {last done : ℕ} {at :
         (page_fills bytes g at v u.so_far (from_proper u.begun) (to_proper u.begun) whole (eqb (done + 1) last)) n e
 
     -- 16 or 17 ends the run.
-    pub underway_ended : 0 < n → some (Refused n (done + 1)) ≡ first_fault bytes g ws last
+    pub underway_ended : 0 < n → some (refused n (done + 1)) ≡ first_fault bytes g ws last
     underway_ended over = refused u.begun n at_end_lem over
 
     -- A page that breaks none goes on to the next.

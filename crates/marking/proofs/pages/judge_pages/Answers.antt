@@ -6,7 +6,6 @@ use mathlib.Core.Path.{◌≡◌, sym, ◌∙◌}
 use mathlib.Core.List.{List}
 use mathlib.Core.Option.{some}
 use native.Mathlib.Omega.{arith}
-use Rattle.model.specs.declared.answer.Answer.TheVariants.{Refused}
 use Rattle.galley.specs.declared.Galley.{Galley}
 use Rattle.blocks.specs.laws.Counts.{words_least}
 use Rattle.marking.specs.declared.pages.Judged.TheVariants.{Broken}
@@ -15,6 +14,7 @@ use Rattle.marking.specs.laws.Page.{run_few, Begun, page_left, page_there, page_
 use Rattle.marking.specs.laws.Run.{run_start}
 use Rattle.marking.proofs.pages.judge_pages.Goals as goal
 use Rattle.marking.proofs.pages.judge_pages.Goals.{After-start_fault-start, Else-done-pages}
+use Rattle.model.specs.Answers.{refused}
 
 pub pages-init : goal.pages-init
 pages-init c =
@@ -101,7 +101,7 @@ returns-then-done-pages c =
     record { fault = over.0; kept = λ at x e. let a : c.pages.at ≡ at = cc in let b : c.pages.sums ≡ x = cc in rw (← a, ← b) over.1 }
 
 -- A rule that is broken is told with its page, and nothing is kept.
-broke : {bytes : List ℕ} {g : Galley} {ws : List ℕ} {last n q : ℕ} → some (Refused n q) ≡ first_fault bytes g ws last
+broke : {bytes : List ℕ} {g : Galley} {ws : List ℕ} {last n q : ℕ} → some (refused n q) ≡ first_fault bytes g ws last
     → JudgedPages bytes g ws last (Broken n q)
 broke e = record { fault = e; kept = λ at x f. let z : ◌≡◌ {A = ℕ} 0 1 = cc in absurd (omega arith) }
 
