@@ -2,6 +2,9 @@
 // file".
 #![tactic(auto)]
 
+use model::answer::Refusal;
+use std::ops::ControlFlow;
+
 pub mod place; // place.rt: which mark fits where
 pub mod range; // range.rt: the ranges of the fields
 pub mod word; // word.rt: bytes, fields and marks
@@ -63,7 +66,13 @@ pub enum Record {
     Figure(Float),
     Table(Float),
     End,
-    Refused { number: u32, place: usize },
+}
+
+// The number that turns a record away, and the offset where it starts.
+#[derive(Clone, Copy, PartialEq, Eq, Debug)]
+pub struct Unread {
+    pub number: u32,
+    pub place: usize,
 }
 
 // One stream of blocks, the lines, the figures or the tables: how many there are, and the offset of the first, from which every other is
@@ -85,11 +94,7 @@ pub struct Galley {
 }
 
 // What reading a whole galley gives.
-#[derive(Clone, Copy)]
-pub enum Reading {
-    Galley(Galley),
-    Refused { number: u32, place: u32 },
-}
+pub type Reading = Result<Galley, Refusal>;
 
 // A kind of record: the stage that it reaches, the first and the last stage after which it may come, how many there may be of
 // its stage, and its bytes.
@@ -119,8 +124,4 @@ pub struct Sofar {
 }
 
 // What one record more gives: reading goes on, or it is done.
-#[derive(Clone, Copy)]
-pub enum Step {
-    On(Sofar),
-    Done(Reading),
-}
+pub type Step = ControlFlow<Reading, Sofar>;
