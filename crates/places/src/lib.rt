@@ -6,7 +6,7 @@
 
 ghost use Rattle.std.specs.Prelude.{◌≡◌, ◌+◌, ◌≤◌, [], ◌∷◌, length, take, replicate};
 ghost use Rattle.std.proofs.lemmas.List.Edits.{sets};
-ghost use Rattle.places.specs.Entry.{less, low_of, high_of, joined, entry_at, stored, cleared};
+ghost use Rattle.places.specs.Entry.{low_of, high_of, joined, entry_at, stored, cleared};
 ghost use Rattle.places.specs.Address.{address, words_needed, Inside, Small, Limited, Stands};
 ghost use Rattle.places.specs.Table.{table_of};
 
@@ -32,6 +32,9 @@ pub type Entry = Option<Least>;
 // A limit that no list passes: the dearest costs 1,066,499,000 turns and 424,900,000 of white.
 pub const BOUNDLESS: u64 = 4600000000000000000;
 
+// What the high word of a cost counts.
+const WORD: u64 = 4294967296;
+
 // Where a search begins: the place, the pages before it, and what they cost; and how far it goes: what the pages after it may cost in all
 // to be looked for.
 #[derive(Clone, Copy)]
@@ -53,32 +56,25 @@ pub fn place_of(line: usize, column: usize) -> Place
     }
 }
 
-// Whether the cost x is less than y.
-pub fn less(x: u64, y: u64) -> bool
-    ensures { result ≡ less x y }
-{
-    x < y
-}
-
 // The low word of a cost.
 pub fn low_of(cost: u64) -> u32
     ensures { result ≡ low_of cost }
 {
-    (cost % 4294967296) as u32
+    (cost % WORD) as u32
 }
 
 // Its high word.
 pub fn high_of(cost: u64) -> u32
     ensures { result ≡ high_of cost }
 {
-    (cost / 4294967296) as u32
+    (cost / WORD) as u32
 }
 
 // The cost of these two words.
 pub fn joined(low: u32, high: u32) -> u64
     ensures { result ≡ joined low high }
 {
-    high as u64 * 4294967296 + low as u64
+    u64::from(high) * WORD + u64::from(low)
 }
 
 // Where the five words start of a place on a side, in columns of `tall` places.
@@ -143,11 +139,7 @@ pub fn clear(work: &mut [u32], from: usize, n: usize)
     requires { (from ≤ n) × (n ≤ length work.old) × (take from work.old ≡ replicate from 0) }
     ensures { work.new ≡ cleared n work.old }
 {
-    let mut i = from;
-    while i < n {
-        work[i] = 0;
-        i += 1;
-    }
+    work[from..n].fill(0);
 }
 
 // The words that a galley of so many lines and columns needs.
