@@ -12,7 +12,7 @@ ghost use Rattle.places.specs.Table.{table_of};
 
 // Where a page starts, and where it ends: the lines placed so far, and the column, which is the number of the figures and tables
 // placed so far.
-#[derive(Clone, Copy)]
+#[derive(Clone, Copy, PartialEq, Eq, PartialOrd, Ord)]
 pub struct Place {
     pub line: u32,
     pub column: u32,
@@ -20,7 +20,7 @@ pub struct Place {
 
 // The least cost of a place, with the side of the page ending there; with the cost goes the start of that page. A cost is one
 // number: turns by 2³², and white, so that turns decide and then white.
-#[derive(Clone, Copy)]
+#[derive(Clone, Copy, PartialEq, Eq)]
 pub struct Least {
     pub cost: u64,
     pub start: Place,
