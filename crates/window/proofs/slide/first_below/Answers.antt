@@ -1,6 +1,7 @@
 -- `first_below` meets its contract. The loop's invariant: the pages from the lines passed all reach the limit, to which each turn
 -- adds one.
 use Prim.Native.Nat.{◌-◌}
+use mathlib.Core.Path.{◌≡◌}
 use native.Mathlib.Omega.{arith}
 use Rattle.window.specs.laws.First.{first_start, first_next, first_found}
 use Rattle.window.specs.laws.Slide.{reaches_readable}
@@ -36,5 +37,6 @@ loop-a-preserved c =
 pub returns : goal.returns
 returns c =
     let st = c.loop-a in
+    let done : st.a ≡ c.args.i = omega arith in
     let far = c.reached-far.ensures in
-    rw (← far) (first_found _ st.invariant.1 st.invariant.0 (λ l. absurd (omega arith)))
+    rw (← far) (rw done at (first_found _ st.invariant.1 st.invariant.0 (λ l. absurd (omega arith))))

@@ -6,6 +6,3 @@ use Rattle.window.proofs.sums.gather.Given as goal
 
 abbrev pub invariant-loop-k : goal.invariant-loop-k
 invariant-loop-k l = SumsRun l.s l.text l.initial.sums l.sums l.tight l.loose l.k
-
-abbrev pub decreases-loop-k : goal.decreases-loop-k
-decreases-loop-k l = l.text.count - l.k
