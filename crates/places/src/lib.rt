@@ -110,16 +110,14 @@ pub fn entry_of(work: &[u32], tall: usize, place: Place, side: usize) -> Entry
     entry_at(work, address_of(tall, place, side))
 }
 
-// Five words written from `at` on.
-fn put(work: &mut [u32], at: usize, tag: u32, cost: u64, start: Place)
-    requires { at + 5 ≤ length work.old }
-    ensures { work.new ≡ sets work.old at (tag ∷ low_of cost ∷ high_of cost ∷ start.line ∷ start.column ∷ []) }
+// So many words written from `at` on.
+pub fn put<const N: usize>(words: &mut [u32], at: usize, row: [u32; N])
+    requires { at + N ≤ length words.old }
+    ensures { words.new ≡ sets words.old at row.entry }
 {
-    work[at] = tag;
-    work[at + 1] = low_of(cost);
-    work[at + 2] = high_of(cost);
-    work[at + 3] = start.line;
-    work[at + 4] = start.column;
+    for k in 0..N {
+        words[at + k] = row[k];
+    }
 }
 
 // The entry of a place on a side stored.
@@ -129,8 +127,11 @@ pub fn store(work: &mut [u32], tall: usize, place: Place, side: usize, entry: En
 {
     let at = address_of(tall, place, side);
     match entry {
-        None => put(work, at, 0, 0, Place { line: 0, column: 0 }),
-        Some(least) => put(work, at, 1, least.cost, least.start),
+        None => put(work, at, [0; 5]),
+        Some(Least { cost, start }) => {
+            let words = [1, low_of(cost), high_of(cost), start.line, start.column];
+            put(work, at, words);
+        }
     }
 }
 

@@ -1,6 +1,6 @@
 -- `first_below` meets its contract. The loop's invariant: the pages from the lines passed all reach the limit, to which each turn
 -- adds one.
-use Prim.Native.Nat.{suc, ◌+◌, ◌-◌, ◌≤◌}
+use Prim.Native.Nat.{suc, ◌+◌, ◌≤◌}
 use Rattle.window.specs.First.{First}
 use Rattle.window.specs.Sums.{spaced_at}
 use Rattle.window.proofs.slide.first_below.Given as goal

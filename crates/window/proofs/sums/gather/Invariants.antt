@@ -1,6 +1,5 @@
 -- `gather` meets its contract. The loop's invariant: the rows up to line k are written, and how far it reaches is in hand; each turn
 -- writes the next row, and so does the end, where that is one of no line.
-use Prim.Native.Nat.{◌-◌}
 use Rattle.window.specs.Run.{SumsRun}
 use Rattle.window.proofs.sums.gather.Given as goal
 

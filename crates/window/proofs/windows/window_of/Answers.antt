@@ -7,6 +7,7 @@ use mathlib.Core.Path.{◌≡◌, subst}
 use lib.ListN.{length}
 use Rattle.window.specs.Slide.{Open}
 use Rattle.window.specs.Windows.{window_at}
+use Rattle.window.specs.Rows.{pushed}
 use Rattle.window.specs.laws.Rows.{beside_none}
 use Rattle.window.specs.laws.Rows.{pushed_beside}
 use Rattle.window.specs.laws.Windows.{window_stored}
@@ -24,21 +25,22 @@ returns-then-c-gt0 c =
           subst (λ (window : Window). Open st a.load window a.i) same (kept c.if-c-gt0.true);
     }
 
-pub overflow_cast-window : goal.overflow_cast-window
-overflow_cast-window c = omega (arith, c.slide-window.ensures.within)
+pub overflow_cast-ends : goal.overflow_cast-ends
+overflow_cast-ends c = omega (arith, c.slide-window.ensures.within)
 
-pub overflow_cast-window-2 : goal.overflow_cast-window-2
-overflow_cast-window-2 c = omega (arith, c.slide-window.ensures.between)
+pub overflow_cast-ends-2 : goal.overflow_cast-ends-2
+overflow_cast-ends-2 c = omega (arith, c.slide-window.ensures.between)
 
-pub overflow_cast-window-3 : goal.overflow_cast-window-3
-overflow_cast-window-3 c = omega (arith, c.slide-window.ensures.inside)
+pub overflow_cast-ends-3 : goal.overflow_cast-ends-3
+overflow_cast-ends-3 c = omega (arith, c.slide-window.ensures.inside)
 
 pub returns : goal.returns
+unfolding pushed
 returns c =
     let a = c.args in
     let slid = c.slide-window in
     let room : 3 * (a.i + 8000) + 3 ≤ length a.words.now = omega (arith, c.requires.few, c.requires.room) in
-    rw c.push.ensures
+    rw c.put.ensures
     (record {
       kept = window_stored a.words.now a.i slid.result room;
       beside = pushed_beside a.words.now (a.i + 8000) _ _ _ (le_refl (a.i + 8000)) (omega arith) (beside_none _ _ _);
