@@ -6,7 +6,7 @@ use mathlib.Core.Path.{ap, ◌∙◌}
 use lib.ListN.{length}
 use Rattle.window.specs.Rows.{pushed}
 use Rattle.window.specs.laws.Rows.{pushed_length}
-use Rattle.window.specs.laws.Sums.{sums_first, sums_fit, sums_next, sums_last}
+use Rattle.window.specs.laws.Sums.{sums_first, sums_fit, sums_next}
 use Rattle.window.proofs.sums.gather.Goals as goal
 use Rattle.window.proofs.sums.gather.Goals.{After-field-most, At-loop-k}
 
@@ -25,10 +25,6 @@ room c =
     let same = c.loop-k.invariant.sized ∙ ap length first ∙ pushed_length c.args.sums.now 0 0 0 0 in
     omega (arith, c.requires.room)
 
-pub put-requires-in-loop-k : goal.put-requires-in-loop-k
-put-requires-in-loop-k c =
-    omega (arith, room (goal.at.put-requires-in-loop-k c).At-loop-k)
-
 -- The sums in hand and the fields of the line are small.
 fit : (c : After-field-most)
     → c.loop-k.tight + c.loop-k.loose
@@ -39,14 +35,8 @@ fit c =
     c.loop-k-test.true
     c.field-height.ensures c.field-least.ensures c.field-most.ensures c.requires.sound c.requires.few
 
-pub overflow_add-tight : goal.overflow_add-tight
-overflow_add-tight c = omega (arith, fit (goal.at.overflow_add-tight c).After-field-most)
-
 pub overflow_add-tight-in-loop-k : goal.overflow_add-tight-in-loop-k
 overflow_add-tight-in-loop-k c = omega (arith, fit (goal.at.overflow_add-tight-in-loop-k c).After-field-most)
-
-pub overflow_add-loose : goal.overflow_add-loose
-overflow_add-loose c = omega (arith, fit (goal.at.overflow_add-loose c).After-field-most)
 
 pub overflow_add-loose-in-loop-k : goal.overflow_add-loose-in-loop-k
 overflow_add-loose-in-loop-k c = omega (arith, fit (goal.at.overflow_add-loose-in-loop-k c).After-field-most)
@@ -60,15 +50,3 @@ loop-k-preserved c =
     c.loop-k-test.true
     c.field-height.ensures c.field-least.ensures c.field-most.ensures _ (room (goal.at.loop-k-preserved c).At-loop-k)
     c.put-in-loop-k.ensures
-
-pub put-requires-2 : goal.put-requires-2
-put-requires-2 c =
-    omega (arith, room (goal.at.put-requires-2 c).At-loop-k)
-
-pub returns : goal.returns
-unfolding pushed
-returns c =
-    let st = c.loop-k in
-    let a = c.args in
-    sums_last a.s.now a.text _ st.sums _ st.tight st.loose st.k st.invariant c.loop-k-test.false
-    (room (goal.at.returns c).At-loop-k) c.put-2.ensures
