@@ -36,4 +36,4 @@ pub returns : goal.returns
 returns c =
     let a = c.args in
     parts_moved a.work.now a.sums.now a.words.now _ _ a.source a.parts a.from a.to _ _ c.requires
-    c.advance-full.ensures (rw c.later-start.ensures at c.advance-rest.ensures)
+    c.advance-full.ensures (rw c.max-start.ensures at c.advance-rest.ensures)

@@ -6,7 +6,7 @@ use mathlib.Core.Path.{◌≡◌, refl, sym, ap, subst, ◌∙◌}
 use mathlib.Core.List.{List}
 use lib.ListN.{length}
 use Rattle.places.specs.Best.{Paid}
-use Rattle.window.specs.Rows.{Beside}
+use Rattle.window.specs.Rows.{Beside, pushed}
 use Rattle.queues.specs.Queue.{added_of, lines_in, tailed, Held}
 use Rattle.window.specs.laws.Rows.{beside_none}
 use Rattle.queues.proofs.laws.Held.{paid_of, held_passed}
@@ -73,15 +73,16 @@ overflow_add-tail c =
     omega (arith, c.drop_dearer-tail.ensures.to, c.loop-a.invariant.short)
 
 pub loop-a-preserved : goal.loop-a-preserved
+unfolding pushed
 loop-a-preserved c =
     let st = c.loop-a in
     let a = c.args in
     let col = lines_in a.work.now a.source in
     let add = added_of a.sums.now a.queue.lacks in
     let t = c.drop_dearer-tail.result in
-    let drops = c.drop_dearer-tail.ensures in
-    let new = rw (c.place_of-place.ensures, c.high_of.ensures, c.low_of.ensures)
-    at c.push.ensures in
+    let drops = rw c.from.ensures at c.drop_dearer-tail.ensures in
+    let new = rw (c.place_of-place.ensures, c.high_of.ensures, c.low_of.ensures, c.from.ensures)
+    at c.put.ensures in
     let x = c.in-Some.found.cost in
     let more = c.added-more.result in
     let here : Paid (col st.a) (add st.a) (x + more) =
