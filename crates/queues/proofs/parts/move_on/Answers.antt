@@ -4,20 +4,6 @@ use native.Mathlib.Omega.{arith}
 use Rattle.queues.proofs.laws.Parts.{parts_moved}
 use Rattle.queues.proofs.parts.move_on.Goals as goal
 
-pub advance-full-requires : goal.advance-full-requires
-advance-full-requires c =
-    let pre = c.requires in
-    record {
-      stands = λ a l. pre.stands a (omega (arith, pre.split));
-      costs = λ a l. pre.costs a (omega (arith, pre.split));
-      summed = omega (arith, pre.split, pre.summed);
-      based = pre.held.full.based;
-      order = pre.held.full.order;
-      short = pre.held.full.short;
-      start = pre.rises.split;
-      room = omega (arith, pre.split, pre.few, pre.room);
-    }
-
 pub advance-rest-requires : goal.advance-rest-requires
 advance-rest-requires c =
     let pre = c.requires in
