@@ -17,7 +17,7 @@ fn no_later(r: Place, s: Place) -> bool
 fn beats(y: u64, r: Place, x: u64, s: Place) -> bool
     ensures { result ≡ beats y r x s }
 {
-    places::less(y, x) | (!places::less(x, y) & no_later(r, s))
+    (y < x) | (!(x < y) & no_later(r, s))
 }
 
 // Whether the start r at cost y is better than an entry, or is its start.
@@ -54,7 +54,7 @@ pub fn choose_later(held: Entry, other: Entry) -> Entry
     let Some(x) = held else {
         return other;
     };
-    if places::less(x.cost, y.cost) {
+    if x.cost < y.cost {
         return held;
     }
     other
@@ -68,7 +68,7 @@ pub fn start_at(entry: Entry, place: Place, white: u32) -> Entry
 {
     let x = entry?;
     Some(Least {
-        cost: x.cost + white as u64,
+        cost: x.cost + u64::from(white),
         start: place,
     })
 }

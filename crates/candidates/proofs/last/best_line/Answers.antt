@@ -9,7 +9,7 @@ use Rattle.candidates.proofs.last.best_line.Goals as goal
 pub loop-a-init : goal.loop-a-init
 loop-a-init c =
     let a = c.args in
-    (omega arith, inl refl, lines_none (lines_of a.work.now a.tall a.column a.side) (λ a. 0) a.column a.window.low)
+    (inl refl, lines_none (lines_of a.work.now a.tall a.column a.side) (λ a. 0) a.column a.window.low)
 
 pub place_of-place-requires : goal.place_of-place-requires
 place_of-place-requires c =
@@ -31,10 +31,9 @@ loop-a-preserved c =
     let st = c.loop-a in
     let a = c.args in
     let col = lines_of a.work.now a.tall a.column a.side in (
-      omega arith,
       inr (omega (arith, c.loop-a-test.true)),
       rw (c.choose-best.ensures, c.start_at.ensures, c.entry_of-entry.ensures, c.place_of-place.ensures)
-          (lines_next col (λ a. 0) a.column a.window.low st.a st.best st.invariant.0 st.invariant.2),
+          (lines_next col (λ a. 0) a.column a.window.low st.a st.best (omega (arith, st.auto)) st.invariant.1),
     )
 
 pub returns : goal.returns
@@ -42,4 +41,4 @@ returns c =
     let st = c.loop-a in
     let a = c.args in
     lines_all (lines_of a.work.now a.tall a.column a.side) (λ a. 0) a.column a.window.low a.window.high st.a st.best
-    st.invariant.1 (omega (arith, c.loop-a-test.false)) st.invariant.2
+    st.invariant.0 (omega (arith, c.loop-a-test.false)) st.invariant.1
