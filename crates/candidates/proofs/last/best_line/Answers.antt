@@ -1,30 +1,9 @@
 -- `best_line` meets its contract. The loop's invariant: of the window's lines before a the entry is the best.
 use native.Mathlib.Omega.{arith}
-use mathlib.Core.Path.{refl}
-use mathlib.Core.Logic.{inl, inr}
+use mathlib.Core.Logic.{inr}
 use Rattle.queues.specs.Queue.{lines_of}
-use Rattle.candidates.proofs.laws.Lines.{lines_none, lines_next, lines_all}
+use Rattle.candidates.proofs.laws.Lines.{lines_next, lines_all}
 use Rattle.candidates.proofs.last.best_line.Goals as goal
-
-pub loop-a-init : goal.loop-a-init
-loop-a-init c =
-    let a = c.args in
-    (inl refl, lines_none (lines_of a.work.now a.tall a.column a.side) (λ a. 0) a.column a.window.low)
-
-pub place_of-place-requires : goal.place_of-place-requires
-place_of-place-requires c =
-    let inside = (c.requires.0 c.loop-a.a c.loop-a-test.true).inside in
-    record { line = omega (arith, inside.row, inside.high); column = inside.wide }
-
-pub entry_of-entry-requires : goal.entry_of-entry-requires
-entry_of-entry-requires c =
-    rw c.place_of-place.ensures
-    (c.requires.0 c.loop-a.a c.loop-a-test.true)
-
-pub start_at-requires : goal.start_at-requires
-start_at-requires c =
-    rw (c.entry_of-entry.ensures, c.place_of-place.ensures)
-    (c.requires.1 c.loop-a.a c.loop-a-test.true)
 
 pub loop-a-preserved : goal.loop-a-preserved
 loop-a-preserved c =
