@@ -1,5 +1,5 @@
 -- Lines of a column that are not reached: found by looking at them, or known to stand before the origin of the search.
-use Rattle.std.specs.Prelude.{ℕ, ◌+◌, ◌≤◌, ◌<◌, ◌≡◌, List}
+use Rattle.std.specs.Prelude.{ℕ, ◌+◌, ◌≤◌, ◌<◌, ◌≡◌, Option, Some, None, List}
 use Rattle.galley.specs.declared.Galley.{Galley}
 use Rattle.blocks.specs.declared.Counts.{Counts}
 use Rattle.places.specs.declared.Place.{Place}
@@ -23,6 +23,11 @@ pub record Found (g : Galley) (w : List ℕ) (j from r : ℕ) : Type 0 where
   pub since : from ≤ g.text.count + 1 → from ≤ r
   pub within : r ≤ g.text.count + 1
   pub quiet : Quiet g w j g.spec.sides from r
+
+-- The first line from `from` on that is reached on a side that occurs, or none.
+abbrev pub FirstFound : Galley → List ℕ → ℕ → ℕ → Option ℕ → Type 0
+FirstFound g w j from None = Quiet g w j g.spec.sides from (g.text.count + 1)
+FirstFound g w j from (Some r) = (from ≤ r) × (r ≤ g.text.count) × Quiet g w j g.spec.sides from r
 
 -- Word x holds of column j: none of its lines from `from` on that are before the hint's first or after its last is reached.
 pub record Hinted (g : Galley) (w : List ℕ) (j from x : ℕ) : Type 0 where
@@ -55,6 +60,11 @@ Over g w j to = (to ≤ g.text.count + 1) × Quiet g w j g.spec.sides to (g.text
 pub record Reached (g : Galley) (w : List ℕ) (j from : ℕ) (r : Reach) : Type 0 where
   pub first : Found g w j from r.first
   pub last : LastFound g w j r.first r.last
+
+-- Both, or none where no line from `from` on is reached.
+abbrev pub ReachFound : Galley → List ℕ → ℕ → ℕ → Option Reach → Type 0
+ReachFound g w j from None = Quiet g w j g.spec.sides from (g.text.count + 1)
+ReachFound g w j from (Some r) = (r.first ≤ g.text.count) × Reached g w j from r
 
 -- Whatever is reached in the columns before j has the origin's counts or more in every stream: nothing before the origin is a start.
 pub record PastOrigin (g : Galley) (w : List ℕ) (j : ℕ) (origin : Counts) : Type 0 where
