@@ -1,6 +1,5 @@
 -- Bounds of what starts cost, kept behind the queues and the windows, and what they spare.
-use Rattle.std.specs.Prelude.{ℕ, ◌+◌, ◌≤◌, ◌<◌, ◌≡◌, Bool, true, List, length}
-use Rattle.model.specs.Gather.{pick}
+use Rattle.std.specs.Prelude.{ℕ, ◌+◌, ◌≤◌, ◌<◌, ◌≡◌, Bool, true, List, length, min}
 use Rattle.places.specs.declared.Place.{Place}
 use Rattle.places.specs.declared.Entry.{Entry}
 use Rattle.places.specs.declared.Entry.TheVariants.{Unreached, Least}
@@ -12,12 +11,12 @@ use Rattle.window.specs.Rows.{Beside}
 use Rattle.queues.specs.Queue.{cost_at, lines_in}
 
 -- The lesser of a cost and that of an entry.
-unfoldable pub lesser_of : ℕ → Entry → ℕ
+abbrev pub lesser_of : ℕ → Entry → ℕ
 lesser_of least Unreached = least
-lesser_of least (Least x s) = pick (less x least) x least
+lesser_of least (Least x s) = min least x
 
 -- The second entry costs more, or one of them is not reached.
-unfoldable pub grows_of : Entry → Entry → Bool
+abbrev pub grows_of : Entry → Entry → Bool
 grows_of Unreached far = true
 grows_of (Least x s) Unreached = true
 grows_of (Least x s) (Least y r) = less x y

@@ -44,7 +44,7 @@ pub record Summed (bytes : List ℕ) (g : Galley) (sums : List ℕ) : Type 0 whe
 
 -- What a page of the pass has beside its lines.
 abbrev pub pass_load : Galley → Pass → Load
-pass_load g pass = load_of g 1 pass.heights pass.least pass.first
+pass_load g pass = load_of g 1 pass.heights pass.least pass.reach.first
 
 -- A pass leads to a later column from one that has no more of any stream, and the floats between, with these heights alone, are not
 -- too tall.
@@ -94,14 +94,14 @@ sweep_end g pass = pick (last_column g pass.to) g.text.count (g.text.count + 1)
 pub record Stoppable (g : Galley) (sums : List ℕ) (pass : Pass) : Type 0 where
   pub wide : Wide g pass.to
   pub separable : Separable g.spec 1 pass.heights
-  pub order : pass.first ≤ pass.last
-  pub line : pass.last ≤ g.text.count
-  pub reaches : Reachable sums 0 (pass_load g pass).tight (g.spec.htmax + 1) pass.last g.text.count
+  pub order : pass.reach.first ≤ pass.reach.last
+  pub line : pass.reach.last ≤ g.text.count
+  pub reaches : Reachable sums 0 (pass_load g pass).tight (g.spec.htmax + 1) pass.reach.last g.text.count
 
 -- Of the lines that a sweep may take, those from `stop` on are after the last of the pass, and pages from there to them are too tall.
 pub record Stopped (g : Galley) (sums : List ℕ) (pass : Pass) (stop : ℕ) : Type 0 where
-  pub from : pass.first ≤ stop
+  pub from : pass.reach.first ≤ stop
   pub within : stop ≤ sweep_end g pass
-  pub after : stop < sweep_end g pass → pass.last < stop
+  pub after : stop < sweep_end g pass → pass.reach.last < stop
   pub tall : (st : Stream) → Sums st g.text.count sums → (e : ℕ) → stop ≤ e → e < sweep_end g pass
-      → Tall st (pass_load g pass) pass.last e
+      → Tall st (pass_load g pass) pass.reach.last e

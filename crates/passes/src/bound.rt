@@ -10,13 +10,10 @@ use queues::queue::Source;
 fn lesser(least: u64, entry: Entry) -> u64
     ensures { result ≡ lesser_of least entry }
 {
-    let Entry::Least(x, _start) = entry else {
-        return least;
-    };
-    if places::less(x, least) {
-        return x;
+    match entry {
+        Entry::Unreached => least,
+        Entry::Least(x, _start) => least.min(x),
     }
-    least
 }
 
 // Whether what is reached costs more at the far end of a column, or is not reached at one of its ends.
@@ -40,10 +37,8 @@ fn bound_lines(work: &[u32], words: &mut [u32], source: Source, since: usize, li
 {
     let end = places::place_of(lines, source.column);
     let far = places::entry_of(work, source.tall, end, source.side);
-    let mut least = lesser(18446744073709551615, far);
-    let mut a = lines;
-    while since + 1 < a {
-        a -= 1;
+    let mut least = lesser(u64::MAX, far);
+    for a in (since + 1..lines).rev() {
         let place = places::place_of(a, source.column);
         let entry = places::entry_of(work, source.tall, place, source.side);
         least = lesser(least, entry);
@@ -72,13 +67,7 @@ pub fn bound_side(
     requires { Standing work.now words.old source lines }
     ensures { BoundFound work.now words.old source lines result words.new }
 {
-    if !several {
-        return lines;
-    }
-    if lines <= first {
-        return lines;
-    }
-    if to <= source.column + 1 {
+    if !several || lines <= first || to <= source.column + 1 {
         return lines;
     }
     let top = places::place_of(first, source.column);
@@ -106,10 +95,7 @@ pub fn beaten(
     requires { Comparable work.now words.now tall place side last }
     ensures { result ≡ true → Beaten work.now words.now tall place side since low last }
 {
-    if low <= since {
-        return false;
-    }
-    if last <= low {
+    if low <= since || last <= low {
         return false;
     }
     let Entry::Least(x, _start) = places::entry_of(work, tall, place, side) else {

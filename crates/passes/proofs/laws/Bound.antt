@@ -20,21 +20,11 @@ use Rattle.passes.specs.Bound.{lesser_of, bound_at, Bounded, BoundFound, BoundRu
 
 -- The lesser is no more than either.
 pub lesser_low : (least : ℕ) (e : Entry) → lesser_of least e ≤ least
-unfolding lesser_of
 lesser_low least Unreached = le_refl least
-lesser_low least (Least x s) = go (less x least) refl
-  where
-    go : (t : Bool) → less x least ≡ t → pick t x least ≤ least
-    go true e = omega (arith, ltb-true x least e)
-    go false e = le_refl least
+lesser_low least (Least x s) = omega arith
 
 pub lesser_entry : (least x : ℕ) (s : Place) (e : Entry) → e ≡ Least x s → lesser_of least e ≤ x
-unfolding lesser_of
-lesser_entry least x s e p = rw p (go (less x least) refl)
-  where
-    go : (t : Bool) → less x least ≡ t → pick t x least ≤ x
-    go true e = le_refl x
-    go false e = omega (arith, ltb-false x least e)
+lesser_entry least x s e p = rw p (omega arith)
 
 -- The last line needs no bound,
 pub bound_first : (work words : List ℕ) (source : Source) (lines least : ℕ) → 0 < lines

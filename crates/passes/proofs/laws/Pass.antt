@@ -114,12 +114,12 @@ module _ {bytes : List ℕ} {g : Galley} {w : List ℕ} {pass : Pass} (lent : Le
     sought_here = search_of bytes g w i pass.to (side_of g c)
 
     -- Where a page from the last line that is reached is too tall, the pass has no start.
-    pub pass_late : Late g w pass → pass.last < i → Tall (text_of bytes g.text) (pass_load g pass) pass.last i
+    pub pass_late : Late g w pass → pass.reach.last < i → Tall (text_of bytes g.text) (pass_load g pass) pass.reach.last i
         → (a y : ℕ) → Candidate (search_of bytes g w i pass.to (side_of g c)) a pass.from y → ⊥
     pass_late late after tall a y start =
         let sought = sought_in bytes g w i pass.to (side_of g c) (lent_placed lent i line) in
         let left : pass.from ≤ pass.to = omega (arith, passing.before) in
-        let beyond = start_tall sought_here sought pass.from left passing.under (pass_load g pass) bears pass.last after tall a y start in
+        let beyond = start_tall sought_here sought pass.from left passing.under (pass_load g pass) bears pass.reach.last after tall a y start in
         start_quiet lent late.quiet i a y c occurs start (omega arith) (omega (arith, start.line))
 
     module _ (early : Early g w pass) (white : pass.white ≡ white_at g last pass.heights.loose) (window : Window)
@@ -128,7 +128,7 @@ module _ {bytes : List ℕ} {g : Galley} {w : List ℕ} {pass : Pass} (lent : Le
       held = table_in g w i pass.to c
 
       -- No line of the column before the pass's first is a start of it.
-      early_here : (a : ℕ) → a < pass.first → a < i → table_in g w a pass.from (side_of g c) ≡ Unreached
+      early_here : (a : ℕ) → a < pass.reach.first → a < i → table_in g w a pass.from (side_of g c) ≡ Unreached
       early_here a l m = early.none a (side_of g c) (omega arith) l (side_occurs lent.sound c occurs)
 
       -- Where the place holds less than every line from the window's low end on, one line more is swept.

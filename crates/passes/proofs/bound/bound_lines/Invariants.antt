@@ -7,6 +7,3 @@ use Rattle.passes.proofs.bound.bound_lines.Given as goal
 abbrev pub invariant-loop-a : goal.invariant-loop-a
 invariant-loop-a l =
     BoundRun l.work l.initial.words l.words l.source l.lines l.least l.a
-
-abbrev pub decreases-loop-a : goal.decreases-loop-a
-decreases-loop-a l = l.a

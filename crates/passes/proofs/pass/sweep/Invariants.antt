@@ -5,6 +5,3 @@ use Rattle.passes.proofs.pass.sweep.Given as goal
 
 abbrev pub invariant-loop-c : goal.invariant-loop-c
 invariant-loop-c l = SweepRun l.s l.g l.initial.work l.work l.initial.words l.words l.pass l.stop l.c
-
-abbrev pub decreases-loop-c : goal.decreases-loop-c
-decreases-loop-c l = l.g.spec.sides - l.c

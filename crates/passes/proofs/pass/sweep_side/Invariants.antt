@@ -7,6 +7,3 @@ use Rattle.passes.proofs.pass.sweep_side.Given as goal
 abbrev pub invariant-loop-i : goal.invariant-loop-i
 invariant-loop-i l =
     SideRun l.s l.g l.initial.work l.work l.sums l.initial.words l.words l.c l.pass l.stop l.since l.parts l.fed l.starts l.i
-
-abbrev pub decreases-loop-i : goal.decreases-loop-i
-decreases-loop-i l = l.stop - l.i
