@@ -53,7 +53,7 @@ fn bound_lines(work: &[u32], words: &mut [u32], source: Source, since: usize, li
 }
 
 // The line of a source after which there are bounds, for pages that end in column `to`: the first one that is reached, or the last, where
-// bounds are of no use. That is where all lines from the one to the other are no more than a page, where all cost as much, and where no
+// bounds are of no use: none is after that one, so that no line needs a test more. That is where all lines from the one to the other are no more than a page, where all cost as much, and where no
 // other column was weighed before.
 pub fn bound_side(
     work: &[u32],
