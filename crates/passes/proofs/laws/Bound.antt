@@ -1,12 +1,10 @@
 -- Bounds found line by line from the last on, kept by what does not concern them, and what they spare.
-use Rattle.std.specs.Prelude.{ℕ, suc, ◌+◌, ◌-◌, ◌*◌, ◌≤◌, ◌<◌, ◌≡◌, refl, Bool, true, false, List, length}
-use Rattle.std.proofs.Common.{le_refl, arith, sym, ◌∙◌, inr, ltb-true, ltb-false}
+use Rattle.std.specs.Prelude.{ℕ, suc, ◌+◌, ◌-◌, ◌*◌, ◌≤◌, ◌<◌, ◌≡◌, refl, List, length}
+use Rattle.std.proofs.Common.{le_refl, arith, sym, ◌∙◌, inr}
 use Rattle.std.proofs.Math.Decide.{dec_lt, ℕ_discrete}
-use Rattle.model.specs.Gather.{pick}
 use Rattle.places.specs.declared.Place.{Place}
 use Rattle.places.specs.declared.Entry.{Entry}
 use Rattle.places.specs.declared.Entry.TheVariants.{Unreached, Least}
-use Rattle.places.specs.Entry.{less}
 use Rattle.places.specs.Best.{Leads, Best}
 use Rattle.queues.specs.declared.queue.Source.{Source}
 use Rattle.window.specs.Rows.{Beside}

@@ -1,5 +1,5 @@
 -- The columns of a row, one sweep after another: back from the tables of the column where pages end, until the floats are too tall.
-use Rattle.std.specs.Prelude.{ℕ, suc, ◌+◌, ◌-◌, ◌≤◌, ◌<◌, ◌≡◌, refl, ◌⊎◌, Bool, true, false, ◌&&◌, ◌||◌, List, length, ltb, leb}
+use Rattle.std.specs.Prelude.{ℕ, suc, ◌+◌, ◌-◌, ◌≤◌, ◌<◌, ◌≡◌, refl, ◌⊎◌, Bool, true, false, ◌&&◌, List, length, ltb}
 use Rattle.std.proofs.Common.{le_refl, arith, ap, sym, ◌∙◌, inl, inr, ltb-true, ltb-false}
 use Rattle.std.proofs.lemmas.Bool.{false≢true}
 use Rattle.model.specs.Gather.{pick}

@@ -1,6 +1,5 @@
 -- `bound_lines` meets its contract. The loop's invariant is `BoundRun`: the lines from a on are bounded, and none of them costs less than
 -- what is in hand.
-use Prim.Native.Nat.{◌-◌}
 use Rattle.passes.specs.Bound.{BoundRun}
 use Rattle.passes.proofs.bound.bound_lines.Given as goal
 

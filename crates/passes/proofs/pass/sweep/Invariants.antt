@@ -1,5 +1,4 @@
 -- `sweep` meets its contract. The loop's invariant is `SweepRun`: the sides before c know the starts of the pass too.
-use Prim.Native.Nat.{◌-◌}
 use Rattle.passes.specs.Swept.{SweepRun}
 use Rattle.passes.proofs.pass.sweep.Given as goal
 

@@ -1,6 +1,5 @@
 -- `sweep_side` meets its contract. The loop's invariant is `SideRun`: the lines above line i know the starts of the pass too. A turn
 -- passes over a line whose place holds less than they cost, or weighs them.
-use Prim.Native.Nat.{◌-◌}
 use native.Mathlib.Nat.{le_refl}
 use native.Mathlib.Omega.{arith}
 use Rattle.candidates.proofs.laws.Columns.{columns_few, few_floats}

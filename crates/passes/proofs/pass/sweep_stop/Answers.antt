@@ -1,5 +1,4 @@
 -- `sweep_stop` meets its contract. The loop's invariant: line i is after the last one of the pass.
-use Prim.Native.Nat.{◌-◌}
 use mathlib.Core.Path.{sym, ◌∙◌}
 use Rattle.passes.proofs.laws.Stop.{stop_reaches, stop_found, stop_none}
 use Rattle.passes.proofs.pass.sweep_stop.Goals as goal
