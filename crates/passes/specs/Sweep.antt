@@ -1,5 +1,5 @@
 -- The best starts of a column's places, gathered from the columns before it: what is lent, what is computed, and what is known.
-use Rattle.std.specs.Prelude.{ℕ, suc, ◌+◌, ◌*◌, ◌≤◌, ◌<◌, ◌≡◌, List, length, ltb}
+use Rattle.std.specs.Prelude.{ℕ, suc, ◌+◌, ◌*◌, ◌≤◌, ◌<◌, ◌≡◌, List, length, ltb, None}
 use Rattle.model.specs.Gather.{pick}
 use Rattle.model.specs.Galley.{Stream}
 use Rattle.galley.specs.declared.Galley.{Galley}
@@ -7,8 +7,7 @@ use Rattle.galley.specs.Model.{text_of, model_of}
 use Rattle.galley.specs.Sound.{Sound}
 use Rattle.blocks.specs.Heights.{Separable}
 use Rattle.blocks.specs.laws.Heights.{Low}
-use Rattle.places.specs.declared.Entry.{Entry}
-use Rattle.places.specs.declared.Entry.TheVariants.{Unreached}
+use Rattle.places.specs.Entry.{Entry}
 use Rattle.places.specs.Address.{words_needed, address, Stands}
 use Rattle.places.specs.Best.{Affordable, Best}
 use Rattle.window.specs.declared.slide.Load.{Load}
@@ -59,7 +58,7 @@ pub record Passing (bytes : List ℕ) (g : Galley) (pass : Pass) : Type 0 where
 -- The page of floats alone that starts after line i.
 abbrev pub alone_of : Galley → List ℕ → ℕ → ℕ → Pass → Entry
 alone_of g w i side pass =
-    pick (ltb pass.heights.loose pass.least) Unreached (start_at (table_in g w i pass.from side) pass.white i pass.from)
+    pick (ltb pass.heights.loose pass.least) None (start_at (table_in g w i pass.from side) pass.white i pass.from)
 
 -- The work area with the starts of a pass weighed at line i on side c: the best of the lines before it, and floats alone.
 abbrev pub weighed : Galley → List ℕ → Entry → ℕ → ℕ → Pass → List ℕ

@@ -11,8 +11,8 @@ fn lesser(least: u64, entry: Entry) -> u64
     ensures { result ≡ lesser_of least entry }
 {
     match entry {
-        Entry::Unreached => least,
-        Entry::Least(x, _start) => least.min(x),
+        None => least,
+        Some(x) => least.min(x.cost),
     }
 }
 
@@ -20,13 +20,10 @@ fn lesser(least: u64, entry: Entry) -> u64
 fn grows(near: Entry, far: Entry) -> bool
     ensures { result ≡ grows_of near far }
 {
-    let Entry::Least(x, _start) = near else {
+    let (Some(x), Some(y)) = (near, far) else {
         return true;
     };
-    let Entry::Least(y, _start) = far else {
-        return true;
-    };
-    places::less(x, y)
+    x.cost < y.cost
 }
 
 // The lines of a source after `since` bounded, back from the last, which needs no bound: that of line a is kept as entry 12,000 + a,
@@ -98,9 +95,9 @@ pub fn beaten(
     if low <= since || last <= low {
         return false;
     }
-    let Entry::Least(x, _start) = places::entry_of(work, tall, place, side) else {
+    let Some(x) = places::entry_of(work, tall, place, side) else {
         return false;
     };
     let at = 3 * (low + 12000);
-    places::less(x, places::joined(words[at + 1], words[at + 2]))
+    x.cost < places::joined(words[at + 1], words[at + 2])
 }

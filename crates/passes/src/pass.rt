@@ -46,7 +46,7 @@ fn alone(g: Galley, work: &[u32], i: usize, side: usize, pass: Pass) -> Entry
     ensures { result ≡ alone_of g work.now i side pass }
 {
     if pass.heights.loose < pass.least {
-        return Entry::Unreached;
+        return None;
     }
     let place = places::place_of(i, pass.from);
     let entry = places::entry_of(work, g.text.count + 1, place, side);

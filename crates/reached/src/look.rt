@@ -8,7 +8,7 @@ ghost use Rattle.reached.specs.Ring.{hint_last};
 
 use crate::ring;
 use galley::Galley;
-use places::{Entry, Place};
+use places::Place;
 
 // Whether a place is reached on one of its first `sides` sides.
 fn reached(work: &[u32], tall: usize, place: Place, sides: usize) -> bool
@@ -16,7 +16,7 @@ fn reached(work: &[u32], tall: usize, place: Place, sides: usize) -> bool
     ensures { result ≡ false → Missed work.now tall place sides }
 {
     for c in 0..sides {
-        if let Entry::Least(..) = places::entry_of(work, tall, place, c) {
+        if places::entry_of(work, tall, place, c).is_some() {
             return true;
         }
     }

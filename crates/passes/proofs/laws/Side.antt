@@ -6,8 +6,7 @@ use Rattle.model.specs.Galley.{Stream}
 use Rattle.galley.specs.declared.Galley.{Galley}
 use Rattle.galley.specs.Model.{text_of}
 use Rattle.places.specs.declared.Place.{Place}
-use Rattle.places.specs.declared.Entry.{Entry}
-use Rattle.places.specs.declared.Entry.TheVariants.{Least}
+use Rattle.places.specs.Entry.{Entry, least}
 use Rattle.places.proofs.laws.Best.{no_reach}
 use Rattle.window.specs.declared.slide.Window.{Window}
 use Rattle.queues.specs.declared.queue.Source.{Source}
@@ -69,7 +68,7 @@ module _ {bytes : List ℕ} {g : Galley} {w₀ sums words₀ : List ℕ} {c : �
     late_now = last_kept run.kept two asked.passing.before asked.late
 
     -- What is reached is no later than the last line of the pass.
-    reached_low : (a y : ℕ) (t : Place) → a ≤ g.text.count → column w a ≡ Least y t → a ≤ pass.reach.last
+    reached_low : (a y : ℕ) (t : Place) → a ≤ g.text.count → column w a ≡ least y t → a ≤ pass.reach.last
     reached_low a y t l e = go (dec_lt pass.reach.last a)
       where
         go : Dec (pass.reach.last < a) → a ≤ pass.reach.last

@@ -8,7 +8,7 @@ use Rattle.model.specs.Rules.{floor}
 use Rattle.rules.specs.Sums.{white_at}
 use Rattle.galley.specs.declared.Galley.{Galley}
 use Rattle.galley.specs.Model.{text_of, model_of}
-use Rattle.places.specs.declared.Entry.{Entry}
+use Rattle.places.specs.Entry.{Entry}
 use Rattle.window.specs.Slide.{shut_at}
 use Rattle.passes.specs.declared.pass.Pass.{Pass}
 use Rattle.candidates.specs.Read.{side_of, columns_in, last_place}

@@ -3,7 +3,6 @@ use Rattle.std.specs.Prelude.{ℕ, ◌+◌, ◌≤◌, ◌<◌, ◌≡◌, ◌�
 use Rattle.std.proofs.Math.Decide.{dec_lt}
 use Rattle.std.proofs.Common.{arith, inl, inr}
 use Rattle.galley.specs.declared.Galley.{Galley}
-use Rattle.places.specs.declared.Entry.TheVariants.{Unreached}
 use Rattle.places.specs.Address.{Small, Stands}
 use Rattle.candidates.specs.Cells.{ColumnRoom}
 use Rattle.candidates.specs.Read.{table_in}
@@ -27,7 +26,7 @@ module _ {g : Galley} {w : List ℕ} {j : ℕ} (room : ColumnRoom g w j) (a : �
 quiet_after : {g : Galley} {w : List ℕ} {j n from mid to : ℕ} → Quiet g w j n from mid → Quiet g w j n (max from mid) to → Quiet g w j n from to
 quiet_after {g} {w} {j} {n} {from} {mid} {to} early after = record { none = λ a c l m occurs. go a c l m occurs (dec_lt a mid) }
   where
-    go : (a c : ℕ) → from ≤ a → a < to → c < n → Dec (a < mid) → table_in g w a j c ≡ Unreached
+    go : (a c : ℕ) → from ≤ a → a < to → c < n → Dec (a < mid) → table_in g w a j c ≡ None
     go a c l m occurs (yes h) = early.none a c l h occurs
     go a c l m occurs (no h) = after.none a c (omega arith) m occurs
 

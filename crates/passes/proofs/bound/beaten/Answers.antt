@@ -17,8 +17,8 @@ returns c = λ e.
     record {
       cost = _;
       start = _;
-      held = sym c.entry_of.ensures ∙ c.in-Least.is;
+      held = sym c.entry_of.ensures ∙ c.in-Some.is;
       after = omega (arith, c.if-low-since.false);
       before = omega (arith, c.if-last-low.false);
-      less = ltb-true _ _ (rw c.joined.ensures at (sym c.less.ensures ∙ e));
+      less = ltb-true _ _ (rw c.joined.ensures at e);
     }
