@@ -15,6 +15,7 @@ use Rattle.candidates.specs.Read.{columns_in, counts_at, row_of}
 use Rattle.starts.specs.Sweep.{floats_alone}
 use Rattle.passes.specs.Sweep.{Summed}
 use Rattle.weighing.specs.declared.columns.Part.{Part}
+use Rattle.weighing.specs.declared.known.Known.{Known}
 use Rattle.weighing.specs.Columns.{pairs_from}
 use Rattle.weighing.specs.Lines.{line_pairs, Pairable}
 use Rattle.weighing.specs.Known.{Knows}
@@ -44,7 +45,7 @@ pub record Between (g : Galley) (sums : List ℕ) (first floats : ℕ) : Type 0 
   pub pairable : (beside : ℕ) → beside ≤ 1000000000 → Pairable sums g.text.count first beside g.spec.htmax
 
 -- What is known of the pairs of lines from `first` on.
-abbrev pub KnownOf : Galley → List ℕ → ℕ → List ℕ → Type 0
+abbrev pub KnownOf : Galley → List ℕ → ℕ → Known → Type 0
 KnownOf g sums first known = Knows sums known g.text.count first g.spec.htmax
 
 -- Nothing of a stream of floats, where as many are placed at a page's start as at its end; and one float more, the one before.

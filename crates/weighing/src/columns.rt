@@ -8,6 +8,7 @@ ghost use Rattle.blocks.specs.Counts.{place_of};
 ghost use Rattle.window.specs.Sums.{Sums};
 ghost use Rattle.weighing.specs.Count.{pairs_between, Weighable, Between, nothing, with_one_more, Extendable, CountableColumn, ColumnCounted, KnownOf};
 
+use crate::known::Known;
 use blocks::Counts;
 use blocks::heights::Heights;
 use galley::{Galley, Stream};
@@ -47,7 +48,7 @@ fn with_one_more(s: &[u8], stream: Stream, part: Part, end: usize) -> Part
 fn pairs_between(
     g: Galley,
     sums: &[u32],
-    known: &mut [u32],
+    known: &mut Known,
     first: usize,
     floats: u32,
     some: bool,
@@ -70,7 +71,7 @@ fn pairs_between(
 
 // The pages that end in column q, by the columns where they start, from its own back: a table more on the page each time, back to the
 // tables placed first or until the floats are too tall alone; then a figure more, and again no table.
-fn pairs_into(s: &[u8], g: Galley, sums: &[u32], known: &mut [u32], first: Counts, q: usize) -> u64
+fn pairs_into(s: &[u8], g: Galley, sums: &[u32], known: &mut Known, first: Counts, q: usize) -> u64
     requires { CountableColumn s.now g sums.now first q × KnownOf g sums.now first.lines known.old }
     ensures { ColumnCounted s.now g first q result × KnownOf g sums.now first.lines known.new }
 {
@@ -107,7 +108,7 @@ fn pairs_into(s: &[u8], g: Galley, sums: &[u32], known: &mut [u32], first: Count
 }
 
 // All pages that start at or past what is placed first.
-pub fn all_pairs(s: &[u8], g: Galley, sums: &[u32], known: &mut [u32], first: Counts) -> u64
+pub fn all_pairs(s: &[u8], g: Galley, sums: &[u32], known: &mut Known, first: Counts) -> u64
     requires { Weighable s.now g sums.now first × KnownOf g sums.now first.lines known.old }
     ensures { result ≡ weighed_from (model_of s.now g) (place_of g first) }
 {

@@ -79,8 +79,5 @@ overflow_add-pairs c = omega (arith, column_few c.requires.0 c.loop-tables-2.inv
 pub loop-tables-2-smaller : goal.loop-tables-2-smaller
 loop-tables-2-smaller c = rw c.with_one_more-tables.ensures (omega (arith, (with_one_more-tables-requires (goal.at.loop-tables-2-smaller c).After-with_one_more-arg-1).some))
 
-pub shape_of-known-then-bare-figures : goal.shape_of-known-then-bare-figures
-shape_of-known-then-bare-figures c = omega (arith, c.pairs_between-pairs.ensures.2.sized, c.requires.1.sized)
-
 pub loop-tables-smaller : goal.loop-tables-smaller
 loop-tables-smaller c = rw c.with_one_more-figures.ensures (omega (arith, (with_one_more-figures-requires (goal.at.loop-tables-smaller c).After-with_one_more-arg-in-loop-tables-1).some))
