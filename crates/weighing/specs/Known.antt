@@ -1,5 +1,5 @@
 -- The counts of pairs that are known: tallies of what leaves them as they are.
-use Rattle.std.specs.Prelude.{ℕ, ◌≤◌, ◌<◌, ◌≡◌, List, length}
+use Rattle.std.specs.Prelude.{ℕ, ◌≤◌, ◌<◌, ◌≡◌, Some, IfSome, List, length}
 use Rattle.std.specs.List.{All, Contains}
 use Rattle.weighing.specs.declared.lines.Tally.{Tally}
 use Rattle.weighing.specs.declared.known.Known.{Known}
@@ -7,7 +7,7 @@ use Rattle.weighing.specs.Lines.{Same}
 
 -- A row tells the pairs for so much beside the lines.
 pub record Covers (known : Known) (beside : ℕ) (row : Tally) : Type 0 where
-  pub told : Contains known.rows row
+  pub told : Contains known.rows (Some row)
   pub from : row.from ≤ beside
   pub end : beside < row.end
 
@@ -19,4 +19,4 @@ pub record Writable (known : Known) : Type 0 where
 -- What every row says is so.
 pub record Knows (sums : List ℕ) (known : Known) (m first limit : ℕ) : Type 0 where
   pub writable : Writable known
-  pub right : All (Same sums m first limit) known.rows
+  pub right : All (λ row. IfSome row (Same sums m first limit)) known.rows

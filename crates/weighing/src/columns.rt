@@ -70,7 +70,8 @@ fn pairs_between(
 }
 
 // The pages that end in column q, by the columns where they start, from its own back: a table more on the page each time, back to the
-// tables placed first or until the floats are too tall alone; then a figure more, and again no table.
+// tables placed first or until the floats are too tall alone; then a figure more, and again no table. Loops and no ranges, since each
+// part grows with its heights and how far depends on them.
 fn pairs_into(s: &[u8], g: Galley, sums: &[u32], known: &mut Known, first: Counts, q: usize) -> u64
     requires { CountableColumn s.now g sums.now first q × KnownOf g sums.now first.lines known.old }
     ensures { ColumnCounted s.now g first q result × KnownOf g sums.now first.lines known.new }

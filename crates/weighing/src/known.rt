@@ -8,12 +8,11 @@ use crate::lines::Tally;
 // So many tallies are kept.
 const ROWS: usize = 127;
 
-// The tallies that were kept last, and the row that the next one takes; those not written yet say nothing. `vain` goes up as rows are
-// written and down as they are found again. Where they are not, as with lines of all heights, no more are written, since a wide tally takes
-// longer.
+// The tallies that were kept last, and the row that the next one takes. `vain` goes up as rows are written and down as they are found
+// again. Where they are not, as with lines of all heights, no more are written, since a wide tally takes longer.
 #[derive(Clone, Copy)]
 pub struct Known {
-    pub rows: [Tally; ROWS],
+    pub rows: [Option<Tally>; ROWS],
     pub next: usize,
     pub vain: u32,
 }
@@ -23,13 +22,8 @@ impl Known {
     pub fn nothing() -> Known
         ensures { (sums : List ℕ) (m first limit : ℕ) → Knows sums result m first limit }
     {
-        let none = Tally {
-            pairs: 0,
-            from: 0,
-            end: 0,
-        };
         Known {
-            rows: [none; ROWS],
+            rows: [None; ROWS],
             next: 0,
             vain: 0,
         }
@@ -40,11 +34,9 @@ impl Known {
         ensures { IfSome result (λ row. Covers self.now beside row) }
     {
         for row in &self.rows {
-            if row.end == 0 {
-                return None;
-            }
+            let row = (*row)?;
             if row.from <= beside && beside < row.end {
-                return Some(*row);
+                return Some(row);
             }
         }
         None
@@ -58,7 +50,7 @@ impl Known {
         if tally.end <= tally.from {
             return;
         }
-        self.rows[self.next] = tally;
+        self.rows[self.next] = Some(tally);
         self.next = (self.next + 1) % ROWS;
         self.vain = self.vain % 64 + 1;
     }
