@@ -4,5 +4,4 @@ pub mod Count
 pub mod From
 pub mod Lines
 pub mod Pairs
-pub mod Part
 pub mod Past
