@@ -32,9 +32,3 @@ loop-c-preserved c =
 
 pub returns-then-g-pass : goal.returns-then-g-pass
 returns-then-g-pass c = sweep_none c.requires c.if-g-pass.true
-
-pub returns : goal.returns
-returns c =
-    sweep_last c.requires (omega (arith, c.if-g-pass.false)) c.sweep_stop-stop.ensures
-    c.loop-c.invariant
-    c.loop-c-test.false

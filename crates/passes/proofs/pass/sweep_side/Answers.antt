@@ -9,13 +9,6 @@ use Rattle.passes.proofs.laws.Side.{side_last, side_line, side_slides, side_comp
 use borrow.Author.Rules.{rules}
 use Rattle.passes.proofs.pass.sweep_side.Goals as goal
 
-pub load-load-requires : goal.load-load-requires
-load-load-requires c =
-    floats_separable c.requires.lent 1 c.args.pass.heights (le_refl 1) c.requires.passing.low
-
-pub overflow_add-source : goal.overflow_add-source
-overflow_add-source c = omega (arith, c.requires.lent.sound.few_lines)
-
 pub too_tall-several-requires : goal.too_tall-several-requires
 too_tall-several-requires c = rw c.load-load.ensures (side_reaches c.requires)
 

@@ -44,6 +44,3 @@ pub returns : goal.returns
 returns c =
     let asked = c.requires in
     column_since asked.lent asked.blank (column_last c.loop-b.invariant (omega (arith, c.loop-b-test.false))) c.loop-b.invariant.kept c.loop-b.invariant.still
-
-pub counts_at-end-requires : goal.counts_at-end-requires
-counts_at-end-requires c = few_floats c.requires.lent.sound

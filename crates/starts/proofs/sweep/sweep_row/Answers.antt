@@ -8,16 +8,6 @@ use Rattle.starts.proofs.laws.Row.{end_few, row_small, from_small, row_first, ro
 use borrow.Author.Rules.{rules}
 use Rattle.starts.proofs.sweep.sweep_row.Goals as goal
 
-pub overflow_add-row_from : goal.overflow_add-row_from
-overflow_add-row_from c = omega (arith, (few_floats c.requires.lent.sound).tables)
-
-pub overflow_mul-row_from : goal.overflow_mul-row_from
-unfolding row_of
-overflow_mul-row_from c = omega (arith, row_small c.requires)
-
-pub row_top-t-requires : goal.row_top-t-requires
-row_top-t-requires c = end_few c.requires
-
 pub loop-t-init : goal.loop-t-init
 loop-t-init c = rw c.row_top-t.ensures (row_first c.requires)
 
