@@ -1,8 +1,7 @@
 -- `last_line` meets its contract: where the column is not the last nothing is left, else the lines and the floats alone are weighed.
-use native.Mathlib.Nat.{le_refl}
 use native.Mathlib.Omega.{arith}
-use Rattle.candidates.proofs.laws.Columns.{few_floats, columns_few}
-use Rattle.passes.proofs.laws.Lending.{lent_wide, floats_separable}
+use Rattle.candidates.proofs.laws.Columns.{columns_few}
+use Rattle.passes.proofs.laws.Lending.{lent_wide}
 use Rattle.passes.proofs.laws.Sweeping.{last_taken, last_stand, last_ended, last_done}
 use Rattle.passes.proofs.pass.last_line.Goals as goal
 

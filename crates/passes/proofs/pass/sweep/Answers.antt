@@ -1,6 +1,6 @@
 -- `sweep` meets its contract. The loop's invariant is `SweepRun`: the sides before c know the starts of the pass too.
 use native.Mathlib.Omega.{arith}
-use Rattle.passes.proofs.laws.Sweeping.{sweep_first, sweep_none, sweep_stops, sweep_last, sweep_side, sweep_line, sweep_next}
+use Rattle.passes.proofs.laws.Sweeping.{sweep_first, sweep_none, sweep_stops, sweep_side, sweep_line, sweep_next}
 use borrow.Author.Rules.{rules}
 use Rattle.passes.proofs.pass.sweep.Goals as goal
 

@@ -1,6 +1,5 @@
 -- `sweep_end` meets its contract: by the test on the column.
 use native.Mathlib.Omega.{arith}
-use borrow.Author.Tests.{eq-eqb, ne_eqb}
 use Rattle.candidates.proofs.laws.Columns.{columns_few}
 use Rattle.passes.proofs.pass.sweep_end.Goals as goal
 

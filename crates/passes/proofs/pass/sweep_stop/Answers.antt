@@ -1,6 +1,6 @@
 -- `sweep_stop` meets its contract. The loop's invariant: line i is after the last one of the pass.
 use mathlib.Core.Path.{sym, ◌∙◌}
-use Rattle.passes.proofs.laws.Stop.{stop_reaches, stop_found, stop_none}
+use Rattle.passes.proofs.laws.Stop.{stop_found}
 use Rattle.passes.proofs.pass.sweep_stop.Goals as goal
 
 pub returns-then-too_tall : goal.returns-then-too_tall

@@ -1,5 +1,4 @@
 -- `floats_alone` meets its contract: each way is that of the definition.
-use native.Mathlib.Omega.{arith}
 use mathlib.Core.Path.{◌∙◌}
 use Rattle.starts.specs.Sweep.{floats_alone}
 use Rattle.starts.proofs.sweep.floats_alone.Goals as goal

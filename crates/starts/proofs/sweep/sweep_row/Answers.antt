@@ -3,8 +3,7 @@
 use mathlib.Core.Path.{refl}
 use native.Mathlib.Omega.{arith}
 use Rattle.candidates.specs.Read.{row_of}
-use Rattle.candidates.proofs.laws.Columns.{few_floats}
-use Rattle.starts.proofs.laws.Row.{end_few, row_small, from_small, row_first, row_last, row_room, row_told, row_stands, row_lays, row_unreached, row_sweeps, row_swept, row_tall}
+use Rattle.starts.proofs.laws.Row.{from_small, row_first, row_last, row_room, row_told, row_stands, row_lays, row_unreached, row_sweeps, row_swept, row_tall}
 use borrow.Author.Rules.{rules}
 use Rattle.starts.proofs.sweep.sweep_row.Goals as goal
 
