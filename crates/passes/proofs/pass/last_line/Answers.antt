@@ -1,8 +1,7 @@
 -- `last_line` meets its contract: where the column is not the last nothing is left, else the lines and the floats alone are weighed.
-use native.Mathlib.Nat.{le_refl}
 use native.Mathlib.Omega.{arith}
-use Rattle.candidates.proofs.laws.Columns.{few_floats, columns_few}
-use Rattle.passes.proofs.laws.Lending.{lent_wide, floats_separable}
+use Rattle.candidates.proofs.laws.Columns.{columns_few}
+use Rattle.passes.proofs.laws.Lending.{lent_wide}
 use Rattle.passes.proofs.laws.Sweeping.{last_taken, last_stand, last_ended, last_done}
 use Rattle.passes.proofs.pass.last_line.Goals as goal
 
@@ -11,20 +10,13 @@ overflow_add-pass c =
     let wide = lent_wide c.requires.lent in
     omega (arith, wide.within, columns_few c.args.g wide.floats)
 
-pub columns_of-requires : goal.columns_of-requires
-columns_of-requires c = few_floats c.requires.lent.sound
-
 pub returns-then-pass-columns_of : goal.returns-then-pass-columns_of
 returns-then-pass-columns_of c =
     last_taken c.requires (rw (← c.columns_of.ensures) c.if-pass-columns_of.true)
 
-pub load_of-load-requires : goal.load_of-load-requires
-load_of-load-requires c =
-    floats_separable c.requires.lent 1 c.args.pass.heights (le_refl 1) c.requires.passing.low
-
 pub last_lines-lines-requires : goal.last_lines-lines-requires
 last_lines-lines-requires c =
-    rw (c.load_of-load.ensures, c.floor_of.ensures c.args.s.now, c.side_before-side.ensures)
+    rw (c.load-load.ensures, c.floor_of.ensures c.args.s.now, c.side_before-side.ensures)
     (last_stand c.requires (omega (arith, c.if-pass-columns_of.false, c.columns_of.ensures)))
 
 pub improve-requires : goal.improve-requires
@@ -35,5 +27,5 @@ improve-requires c =
 pub returns : goal.returns
 returns c =
     last_done c.requires (omega (arith, c.if-pass-columns_of.false, c.columns_of.ensures)) c.last_lines-lines.result
-    (rw (c.load_of-load.ensures, c.floor_of.ensures c.args.s.now, c.side_before-side.ensures) at c.last_lines-lines.ensures) _
+    (rw (c.load-load.ensures, c.floor_of.ensures c.args.s.now, c.side_before-side.ensures) at c.last_lines-lines.ensures) _
     (rw (c.floor_of.ensures c.args.s.now) at c.improve.ensures)

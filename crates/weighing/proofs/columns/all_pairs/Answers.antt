@@ -1,5 +1,4 @@
 -- `all_pairs` meets its contract. The loop's invariant is `AllCount`: the pages that end in columns before q are counted.
-use Prim.Native.Nat.{◌-◌}
 use native.Mathlib.Omega.{arith}
 use Rattle.candidates.proofs.laws.Columns.{few_floats}
 use Rattle.weighing.proofs.laws.Count.{all_first, all_few, all_next, all_last}
@@ -34,6 +33,3 @@ returns c =
 
 pub columns_of-columns-requires : goal.columns_of-columns-requires
 columns_of-columns-requires c = few_floats c.requires.0.sound
-
-pub shape_of-known : goal.shape_of-known
-shape_of-known c = omega (arith, c.loop-q.invariant.1.sized, c.requires.1.sized)
