@@ -156,8 +156,7 @@ pub fn fill_place(
             ..end
         };
         let parts = queues::parts::parts_of(ends, c);
-        let Parts { full, rest } =
-            fill_side(s, task, work, sums, words, parts, windows, here);
+        let Parts { full, rest } = fill_side(s, task, work, sums, words, parts, windows, here);
         queues::parts::put_row(
             ends,
             c,

@@ -33,7 +33,7 @@ use Rattle.passes.proofs.laws.Lending.{lent_room}
 use Rattle.pricing.specs.declared.Floats.{Floats}
 use Rattle.entries.specs.declared.side.Task.{Task}
 use Rattle.entries.specs.Fill.{tall, fill_side, fill_sides, side_count, fill_place}
-use Rattle.filling.specs.Fill.{fill_column, filled}
+use Rattle.filling.specs.Fill.{fill_column}
 use Rattle.pricing.specs.Stop.{floats_say, stop_from}
 use Rattle.entries.specs.Next.{Next, plain, PlaceNext, PlaceFilled}
 use Rattle.filling.specs.Next.{end_from, ColumnNext, Gathered, LastNext, Still, Onward}

@@ -4,4 +4,3 @@ use Rattle.entries.proofs.side.fill_place.Given as goal
 
 abbrev pub invariant-loop-c : goal.invariant-loop-c
 invariant-loop-c l = SidesRun l.s l.task l.initial.work l.work l.sums l.initial.words l.words l.initial.ends l.ends l.windows l.end l.c
-
