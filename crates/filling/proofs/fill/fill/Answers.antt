@@ -8,7 +8,7 @@ use Rattle.filling.proofs.fill.fill.Goals as goal
 pub words_needed-requires : goal.words_needed-requires
 words_needed-requires c =
     record {
-      lines = c.requires.sound.few_lines;
+      lines = omega (arith, c.requires.sound.few_lines, (few_floats c.requires.sound).figures);
       columns = omega (arith, c.columns_of-columns.ensures, columns_few c.args.g (few_floats c.requires.sound));
     }
 
