@@ -14,7 +14,6 @@ use Rattle.galley.specs.Model.{model_of}
 use Rattle.needs.specs.Needs.{work_needed, list_needed}
 use Rattle.chapters.specs.declared.BookReading.{BookReading}
 use Rattle.chapters.specs.declared.BookReading.TheVariants as answers
-use Rattle.chapters.specs.declared.extent.Extent.{Extent}
 
 -- A chapter: its bytes, and the galley that they hold (document 02, S-9).
 pub record Chapter : Type 0 where
@@ -45,14 +44,14 @@ adds_up bytes lengths =
 unfoldable pub alike : Spec → Spec → Bool
 alike g h =
     eqb g.htmin h.htmin
-    && eqb g.htmax h.htmax
-    && eqb g.smin h.smin
-    && eqb g.smax h.smax
-    && eqb g.sides h.sides
-    && eqb g.alpha h.alpha
-    && eqb g.beta h.beta
-    && eqb g.edition h.edition
-    && eqb g.lastmin h.lastmin
+    && (eqb g.htmax h.htmax
+    && (eqb g.smin h.smin
+    && (eqb g.smax h.smax
+    && (eqb g.sides h.sides
+    && (eqb g.alpha h.alpha
+    && (eqb g.beta h.beta
+    && (eqb g.edition h.edition
+    && (eqb g.lastmin h.lastmin))))))))
 
 -- The galley has an `FO`: something stands between its specification and line 1 (document 02, S-9, number 30).
 unfoldable pub has_folio : Galley → Bool
@@ -117,9 +116,6 @@ reading_of (refused number place) = answers.Refused number place
 -- Where chapter k, from 0, begins and ends in the bytes (document 02, S-9: the chapters are lent end to end).
 abbrev pub chapter_start : List ℕ → ℕ → ℕ
 chapter_start lengths k = all_bytes (take k lengths)
-
-abbrev pub extent_of : List ℕ → ℕ → Extent
-extent_of lengths k = record { from = chapter_start lengths k; to = chapter_start lengths k + get_or lengths k 0 }
 
 -- The bytes of chapter k.
 abbrev pub chapter_bytes : List ℕ → List ℕ → ℕ → List ℕ

@@ -1,5 +1,5 @@
 -- Reading a book as the code does it, chapter after chapter.
-use Rattle.std.specs.Prelude.{ℕ, ◌+◌, ◌*◌, ◌≤◌, ◌<◌, max, ◌≡◌, true, List, length, get_or, drop}
+use Rattle.std.specs.Prelude.{ℕ, ◌+◌, ◌*◌, ◌≤◌, ◌<◌, max, ◌≡◌, true, List, length, get_or, drop, Option, None, Some}
 use Rattle.std.proofs.Math.Seq.{slice}
 use Rattle.model.specs.Gather.{pick}
 use Rattle.galley.specs.declared.Spec.{Spec}
@@ -10,7 +10,7 @@ use Rattle.needs.specs.Needs.{work_needed, list_needed}
 use Rattle.chapters.specs.declared.Book.{Book}
 use Rattle.chapters.specs.declared.BookReading.{BookReading}
 use Rattle.chapters.specs.declared.BookReading.TheVariants as answers
-use Rattle.chapters.specs.Book.{Outcome, read, refused, all_bytes, adds_up, alike, has_folio, later_from, chapters_of, reading_of, largest, book_list}
+use Rattle.chapters.specs.Book.{Outcome, read, refused, all_bytes, adds_up, chapter_start, alike, has_folio, later_from, chapters_of, reading_of, largest, book_list}
 
 -- The bytes hold a galley.
 abbrev pub Reads : List ℕ → Type 0
@@ -21,14 +21,19 @@ pub record Numbered (lengths : List ℕ) (k : ℕ) : Type 0 where
   pub within : k ≤ length lengths
   pub few : length lengths ≤ 200
 
+-- Chapter k, from 0, stands within the bytes.
+pub record Stands (bytes lengths : List ℕ) (k : ℕ) : Type 0 where
+  pub numbered : Numbered lengths (k + 1)
+  pub within : chapter_start lengths k + get_or lengths k 0 ≤ length bytes
+
 -- The lengths add up, and the first chapter was read.
 pub record Opened (bytes lengths : List ℕ) (first : Galley) : Type 0 where
   pub adds : adds_up bytes lengths ≡ true
   pub reads : galley_of (slice 0 (get_or lengths 0 0) bytes) ≡ reads.Galley first
 
--- The number of what makes a galley unfit to come after a first chapter with this specification, 0 where nothing does.
-unfoldable pub unfit_after : Spec → Galley → ℕ
-unfit_after first g = pick (alike first g.spec) (pick (has_folio g) 30 0) 29
+-- The number of what makes a galley unfit to come after a first chapter with this specification, where something does.
+unfoldable pub unfit_after : Spec → Galley → Option ℕ
+unfit_after first g = pick (alike first g.spec) (pick (has_folio g) (Some 30) None) (Some 29)
 
 -- The book with one chapter more.
 abbrev pub with_chapter : Book → Galley → Book

@@ -1,16 +1,16 @@
 // Reading a book: chapters lent end to end, with a list of their lengths. Document 02, S-9.
 #![tactic(auto)]
 
-ghost use Rattle.std.specs.Prelude.{◌≡◌, ◌+◌, ◌≤◌, max};
+ghost use Rattle.std.specs.Prelude.{◌≡◌, ◌+◌, ◌≤◌};
 ghost use Rattle.galley.specs.declared.Reading.TheVariants as reads;
 ghost use Rattle.galley.specs.Place.{spec_size};
 ghost use Rattle.galley.specs.Whole.{galley_of};
 ghost use Rattle.needs.specs.Needs.{Few};
 ghost use Rattle.chapters.specs.declared.BookReading.TheVariants.{Refused};
-ghost use Rattle.chapters.specs.Book.{alike, has_folio, chapters_of, book_of, reading_of};
+ghost use Rattle.chapters.specs.Book.{has_folio, chapters_of, book_of, reading_of};
 ghost use Rattle.chapters.specs.Steps.{Reads, Opened, Roomy, with_chapter, unfit_after};
 
-use galley::{Galley, Reading, Spec, Stream};
+use galley::{Galley, Reading, Spec};
 
 pub mod extent; // extent.rt: where a chapter stands in the bytes
 
@@ -30,21 +30,6 @@ pub enum BookReading {
     Refused { number: u32, place: u32 },
 }
 
-// Whether two specifications are alike in every field and in their edition.
-fn alike(g: Spec, h: Spec) -> bool
-    ensures { result ≡ alike g h }
-{
-    (g.htmin == h.htmin)
-        & (g.htmax == h.htmax)
-        & (g.smin == h.smin)
-        & (g.smax == h.smax)
-        & (g.sides == h.sides)
-        & (g.alpha == h.alpha)
-        & (g.beta == h.beta)
-        & (g.edition == h.edition)
-        & (g.lastmin == h.lastmin)
-}
-
 // The bytes of a specification, by its edition.
 fn spec_size(edition: u32) -> usize
     ensures { result ≡ spec_size edition }
@@ -59,23 +44,17 @@ fn has_folio(g: Galley) -> bool
     spec_size(g.spec.edition) < g.text.first
 }
 
-// What makes a galley unfit to come after a chapter with this specification: 29 before 30, else 0.
-fn unfit_after(first: Spec, g: Galley) -> u32
+// What makes a galley unfit to come after a chapter with this specification: 29, then 30.
+fn unfit_after(first: Spec, g: Galley) -> Option<u32>
     ensures { result ≡ unfit_after first g }
 {
-    if !alike(first, g.spec) {
-        return 29;
+    if first != g.spec {
+        return Some(29);
     }
     if has_folio(g) {
-        return 30;
+        return Some(30);
     }
-    0
-}
-
-fn greater(a: usize, b: usize) -> usize
-    ensures { result ≡ max a b }
-{
-    if a < b { b } else { a }
+    None
 }
 
 // The book with one chapter more.
@@ -83,12 +62,10 @@ fn with_chapter(book: Book, g: Galley) -> Book
     requires { (Roomy book) × (Few g) }
     ensures { result ≡ with_chapter book g }
 {
-    let largest = greater(book.largest, needs::work_needed(g));
-    let list = book.list + needs::list_needed(g);
     Book {
         chapters: book.chapters + 1,
-        largest,
-        list,
+        largest: book.largest.max(needs::work_needed(g)),
+        list: book.list + needs::list_needed(g),
     }
 }
 
@@ -114,22 +91,19 @@ fn read_later(galleys: &[u8], lengths: &[u32], first: Galley) -> BookReading
         list: 0,
     };
     let mut book = with_chapter(none, first);
-    let mut at = extent::wide(lengths[0]);
-    while book.chapters < lengths.len() {
-        let before = book.chapters;
-        let to = at + extent::wide(lengths[before]);
-        let reading = reading::read_galley(&galleys[at..to]);
-        match reading {
+    let mut at = lengths[0] as usize;
+    for length in &lengths[1..] {
+        let to = at + *length as usize;
+        match reading::read_galley(&galleys[at..to]) {
             Reading::Galley(g) => {
-                let number = unfit_after(first.spec, g);
-                if 0 < number {
-                    return turned_away(number, before);
+                if let Some(number) = unfit_after(first.spec, g) {
+                    return turned_away(number, book.chapters);
                 }
                 book = with_chapter(book, g);
                 at = to;
             }
             Reading::Refused { number, place: _p } => {
-                return turned_away(number, before);
+                return turned_away(number, book.chapters);
             }
         }
     }
@@ -146,36 +120,10 @@ pub fn read_book(galleys: &[u8], lengths: &[u32]) -> BookReading
             place: 0,
         };
     }
-    let to = extent::wide(lengths[0]);
-    let reading = reading::read_galley(&galleys[..to]);
-    match reading {
+    let to = lengths[0] as usize;
+    match reading::read_galley(&galleys[..to]) {
         Reading::Galley(g) => read_later(galleys, lengths, g),
         Reading::Refused { number, place: _p } => turned_away(number, 0),
-    }
-}
-
-// A galley of nothing, where there is none.
-fn no_galley() -> Galley
-    ensures { result.folio ≡ 0 }
-{
-    let none = Stream { first: 0, count: 0 };
-    let spec = Spec {
-        htmin: 0,
-        htmax: 0,
-        smin: 0,
-        smax: 0,
-        sides: 0,
-        alpha: 0,
-        beta: 0,
-        edition: 0,
-        lastmin: 0,
-    };
-    Galley {
-        spec,
-        folio: 0,
-        text: none,
-        figures: none,
-        tables: none,
     }
 }
 
@@ -184,12 +132,8 @@ pub fn galley_in(chapter: &[u8]) -> Galley
     requires { Reads chapter.now }
     ensures { galley_of chapter.now ≡ reads.Galley result }
 {
-    let reading = reading::read_galley(chapter);
-    match reading {
-        Reading::Galley(g) => g,
-        Reading::Refused {
-            number: _n,
-            place: _p,
-        } => no_galley(),
-    }
+    let Reading::Galley(g) = reading::read_galley(chapter) else {
+        unreachable!()
+    };
+    g
 }

@@ -7,7 +7,7 @@ pub mod range; // range.rt: the ranges of the fields
 pub mod word; // word.rt: bytes, fields and marks
 
 // The page specification that `GS` holds, or `G2` in its second edition; the least height of the last page is 0 in the first.
-#[derive(Clone, Copy)]
+#[derive(Clone, Copy, PartialEq, Eq)]
 pub struct Spec {
     pub htmin: u32,
     pub htmax: u32,

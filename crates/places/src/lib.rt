@@ -12,7 +12,7 @@ ghost use Rattle.places.specs.Table.{table_of};
 
 // Where a page starts, and where it ends: the lines placed so far, and the column, which is the number of the figures and tables
 // placed so far.
-#[derive(Clone, Copy)]
+#[derive(Clone, Copy, PartialEq, Eq, PartialOrd, Ord)]
 pub struct Place {
     pub line: u32,
     pub column: u32,

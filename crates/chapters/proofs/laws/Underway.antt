@@ -1,12 +1,11 @@
 -- Reading a book under way: each chapter that is taken, and each that is turned away, leaves what the whole reading gives.
 use Prim.Native.Nat.{ℕ, suc, ◌+◌, ◌≤◌, ◌<◌, max}
 use native.Mathlib.Omega.{arith}
-use Rattle.std.specs.Prelude.{Bool, true, false, List, [], ◌∷◌, ◌≡◌, refl, length, get_or, ltb}
+use Rattle.std.specs.Prelude.{Bool, true, false, List, [], ◌∷◌, ◌≡◌, refl, length, get_or, Option, None, Some}
 use Rattle.std.proofs.Math.Path.{sym, ap}
 use Rattle.std.proofs.Common.{◌∙◌, drop_of_length-le}
 use Rattle.std.proofs.Math.ListN.{drop}
 use Rattle.std.proofs.Math.Seq.{slice, drop-cons}
-use borrow.Author.Tests.{lt-ltb, le-ltb}
 use Rattle.model.specs.Gather.{pick}
 use Rattle.galley.specs.declared.Spec.{Spec}
 use Rattle.galley.specs.declared.Galley.{Galley}
@@ -43,16 +42,20 @@ unfolding summed reading_of
 summed_none (read cs) = answers_alike (omega arith) (omega arith) (omega arith)
 summed_none (refused number place) = refl
 
+-- The outcome of what makes a galley unfit, else another.
+abbrev unfit_or : Option ℕ → ℕ → Outcome → Outcome
+unfit_or None k o = o
+unfit_or (Some number) k o = refused number k
+
 -- What an unfit galley comes to, and a fit one.
 later_unfit : (first : Spec) (k : ℕ) (bytes : List ℕ) (g : Galley) (rest : Outcome)
-    → later first k bytes (reads.Galley g) rest
-    ≡ pick (ltb 0 (unfit_after first g)) (refused (unfit_after first g) k) (before (record { bytes = bytes; galley = g }) rest)
+    → later first k bytes (reads.Galley g) rest ≡ unfit_or (unfit_after first g) k (before (record { bytes = bytes; galley = g }) rest)
 unfolding later unfit_after
 later_unfit first k bytes g rest = go (alike first g.spec) (has_folio g)
   where
     go : (a b : Bool)
         → pick a (pick b (refused 30 k) (before (record { bytes = bytes; galley = g }) rest)) (refused 29 k)
-        ≡ pick (ltb 0 (pick a (pick b 30 0) 29)) (refused (pick a (pick b 30 0) 29) k) (before (record { bytes = bytes; galley = g }) rest)
+        ≡ unfit_or (pick a (pick b (Some 30) None) (Some 29)) k (before (record { bytes = bytes; galley = g }) rest)
     go true true = refl
     go true false = refl
     go false b = refl
@@ -120,25 +123,22 @@ module _ {bytes lengths : List ℕ} {first : Spec} {book : Book} {at : ℕ} (u :
       abbrev taken : Outcome
       taken = before (record { bytes = chapter; galley = g }) rest
 
-      judged : summed book (pick (ltb 0 (unfit_after first g)) (refused (unfit_after first g) (book.chapters + 1)) taken) ≡ reading_of (chapters_of bytes lengths)
+      judged : summed book (unfit_or (unfit_after first g) (book.chapters + 1) taken) ≡ reading_of (chapters_of bytes lengths)
       judged =
           sym (ap (summed book) (later_unfit first (book.chapters + 1) chapter g rest))
           ∙ sym (ap (λ r. summed book (later first (book.chapters + 1) chapter r rest)) e)
           ∙ next
 
       -- It is unlike the first, or has a folio.
-      pub underway_unfit : (number : ℕ) → number ≡ unfit_after first g → 0 < number
+      pub underway_unfit : (number : ℕ) → unfit_after first g ≡ Some number
           → answers.Refused number (book.chapters + 1) ≡ reading_of (chapters_of bytes lengths)
       unfolding summed
-      underway_unfit number same some =
-          let t = lt-ltb 0 (unfit_after first g) (omega arith) in
-          rw same (rw t at judged)
+      underway_unfit number same = rw same at judged
 
       -- It is taken.
-      pub underway_next : unfit_after first g ≤ 0 → Underway bytes lengths first (with_chapter book g) (at + n)
+      pub underway_next : unfit_after first g ≡ None → Underway bytes lengths first (with_chapter book g) (at + n)
       underway_next fit =
           let small = list_small g (read_few _ g e) in
-          let t = le-ltb 0 (unfit_after first g) fit in
           let l = left_next lengths book.chapters h in
           record {
             some = omega (arith, u.some);
@@ -146,5 +146,5 @@ module _ {bytes lengths : List ℕ} {first : Spec} {book : Book} {at : ℕ} (u :
             few = u.few;
             left = omega (arith, u.left);
             list = omega (arith, u.list);
-            goes = sym (summed_before book chapter g rest) ∙ (rw t at judged);
+            goes = sym (summed_before book chapter g rest) ∙ (rw fit at judged);
           }

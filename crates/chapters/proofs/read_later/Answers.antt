@@ -1,12 +1,17 @@
 -- `read_later` meets its contract. The invariant is `Underway`: reading from here gives what the whole reading gives.
-use Prim.Native.Nat.{◌-◌}
+use Prim.Native.Nat.{ℕ, ◌+◌, ◌-◌, ◌<◌}
 use native.Mathlib.Omega.{arith}
-use mathlib.Core.Path.{sym, ◌∙◌, ap}
+use mathlib.Core.Path.{sym, ◌∙◌, ap, ◌≡◌}
+use mathlib.Core.List.{List}
+use lib.ListN.{length, take, drop, get_or}
+use Rattle.std.proofs.Common.{length-take, length-drop, get_or-take}
+use Rattle.std.proofs.lemmas.Grind.{get_or_after_one}
 use Rattle.galley.specs.Whole.{galley_of}
 use Rattle.needs.specs.laws.Needs.{read_few}
 use Rattle.chapters.specs.laws.Lengths.{adding, part_slice}
 use Rattle.chapters.proofs.laws.Underway.{underway_first, underway_roomy, underway_within, underway_done, underway_refused, underway_unfit, underway_next}
 use Rattle.chapters.proofs.read_later.Goals as goal
+use Rattle.chapters.proofs.read_later.Goals.{In-loop-length}
 
 pub with_chapter-book-requires : goal.with_chapter-book-requires
 with_chapter-book-requires c = (record { chapters = omega arith; list = omega arith }, read_few _ _ c.requires.reads)
@@ -14,43 +19,64 @@ with_chapter-book-requires c = (record { chapters = omega arith; list = omega ar
 pub bounds-lengths-0 : goal.bounds-lengths-0
 bounds-lengths-0 c = omega (arith, (adding c.args.galleys.now c.args.lengths.now c.requires.adds).some)
 
-pub loop-book-init : goal.loop-book-init
-loop-book-init c = rw c.with_chapter-book.ensures (rw c.wide-at.ensures.0 (underway_first c.requires))
+pub slice_bounds-length-items-count : goal.slice_bounds-length-items-count
+slice_bounds-length-items-count c = omega (arith, (adding c.args.galleys.now c.args.lengths.now c.requires.adds).some)
 
-pub overflow_add-to : goal.overflow_add-to
-overflow_add-to c = omega (arith, c.loop-book.invariant.few)
+pub slice_bounds-length-items-start : goal.slice_bounds-length-items-start
+slice_bounds-length-items-start c = omega (arith, (adding c.args.galleys.now c.args.lengths.now c.requires.adds).some)
+
+pub loop-length-init : goal.loop-length-init
+loop-length-init c = record { counted = rw c.with_chapter-book.ensures (omega arith); underway = rw c.with_chapter-book.ensures (underway_first c.requires) }
+
+-- The lengths of the chapters after the first.
+abbrev others : List ℕ → List ℕ
+others ls = take (length ls - 1) (drop 1 ls)
+
+-- The next of them is that of the chapter after so many.
+turn : (ls : List ℕ) (k i : ℕ) → k ≡ i + 1 → i < length (others ls) → (get_or (others ls) i 0 ≡ get_or ls k 0) × (k < length ls)
+turn ls k i e h =
+    let n : i < length ls - 1 = omega (arith, h, length-take (length ls - 1) (drop 1 ls), length-drop 1 ls) in
+    let j : 1 + i ≡ k = omega arith in
+    (get_or-take (length ls - 1) (drop 1 ls) i 0 n ∙ get_or_after_one ls i 0 ∙ ap (λ m. get_or ls m 0) j, omega arith)
+
+next : (c : In-loop-length)
+    → (get_or (others c.args.lengths.now) c.loop-length.length-index 0 ≡ get_or c.args.lengths.now c.loop-length.book.chapters 0)
+    × (c.loop-length.book.chapters < length c.args.lengths.now)
+next c = turn c.args.lengths.now _ _ c.loop-length.invariant.counted c.loop-length-test.true
 
 pub slice_bounds-read_galley-end : goal.slice_bounds-read_galley-end
-slice_bounds-read_galley-end c = let st = c.loop-book in
-    omega (arith, underway_within st.invariant c.loop-book-test.true, c.wide.ensures.0)
+slice_bounds-read_galley-end c =
+    let t = next (goal.at.slice_bounds-read_galley-end c).In-loop-length in
+    omega (arith, t.0, underway_within c.loop-length.invariant.underway t.1)
 
-pub turned_away-requires : goal.turned_away-requires
-turned_away-requires c = omega (arith, c.loop-book.invariant.few)
-
-pub returns-then-number-gt0 : goal.returns-then-number-gt0
-returns-then-number-gt0 c = let e = sym (ap galley_of (part_slice c.loop-book.at c.wide.result c.args.galleys.now)) ∙ sym c.read_galley-reading.ensures ∙ c.in-Galley.is in
-    let u = c.unfit_after-number in
-    c.turned_away.ensures
-    ∙ underway_unfit c.loop-book.invariant c.wide.result c.wide.ensures.0 c.loop-book-test.true _ e u.result u.ensures c.if-number-gt0.true
+pub returns-in-Some : goal.returns-in-Some
+returns-in-Some c =
+    let t = next (goal.at.returns-in-Some c).In-loop-length in
+    let e = sym (ap galley_of (part_slice c.loop-length.at _ c.args.galleys.now)) ∙ sym c.read_galley.ensures ∙ c.in-Galley.is in
+    c.turned_away.ensures ∙ underway_unfit c.loop-length.invariant.underway _ t.0 t.1 _ e _ (sym c.unfit_after.ensures ∙ c.in-Some.is)
 
 pub with_chapter-book-requires-in-Galley : goal.with_chapter-book-requires-in-Galley
-with_chapter-book-requires-in-Galley c = let e = sym (ap galley_of (part_slice c.loop-book.at c.wide.result c.args.galleys.now)) ∙ sym c.read_galley-reading.ensures ∙ c.in-Galley.is in
-    (underway_roomy c.loop-book.invariant c.loop-book-test.true, read_few _ _ e)
-
-pub loop-book-smaller : goal.loop-book-smaller
-loop-book-smaller c = rw c.with_chapter-book-in-Galley.ensures (omega arith)
-
-pub loop-book-preserved : goal.loop-book-preserved
-loop-book-preserved c = let e = sym (ap galley_of (part_slice c.loop-book.at c.wide.result c.args.galleys.now)) ∙ sym c.read_galley-reading.ensures ∙ c.in-Galley.is in
-    let u = c.unfit_after-number in
-    rw c.with_chapter-book-in-Galley.ensures (underway_next c.loop-book.invariant c.wide.result c.wide.ensures.0 c.loop-book-test.true _ e (omega arith))
-
-pub turned_away-requires-in-Refused : goal.turned_away-requires-in-Refused
-turned_away-requires-in-Refused c = omega (arith, c.loop-book.invariant.few)
+with_chapter-book-requires-in-Galley c =
+    let t = next (goal.at.with_chapter-book-requires-in-Galley c).In-loop-length in
+    (underway_roomy c.loop-length.invariant.underway t.1, read_few _ _ (sym c.read_galley.ensures ∙ c.in-Galley.is))
 
 pub returns-in-Refused : goal.returns-in-Refused
-returns-in-Refused c = c.turned_away-in-Refused.ensures
-    ∙ underway_refused c.loop-book.invariant c.wide.result c.wide.ensures.0 c.loop-book-test.true _ _ (sym (ap galley_of (part_slice c.loop-book.at c.wide.result c.args.galleys.now)) ∙ sym c.read_galley-reading.ensures ∙ c.in-Refused.is)
+returns-in-Refused c =
+    let t = next (goal.at.returns-in-Refused c).In-loop-length in
+    let e = sym (ap galley_of (part_slice c.loop-length.at _ c.args.galleys.now)) ∙ sym c.read_galley.ensures ∙ c.in-Refused.is in
+    c.turned_away-in-Refused.ensures ∙ underway_refused c.loop-length.invariant.underway _ t.0 t.1 _ _ e
+
+pub loop-length-preserved : goal.loop-length-preserved
+loop-length-preserved c =
+    let t = next (goal.at.loop-length-preserved c).In-loop-length in
+    let e = sym (ap galley_of (part_slice c.loop-length.at _ c.args.galleys.now)) ∙ sym c.read_galley.ensures ∙ c.in-Galley.is in
+    rw c.with_chapter-book-in-Galley.ensures
+    (record {
+      counted = omega (arith, c.loop-length.invariant.counted);
+      underway = underway_next c.loop-length.invariant.underway _ t.0 t.1 _ e (sym c.unfit_after.ensures ∙ c.in_default.is);
+    })
 
 pub returns : goal.returns
-returns c = underway_done c.loop-book.invariant c.loop-book-test.false
+returns c =
+    underway_done c.loop-length.invariant.underway
+    (omega (arith, c.loop-length.invariant.counted, c.loop-length-test.false, length-take (length c.args.lengths.now - 1) (drop 1 c.args.lengths.now), length-drop 1 c.args.lengths.now))

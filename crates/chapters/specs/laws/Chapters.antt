@@ -14,14 +14,6 @@ use Rattle.chapters.specs.laws.Lengths.{adding}
 use Rattle.chapters.specs.laws.Opening.{added, extent_within}
 use Rattle.chapters.specs.laws.Later.{unread, before_read, AllLater, later_at}
 
--- Bytes that hold a galley are not refused.
-pub unrefused : {A : Type 0} (bytes : List ℕ) (number place : ℕ) → Reads bytes → galley_of bytes ≡ reads.Refused number place → A
-unrefused bytes number place r e = let z : ◌≡◌ {A = ℕ} 0 1 = ap kind (sym r.1 ∙ e) in absurd (omega arith)
-  where
-    kind : Reading → ℕ
-    kind (reads.Galley g) = 0
-    kind (reads.Refused number place) = 1
-
 -- The lengths of a book that was read add up.
 pub book_adds : (bytes lengths : List ℕ) (cs : List Chapter) → book_of bytes lengths ≡ read cs → adds_up bytes lengths ≡ true
 unfolding book_of

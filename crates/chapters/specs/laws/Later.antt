@@ -41,31 +41,31 @@ before_read c (refused number place) cs e = unread e
 pub spec_same : (g h : Spec) → alike g h ≡ true → h ≡ g
 unfolding alike
 spec_same g h all =
-    let a = eqb g.htmin h.htmin in
-    let b = a && eqb g.htmax h.htmax in
-    let c = b && eqb g.smin h.smin in
-    let d = c && eqb g.smax h.smax in
-    let e = d && eqb g.sides h.sides in
-    let f = e && eqb g.alpha h.alpha in
-    let i = f && eqb g.beta h.beta in
-    let j = i && eqb g.edition h.edition in
-    let j! = and_left j (eqb g.lastmin h.lastmin) all in
-    let i! = and_left i (eqb g.edition h.edition) j! in
-    let f! = and_left f (eqb g.beta h.beta) i! in
-    let e! = and_left e (eqb g.alpha h.alpha) f! in
-    let d! = and_left d (eqb g.sides h.sides) e! in
-    let c! = and_left c (eqb g.smax h.smax) d! in
-    let b! = and_left b (eqb g.smin h.smin) c! in
-    let a! = and_left a (eqb g.htmax h.htmax) b! in
-    let p = eqb-true g.htmin h.htmin a! in
-    let q = eqb-true g.htmax h.htmax (and_right a (eqb g.htmax h.htmax) b!) in
-    let r = eqb-true g.smin h.smin (and_right b (eqb g.smin h.smin) c!) in
-    let s = eqb-true g.smax h.smax (and_right c (eqb g.smax h.smax) d!) in
-    let t = eqb-true g.sides h.sides (and_right d (eqb g.sides h.sides) e!) in
-    let u = eqb-true g.alpha h.alpha (and_right e (eqb g.alpha h.alpha) f!) in
-    let v = eqb-true g.beta h.beta (and_right f (eqb g.beta h.beta) i!) in
-    let w = eqb-true g.edition h.edition (and_right i (eqb g.edition h.edition) j!) in
-    let x = eqb-true g.lastmin h.lastmin (and_right j (eqb g.lastmin h.lastmin) all) in
+    let j = eqb g.lastmin h.lastmin in
+    let i = eqb g.edition h.edition && j in
+    let f = eqb g.beta h.beta && i in
+    let e = eqb g.alpha h.alpha && f in
+    let d = eqb g.sides h.sides && e in
+    let c = eqb g.smax h.smax && d in
+    let b = eqb g.smin h.smin && c in
+    let a = eqb g.htmax h.htmax && b in
+    let p = eqb-true g.htmin h.htmin (and_left (eqb g.htmin h.htmin) a all) in
+    let a! = and_right (eqb g.htmin h.htmin) a all in
+    let q = eqb-true g.htmax h.htmax (and_left (eqb g.htmax h.htmax) b a!) in
+    let b! = and_right (eqb g.htmax h.htmax) b a! in
+    let r = eqb-true g.smin h.smin (and_left (eqb g.smin h.smin) c b!) in
+    let c! = and_right (eqb g.smin h.smin) c b! in
+    let s = eqb-true g.smax h.smax (and_left (eqb g.smax h.smax) d c!) in
+    let d! = and_right (eqb g.smax h.smax) d c! in
+    let t = eqb-true g.sides h.sides (and_left (eqb g.sides h.sides) e d!) in
+    let e! = and_right (eqb g.sides h.sides) e d! in
+    let u = eqb-true g.alpha h.alpha (and_left (eqb g.alpha h.alpha) f e!) in
+    let f! = and_right (eqb g.alpha h.alpha) f e! in
+    let v = eqb-true g.beta h.beta (and_left (eqb g.beta h.beta) i f!) in
+    let i! = and_right (eqb g.beta h.beta) i f! in
+    let w = eqb-true g.edition h.edition (and_left (eqb g.edition h.edition) j i!) in
+    let j! = and_right (eqb g.edition h.edition) j i! in
+    let x = eqb-true g.lastmin h.lastmin j! in
     rw (p, q, r, s, t, u, v, w, x) refl
 
 -- A galley that has no `FO` opens on folio 1.
