@@ -5,4 +5,4 @@ use Rattle.closings.specs.Chapter.{Parting}
 use Rattle.closings.proofs.later_starts.Given as goal
 
 abbrev pub invariant-loop : goal.invariant-loop
-invariant-loop l = Parting l.g l.one l.two l.initial.a l.initial.b l.a l.b ?
+invariant-loop l = Parting l.g l.one l.two l.initial.a l.initial.b l.a l.b (l.most - l.counter)
