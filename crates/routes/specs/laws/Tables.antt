@@ -11,7 +11,7 @@ use Rattle.filling.specs.Fill.{filled}
 use Rattle.filling.specs.laws.Fill.{length_filled}
 use Rattle.entries.specs.laws.Side.{needed_roomy}
 use Rattle.closings.specs.Chapter.{on_folio, nothing_yet, ChapterRoom, Tabled}
-use Rattle.routes.specs.declared.Route.{Route}
+use Rattle.routes.specs.Routes.{Route}
 use Rattle.routes.specs.declared.Routes.{Routes}
 use Rattle.routes.specs.declared.Step.{Step}
 use Rattle.routes.specs.Routes.{is_reached}

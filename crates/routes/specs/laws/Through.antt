@@ -29,7 +29,6 @@ use Rattle.closings.specs.Chapter.{on_folio, Tabled}
 use Rattle.closings.specs.laws.Opened.{model_on_lem}
 use Rattle.closings.specs.laws.Chapter.{closed_none, Closes, closed_best, closed_costs}
 use Rattle.theorems.specs.pages.Sides.{side_side}
-use Rattle.routes.specs.declared.Route.TheVariants.{Unreached, Least}
 use Rattle.routes.specs.Routes.{kept_of, is_reached}
 use Rattle.routes.specs.Offer.{turn_to, passed, closing_from}
 use Rattle.routes.specs.laws.Folio.{side_of_lem, alike_side}
