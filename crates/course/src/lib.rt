@@ -1,7 +1,7 @@
 // The chapters of a book made along the best route, each from its folio to the next. Document 02, S-9.
 #![tactic(auto)]
 
-ghost use Rattle.std.specs.Prelude.{◌≡◌, ◌≤◌, ◌<◌};
+ghost use Rattle.std.specs.Prelude.{◌≤◌};
 ghost use Rattle.course.specs.Course.{Small, WithAnswer, NextChapter, NextMade, CourseRoom, CourseMade};
 
 use chapters::Book;
@@ -20,13 +20,6 @@ pub struct Sums {
     pub white: u64,
 }
 
-// A chapter's count as a number that sums can hold.
-fn long(count: u32) -> u64
-    ensures { (result ≡ count) × (result < 4294967296) }
-{
-    count as u64
-}
-
 // The sums with a chapter's counts, whose pages have so many words each.
 fn with_chapter(sums: Sums, words: usize, answer: Answer) -> Sums
     requires { (Small sums) × (words ≤ 3) }
@@ -40,10 +33,10 @@ fn with_chapter(sums: Sums, words: usize, answer: Answer) -> Sums
             turns: _t,
             white,
         } => Sums {
-            at: sums.at + words * chapters::extent::wide(pages),
-            pages: sums.pages + long(pages),
-            x: sums.x + long(x),
-            white: sums.white + long(white),
+            at: sums.at + words * pages as usize,
+            pages: sums.pages + u64::from(pages),
+            x: sums.x + u64::from(x),
+            white: sums.white + u64::from(white),
         },
         Answer::Refused {
             number: _n,
@@ -89,20 +82,9 @@ pub fn make_chapters(
         x: 0,
         white: 0,
     };
-    let mut k = 0;
-    while k < book.chapters {
-        let extent = chapters::extent::extent_of(lengths, k);
-        let from = extent.from;
-        let to = extent.to;
-        sums = next_chapter(
-            &galleys[from..to],
-            folios[k],
-            folios[k + 1],
-            sums,
-            work,
-            pages,
-        );
-        k += 1;
+    for k in 0..book.chapters {
+        let chapter = chapters::extent::chapter_bytes(galleys, lengths, k);
+        sums = next_chapter(chapter, folios[k], folios[k + 1], sums, work, pages);
     }
     sums
 }

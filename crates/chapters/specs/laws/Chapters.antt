@@ -9,7 +9,7 @@ use Rattle.galley.specs.declared.Reading.TheVariants as reads
 use Rattle.galley.specs.Whole.{galley_of}
 use Rattle.needs.specs.Needs.{work_needed, list_needed}
 use Rattle.chapters.specs.Book.{Chapter, read, refused, all_bytes, adds_up, later_from, first_of, chapters_of, book_of, largest, book_list, chapter_start, chapter_bytes}
-use Rattle.chapters.specs.Steps.{Reads, Numbered}
+use Rattle.chapters.specs.Steps.{Numbered}
 use Rattle.chapters.specs.laws.Lengths.{adding}
 use Rattle.chapters.specs.laws.Opening.{added, extent_within}
 use Rattle.chapters.specs.laws.Later.{unread, before_read, AllLater, later_at}

@@ -1,7 +1,7 @@
 -- The lengths of a book's chapters: what the first of them and the rest come to.
 use Rattle.std.specs.Prelude.{ℕ, zero, suc, ◌+◌, ◌-◌, ◌≤◌, ◌<◌, true, not, ◌&&◌, List, [], ◌∷◌, ◌≡◌, refl, length, get_or, take, drop, ltb, eqb}
 use Rattle.std.proofs.Common.{arith, sym, ◌∙◌, ap, drop-cons, ltb-false, eqb-true}
-use Rattle.std.proofs.Math.Seq.{slice, take-length, take-nil}
+use Rattle.std.proofs.Math.Seq.{slice, take-nil}
 use Rattle.std.proofs.lemmas.Bool.{eqb-false, not-true}
 use Rattle.model.proofs.laws.Gather.{and_left, and_right}
 use Rattle.chapters.specs.Book.{all_bytes, adds_up, chapter_start}
