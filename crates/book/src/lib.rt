@@ -69,7 +69,7 @@ fn leaves(sides: u32, folio: u32, pages: u64) -> u64
 {
     let first = model::page::spread_of(sides, folio, Page(1));
     let last = model::page::spread_of(sides, folio, Page(pages as u32));
-    (last.0 - first.0) as u64
+    u64::from(last.0 - first.0)
 }
 
 // X and Y by their weights.
@@ -77,7 +77,7 @@ fn turned(alpha: u32, x: u64, beta: u32, y: u64) -> u64
     requires { Weighted alpha x beta y }
     ensures { result ≡ alpha * x + beta * y }
 {
-    alpha as u64 * x + beta as u64 * y
+    u64::from(alpha) * x + u64::from(beta) * y
 }
 
 // The counts of the book: Y is that of its first and last page, and T follows.
@@ -85,10 +85,7 @@ fn counted(galleys: &[u8], lengths: &[u32], sums: Sums, weighed: u64) -> BookMad
     requires { Countable galleys.now lengths.now sums }
     ensures { (g : Galley) → galley_of (chapter_bytes galleys.now lengths.now 0) ≡ reads.Galley g → result ≡ counted_of g sums weighed }
 {
-    let extent = chapters::extent::extent_of(lengths, 0);
-    let begins = extent.from;
-    let ends = extent.to;
-    let g = chapters::galley_in(&galleys[begins..ends]);
+    let g = chapters::galley_in(chapters::extent::chapter_bytes(galleys, lengths, 0));
     let y = leaves(g.spec.sides, g.folio, sums.pages);
     BookMade {
         number: 0,
@@ -116,10 +113,9 @@ fn bind(
     let weighed = course::weighed::all_weighed(galleys, lengths, book);
     let mut from = [0u32; 400];
     let ends = routes::all_routes(galleys, lengths, book, work, &mut from);
-    let last = routes::best_end(ends);
-    if last == 0 {
+    let Some(last) = routes::best_end(ends) else {
         return refused(11, 0, weighed);
-    }
+    };
     let sums = along(galleys, lengths, book, &from, last, work, pages);
     counted(galleys, lengths, sums, weighed)
 }
@@ -151,8 +147,7 @@ fn make_read(
 pub fn make_book(galleys: &[u8], lengths: &[u32], work: &mut [u32], pages: &mut [u32]) -> BookMade
     ensures { Bound galleys.now lengths.now work.old pages.old result work.new pages.new }
 {
-    let reading = chapters::read_book(galleys, lengths);
-    match reading {
+    match chapters::read_book(galleys, lengths) {
         BookReading::Book(book) => make_read(galleys, lengths, book, work, pages),
         BookReading::Refused { number, place } => refused(number, place, 0),
     }

@@ -18,6 +18,7 @@ use Rattle.course.specs.Weighed.{all_weighed, BookRead}
 use Rattle.book.specs.declared.BookMade.{BookMade}
 use Rattle.book.specs.Make.{told_of}
 use Rattle.book.specs.Bind.{BookLent, RouteFound, AlongMade, Countable, counted_of, Best}
+use Rattle.book.specs.laws.Ending.{folio_after}
 use Rattle.book.specs.laws.Route.{no_choice, on_route}
 use Rattle.book.specs.laws.Count.{none_made, counts_made}
 
@@ -36,7 +37,7 @@ module _ {bytes lengths : List ℕ} {book : Book} {work list : List ℕ} (p : Bo
   all_weighed_lem count is = is ∙ ap all_weighed (chapters_read p.room.is)
 
   module _ (count : ℕ) (weighed : count ≡ all_weighed (chapters_in (book_of bytes lengths))) {work₁ from : List ℕ} {routes : Routes}
-      (routed : AllRouted bytes lengths work work₁ routes from) (last : ℕ) (told : last ≡ best_end routes.one routes.two) where
+      (routed : AllRouted bytes lengths work work₁ routes from) (last : ℕ) (told : last ≡ folio_after (best_end routes.one routes.two)) where
     -- There is no choice.
     pub bind_none : last ≡ 0 → (answer : BookMade) → answer ≡ told_of (Refused 11 0) count → Best bytes lengths work list answer work₁ list
     bind_none z answer is =
