@@ -149,22 +149,14 @@ pub fn fill_place(
     ensures { PlaceFilled s.now task work.old work.new sums.now words.new ends.new windows end }
 {
     let ending = pricing::ending_side(task.galley);
-    let mut c = 0;
-    while c < task.galley.spec.sides as usize {
-        let at = end.at;
-        let stop = end.stop;
+    for c in 0..task.galley.spec.sides as usize {
         let here = End {
-            at,
-            column: end.column,
             side: c,
             turns: c == ending,
-            waiting: end.waiting,
-            stop,
+            ..end
         };
         let parts = queues::parts::parts_of(ends, c);
-        let moved = fill_side(s, task, work, sums, words, parts, windows, here);
-        let full = moved.full;
-        let rest = moved.rest;
+        let Parts { full, rest } = fill_side(s, task, work, sums, words, parts, windows, here);
         queues::parts::put_row(
             ends,
             c,
@@ -173,6 +165,5 @@ pub fn fill_place(
             rest.head as u32,
             rest.tail as u32,
         );
-        c += 1;
     }
 }

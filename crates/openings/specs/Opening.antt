@@ -1,8 +1,6 @@
 -- How an opening is judged (document 02, S-6).
 use Rattle.std.specs.Prelude.{ℕ, ◌≡◌, List}
 use Rattle.std.proofs.Math.Option.{Option, none, some}
-use Rattle.model.specs.declared.answer.Answer.{Answer}
-use Rattle.model.specs.declared.answer.Answer.TheVariants.{Refused}
 use Rattle.model.specs.Gather.{pick}
 use Rattle.model.specs.Opening.{opening_turned}
 use Rattle.galley.specs.declared.Galley.{Galley}
@@ -14,10 +12,11 @@ use Rattle.marking.specs.Parts.{pages_in}
 use Rattle.marking.specs.Judged.{KeptPages}
 use Rattle.openings.specs.declared.Opening.{Opening}
 use Rattle.openings.specs.declared.Opening.TheVariants as opening
+use Rattle.model.specs.Answers.{Answer, refused}
 
 -- What turns an opening away.
 abbrev pub turned : Opening → Option Answer
-turned (opening.Refused n at) = some (Refused n at)
+turned (opening.Refused n at) = some (refused n at)
 turned (opening.Ends pages at sums) = none
 
 -- 21 where everything is placed, else the end of an opening of so many pages.

@@ -21,7 +21,7 @@ use Rattle.window.specs.laws.Slide.{ends_first, ends_next}
 use Rattle.candidates.specs.Choice.{Candidate}
 use Rattle.candidates.specs.Read.{table_in, side_of, search_of, counts_at}
 use Rattle.passes.specs.Sweep.{Lent}
-use Rattle.candidates.specs.Cells.{Scratched, fresh, more, ColumnRoom}
+use Rattle.candidates.specs.Cells.{Scratched, fresh, more}
 use Rattle.starts.specs.Swept.{ColumnSwept}
 use Rattle.candidates.proofs.laws.Columns.{within_at}
 use Rattle.passes.proofs.laws.Pass.{least_low}
@@ -29,11 +29,10 @@ use Rattle.candidates.proofs.laws.Read.{side_occurs}
 use Rattle.candidates.proofs.laws.Cells.{scratched_length, scratched_others}
 use Rattle.candidates.proofs.laws.Clean.{clean_kept}
 use Rattle.passes.proofs.laws.Cells.{lent_kept}
-use Rattle.passes.proofs.laws.Lending.{lent_room}
 use Rattle.pricing.specs.declared.Floats.{Floats}
 use Rattle.entries.specs.declared.side.Task.{Task}
 use Rattle.entries.specs.Fill.{tall, fill_side, fill_sides, side_count, fill_place}
-use Rattle.filling.specs.Fill.{fill_column, filled}
+use Rattle.filling.specs.Fill.{fill_column}
 use Rattle.pricing.specs.Stop.{floats_say, stop_from}
 use Rattle.entries.specs.Next.{Next, plain, PlaceNext, PlaceFilled}
 use Rattle.filling.specs.Next.{end_from, ColumnNext, Gathered, LastNext, Still, Onward}
@@ -185,7 +184,7 @@ module _ {bytes : List ℕ} {task : Task} {w₀ sums words₀ : List ℕ} {j fir
     lent : Lent bytes task.galley w j
     lent = next.lent
 
-    -- The window can be moved on to line i,
+    -- The window can be moved on to line i.
     pub last_slides : Slidable sums (plain task) window i
     last_slides =
         lines_slide lent column.summed (floor (model_of bytes task.galley) false) task.origin.place.line
@@ -196,12 +195,8 @@ module _ {bytes : List ℕ} {task : Task} {w₀ sums words₀ : List ℕ} {j fir
       opened : Open (text_of bytes task.galley.text) (plain task) new i
       opened = slid.opens (text_of bytes task.galley.text) task.galley.text.count column.summed.rows at run.slid
 
-      -- the next line that may be a start looked for from there on,
-      pub last_looks : ColumnRoom task.galley w j × (new.low ≤ task.galley.text.count) × (to ≤ task.galley.text.count)
-      last_looks = (lent_room lent, omega (arith, slid.within), run.inside)
-
       module _ (onto : ℕ) (onward : Onward task.galley w j new.low to onto) (over : task.galley.text.count < onto) where
-        -- and where there is none no line from i on is reached: what starts above the window is too tall for it, and stays so.
+        -- Where no later line may be a start, no line from i on is reached: what starts above the window is too tall for it, and stays so.
         last_still : Still bytes task w j i (suc task.galley.text.count)
         last_still =
             record {

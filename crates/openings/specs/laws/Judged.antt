@@ -4,11 +4,9 @@ use Rattle.std.proofs.Common.{mul_comm, div-add-mod', arith, ◌∙◌, eq-eqb, 
 use Rattle.std.proofs.Math.Path.{refl, sym, ap}
 use Rattle.std.proofs.Math.Option.{Option, none, some}
 use Rattle.std.proofs.Math.ListN.{length}
-use Rattle.model.specs.declared.answer.Answer.{Answer}
-use Rattle.model.specs.declared.answer.Answer.TheVariants.{Refused}
 use Rattle.model.specs.Gather.{pick}
 use Rattle.model.specs.Galley.{streams, zeros, sizes}
-use Rattle.model.specs.Answers.{same, pages_of}
+use Rattle.model.specs.Answers.{same, pages_of, Answer, refused}
 use Rattle.model.specs.Opening.{end_of, opening_turned}
 use Rattle.galley.specs.declared.Galley.{Galley}
 use Rattle.galley.specs.Sound.{Sound}
@@ -30,7 +28,7 @@ use Rattle.openings.specs.Opening.{turned, Ended, OpeningJudged}
 -- An opening, none of whose pages counts as the last.
 module _ (bytes : List ℕ) (g : Galley) (so : Sound bytes g) (ws : List ℕ) {words : ℕ} (is : words ≡ page_words g) where
   -- An incomplete page turns it away before any page.
-  pub opening_partial : 0 < length ws % words → some (Refused 20 0) ≡ opening_turned (model_of bytes g) ws
+  pub opening_partial : 0 < length ws % words → some (refused 20 0) ≡ opening_turned (model_of bytes g) ws
   unfolding opening_turned
   opening_partial l =
       let e : length ws % streams (model_of bytes g) ≡ length ws % words = ap (λ k. length ws % k) (streams_of_lem g bytes ∙ sym is) in
@@ -46,7 +44,7 @@ module _ (bytes : List ℕ) (g : Galley) (so : Sound bytes g) (ws : List ℕ) {w
 
     -- Without a fault 21 does where everything is placed.
     abbrev complete : Bool → Option Answer
-    complete full = pick full (some (Refused 21 (pages_in g ws))) none
+    complete full = pick full (some (refused 21 (pages_in g ws))) none
 
     -- The first fault comes before it.
     turned_by : opening_turned (model_of bytes g) ws
@@ -58,7 +56,7 @@ module _ (bytes : List ℕ) (g : Galley) (so : Sound bytes g) (ws : List ℕ) {w
         let e : length ws % streams M ≡ length ws % words = ap (λ k. length ws % k) (streams_of_lem g bytes ∙ sym is) in
         rw (eq-eqb (length ws % streams M) 0 (omega arith)) (turned_fault M 0 (pages_in g ws) (zeros M) (pages_of M ws) (pages_in_lem bytes g ws))
 
-    pub opening_broken : (n q : ℕ) → JudgedPages bytes g ws 0 (Broken n q) → some (Refused 20 q) ≡ opening_turned (model_of bytes g) ws
+    pub opening_broken : (n q : ℕ) → JudgedPages bytes g ws 0 (Broken n q) → some (refused 20 q) ≡ opening_turned (model_of bytes g) ws
     opening_broken n q r =
         let full = same (end_of (zeros (model_of bytes g)) (pages_of (model_of bytes g) ws)) (sizes (model_of bytes g)) in
         sym (turned_by ∙ ap (λ f. as_opening f (complete full)) (sym r.fault))
@@ -91,7 +89,7 @@ module _ (bytes : List ℕ) (g : Galley) (so : Sound bytes g) (ws : List ℕ) {w
 
           picks : (b : Bool) → turned (pick b (opening.Refused 21 (length ws / words)) (opening.Ends (length ws / words) at sums))
               ≡ complete b
-          picks true = ap (λ p. some (Refused 21 p)) same_pages
+          picks true = ap (λ p. some (refused 21 p)) same_pages
           picks false = refl
 
           go : (b : Bool) (p : ℕ) (a : Counts) (y : Sums)
