@@ -1,16 +1,15 @@
 // Reading a book: chapters lent end to end, with a list of their lengths. Document 02, S-9.
 #![tactic(auto)]
 
-ghost use Rattle.std.specs.Prelude.{◌≡◌, ◌+◌, ◌≤◌};
-ghost use Rattle.galley.specs.declared.Reading.TheVariants as reads;
+ghost use Rattle.std.specs.Prelude.{◌≡◌};
 ghost use Rattle.galley.specs.Place.{spec_size};
 ghost use Rattle.galley.specs.Whole.{galley_of};
 ghost use Rattle.needs.specs.Needs.{Few};
-ghost use Rattle.chapters.specs.declared.BookReading.TheVariants.{Refused};
 ghost use Rattle.chapters.specs.Book.{has_folio, chapters_of, book_of, reading_of};
-ghost use Rattle.chapters.specs.Steps.{Reads, Opened, Roomy, with_chapter, unfit_after};
+ghost use Rattle.chapters.specs.Steps.{Reads, read_as, Opened, Roomy, with_chapter, unfit_after};
 
 use galley::{Galley, Reading, Spec};
+use model::answer::Refusal;
 
 pub mod extent; // extent.rt: where a chapter stands in the bytes
 
@@ -21,13 +20,6 @@ pub struct Book {
     pub chapters: usize,
     pub largest: usize,
     pub list: usize,
-}
-
-// What reading a book gives.
-#[derive(Clone, Copy)]
-pub enum BookReading {
-    Book(Book),
-    Refused { number: u32, place: u32 },
 }
 
 // The bytes of a specification, by its edition.
@@ -69,19 +61,18 @@ fn with_chapter(book: Book, g: Galley) -> Book
     }
 }
 
-// A chapter turned away, with its number, which is one more than there are before it.
-fn turned_away(number: u32, before: usize) -> BookReading
-    requires { before ≤ 200 }
-    ensures { result ≡ Refused number (before + 1) }
+// The galley of the chapter with this number, from 1, which is the place of its refusal.
+fn chapter_read(bytes: &[u8], number: u32) -> Reading
+    ensures { result ≡ read_as number (galley_of bytes.now) }
 {
-    BookReading::Refused {
-        number,
-        place: before as u32 + 1,
-    }
+    reading::read_galley(bytes).map_err(|refusal| Refusal {
+        place: number,
+        ..refusal
+    })
 }
 
 // The book, once its first chapter is read: chapter by chapter, each from where the one before it ends.
-fn read_later(galleys: &[u8], lengths: &[u32], first: Galley) -> BookReading
+fn read_later(galleys: &[u8], lengths: &[u32], first: Galley) -> Result<Book, Refusal>
     requires { Opened galleys.now lengths.now first }
     ensures { result ≡ reading_of (chapters_of galleys.now lengths.now) }
 {
@@ -93,47 +84,37 @@ fn read_later(galleys: &[u8], lengths: &[u32], first: Galley) -> BookReading
     let mut book = with_chapter(none, first);
     let mut at = lengths[0] as usize;
     for length in &lengths[1..] {
+        let place = book.chapters as u32 + 1;
         let to = at + *length as usize;
-        match reading::read_galley(&galleys[at..to]) {
-            Reading::Galley(g) => {
-                if let Some(number) = unfit_after(first.spec, g) {
-                    return turned_away(number, book.chapters);
-                }
-                book = with_chapter(book, g);
-                at = to;
-            }
-            Reading::Refused { number, place: _p } => {
-                return turned_away(number, book.chapters);
-            }
+        let g = chapter_read(&galleys[at..to], place)?;
+        if let Some(number) = unfit_after(first.spec, g) {
+            return Err(Refusal { number, place });
         }
+        book = with_chapter(book, g);
+        at = to;
     }
-    BookReading::Book(book)
+    Ok(book)
 }
 
 // The book that any bytes and lengths hold, or one refusal.
-pub fn read_book(galleys: &[u8], lengths: &[u32]) -> BookReading
+pub fn read_book(galleys: &[u8], lengths: &[u32]) -> Result<Book, Refusal>
     ensures { result ≡ reading_of (book_of galleys.now lengths.now) }
 {
     if !extent::add_up(galleys, lengths) {
-        return BookReading::Refused {
+        return Err(Refusal {
             number: 28,
             place: 0,
-        };
+        });
     }
     let to = lengths[0] as usize;
-    match reading::read_galley(&galleys[..to]) {
-        Reading::Galley(g) => read_later(galleys, lengths, g),
-        Reading::Refused { number, place: _p } => turned_away(number, 0),
-    }
+    let first = chapter_read(&galleys[..to], 1)?;
+    read_later(galleys, lengths, first)
 }
 
 // The galley of a chapter of a book that was read.
 pub fn galley_in(chapter: &[u8]) -> Galley
     requires { Reads chapter.now }
-    ensures { galley_of chapter.now ≡ reads.Galley result }
+    ensures { galley_of chapter.now ≡ Ok result }
 {
-    let Reading::Galley(g) = reading::read_galley(chapter) else {
-        unreachable!()
-    };
-    g
+    reading::read_galley(chapter).unwrap()
 }

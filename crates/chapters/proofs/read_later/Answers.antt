@@ -4,14 +4,18 @@ use native.Mathlib.Omega.{arith}
 use mathlib.Core.Path.{sym, ◌∙◌, ap, ◌≡◌}
 use mathlib.Core.List.{List}
 use lib.ListN.{length, take, drop, get_or}
+use lib.Seq.{slice}
 use Rattle.std.proofs.Common.{length-take, length-drop, get_or-take}
 use Rattle.std.proofs.lemmas.Grind.{get_or_after_one}
 use Rattle.galley.specs.Whole.{galley_of}
+use Rattle.std.proofs.lemmas.Result.{err_from_is_err_and}
 use Rattle.needs.specs.laws.Needs.{read_few}
 use Rattle.chapters.specs.laws.Lengths.{adding, part_slice}
+use Rattle.chapters.specs.Steps.{read_as}
+use Rattle.chapters.proofs.laws.ReadAs.{read_ok, read_err}
 use Rattle.chapters.proofs.laws.Underway.{underway_first, underway_roomy, underway_within, underway_done, underway_refused, underway_unfit, underway_next}
 use Rattle.chapters.proofs.read_later.Goals as goal
-use Rattle.chapters.proofs.read_later.Goals.{In-loop-length}
+use Rattle.chapters.proofs.read_later.Goals.{In-loop-length, After-chapter_read}
 
 pub with_chapter-book-requires : goal.with_chapter-book-requires
 with_chapter-book-requires c = (record { chapters = omega arith; list = omega arith }, read_few _ _ c.requires.reads)
@@ -44,33 +48,48 @@ next : (c : In-loop-length)
     × (c.loop-length.book.chapters < length c.args.lengths.now)
 next c = turn c.args.lengths.now _ _ c.loop-length.invariant.counted c.loop-length-test.true
 
-pub slice_bounds-read_galley-end : goal.slice_bounds-read_galley-end
-slice_bounds-read_galley-end c =
-    let t = next (goal.at.slice_bounds-read_galley-end c).In-loop-length in
+pub overflow_cast-place : goal.overflow_cast-place
+overflow_cast-place c = omega (arith, c.loop-length.invariant.underway.within, c.loop-length.invariant.underway.few)
+
+pub overflow_add-place : goal.overflow_add-place
+overflow_add-place c = omega (arith, c.loop-length.invariant.underway.within, c.loop-length.invariant.underway.few)
+
+pub slice_bounds-chapter_read-end : goal.slice_bounds-chapter_read-end
+slice_bounds-chapter_read-end c =
+    let t = next (goal.at.slice_bounds-chapter_read-end c).In-loop-length in
     omega (arith, t.0, underway_within c.loop-length.invariant.underway t.1)
+
+-- The bytes of the chapter, as reading them has it.
+lent : (c : After-chapter_read)
+    → c.chapter_read.result
+    ≡ read_as (c.loop-length.book.chapters + 1)
+    (galley_of (slice c.loop-length.at (c.loop-length.at + get_or (others c.args.lengths.now) c.loop-length.length-index 0) c.args.galleys.now))
+lent c = c.chapter_read.ensures ∙ ap (λ l. read_as (c.loop-length.book.chapters + 1) (galley_of l)) (part_slice c.loop-length.at _ c.args.galleys.now)
+
+pub returns-in_err-g : goal.returns-in_err-g
+returns-in_err-g c =
+    let t = next (goal.at.returns-in_err-g c).In-loop-length in
+    let (n, e, same) = read_err _ _ _ (sym (lent (goal.at.returns-in_err-g c).After-chapter_read) ∙ c.in_err-g.was) in
+    let p = err_from_is_err_and c.from_residual.result c.from_residual.ensures.1 in
+    rw (p.1, p.2, ← same) (underway_refused c.loop-length.invariant.underway _ t.0 t.1 n e)
 
 pub returns-in-Some : goal.returns-in-Some
 returns-in-Some c =
     let t = next (goal.at.returns-in-Some c).In-loop-length in
-    let e = sym (ap galley_of (part_slice c.loop-length.at _ c.args.galleys.now)) ∙ sym c.read_galley.ensures ∙ c.in-Galley.is in
-    c.turned_away.ensures ∙ underway_unfit c.loop-length.invariant.underway _ t.0 t.1 _ e _ (sym c.unfit_after.ensures ∙ c.in-Some.is)
+    let e = read_ok _ _ _ (sym (lent (goal.at.returns-in-Some c).After-chapter_read) ∙ c.in_ok-g.was) in
+    underway_unfit c.loop-length.invariant.underway _ t.0 t.1 _ e _ (sym c.unfit_after.ensures ∙ c.in-Some.is)
 
-pub with_chapter-book-requires-in-Galley : goal.with_chapter-book-requires-in-Galley
-with_chapter-book-requires-in-Galley c =
-    let t = next (goal.at.with_chapter-book-requires-in-Galley c).In-loop-length in
-    (underway_roomy c.loop-length.invariant.underway t.1, read_few _ _ (sym c.read_galley.ensures ∙ c.in-Galley.is))
-
-pub returns-in-Refused : goal.returns-in-Refused
-returns-in-Refused c =
-    let t = next (goal.at.returns-in-Refused c).In-loop-length in
-    let e = sym (ap galley_of (part_slice c.loop-length.at _ c.args.galleys.now)) ∙ sym c.read_galley.ensures ∙ c.in-Refused.is in
-    c.turned_away-in-Refused.ensures ∙ underway_refused c.loop-length.invariant.underway _ t.0 t.1 _ _ e
+pub with_chapter-book-requires-in-loop-length : goal.with_chapter-book-requires-in-loop-length
+with_chapter-book-requires-in-loop-length c =
+    let t = next (goal.at.with_chapter-book-requires-in-loop-length c).In-loop-length in
+    let e = read_ok _ _ _ (sym (lent (goal.at.with_chapter-book-requires-in-loop-length c).After-chapter_read) ∙ c.in_ok-g.was) in
+    (underway_roomy c.loop-length.invariant.underway t.1, read_few _ _ e)
 
 pub loop-length-preserved : goal.loop-length-preserved
 loop-length-preserved c =
     let t = next (goal.at.loop-length-preserved c).In-loop-length in
-    let e = sym (ap galley_of (part_slice c.loop-length.at _ c.args.galleys.now)) ∙ sym c.read_galley.ensures ∙ c.in-Galley.is in
-    rw c.with_chapter-book-in-Galley.ensures
+    let e = read_ok _ _ _ (sym (lent (goal.at.loop-length-preserved c).After-chapter_read) ∙ c.in_ok-g.was) in
+    rw c.with_chapter-book-in-loop-length.ensures
     (record {
       counted = omega (arith, c.loop-length.invariant.counted);
       underway = underway_next c.loop-length.invariant.underway _ t.0 t.1 _ e (sym c.unfit_after.ensures ∙ c.in_default.is);
