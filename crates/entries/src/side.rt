@@ -10,7 +10,7 @@ ghost use Rattle.entries.specs.Next.{LinesAbove, EntryNext, SideNext, SideFilled
 use blocks::Counts;
 use blocks::heights::Heights;
 use galley::Galley;
-use places::{Entry, Origin};
+use places::{Entry, Least, Origin};
 use pricing::Stop;
 use queues::parts::Parts;
 use queues::queue::Source;
@@ -83,26 +83,22 @@ fn new_entry(
 {
     let g = task.galley;
     if candidates::read::is_origin(g, task.origin, end.at.lines, end.column, end.side) {
-        let origin = task.origin;
-        let place = origin.place;
-        return Entry::Least(origin.cost, place);
+        let Origin { place, cost, .. } = task.origin;
+        return Some(Least { cost, start: place });
     }
     if !pricing::may_stop(end.stop, end.turns) {
-        return Entry::Unreached;
+        return None;
     }
     let place = places::place_of(end.at.lines, end.column);
     let held = places::entry_of(work, g.text.count + 1, place, end.side);
     let lines = lines_above(s, task, work, sums, words, parts, end);
-    let start = candidates::choice::choose(held, lines);
-    let Entry::Least(x, from) = start else {
-        return Entry::Unreached;
-    };
+    let best = candidates::choice::choose(held, lines)?;
     let price = pricing::price(g, end.stop.full, end.turns, end.waiting);
-    let cost = x + places::joined(0, price);
+    let cost = best.cost + places::joined(0, price);
     if task.origin.cost + task.origin.limit < cost {
-        return Entry::Unreached;
+        return None;
     }
-    Entry::Least(cost, from)
+    Some(Least { cost, ..best })
 }
 
 // One side of a place: the queues moved on to the window of its line, and the entry stored.
