@@ -4,42 +4,40 @@
 ghost use Rattle.std.specs.Prelude.{◌≡◌, ◌+◌, ◌-◌, ◌*◌, ◌≤◌};
 ghost use Rattle.model.specs.Leaf.{leaf, sides_of};
 ghost use Rattle.galley.specs.declared.Galley.{Galley};
-ghost use Rattle.galley.specs.declared.Reading.TheVariants as reads;
 ghost use Rattle.galley.specs.Whole.{galley_of};
 ghost use Rattle.chapters.specs.Book.{chapter_bytes};
 ghost use Rattle.chapters.specs.laws.Answer.{IsRead};
 ghost use Rattle.book.specs.Make.{Bound};
 ghost use Rattle.book.specs.Bind.{BookLent, RouteFound, AlongMade, Paged, Weighted, Countable, counted_of, Best};
 
-use chapters::{Book, BookReading};
+use chapters::Book;
 use course::Sums;
+use model::answer::Refusal;
 use model::page::Page;
 
-// What making a book returns: a refusal and its place, or 0 and 0 and the book's pages, X, Y, T and W; and how many pages are weighed.
-#[derive(Clone, Copy)]
-pub struct BookMade {
-    pub number: u32,
-    pub place: u32,
+// The counts of a book: its pages, X, Y, T and W.
+#[derive(Clone, Copy, PartialEq, Eq, Debug)]
+pub struct BookCounted {
     pub pages: u64,
     pub x: u64,
     pub y: u64,
     pub turns: u64,
     pub white: u64,
+}
+
+// What making a book returns: its counts or a refusal, and how many pages are weighed.
+#[derive(Clone, Copy, PartialEq, Eq, Debug)]
+pub struct BookMade {
+    pub answer: Result<BookCounted, Refusal>,
     pub weighed: u64,
 }
 
 // A refusal, with the count of what is weighed.
 fn refused(number: u32, place: u32, weighed: u64) -> BookMade
-    ensures { result ≡ record { number = number; place = place; pages = 0; x = 0; y = 0; turns = 0; white = 0; weighed = weighed } }
+    ensures { result ≡ record { answer = Err (record { number = number; place = place }); weighed = weighed } }
 {
     BookMade {
-        number,
-        place,
-        pages: 0,
-        x: 0,
-        y: 0,
-        turns: 0,
-        white: 0,
+        answer: Err(Refusal { number, place }),
         weighed,
     }
 }
@@ -83,18 +81,18 @@ fn turned(alpha: u32, x: u64, beta: u32, y: u64) -> u64
 // The counts of the book: Y is that of its first and last page, and T follows.
 fn counted(galleys: &[u8], lengths: &[u32], sums: Sums, weighed: u64) -> BookMade
     requires { Countable galleys.now lengths.now sums }
-    ensures { (g : Galley) → galley_of (chapter_bytes galleys.now lengths.now 0) ≡ reads.Galley g → result ≡ counted_of g sums weighed }
+    ensures { (g : Galley) → galley_of (chapter_bytes galleys.now lengths.now 0) ≡ Ok g → result ≡ counted_of g sums weighed }
 {
     let g = chapters::galley_in(chapters::extent::chapter_bytes(galleys, lengths, 0));
     let y = leaves(g.spec.sides, g.folio, sums.pages);
     BookMade {
-        number: 0,
-        place: 0,
-        pages: sums.pages,
-        x: sums.x,
-        y,
-        turns: turned(g.spec.alpha, sums.x, g.spec.beta, y),
-        white: sums.white,
+        answer: Ok(BookCounted {
+            pages: sums.pages,
+            x: sums.x,
+            y,
+            turns: turned(g.spec.alpha, sums.x, g.spec.beta, y),
+            white: sums.white,
+        }),
         weighed,
     }
 }
@@ -148,7 +146,10 @@ pub fn make_book(galleys: &[u8], lengths: &[u32], work: &mut [u32], pages: &mut 
     ensures { Bound galleys.now lengths.now work.old pages.old result work.new pages.new }
 {
     match chapters::read_book(galleys, lengths) {
-        BookReading::Book(book) => make_read(galleys, lengths, book, work, pages),
-        BookReading::Refused { number, place } => refused(number, place, 0),
+        Ok(book) => make_read(galleys, lengths, book, work, pages),
+        Err(refusal) => BookMade {
+            answer: Err(refusal),
+            weighed: 0,
+        },
     }
 }

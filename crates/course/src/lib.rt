@@ -25,23 +25,14 @@ fn with_chapter(sums: Sums, words: usize, answer: Answer) -> Sums
     requires { (Small sums) × (words ≤ 3) }
     ensures { WithAnswer sums words answer result }
 {
-    match answer {
-        Answer::Counted {
-            pages,
-            x,
-            y: _y,
-            turns: _t,
-            white,
-        } => Sums {
-            at: sums.at + words * pages as usize,
-            pages: sums.pages + u64::from(pages),
-            x: sums.x + u64::from(x),
-            white: sums.white + u64::from(white),
-        },
-        Answer::Refused {
-            number: _n,
-            place: _p,
-        } => sums,
+    let Ok(counted) = answer else {
+        return sums;
+    };
+    Sums {
+        at: sums.at + words * counted.pages as usize,
+        pages: sums.pages + u64::from(counted.pages),
+        x: sums.x + u64::from(counted.x),
+        white: sums.white + u64::from(counted.white),
     }
 }
 

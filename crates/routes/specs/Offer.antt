@@ -5,9 +5,7 @@ use Rattle.model.specs.Leaf.{ends, sides_of}
 use Rattle.theorems.specs.pages.Graph.{side}
 use Rattle.galley.specs.declared.Galley.{Galley}
 use Rattle.galley.specs.Model.{sides_in}
-use Rattle.places.specs.declared.Entry as places
-use Rattle.places.specs.declared.Entry.TheVariants as entry
-use Rattle.places.specs.Entry.{low_of, high_of}
+use Rattle.places.specs.Entry.{Entry, low_of, high_of}
 use Rattle.candidates.specs.Read.{table_in}
 use Rattle.walk.specs.declared.Stop.{Stop}
 use Rattle.walk.specs.Trace.{entry_of}
@@ -25,11 +23,11 @@ abbrev pub turn_to : Galley → Bool → ℕ → ℕ
 turn_to g first folio = pick first 0 (pick (ends (sides_of g.spec.sides folio) 0) g.spec.beta 0)
 
 -- A route that goes on by the best list which closes where an entry is.
-abbrev pub passed : Route → ℕ → places.Entry → Route
+abbrev pub passed : Route → ℕ → Entry → Route
 passed None turn e = None
-passed (Some c) turn entry.Unreached = None
-passed (Some c) turn (entry.Least x s) =
-    Some (record { turns = c.turns + turn + high_of x; white = c.white + low_of x })
+passed (Some c) turn None = None
+passed (Some c) turn (Some l) =
+    Some (record { turns = c.turns + turn + high_of l.cost; white = c.white + low_of l.cost })
 
 -- After k chapters a route costs at most k · 2³³: each chapter adds at most 2³² and a turn.
 abbrev pub Cheap : ℕ → Route → Type 0
@@ -46,7 +44,7 @@ pub record Payable (route : Route) (turn : ℕ) : Type 0 where
   pub small : turn < 4294967296
 
 -- It went on so, and its costs kept to their limit.
-pub record Passed (route : Route) (turn : ℕ) (e : places.Entry) (r : Route) : Type 0 where
+pub record Passed (route : Route) (turn : ℕ) (e : Entry) (r : Route) : Type 0 where
   pub is : r ≡ passed route turn e
   pub cheap : (k : ℕ) → Cheap k route → Cheap (suc k) r
 

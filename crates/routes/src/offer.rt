@@ -26,12 +26,10 @@ fn through(route: Route, turn: u64, entry: Entry) -> Route
     ensures { Passed route turn entry result }
 {
     let cost = route?;
-    let Entry::Least(x, _start) = entry else {
-        return None;
-    };
+    let least = entry?;
     Some(Cost {
-        turns: cost.turns + turn + u64::from(places::high_of(x)),
-        white: cost.white + u64::from(places::low_of(x)),
+        turns: cost.turns + turn + u64::from(places::high_of(least.cost)),
+        white: cost.white + u64::from(places::low_of(least.cost)),
     })
 }
 

@@ -1,13 +1,11 @@
 -- One chapter more: the routes after it are right where those before it are.
-use Rattle.std.specs.Prelude.{ℕ, ◌+◌, ◌*◌, ◌≤◌, ◌≡◌, refl, List, take, drop, set, eqb}
+use Rattle.std.specs.Prelude.{ℕ, ◌+◌, ◌*◌, ◌≤◌, ◌≡◌, refl, List, take, drop, set, eqb, Err, Ok}
 use Rattle.std.proofs.Common.{arith, sym, ◌∙◌, ap, subst}
 use Rattle.model.specs.Galley as model
 use Rattle.theorems.specs.books.Turns.{Alike, no_chapter}
 use Rattle.theorems.specs.books.Routes.{route}
 use Rattle.galley.specs.declared.Galley.{Galley}
-use Rattle.galley.specs.declared.Reading.{Reading}
-use Rattle.galley.specs.declared.Reading.TheVariants as reads
-use Rattle.galley.specs.Whole.{galley_of}
+use Rattle.galley.specs.Whole.{galley_of, Reading}
 use Rattle.galley.specs.Model.{model_of}
 use Rattle.galley.proofs.laws.Sound.{sound}
 use Rattle.routes.specs.declared.Routes.{Routes}
@@ -20,15 +18,15 @@ use Rattle.routes.specs.laws.Tables.{tables_halved}
 use Rattle.routes.specs.laws.Arrive.{arrived_right}
 
 -- Bytes hold one galley.
-pub galley_same : (bytes : List ℕ) (g d : Galley) → galley_of bytes ≡ reads.Galley g → galley_of bytes ≡ reads.Galley d → d ≡ g
+pub galley_same : (bytes : List ℕ) (g d : Galley) → galley_of bytes ≡ Ok g → galley_of bytes ≡ Ok d → d ≡ g
 galley_same bytes g d p q = ap galley_in (sym q ∙ p)
   where
     galley_in : Reading → Galley
-    galley_in (reads.Galley e) = e
-    galley_in (reads.Refused number place) = g
+    galley_in (Ok e) = e
+    galley_in (Err r) = g
 
 module _ {bytes : List ℕ} {k : ℕ} {routes : Routes} {half : ℕ} {w from : List ℕ} (room : NextRoom bytes k routes half w from) {g : Galley}
-    (holds : galley_of bytes ≡ reads.Galley g) where
+    (holds : galley_of bytes ≡ Ok g) where
   -- Each half of the work area is long enough for the chapter,
   pub next_halves : Halves bytes g half w
   next_halves = record { sound = sound bytes g holds; room = room.room g holds; long = room.long }

@@ -7,10 +7,7 @@ use Rattle.theorems.specs.pages.Graph.{side}
 use Rattle.theorems.specs.pages.Sides.{side_side}
 use Rattle.galley.specs.declared.Galley.{Galley}
 use Rattle.galley.specs.Model.{sides_in}
-use Rattle.places.specs.declared.Place.{Place as Start}
-use Rattle.places.specs.declared.Entry as places
-use Rattle.places.specs.declared.Entry.TheVariants as entry
-use Rattle.places.specs.Entry.{low_of, high_of}
+use Rattle.places.specs.Entry.{Entry}
 use Rattle.candidates.specs.Read.{table_in}
 use Rattle.walk.specs.declared.Stop.{Stop}
 use Rattle.walk.specs.Trace.{entry_of}
@@ -44,7 +41,7 @@ turn_small g false o l = go (ends _ 0)
     go false = omega arith
 
 -- What is offered goes on from a route.
-offer_from : (route : Route) (turn : ℕ) (e : places.Entry) (x : Cost) → passed route turn e ≡ Some x → (c : Cost) × (route ≡ Some c)
+offer_from : (route : Route) (turn : ℕ) (e : Entry) (x : Cost) → passed route turn e ≡ Some x → (c : Cost) × (route ≡ Some c)
 offer_from None turn e x is = let z : ◌≡◌ {A = ℕ} 0 1 = cc in absurd (omega arith)
 offer_from (Some c) turn e x is = (c, refl)
 
@@ -92,7 +89,7 @@ unfolding best_end
 end_both t p q e = rw (p, q, e)
 
 -- A route goes on by the entry that was read where a list closes.
-pub passed_from : (g : Galley) {route r : Route} {turn : ℕ} {e : places.Entry} (first : Bool) (o next : ℕ) (w : List ℕ) (c : ℕ) (at : Stop)
+pub passed_from : (g : Galley) {route r : Route} {turn : ℕ} {e : Entry} (first : Bool) (o next : ℕ) (w : List ℕ) (c : ℕ) (at : Stop)
     → c ≡ side (sides_in g) (o + next) → at ≡ closing_stop g c → e ≡ entry_of (table_in g w) at → turn ≡ turn_to g first o → Passed route turn e r
     → Passed route (turn_to g first o) (entry_of (table_in g w) (closing_from g o next)) r
 passed_from g first o next w c at ec ea ee et p = rw (et, ee, ea, ec) at p
