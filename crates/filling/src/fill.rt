@@ -45,8 +45,7 @@ fn next_start(g: Galley, work: &[u32], j: usize, low: usize, last: usize) -> Opt
     if low <= last {
         return Some(last);
     }
-    let line = reached::look::first_line(g, work, j, low);
-    (line <= g.text.count).then_some(line)
+    reached::look::first_line(g, work, j, low)
 }
 
 // The places of column j, from its first line that has a start to the last line that a page can reach, each of which holds its best
@@ -108,8 +107,7 @@ fn first_start(task: Task, work: &[u32], j: usize, any: bool) -> Option<usize>
     if !any {
         return None;
     }
-    let first = reached::look::first_line(task.galley, work, j, line);
-    (first <= task.galley.text.count).then_some(first)
+    reached::look::first_line(task.galley, work, j, line)
 }
 
 // Column j: first the starts in the columns before it, then those in the column itself. Where there is neither it is left unreached.

@@ -3,7 +3,7 @@ use Prim.Native.Nat.{ℕ, zero, suc, ◌+◌, ◌-◌, ◌*◌, ◌≤◌, ◌<�
 use Rattle.std.proofs.Math.Decide.{dec_lt}
 use Rattle.std.proofs.Math.Numerals.{add-one}
 use native.Mathlib.Omega.{arith}
-use Rattle.std.specs.Prelude.{◌≡◌, refl, ◌⊎◌, Bool, false, List}
+use Rattle.std.specs.Prelude.{◌≡◌, refl, ◌⊎◌, Bool, false, List, None}
 use Rattle.std.proofs.Math.Path.{sym, ap}
 use Rattle.std.proofs.Common.{◌∙◌, inl, inr}
 use Rattle.std.proofs.Math.ListN.{length}
@@ -12,7 +12,6 @@ use Rattle.galley.specs.Model.{text_of, model_of, sides_in}
 use Rattle.rules.specs.declared.waiting.Waiting.{Waiting}
 use Rattle.rules.specs.Waiting.{waiting_of}
 use Rattle.rules.specs.laws.Walked.{walking_none, walking_here}
-use Rattle.places.specs.declared.Entry.TheVariants.{Unreached}
 use Rattle.places.specs.Order.{Earlier}
 use Rattle.places.proofs.laws.Best.{no_reach}
 use Rattle.window.specs.declared.slide.Window.{Window}
@@ -149,7 +148,7 @@ module _ {bytes : List ℕ} {task : Task} {w₀ sums words₀ : List ℕ} {j fir
       }
     where
       none : (a c : ℕ) → c < task.galley.spec.sides → (a < new.split) ⊎ (a < new.high)
-          → table_in task.galley w₀ a j (side_of task.galley c) ≡ Unreached
+          → table_in task.galley w₀ a j (side_of task.galley c) ≡ None
       none a c occurs (inl l) =
           (lines_quiet last.gathered last.begun).none a (side_of task.galley c) (omega arith) (omega (arith, slid.between))
           (side_occurs lent_first.sound c occurs)

@@ -16,7 +16,7 @@ fill_column-recall-requires c =
 pub loop-j-preserved : goal.loop-j-preserved
 loop-j-preserved c =
     columns_next c.requires c.loop-j.invariant (omega (arith, c.loop-j-test.true, c.columns_of-columns.ensures)) _ _ _ _
-    (search (rules, c.words-1.given, c.type_inv.words)) (search (rules, c.seen-in-loop-j-1.given)) c.fill_column-recall.ensures
+    (search rules) (search rules) c.fill_column-recall.ensures
 
 pub returns : goal.returns
 returns c =
