@@ -15,13 +15,11 @@ use Rattle.galley.proofs.laws.Sound.{refusal_number}
 use Rattle.marking.specs.Mark.{mark_of}
 use Rattle.layouts.specs.Names.{is_name}
 use Rattle.desk.specs.declared.Desk.{Desk}
-use Rattle.desk.specs.declared.Told.{Told}
-use Rattle.desk.specs.declared.Done.{Done}
 use Rattle.desk.specs.Calls.{Call, Ask, Commit, Save, Back, Drop, Reply, Marking, Number, words_at, Sitting}
 use Rattle.desk.specs.Sitting.{under, begin, sat, replies}
 use Rattle.desk.specs.Pages.{in_force}
 use Rattle.desk.specs.Opening.{closed, opened, open_on, open_read, open_desk}
-use Rattle.desk.specs.Desk.{ask_desk, commit_desk, pending_on}
+use Rattle.desk.specs.Desk.{Told, Done, ask_desk, commit_desk, pending_on}
 use Rattle.desk.specs.Layouts.{save_desk, back_desk, drop_desk}
 use Rattle.desk.specs.Held.{held_on}
 use Rattle.desk.specs.After.{leaves, answers, after_calls, answered}

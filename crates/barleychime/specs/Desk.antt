@@ -1,8 +1,7 @@
 -- What a call on a lent desk returns and leaves (document 02, S-7).
 use Rattle.std.specs.Prelude.{ℕ, List, [], ◌∷◌, ◌≡◌}
 use Rattle.desk.specs.declared.Desk.{Desk}
-use Rattle.desk.specs.declared.Told.{Told}
-use Rattle.desk.specs.declared.Done.{Done}
+use Rattle.desk.specs.Desk.{Told, Done}
 use Rattle.barleychime.specs.Words.{number_of, answer_words}
 
 -- The number of an answer beside the desk.

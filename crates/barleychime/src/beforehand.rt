@@ -10,8 +10,7 @@ pub extern "C" fn barleychime_forecast(galley: &[u8], forecast: &mut [u32; 6]) -
         × (forecast.new ≡ words_of (forecast_of galley.now)) }
 {
     let told = forecast::forecast_of(galley);
-    let low = (told.ceiling % 4294967296) as u32;
-    let high = (told.ceiling / 4294967296) as u32;
+    let (low, high) = telling::halves(told.ceiling);
     *forecast = [told.number, told.place, told.work, told.list, low, high];
     told.number
 }

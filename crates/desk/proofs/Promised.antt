@@ -1,5 +1,5 @@
 -- What is promised of every desk (document 02, S-7 and S-8).
-use Rattle.std.specs.Prelude.{ℕ, ◌≤◌, Bool, ◌&&◌, List, [], ◌∷◌, ◌++◌, ◌≡◌, leb, length}
+use Rattle.std.specs.Prelude.{ℕ, ◌≤◌, Bool, ◌&&◌, List, [], ◌∷◌, ◌++◌, ◌≡◌, leb, length, Some, None}
 use Rattle.std.proofs.Math.Bool.{true, false}
 use Rattle.std.proofs.Math.Path.{refl, sym, ap, subst⁻¹}
 use Rattle.std.proofs.Common.{subst, ◌∙◌, arith}
@@ -16,12 +16,11 @@ use Rattle.galley.specs.Whole.{galley_of}
 use Rattle.galley.specs.Model.{model_of}
 use Rattle.marking.specs.Mark.{mark_of}
 use Rattle.desk.specs.declared.Desk.{Desk}
-use Rattle.desk.specs.declared.Told.{Told}
-use Rattle.desk.specs.Calls.{Call, Save, Back, Drop, Number, Quiet, Onward, Some, None, Sitting, Step}
+use Rattle.desk.specs.Calls.{Call, Save, Back, Drop, Number, Quiet, Onward, Sitting, Step}
 use Rattle.desk.specs.Sitting.{under, put_or, other_end, step, begin, sat, replies}
 use Rattle.desk.specs.Pages.{pages_on, in_force, is_inner, with_end}
 use Rattle.desk.specs.Opening.{closed, opened, open_on, open_read, open_desk}
-use Rattle.desk.specs.Desk.{ask_off, ask_desk, pending_on, commit_desk}
+use Rattle.desk.specs.Desk.{Told, ask_off, ask_desk, pending_on, commit_desk}
 use Rattle.layouts.specs.Names.{is_name}
 use Rattle.desk.specs.Held.{held_on}
 use Rattle.desk.specs.After.{leaves, answers, after_calls, answered}

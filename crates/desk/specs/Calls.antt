@@ -1,5 +1,5 @@
 -- The calls on an open desk, their answers, and what a sitting of them holds (document 02, S-7 and S-8).
-use Rattle.std.specs.Prelude.{ℕ, Bool, true, false, List, [], ◌∷◌, ◌≡◌}
+use Rattle.std.specs.Prelude.{ℕ, false, Option, List, [], ◌∷◌, ◌≡◌}
 use Rattle.model.specs.declared.answer.Answer.{Answer}
 use Rattle.model.specs.Answers.{same}
 
@@ -26,15 +26,6 @@ pub data Reply : Type 0 where
   Marking : Answer → Reply
   Number : ℕ → Reply
 
--- No list, or a list (notation).
-pub data Perhaps : Type 0 where
-  None : Perhaps
-  Some : List ℕ → Perhaps
-
-abbrev pub is_some : Perhaps → Bool
-is_some None = false
-is_some (Some list) = true
-
 -- A list under a name (document 02, S-8).
 pub record Named : Type 0 where
   pub name : List ℕ
@@ -43,7 +34,7 @@ pub record Named : Type 0 where
 -- The list in force, what is pending, and the layouts held (document 02, S-7 and S-8).
 pub record Sitting : Type 0 where
   pub force : List ℕ
-  pub pending : Perhaps
+  pub pending : Option (List ℕ)
   pub held : List Named
 
 -- A call's answer, and what it leaves.

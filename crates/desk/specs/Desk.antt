@@ -1,6 +1,5 @@
--- What an ask and a commit leave and answer, for any words of a desk (document 02, S-7). The types `Desk`, `Told` and `Done` are
--- those of src/lib.rt.
-use Rattle.std.specs.Prelude.{ℕ, Bool, true, false, List, take}
+-- What an ask and a commit leave and answer, for any words of a desk (document 02, S-7). The type `Desk` is that of src/lib.rt.
+use Rattle.std.specs.Prelude.{ℕ, zero, suc, Bool, true, false, List, ◌≡◌, take, Option, None, Some, Result, Ok, Err}
 use Rattle.model.specs.declared.answer.Answer.{Answer}
 use Rattle.model.specs.declared.answer.Answer.TheVariants.{Refused}
 use Rattle.model.specs.Answers.{accepted}
@@ -8,10 +7,31 @@ use Rattle.model.specs.Gather.{pick}
 use Rattle.marking.specs.Mark.{mark_of}
 use Rattle.desk.specs.declared.Desk.{Desk}
 use Rattle.layouts.specs.declared.Layout.{Layout}
-use Rattle.desk.specs.declared.Told.{Told}
-use Rattle.desk.specs.declared.Done.{Done}
-use Rattle.desk.specs.Calls.{Perhaps, None, Some}
 use Rattle.desk.specs.Pages.{words_on, is_inner, with_end}
+
+-- What a call leaves, with an answer like the marking's,
+pub record Told : Type 0 where
+  pub desk : Desk
+  pub answer : Answer
+
+abbrev pub Says : Told → Answer → Desk → Type 0
+Says told answer desk = (answer ≡ told.answer) × (desk ≡ told.desk)
+
+-- or with a number alone, which is 0 where nothing is refused, and an error in src/ where something is.
+pub record Done : Type 0 where
+  pub desk : Desk
+  pub number : ℕ
+
+abbrev pub plain : ℕ → Result (Unit {0}) ℕ
+plain zero = Ok tt
+plain (suc n) = Err (suc n)
+
+abbrev pub number_in : Result (Unit {0}) ℕ → ℕ
+number_in (Ok it) = 0
+number_in (Err number) = number
+
+abbrev pub Does : Done → Result (Unit {0}) ℕ → Desk → Type 0
+Does done answer desk = (answer ≡ plain done.number) × (desk ≡ done.desk)
 
 -- A page and its new end are pending, in place of what was.
 abbrev pub pended : Desk → ℕ → List ℕ → Desk
@@ -46,7 +66,7 @@ ask_desk bytes page end d =
     (ask_off d page)
 
 -- What is pending, as the words say: the list in force with the end that was asked about.
-unfoldable pub pending_on : Desk → Perhaps
+unfoldable pub pending_on : Desk → Option (List ℕ)
 pending_on d = pick (is_inner d d.page) (Some (altered d d.page d.end)) None
 
 -- Another list of as many pages is in force, and none is pending.

@@ -1,4 +1,4 @@
--- A desk opened on a galley and a list (document 02, S-7). The types `Desk` and `Told` are those of src/lib.rt.
+-- A desk opened on a galley and a list (document 02, S-7). The type `Desk` is that of src/lib.rt.
 use Rattle.std.specs.Prelude.{ℕ, ◌≤◌, ◌&&◌, List, [], ◌∷◌, ◌++◌, leb, length, drop, replicate}
 use Rattle.model.specs.declared.answer.Answer.{Answer}
 use Rattle.model.specs.declared.answer.Answer.TheVariants.{Refused}
@@ -9,7 +9,7 @@ use Rattle.galley.specs.declared.Reading.TheVariants as reads
 use Rattle.galley.specs.Whole.{galley_of}
 use Rattle.marking.specs.Mark.{mark_of}
 use Rattle.desk.specs.declared.Desk.{Desk}
-use Rattle.desk.specs.declared.Told.{Told}
+use Rattle.desk.specs.Desk.{Told}
 use Rattle.desk.specs.Pages.{width_of}
 use Rattle.layouts.specs.Names.{free_layout}
 

@@ -3,7 +3,6 @@ use Rattle.std.specs.Prelude.{ℕ, List, ◌≡◌}
 use Rattle.std.proofs.Math.Bool.{true}
 use Rattle.model.specs.Galley as model
 use Rattle.model.specs.Answers.{accepted}
-use Rattle.galley.specs.declared.Galley.{Galley}
 use Rattle.marking.specs.Mark.{mark_of}
 use Rattle.desk.specs.declared.Desk.{Desk}
 use Rattle.desk.specs.Calls.{Call, Sitting}
@@ -12,7 +11,7 @@ use Rattle.desk.specs.Pages.{in_force}
 use Rattle.desk.specs.Desk.{pending_on}
 use Rattle.layouts.specs.Names.{is_name}
 use Rattle.desk.specs.Held.{held_on}
-use Rattle.desk.specs.After.{answers, after_calls, answered}
+use Rattle.desk.specs.After.{after_calls, answered}
 
 -- After any calls on a desk, given one galley each time, all is as in a sitting: the answers, the list in force, what is pending, and
 -- what is held under each name.

@@ -1,16 +1,16 @@
 -- A sitting at a desk, told by the calls alone: what each call answers, and the list in force, what is pending and the layouts held
 -- after it (document 02, S-7 and S-8). The galley is one that reads, since a desk does not open on any other.
-use Rattle.std.specs.Prelude.{ℕ, ◌-◌, Bool, ◌&&◌, ◌||◌, List, [], ◌∷◌, leb, ltb, length, set, take}
+use Rattle.std.specs.Prelude.{ℕ, ◌-◌, Bool, ◌&&◌, ◌||◌, List, [], ◌∷◌, leb, ltb, length, set, take, Option, None, Some, is_some}
 use Rattle.model.specs.declared.answer.Answer.{Answer}
 use Rattle.model.specs.declared.answer.Answer.TheVariants.{Refused}
 use Rattle.model.specs.Galley.{Galley, streams}
 use Rattle.model.specs.Answers.{accepted, pages_of, words_of, same, marked}
 use Rattle.model.specs.Gather.{pick}
 use Rattle.layouts.specs.Names.{is_name}
-use Rattle.desk.specs.Calls.{End, Call, Ask, Commit, Save, Back, Drop, Reply, Marking, Number, words_at, Perhaps, None, Some, is_some, Named, Sitting, Step}
+use Rattle.desk.specs.Calls.{End, Call, Ask, Commit, Save, Back, Drop, Reply, Marking, Number, words_at, Named, Sitting, Step}
 
 -- The list held under a name, and the layouts under other names (document 02, S-8).
-unfoldable pub under : List Named → List ℕ → Perhaps
+unfoldable pub under : List Named → List ℕ → Option (List ℕ)
 under [] name = None
 under (it ∷ held) name = pick (same it.name name) (Some it.list) (under held name)
 
@@ -27,14 +27,14 @@ abbrev pub says : ℕ → Sitting → Step
 says number s = record { reply = Number number; after = s }
 
 -- Another list is pending, or none; and other layouts are held (notation).
-abbrev pub pend : Sitting → Perhaps → Sitting
+abbrev pub pend : Sitting → Option (List ℕ) → Sitting
 pend s pending = record { force = s.force; pending = pending; held = s.held }
 
 abbrev pub hold : Sitting → List Named → Sitting
 hold s held = record { force = s.force; pending = s.pending; held = held }
 
 -- A list comes into force, and none is pending; a number refuses where there is none (document 02, S-7, commit; S-8, coming back).
-abbrev pub put_or : ℕ → Sitting → Perhaps → Step
+abbrev pub put_or : ℕ → Sitting → Option (List ℕ) → Step
 put_or number s None = says number s
 put_or number s (Some list) = says 0 (record { force = list; pending = None; held = s.held })
 

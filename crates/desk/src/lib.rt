@@ -3,11 +3,13 @@
 // bytes again.
 #![tactic(auto)]
 
-ghost use Rattle.std.specs.Prelude.{◌++◌, ◌≡◌, drop};
+ghost use Rattle.std.specs.Prelude.{◌++◌, ◌≡◌, drop, ok_or};
 ghost use Rattle.model.specs.Answers.{accepted};
+ghost use Rattle.model.specs.Gather.{pick};
+ghost use Rattle.layouts.specs.Names.{is_name, find_named};
 ghost use Rattle.marking.specs.Mark.{mark_of};
 ghost use Rattle.desk.specs.Pages.{pages_on, words_on, in_force};
-ghost use Rattle.desk.specs.Desk.{cleared, pended, put_in, lay_in, after_ask, ask_desk, commit_desk};
+ghost use Rattle.desk.specs.Desk.{cleared, pended, put_in, after_ask, ask_desk, commit_desk, Says, Does};
 ghost use Rattle.desk.specs.Layouts.{save_desk, back_desk, drop_desk};
 ghost use Rattle.desk.specs.Opening.{closed, Short, opened, open_on, open_desk};
 
@@ -18,7 +20,8 @@ use model::answer::Answer;
 mod pages; // pages.rt: the pages of the list in force, and one of them with another end
 
 // The count of pages and the words of a page, what is pending, which is a page and its new end, the list in force, and eight layouts.
-// Count and words stand once: all lists of a desk have as many pages.
+// Count and words stand once: all lists of a desk have as many pages. C lends this memory, of any contents: so page 0 stands for
+// none that is pending.
 #[repr(C)]
 #[derive(Clone, Copy)]
 pub struct Desk {
@@ -30,293 +33,204 @@ pub struct Desk {
     pub layouts: [Layout; 8],
 }
 
-// What a call leaves, with an answer like the marking's,
-#[derive(Clone, Copy)]
-pub struct Told {
-    pub desk: Desk,
-    pub answer: Answer,
-}
-
-// or with a number alone, whose place is 0.
-#[derive(Clone, Copy)]
-pub struct Done {
-    pub desk: Desk,
-    pub number: u32,
-}
-
-// A desk without pages: nothing else of it changes.
-fn close(d: Desk) -> Desk
-    ensures { result ≡ closed d }
-{
-    let end = d.end;
-    let list = d.list;
-    let layouts = d.layouts;
-    Desk {
-        pages: 0,
-        width: d.width,
-        page: d.page,
-        end,
-        list,
-        layouts,
-    }
-}
-
-// A desk with a page and its new end pending; page 0 is none.
-fn pend(d: Desk, page: u32, end: [u32; 3]) -> Desk
-    ensures { result ≡ pended d page end }
-{
-    let force = d.list;
-    let layouts = d.layouts;
-    Desk {
-        pages: d.pages,
-        width: d.width,
-        page,
-        end,
-        list: force,
-        layouts,
-    }
-}
-
-// A desk with nothing pending.
-fn clear(d: Desk) -> Desk
-    ensures { result ≡ cleared d }
-{
-    let end = d.end;
-    pend(d, 0, end)
-}
-
-// A desk with another list in force, of as many pages, and nothing pending.
-fn put(d: Desk, list: [u32; 192]) -> Desk
-    ensures { result ≡ put_in d list }
-{
-    let none = 0;
-    let end = d.end;
-    let layouts = d.layouts;
-    Desk {
-        pages: d.pages,
-        width: d.width,
-        page: none,
-        end,
-        list,
-        layouts,
-    }
-}
-
-// A desk with other layouts.
-fn lay(d: Desk, layouts: [Layout; 8]) -> Desk
-    ensures { result ≡ lay_in d layouts }
-{
-    let end = d.end;
-    let list = d.list;
-    Desk {
-        pages: d.pages,
-        width: d.width,
-        page: d.page,
-        end,
-        list,
-        layouts,
-    }
-}
-
-// A new desk with a list of so many pages.
-fn desk_of(list: &[u32], pages: u32) -> Desk
-    requires { Short list.now }
-    ensures { result ≡ opened list.now pages }
-{
-    let width = pages::width_of(list.len(), pages);
-    let mut all = [0; 192];
-    layouts::words::copy_words(list, list.len(), &mut all);
-    let end = [0; 3];
-    let free = layouts::free();
-    let layouts = [free; 8];
-    Desk {
-        pages,
-        width,
-        page: 0,
-        end,
-        list: all,
-        layouts,
-    }
-}
-
 // Whether an answer is that of an accepted list.
 fn is_accepted(answer: Answer) -> bool
     ensures { result ≡ accepted answer }
 {
     match answer {
-        Answer::Counted {
-            pages,
-            x,
-            y,
-            turns,
-            white,
-        } => true,
-        Answer::Refused { number, place } => false,
+        Answer::Counted { .. } => true,
+        Answer::Refused { .. } => false,
     }
 }
 
-// A desk on a galley that reads: 22 where the marking does not accept the list, or it has more than 64 pages.
-fn open_read(galley: &[u8], list: &[u32], d: Desk) -> Told
-    ensures { result ≡ open_on list.now d (mark_of galley.now list.now) }
+// 25 refuses a name that has not 1 to 16 bytes.
+fn named(name: &[u8]) -> Result<(), u32>
+    ensures { result ≡ pick (is_name name.now) (Ok tt) (Err 25) }
 {
-    let answer = marking::mark(galley, list);
-    let n = model::answer::numbers_of(answer);
-    if is_accepted(answer) & (n.pages <= 64) {
-        let desk = desk_of(list, n.pages);
-        return Told { desk, answer };
+    if layouts::names::is_name(name) {
+        Ok(())
+    } else {
+        Err(25)
     }
-    let desk = close(d);
-    Told {
-        desk,
-        answer: Answer::Refused {
+}
+
+impl Desk {
+    // A new desk with a list of so many pages.
+    #[tactic(auto, unfolding(crate::specs::Opening::opened))]
+    fn of(list: &[u32], pages: u32) -> Desk
+        requires { Short list.now }
+        ensures { result ≡ opened list.now pages }
+    {
+        let width = pages::width_of(list.len(), pages);
+        let mut all = [0; 192];
+        all[..list.len()].copy_from_slice(list);
+        Desk {
+            pages,
+            width,
+            page: 0,
+            end: [0; 3],
+            list: all,
+            layouts: [Layout::free(); 8],
+        }
+    }
+
+    // It has no pages: nothing else of it changes.
+    fn close(&mut self)
+        ensures { self.new ≡ closed self.old }
+    {
+        self.pages = 0;
+    }
+
+    // A page and its new end are pending; page 0 is none.
+    fn pend(&mut self, page: u32, end: [u32; 3])
+        ensures { self.new ≡ pended self.old page end }
+    {
+        self.page = page;
+        self.end = end;
+    }
+
+    // Nothing is pending.
+    fn clear(&mut self)
+        ensures { self.new ≡ cleared self.old }
+    {
+        self.pend(0, self.end);
+    }
+
+    // Another list is in force, of as many pages, and nothing is pending.
+    fn put(&mut self, list: [u32; 192])
+        ensures { self.new ≡ put_in self.old list }
+    {
+        self.list = list;
+        self.page = 0;
+    }
+
+    // Opened on a galley that reads: 22 where the marking does not accept the list, or it has more than 64 pages.
+    #[tactic(auto, unfolding(crate::specs::Opening::open_on), using(crate::proofs::laws::Opening::open_short))]
+    fn open_read(&mut self, galley: &[u8], list: &[u32]) -> Answer
+        ensures { Says (open_on list.now self.old (mark_of galley.now list.now)) result self.new }
+    {
+        let answer = marking::mark(galley, list);
+        let n = model::answer::numbers_of(answer);
+        if is_accepted(answer) & (n.pages <= 64) {
+            *self = Desk::of(list, n.pages);
+            return answer;
+        }
+        self.close();
+        Answer::Refused {
             number: 22,
             place: 0,
-        },
+        }
     }
-}
 
-// A desk opened on a galley and a list: a refused galley is refused as ever, then 22. A desk that is refused has no pages.
-pub fn open(galley: &[u8], list: &[u32], d: Desk) -> Told
-    ensures { result ≡ open_desk galley.now list.now d }
-{
-    let reading = reading::read_galley(galley);
-    match reading {
-        Reading::Galley(_g) => open_read(galley, list, d),
-        Reading::Refused { number, place } => {
-            let desk = close(d);
-            Told {
-                desk,
-                answer: Answer::Refused { number, place },
+    // Opened on a galley and a list: a refused galley is refused as ever, then 22. A desk that is refused has no pages.
+    #[tactic(auto, unfolding(crate::specs::Opening::open_read, crate::specs::Opening::open_desk))]
+    pub fn open(&mut self, galley: &[u8], list: &[u32]) -> Answer
+        ensures { Says (open_desk galley.now list.now self.old) result self.new }
+    {
+        match reading::read_galley(galley) {
+            Reading::Galley(_g) => self.open_read(galley, list),
+            Reading::Refused { number, place } => {
+                self.close();
+                Answer::Refused { number, place }
             }
         }
     }
-}
 
-// What an ask leaves that the marking answered so: pending where it is accepted, and none pending where it is refused.
-fn after_ask(d: Desk, page: u32, end: [u32; 3], answer: Answer) -> Desk
-    ensures { result ≡ after_ask d page end answer }
-{
-    if is_accepted(answer) {
-        return pend(d, page, end);
+    // What an ask leaves that the marking answered so: pending where it is accepted, and none pending where it is refused.
+    #[tactic(auto, unfolding(crate::specs::Desk::after_ask))]
+    fn after_ask(&mut self, page: u32, end: [u32; 3], answer: Answer)
+        ensures { self.new ≡ after_ask self.old page end answer }
+    {
+        if is_accepted(answer) {
+            self.pend(page, end);
+        } else {
+            self.clear();
+        }
     }
-    clear(d)
-}
 
-// Another end of a page, tried: 23 before the galley is read, then the marking of the altered list.
-pub fn ask(galley: &[u8], page: u32, end: [u32; 3], d: Desk) -> Told
-    ensures { result ≡ ask_desk galley.now page end d }
-{
-    if !pages::is_inner(d, page) {
-        let desk = clear(d);
-        return Told {
-            desk,
-            answer: Answer::Refused {
+    // Another end of a page, tried: 23 before the galley is read, then the marking of the altered list.
+    #[tactic(auto, unfolding(crate::specs::Desk::altered, crate::specs::Desk::ask_desk))]
+    pub fn ask(&mut self, galley: &[u8], page: u32, end: [u32; 3]) -> Answer
+        ensures { Says (ask_desk galley.now page end self.old) result self.new }
+    {
+        if !self.is_inner(page) {
+            self.clear();
+            return Answer::Refused {
                 number: 23,
                 place: page,
-            },
-        };
+            };
+        }
+        let altered = self.with_end(page, end);
+        let words = self.words_on();
+        let answer = marking::mark(galley, &altered[..words]);
+        self.after_ask(page, end, answer);
+        answer
     }
-    let altered = pages::with_end(d, page, end);
-    let words = pages::words_on(d);
-    let answer = marking::mark(galley, &altered[..words]);
-    let desk = after_ask(d, page, end, answer);
-    Told { desk, answer }
-}
 
-// What is pending put in force: 24 where nothing is.
-pub fn commit(d: Desk) -> Done
-    ensures { result ≡ commit_desk d }
-{
-    let page = d.page;
-    if !pages::is_inner(d, page) {
-        return Done {
-            desk: d,
-            number: 24,
-        };
+    // What is pending put in force: 24 where nothing is, and the desk stays as it is.
+    #[tactic(auto, unfolding(crate::specs::Desk::commit_desk))]
+    pub fn commit(&mut self) -> Result<(), u32>
+        ensures { Does (commit_desk self.old) result self.new }
+    {
+        let page = self.page;
+        if !self.is_inner(page) {
+            return Err(24);
+        }
+        let list = self.with_end(page, self.end);
+        self.put(list);
+        Ok(())
     }
-    let end = d.end;
-    let list = pages::with_end(d, page, end);
-    let desk = put(d, list);
-    Done { desk, number: 0 }
-}
 
-// The list in force over the first of the lent words, and its count of pages.
-pub fn list(d: Desk, pages: &mut [u32; 192]) -> u32
-    ensures { (result ≡ pages_on d) × (pages.new ≡ in_force d ++ drop (words_on d) pages.old) }
-{
-    let words = pages::words_on(d);
-    let all = d.list;
-    layouts::words::copy_words(&all, words, pages);
-    pages::pages_on(d)
-}
+    // The list in force over the first of the lent words, and its count of pages.
+    #[tactic(auto, unfolding(crate::specs::Pages::in_force))]
+    pub fn list(&self, pages: &mut [u32; 192]) -> u32
+        ensures { (result ≡ pages_on self.now) × (pages.new ≡ in_force self.now ++ drop (words_on self.now) pages.old) }
+    {
+        let words = self.words_on();
+        pages[..words].copy_from_slice(&self.list[..words]);
+        self.pages_on()
+    }
 
-// The list in force kept under a name: 25 a bad name, then 27 where the name is not held and no layout is free.
-pub fn save(name: &[u8], d: Desk) -> Done
-    ensures { result ≡ save_desk name.now d }
-{
-    if !layouts::names::is_name(name) {
-        return Done {
-            desk: d,
-            number: 25,
-        };
+    // Where the layout under a name is: 25 a bad name, then 26 where it is not held.
+    fn held(&self, name: &[u8]) -> Result<usize, u32>
+        ensures { result ≡ pick (is_name name.now) (ok_or (find_named self.now.layouts name.now) 26) (Err 25) }
+    {
+        named(name)?;
+        layouts::find(&self.layouts, name).ok_or(26)
     }
-    let old = d.layouts;
-    let at = layouts::room_for(old, name);
-    if at < 8 {
-        let list = d.list;
-        let layouts = layouts::with_layout(old, at, name, list);
-        let desk = lay(d, layouts);
-        return Done { desk, number: 0 };
-    }
-    Done {
-        desk: d,
-        number: 27,
-    }
-}
 
-// The layout under a name put in force, with nothing pending: 25 a bad name, then 26 where it is not held.
-pub fn back(name: &[u8], d: Desk) -> Done
-    ensures { result ≡ back_desk name.now d }
-{
-    if !layouts::names::is_name(name) {
-        return Done {
-            desk: d,
-            number: 25,
-        };
+    // The list in force kept under a name: 25 a bad name, then 27 where the name is not held and no layout is free. A refusal leaves the
+    // desk as it is.
+    #[tactic(auto, unfolding(crate::specs::Layouts::save_desk), using(layouts::specs::laws::Names::name_few))]
+    pub fn save(&mut self, name: &[u8]) -> Result<(), u32>
+        ensures { Does (save_desk name.now self.old) result self.new }
+    {
+        named(name)?;
+        let at = layouts::room_for(&self.layouts, name).ok_or(27u32)?;
+        self.layouts[at] = Layout::under(name, self.list);
+        Ok(())
     }
-    let all = d.layouts;
-    let at = layouts::find(all, name);
-    if at < 8 {
-        let layout = all[at];
-        let list = layout.list;
-        let desk = put(d, list);
-        return Done { desk, number: 0 };
-    }
-    Done {
-        desk: d,
-        number: 26,
-    }
-}
 
-// A name freed: 25 a bad name, then 26 where it is not held. On a desk of words that no call leaves, every layout under the name is.
-pub fn drop(name: &[u8], d: Desk) -> Done
-    ensures { result ≡ drop_desk name.now d }
-{
-    if !layouts::names::is_name(name) {
-        return Done {
-            desk: d,
-            number: 25,
-        };
+    // The layout under a name put in force, with nothing pending: 25 a bad name, then 26 where it is not held. A refusal leaves the desk
+    // as it is.
+    #[tactic(auto, unfolding(crate::specs::Layouts::back_desk))]
+    pub fn back(&mut self, name: &[u8]) -> Result<(), u32>
+        ensures { Does (back_desk name.now self.old) result self.new }
+    {
+        let at = self.held(name)?;
+        let list = self.layouts[at].list;
+        self.put(list);
+        Ok(())
     }
-    let old = d.layouts;
-    let at = layouts::find(old, name);
-    if at < 8 {
-        let layouts = layouts::without(old, name);
-        let desk = lay(d, layouts);
-        return Done { desk, number: 0 };
-    }
-    Done {
-        desk: d,
-        number: 26,
+
+    // A name freed: 25 a bad name, then 26 where it is not held. On a desk of words that no call leaves, every layout under the name is. A
+    // refusal leaves the desk as it is.
+    #[tactic(auto, unfolding(crate::specs::Layouts::drop_desk))]
+    pub fn drop(&mut self, name: &[u8]) -> Result<(), u32>
+        ensures { Does (drop_desk name.now self.old) result self.new }
+    {
+        self.held(name)?;
+        layouts::free(&mut self.layouts, name);
+        Ok(())
     }
 }

@@ -4,33 +4,8 @@ ghost use Rattle.desk.specs.Pages.{pages_on, words_on, is_inner, width_of, page_
 
 use crate::Desk;
 
-// How many pages a desk has. Words that no call leaves are those of a desk without pages.
-pub fn pages_on(d: Desk) -> u32
-    ensures { result ≡ pages_on d }
-{
-    if (d.pages <= 64) & (2 <= d.width) & (d.width <= 3) {
-        return d.pages;
-    }
-    0
-}
-
-// How many words they take.
-pub fn words_on(d: Desk) -> usize
-    ensures { result ≡ words_on d }
-{
-    let pages = pages_on(d);
-    pages as usize * d.width as usize
-}
-
-// Whether a page is one of the desk's, and not its last.
-pub fn is_inner(d: Desk, page: u32) -> bool
-    ensures { result ≡ is_inner d page }
-{
-    let pages = pages_on(d);
-    (1 <= page) & (page < pages)
-}
-
 // The words of a page, by those of all pages.
+#[tactic(auto, unfolding(crate::specs::Pages::width_of))]
 pub fn width_of(words: usize, pages: u32) -> u32
     ensures { result ≡ width_of words pages }
 {
@@ -40,27 +15,59 @@ pub fn width_of(words: usize, pages: u32) -> u32
     3
 }
 
-// Where the words of a page begin: there is room for them.
-fn page_at(d: Desk, page: u32) -> usize
-    requires { is_inner d page ≡ true }
-    ensures { (result ≡ page_at d.width page) × (result ≤ 186) }
-{
-    let before = page as usize - 1;
-    before * d.width as usize
-}
-
-// The list in force with another end of a page.
-pub fn with_end(d: Desk, page: u32, end: [u32; 3]) -> [u32; 192]
-    requires { is_inner d page ≡ true }
-    ensures { result ≡ with_end d.width d.list page end }
-{
-    let mut list = d.list;
-    let at = page_at(d, page);
-    list[at] = end[0];
-    list[at + 1] = end[1];
-    if d.width == 3 {
-        list[at + 2] = end[2];
-        return list;
+impl Desk {
+    // How many pages a desk has. Words that no call leaves are those of a desk without pages.
+    #[tactic(auto, unfolding(crate::specs::Pages::pages_on))]
+    pub fn pages_on(&self) -> u32
+        ensures { result ≡ pages_on self.now }
+    {
+        if (self.pages <= 64) & (2 <= self.width) & (self.width <= 3) {
+            return self.pages;
+        }
+        0
     }
-    list
+
+    // How many words they take.
+    #[tactic(auto, unfolding(crate::specs::Pages::words_on), using(crate::proofs::laws::Pages::words_few))]
+    pub fn words_on(&self) -> usize
+        ensures { (result ≡ words_on self.now) × (result ≤ 192) }
+    {
+        let pages = self.pages_on();
+        pages as usize * self.width as usize
+    }
+
+    // Whether a page is one of the desk's, and not its last.
+    #[tactic(auto, unfolding(crate::specs::Pages::is_inner))]
+    pub fn is_inner(&self, page: u32) -> bool
+        ensures { result ≡ is_inner self.now page }
+    {
+        let pages = self.pages_on();
+        (1 <= page) & (page < pages)
+    }
+
+    // Where the words of a page begin: there is room for them.
+    #[tactic(auto, using(crate::proofs::laws::Pages::inner_first, crate::proofs::laws::Pages::inner_room))]
+    fn page_at(&self, page: u32) -> usize
+        requires { is_inner self.now page ≡ true }
+        ensures { (result ≡ page_at self.now.width page) × (result ≤ 186) }
+    {
+        let before = page as usize - 1;
+        before * self.width as usize
+    }
+
+    // The list in force with another end of a page.
+    #[tactic(auto, unfolding(crate::specs::Pages::with_end))]
+    pub fn with_end(&self, page: u32, end: [u32; 3]) -> [u32; 192]
+        requires { is_inner self.now page ≡ true }
+        ensures { result ≡ with_end self.now.width self.now.list page end }
+    {
+        let mut list = self.list;
+        let at = self.page_at(page);
+        list[at] = end[0];
+        list[at + 1] = end[1];
+        if self.width == 3 {
+            list[at + 2] = end[2];
+        }
+        list
+    }
 }

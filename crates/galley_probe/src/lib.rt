@@ -2,7 +2,6 @@
 #![tactic(auto)]
 
 ghost use Rattle.std.specs.Prelude.{◌≡◌, ◌≤◌};
-ghost use Rattle.model.specs.Gather.{pick};
 ghost use Rattle.galley.specs.Whole.{galley_of};
 ghost use Rattle.galley.specs.Sound.{SoundStream};
 ghost use Rattle.rules.specs.Waiting.{Walked};
@@ -12,6 +11,7 @@ use galley::{Galley, Reading, Stream};
 
 // A refusal's number and place, or 0 and 0; then the specification with its edition, the first folio and the counts of lines,
 // figures and tables.
+#[tactic(auto, unfolding(crate::specs::Words::words_of))]
 #[unsafe(no_mangle)]
 pub extern "C" fn galley_probe_read(bytes: &[u8], out: &mut [u32; 15])
     ensures { out.new ≡ words_of (galley_of bytes.now) }
@@ -44,46 +44,34 @@ pub extern "C" fn galley_probe_read(bytes: &[u8], out: &mut [u32; 15])
     }
 }
 
-// A test as a word.
-fn flag(test: bool) -> u32
-    ensures { result ≡ pick test 1 0 }
-{
-    if test { 1 } else { 0 }
-}
-
 // The stream of a number: 0 is the text, 1 the figures, any other the tables.
 fn stream_at(g: Galley, number: usize) -> Stream
     ensures { result ≡ stream_at g number }
 {
-    if number == 0 {
-        return g.text;
+    match number {
+        0 => g.text,
+        1 => g.figures,
+        _ => g.tables,
     }
-    if number == 1 {
-        return g.figures;
-    }
-    g.tables
 }
 
 // The four fields of block k of a stream and whether a page may end after it, or zeros where there is none.
+#[tactic(auto, unfolding(crate::specs::Words::block_words))]
 #[unsafe(no_mangle)]
 pub extern "C" fn galley_probe_block(bytes: &[u8], number: usize, k: usize, out: &mut [u32; 5])
     ensures { out.new ≡ block_words bytes.now number k (galley_of bytes.now) }
 {
     let reading = reading::read_galley(bytes);
     let Reading::Galley(g) = reading else {
-        *out = [0, 0, 0, 0, 0];
+        *out = [0; 5];
         return;
     };
     let stream = stream_at(g, number);
-    if k < 1 {
-        *out = [0, 0, 0, 0, 0];
+    if k < 1 || stream.count < k {
+        *out = [0; 5];
         return;
     }
-    if stream.count < k {
-        *out = [0, 0, 0, 0, 0];
-        return;
-    }
-    let legal = flag(blocks::is_legal(bytes, stream, k));
+    let legal = u32::from(blocks::is_legal(bytes, stream, k));
     *out = [
         blocks::field(bytes, stream, k, galley::HEIGHT),
         blocks::field(bytes, stream, k, galley::LEAST),
@@ -106,6 +94,7 @@ fn known_from(s: &[u8], floats: Stream, earlier: usize, i: usize, j: usize) -> u
 
 // How many floats of a stream wait with i lines and j of its floats placed, by a walk that goes on from one for an earlier line; 0
 // where the galley is refused or the stream has fewer floats.
+#[tactic(auto, unfolding(crate::specs::Words::waiting_of))]
 #[unsafe(no_mangle)]
 pub extern "C" fn galley_probe_waiting(
     bytes: &[u8],

@@ -1,4 +1,3 @@
--- Words copied, layouts by their names, and the laws of copying, seeking and freeing.
-pub mod Words
+-- Layouts by their names, and the laws of seeking and freeing.
 pub mod Names
 pub mod laws

@@ -1,5 +1,6 @@
 -- The layouts of a desk, by their names (document 02, S-8). The type `Layout` is that of src/lib.rt.
-use Rattle.std.specs.Prelude.{ℕ, suc, Bool, ◌&&◌, List, [], ◌∷◌, ◌++◌, eqb, leb, ltb, length, take, drop, replicate}
+use Rattle.std.specs.Prelude.{ℕ, Bool, ◌&&◌, Option, List, [], ◌++◌, eqb, leb, length, take, drop, replicate, position}
+use Rattle.std.specs.Option.{option_or}
 use Rattle.model.specs.Answers.{same}
 use Rattle.model.specs.Gather.{pick}
 use Rattle.layouts.specs.declared.Layout.{Layout}
@@ -12,16 +13,14 @@ is_name name = leb 1 (length name) && leb (length name) 16
 unfoldable pub is_named : Layout → List ℕ → Bool
 is_named layout name = eqb layout.len (length name) && same (take (length name) layout.name) name
 
--- The number of the first layout under a name, counted from 0; as many as there are where none is.
-unfoldable pub find_named : List Layout → List ℕ → ℕ
-find_named [] name = 0
-find_named (layout ∷ layouts) name = pick (is_named layout name) 0 (suc (find_named layouts name))
+-- The number of the first layout under a name, counted from 0.
+abbrev pub find_named : List Layout → List ℕ → Option ℕ
+find_named layouts name = position (λ layout. is_named layout name) layouts
 
 -- Where a list is kept under a name: where the name is held, so that it supersedes what was there, else where a layout is free
 -- (document 02, S-8).
-unfoldable pub room_for : List Layout → List ℕ → ℕ
-room_for layouts name =
-    pick (ltb (find_named layouts name) (length layouts)) (find_named layouts name) (find_named layouts [])
+abbrev pub room_for : List Layout → List ℕ → Option ℕ
+room_for layouts name = option_or (find_named layouts name) (find_named layouts [])
 
 -- The bytes of a name, and zeros after them.
 unfoldable pub padded : List ℕ → List ℕ

@@ -1,4 +1,2 @@
 -- The laws behind the layouts.
-pub mod Words
 pub mod Names
-pub mod Layouts

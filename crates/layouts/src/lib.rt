@@ -1,14 +1,13 @@
 // The layouts of a desk, by their names. Document 02, S-8.
 #![tactic(auto)]
 
-ghost use Rattle.std.specs.Prelude.{map, ◌≡◌, ◌<◌, ◌≤◌, length, set};
-ghost use Rattle.layouts.specs.Names.{free_layout, freed, find_named, room_for, layout_of};
+ghost use Rattle.std.specs.Prelude.{map, ◌≡◌, ◌≤◌, length};
+ghost use Rattle.layouts.specs.Names.{free_layout, is_named, freed, find_named, room_for, layout_of};
 
 pub mod names; // names.rt: the names of layouts
-pub mod words; // words.rt: words copied over the first of others
 
 // A list under a name: the bytes of the name, how many there are, and the words of the list. A layout whose name has no bytes is
-// free.
+// free. C lends this memory, of any contents: so a length stands beside the bytes.
 #[repr(C)]
 #[derive(Clone, Copy)]
 pub struct Layout {
@@ -17,89 +16,64 @@ pub struct Layout {
     pub list: [u32; 192],
 }
 
-// A layout without a name.
-pub fn free() -> Layout
-    ensures { result ≡ free_layout }
-{
-    let name = [0; 16];
-    let list = [0; 192];
-    Layout { len: 0, name, list }
-}
-
-// The number of the first layout under a name, counted from 0; 8 where there is none.
-pub fn find(layouts: [Layout; 8], name: &[u8]) -> usize
-    requires { length name.now ≤ 16 }
-    ensures { (result ≡ find_named layouts name.now) × (length layouts ≡ 8) }
-{
-    let mut at: usize = 0;
-    while at < 8 {
-        let layout = layouts[at];
-        if names::is_named(layout, name) {
-            return at;
+impl Layout {
+    // A layout without a name.
+    pub fn free() -> Layout
+        ensures { result ≡ free_layout }
+    {
+        Layout {
+            len: 0,
+            name: [0; 16],
+            list: [0; 192],
         }
-        at += 1;
     }
-    8
+
+    // A list under a name.
+    pub fn under(name: &[u8], list: [u32; 192]) -> Layout
+        requires { length name.now ≤ 16 }
+        ensures { result ≡ layout_of name.now list }
+    {
+        let len = name.len() as u32;
+        let name = names::pad(name);
+        Layout { len, name, list }
+    }
+
+    // Whether it is under a name: as many bytes, and the same. Under no bytes it is free.
+    pub fn is_named(&self, name: &[u8]) -> bool
+        ensures { result ≡ is_named self.now name.now }
+    {
+        self.len as usize == name.len() && self.name.starts_with(name)
+    }
+
+    // It is no longer under a name; where it was under another it stays as it was.
+    fn drop_name(&mut self, name: &[u8])
+        ensures { self.new ≡ freed name.now self.old }
+    {
+        if self.is_named(name) {
+            self.len = 0;
+        }
+    }
 }
 
-// Where a list is kept under a name: where the name is held, else the first layout that is free; 8 where there is none.
-pub fn room_for(layouts: [Layout; 8], name: &[u8]) -> usize
-    requires { length name.now ≤ 16 }
-    ensures { (result ≡ room_for layouts name.now) × (length layouts ≡ 8) }
+// The number of the first layout under a name, counted from 0.
+pub fn find(layouts: &[Layout; 8], name: &[u8]) -> Option<usize>
+    ensures { result ≡ find_named layouts.now name.now }
 {
-    let held = find(layouts, name);
-    if held < 8 {
-        return held;
-    }
-    find(layouts, &name[..0])
+    layouts.iter().position(|layout| layout.is_named(name))
 }
 
-// The layouts with a list under a name at a place.
-pub fn with_layout(layouts: [Layout; 8], at: usize, name: &[u8], list: [u32; 192]) -> [Layout; 8]
-    requires { (at < 8) × (length name.now ≤ 16) }
-    ensures { result ≡ set layouts at (layout_of name.now list) }
+// Where a list is kept under a name: where the name is held, else the first layout that is free.
+pub fn room_for(layouts: &[Layout; 8], name: &[u8]) -> Option<usize>
+    ensures { result ≡ room_for layouts.now name.now }
 {
-    let bytes = names::pad(name);
-    let len = name.len() as u32;
-    let mut all = layouts;
-    all[at] = Layout {
-        len,
-        name: bytes,
-        list,
-    };
-    all
+    find(layouts, name).or_else(|| find(layouts, &[]))
 }
 
-// A layout that is no longer under a name, and any other as it was.
-fn freed_of(layout: Layout, name: &[u8]) -> Layout
-    requires { length name.now ≤ 16 }
-    ensures { result ≡ freed name.now layout }
+// A name freed: no layout is under it.
+pub fn free(layouts: &mut [Layout; 8], name: &[u8])
+    ensures { layouts.new ≡ map (freed name.now) layouts.old }
 {
-    if names::is_named(layout, name) {
-        let gone = 0;
-        let bytes = layout.name;
-        let list = layout.list;
-        return Layout {
-            len: gone,
-            name: bytes,
-            list,
-        };
+    for layout in layouts.iter_mut() {
+        layout.drop_name(name);
     }
-    layout
-}
-
-// The layouts with a name freed.
-pub fn without(layouts: [Layout; 8], name: &[u8]) -> [Layout; 8]
-    requires { length name.now ≤ 16 }
-    ensures { result ≡ map (freed name.now) layouts }
-{
-    let mut all = layouts;
-    let mut at: usize = 0;
-    while at < 8 {
-        let layout = all[at];
-        let after = freed_of(layout, name);
-        all[at] = after;
-        at += 1;
-    }
-    all
 }

@@ -9,21 +9,8 @@ ghost use Rattle.galley.specs.Whole.{galley_of};
 ghost use Rattle.galley.specs.Model.{model_of};
 
 use galley::Reading;
-use model::answer::Numbers;
 use std::io;
 use std::io::Read;
-
-// A number and what stands after it.
-fn print_number(rt: &impl Print, n: u32, after: char) -> io::Result<()> {
-    print!(rt; "{n}{after}")
-}
-
-// A refusal: its number and place.
-fn print_refusal(rt: &impl Print, number: u32, place: u32) -> io::Result<()> {
-    print!(rt; "R ")?;
-    print_number(rt, number, ' ')?;
-    print_number(rt, place, '\n')
-}
 
 // How many words a page has in the list: one for each stream of the galley. A galley that is refused has no list.
 fn words_of(galley: &[u8]) -> usize
@@ -41,46 +28,23 @@ fn words_of(galley: &[u8]) -> usize
     }
 }
 
-// Page q with the lines, figures and, where there are any, tables placed so far, which stand in the list from `at` on.
-fn print_page(
-    rt: &impl Print,
-    q: usize,
-    list: &[u32; 400],
-    at: usize,
-    words: usize,
-) -> io::Result<()>
-    requires { (q < 400) × (at + words ≤ 400) × (2 ≤ words) }
-{
-    print_number(rt, q as u32, ' ')?;
-    print_number(rt, list[at], ' ')?;
-    if words == 2 {
-        return print_number(rt, list[at + 1], '\n');
+// Page q with the lines, figures and, where there are any, tables placed so far.
+fn print_page(rt: &impl Print, q: usize, ends: &[u32]) -> io::Result<()> {
+    print!(rt; "{q}")?;
+    for end in ends {
+        print!(rt; " {end}")?;
     }
-    print_number(rt, list[at + 1], ' ')?;
-    print_number(rt, list[at + 2], '\n')
+    println!(rt)
 }
 
-// Every page: there is room for no more than the list has words.
+// Every page, of so many words: there is room for no more than the list has words.
 fn print_pages(rt: &impl Print, pages: u32, list: &[u32; 400], words: usize) -> io::Result<()>
     requires { (2 ≤ words) × (words ≤ 3) }
 {
-    let mut q: usize = 0;
-    let mut at: usize = 0;
-    while (q < pages as usize) & (at + words <= 400) {
-        q += 1;
-        print_page(rt, q, list, at, words)?;
-        at += words;
+    for (i, ends) in list.chunks_exact(words).take(pages as usize).enumerate() {
+        print_page(rt, i + 1, ends)?;
     }
     Ok(())
-}
-
-// The counts of a list.
-fn print_counts(rt: &impl Print, n: Numbers) -> io::Result<()> {
-    print_number(rt, n.pages, ' ')?;
-    print_number(rt, n.x, ' ')?;
-    print_number(rt, n.y, ' ')?;
-    print_number(rt, n.turns, ' ')?;
-    print_number(rt, n.white, '\n')
 }
 
 // Standard input into the first of the lent bytes, until they are full or it ends, and how many bytes came.
@@ -89,6 +53,7 @@ fn read_input(rt: &impl Input, input: &mut [u8; 8193]) -> io::Result<usize>
 {
     let mut reader = rt.reader();
     let mut got: usize = 0;
+    // How many bytes a read brings only the read tells, so no range counts the turns.
     while got < 8193 {
         let more = reader.read(&mut input[got..])?;
         if more == 0 {
@@ -103,7 +68,7 @@ fn main(rt: HostRuntime) -> io::Result<()> {
     let mut input = [0u8; 8193];
     let got = read_input(&rt, &mut input)?;
     if 8192 < got {
-        return print_refusal(&rt, 19, 8192);
+        return println!(&rt; "R 19 8192");
     }
     let mut work = [0u32; 10248];
     let mut list = [0u32; 400];
@@ -111,9 +76,9 @@ fn main(rt: HostRuntime) -> io::Result<()> {
     let answer = made.answer;
     let n = model::answer::numbers_of(answer);
     if n.number == 0 {
-        print_counts(&rt, n)?;
+        println!(&rt; "{} {} {} {} {}", n.pages, n.x, n.y, n.turns, n.white)?;
         print_pages(&rt, n.pages, &list, words_of(&input[..got]))
     } else {
-        print_refusal(&rt, n.number, n.place)
+        println!(&rt; "R {} {}", n.number, n.place)
     }
 }

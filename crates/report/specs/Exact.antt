@@ -1,13 +1,13 @@
 -- What is proved of every report, whatever the marks (document 02, S-12).
-use Rattle.std.specs.Prelude.{ℕ, zero, suc, ◌+◌, ◌-◌, ◌*◌, ◌^◌, ◌≤◌, ◌<◌, min, max, ◌≡◌, refl, Bool, true, false, List, [], ◌∷◌, ltb, length}
-use Rattle.std.proofs.Common.{le_refl, arith, sym, ◌∙◌, ltb-true, ltb-false, lt-ltb}
+use Rattle.std.specs.Prelude.{ℕ, zero, suc, ◌+◌, ◌-◌, ◌*◌, ◌^◌, ◌≤◌, ◌<◌, min, max, ◌≡◌, refl, Bool, true, false, List, [], ◌∷◌, ltb, length, Option}
+use Rattle.std.proofs.Common.{le_refl, arith, sym, ◌∙◌, ltb-true, ltb-false}
 use Rattle.model.specs.Gather.{pick, sum}
 use Rattle.model.proofs.laws.Gather.{sum_add, sum_ext}
 use Rattle.report.specs.declared.Mark.{Mark}
 use Rattle.report.specs.declared.Totals.{Totals}
 use Rattle.report.specs.declared.Report.{Report}
 use Rattle.report.specs.declared.Report.TheVariants.{Summed, Refused}
-use Rattle.report.specs.Report.{paper, extreme, first, first_below, totals_of, report_of, words_of}
+use Rattle.report.specs.Report.{paper, extreme, first, first_below, totals_of, answer_of, report_of, words_of}
 use Rattle.report.specs.laws.Extreme.{either, Reached, extreme_reached, extreme_bounds}
 use Rattle.report.specs.laws.First.{Fails, First, nowhere, somewhere, first_is}
 
@@ -74,13 +74,12 @@ report_exact marks = go (ltb 10000 n) refl (first_is n (λ k. ltb (turns_of mark
     n : ℕ
     n = length marks
 
-    go : (b : Bool) → ltb 10000 n ≡ b → {j : ℕ} → First n (λ k. ltb (turns_of marks k) (engine_of marks k)) j
-        → Reports marks (pick b (Refused 31 0) (pick (ltb 0 j) (Refused 32 j) (Summed (totals_of marks n))))
+    go : (b : Bool) → ltb 10000 n ≡ b → {o : Option ℕ} → First n (λ k. ltb (turns_of marks k) (engine_of marks k)) o
+        → Reports marks (pick b (Refused 31 0) (answer_of o (totals_of marks n)))
     go true e h = too_many (ltb-true 10000 n e)
     go false e (nowhere none) = summed (ltb-false 10000 n e) (none_below marks n none) (exact marks n (none_below marks n none))
     go false e (somewhere {j} low holds none) =
-        rw (lt-ltb 0 (suc j) (omega arith))
-        (below (ltb-false 10000 n e) low (ltb-true (turns_of marks (suc j)) (engine_of marks (suc j)) holds) (none_below marks j none))
+        below (ltb-false 10000 n e) low (ltb-true (turns_of marks (suc j)) (engine_of marks (suc j)) holds) (none_below marks j none)
 
 -- Zeros, so many of them.
 abbrev pub zeros : ℕ → List ℕ

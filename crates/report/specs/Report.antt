@@ -1,6 +1,7 @@
 -- The report on a list of marks, by papers 1 to n (document 02, S-12). The types `Mark`, `Totals` and `Report` are those of
 -- src/lib.rt.
-use Rattle.std.specs.Prelude.{ℕ, zero, suc, pred, ◌-◌, min, max, Bool, List, [], ◌∷◌, ltb, length, get_or}
+use Rattle.std.specs.Prelude.{ℕ, zero, suc, pred, ◌-◌, min, max, Bool, List, [], ◌∷◌, ltb, length, get_or, Option, Some, None}
+use Rattle.std.specs.Option.{option_or}
 use Rattle.model.specs.Gather.{pick, sum}
 use Rattle.report.specs.declared.Mark.{Mark}
 use Rattle.report.specs.declared.Totals.{Totals}
@@ -14,10 +15,10 @@ extreme op zero f = 0
 extreme op (suc zero) f = f 1
 extreme op (suc (suc n)) f = op (extreme op (suc n) f) (f (suc (suc n)))
 
--- The first of 1 to n at which a test holds, and 0 where there is none (document 02, S-12: the place of 32).
-unfoldable pub first : ℕ → (ℕ → Bool) → ℕ
-first zero f = 0
-first (suc n) f = pick (ltb 0 (first n f)) (first n f) (pick (f (suc n)) (suc n) 0)
+-- The first of 1 to n at which a test holds (document 02, S-12: the place of 32).
+unfoldable pub first : ℕ → (ℕ → Bool) → Option ℕ
+first zero f = None
+first (suc n) f = option_or (first n f) (pick (f (suc n)) (Some (suc n)) None)
 
 -- What stands for a paper beyond the last (notation; no answer depends on it).
 abbrev pub unmarked : Mark
@@ -27,8 +28,8 @@ unmarked = record { pages = 0; x = 0; y = 0; turns = 0; engine = 0 }
 abbrev pub paper : List Mark → ℕ → Mark
 paper marks k = get_or marks (pred k) unmarked
 
--- The first of n papers whose T is below the engine's, 0 where there is none (document 02, S-12, number 32).
-unfoldable pub first_below : List Mark → ℕ → ℕ
+-- The first of n papers whose T is below the engine's (document 02, S-12, number 32).
+unfoldable pub first_below : List Mark → ℕ → Option ℕ
 first_below marks n = first n (λ k. ltb (paper marks k).turns (paper marks k).engine)
 
 -- What n papers come to: their number, the four sums, least and greatest T, and the excess over the engine as a sum and a count
@@ -48,13 +49,13 @@ totals_of marks n = record {
 
 -- The report: 31 for more than 10,000 marks, then 32 for the first paper below its engine, else the totals of all papers
 -- (document 02, S-12).
+abbrev pub answer_of : Option ℕ → Totals → Report
+answer_of (Some at) f = Refused 32 at
+answer_of None f = Summed f
+
 unfoldable pub report_of : List Mark → Report
 report_of marks =
-    pick (ltb 10000 (length marks))
-    (Refused 31 0)
-    (pick (ltb 0 (first_below marks (length marks)))
-    (Refused 32 (first_below marks (length marks)))
-    (Summed (totals_of marks (length marks))))
+    pick (ltb 10000 (length marks)) (Refused 31 0) (answer_of (first_below marks (length marks)) (totals_of marks (length marks)))
 
 -- The number of a report: 0 where it is no refusal (document 02, S-12).
 abbrev pub number_of : Report → ℕ

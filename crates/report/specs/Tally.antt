@@ -1,10 +1,9 @@
--- The tally that the code keeps, paper after paper, and the report by it.
-use Rattle.std.specs.Prelude.{ℕ, ◌+◌, ◌-◌, ◌*◌, ◌≤◌, min, max, List, leb, ltb, eqb}
+-- The tally that the code keeps, paper after paper.
+use Rattle.std.specs.Prelude.{ℕ, ◌+◌, ◌-◌, ◌*◌, ◌≤◌, min, max, Option, Some, None, List, ltb, eqb}
+use Rattle.std.specs.Option.{option_or}
 use Rattle.model.specs.Gather.{pick}
 use Rattle.report.specs.declared.Mark.{Mark}
 use Rattle.report.specs.declared.Totals.{Totals}
-use Rattle.report.specs.declared.Report.{Report}
-use Rattle.report.specs.declared.Report.TheVariants.{Summed, Refused}
 use Rattle.report.specs.declared.tally.Tally.{Tally}
 use Rattle.report.specs.Report.{totals_of, first_below}
 
@@ -16,7 +15,7 @@ tally_of marks n = record { totals = totals_of marks n; below = first_below mark
 abbrev pub no_papers : Tally
 no_papers = record {
   totals = record { papers = 0; pages = 0; x = 0; y = 0; turns = 0; least = 0; greatest = 0; excess = 0; count = 0 };
-  below = 0;
+  below = None;
 }
 
 -- The least T with one paper more.
@@ -24,8 +23,8 @@ unfoldable pub least_with : Mark → Totals → ℕ
 least_with m t = pick (eqb t.papers 0) m.turns (min t.least m.turns)
 
 -- The first paper below its engine with one paper more.
-unfoldable pub below_with : Mark → Tally → ℕ
-below_with m s = pick (ltb 0 s.below) s.below (pick (ltb m.turns m.engine) (s.totals.papers + 1) 0)
+unfoldable pub below_with : Mark → Tally → Option ℕ
+below_with m s = option_or s.below (pick (ltb m.turns m.engine) (Some (s.totals.papers + 1)) None)
 
 -- The totals with one paper more.
 unfoldable pub totals_with : Mark → Totals → Totals
@@ -52,11 +51,3 @@ pub record Within (t : Totals) : Type 0 where
   pub y : t.y ≤ t.papers * 4294967295
   pub turns : t.turns ≤ t.papers * 4294967295
   pub excess : t.excess ≤ t.papers * 4294967295
-
--- How many of n marks are gone through.
-unfoldable pub limit_of : ℕ → ℕ
-limit_of n = pick (leb n 10000) n 0
-
--- The report on n marks, by the tally of those gone through.
-unfoldable pub answer_of : ℕ → Tally → Report
-answer_of n s = pick (ltb 10000 n) (Refused 31 0) (pick (ltb 0 s.below) (Refused 32 s.below) (Summed s.totals))

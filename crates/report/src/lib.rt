@@ -3,7 +3,6 @@
 
 ghost use Rattle.std.specs.Prelude.{◌≡◌};
 ghost use Rattle.report.specs.Report.{report_of};
-ghost use Rattle.report.specs.Tally.{limit_of, answer_of};
 
 use crate::tally::{Tally, Total};
 
@@ -41,44 +40,23 @@ pub enum Report {
     Refused { number: u32, place: Total },
 }
 
-// How many of so many marks are gone through: all, or none where they are too many.
-fn limit(marks: usize) -> usize
-    ensures { result ≡ limit_of marks }
+// The report on marks of any number: 31 where they are too many, then 32 where a paper is below its engine.
+#[tactic(auto, unfolding(crate::specs::Report::report_of, crate::specs::Tally::tally_of, crate::specs::Report::totals_of), using(crate::specs::laws::Tally::tally_none, crate::specs::laws::Tally::none_within))]
+pub fn report_on(marks: &[Mark]) -> Report
+    ensures { result ≡ report_of marks.now }
 {
-    if marks <= 10000 { marks } else { 0 }
-}
-
-// The report on so many marks, by the tally of those that were gone through: 31 before 32.
-#[tactic(auto, unfolding(crate::specs::Tally::answer_of))]
-fn answer(marks: usize, s: Tally) -> Report
-    ensures { result ≡ answer_of marks s }
-{
-    if 10000 < marks {
+    if 10000 < marks.len() {
         return Report::Refused {
             number: 31,
             place: 0,
         };
     }
-    if 0 < s.below {
-        return Report::Refused {
-            number: 32,
-            place: s.below,
-        };
+    let mut tally = Tally::none();
+    for mark in marks {
+        tally.add(mark);
     }
-    let totals = s.totals;
-    Report::Summed(totals)
-}
-
-// The report on marks of any number: paper after paper is counted into the tally.
-pub fn report_on(marks: &[Mark]) -> Report
-    ensures { result ≡ report_of marks.now }
-{
-    let n = limit(marks.len());
-    let mut s = tally::no_papers();
-    let mut i = 0;
-    while i < n {
-        s = tally::with_paper(marks[i], s);
-        i += 1;
+    match tally.below {
+        Some(place) => Report::Refused { number: 32, place },
+        None => Report::Summed(tally.totals),
     }
-    answer(marks.len(), s)
 }

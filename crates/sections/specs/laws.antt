@@ -1,4 +1,3 @@
 -- The laws of folding order.
 pub mod Size
 pub mod Table
-pub mod Copying

@@ -1,9 +1,9 @@
 // Stitched sections: the pages as they stand on the nested sheets, for sections of 4, 8, …, 64 pages. Document 02, folding order.
 #![tactic(auto)]
 
-ghost use Rattle.std.specs.Prelude.{◌≡◌};
-ghost use Rattle.sections.specs.Answer.{is_size, answer_of, numbers_after, Answered};
-ghost use Rattle.sections.specs.Copying.{overwritten, Inside};
+ghost use Rattle.std.specs.Prelude.{◌≡◌, ◌≤◌, ◌++◌, length, drop};
+ghost use Rattle.sections.specs.Folding.{start_of};
+ghost use Rattle.sections.specs.Answer.{is_size, Size, Answered};
 
 pub mod table; // table.rt: the numbers of all sections
 
@@ -14,18 +14,6 @@ pub struct Reply {
     pub place: u32,
 }
 
-// So many numbers of a table, from a place on, over the first of the lent words.
-fn copy_numbers(table: &[u8], at: usize, count: usize, numbers: &mut [u32])
-    requires { Inside table.now at count numbers.old }
-    ensures { numbers.new ≡ overwritten table.now at count numbers.old }
-{
-    let mut i: usize = 0;
-    while i < count {
-        numbers[i] = table[at + i] as u32;
-        i += 1;
-    }
-}
-
 // Whether there are sections of so many pages.
 fn is_size(size: u32) -> bool
     ensures { result ≡ is_size size }
@@ -33,21 +21,31 @@ fn is_size(size: u32) -> bool
     (4 <= size) & (size <= 64) & (size % 4 == 0)
 }
 
-// A section's numbers over the first of the lent words; nothing where there are no sections of that size.
-fn write_numbers(size: u32, numbers: &mut [u32; 64])
-    ensures { numbers.new ≡ numbers_after size numbers.old }
+// Where the numbers of a section begin in the table.
+#[tactic(auto, using(crate::specs::laws::Size::starts_inside))]
+fn start_of(pages: usize) -> usize
+    requires { Size pages }
+    ensures { (result ≡ start_of pages) × (result ≤ 480) }
 {
-    if is_size(size) {
-        let pages = size as usize;
-        let sheets = pages / 4;
-        let table = table::numbers();
-        copy_numbers(&table, 2 * sheets * (sheets - 1), pages, numbers);
+    let sheets = pages / 4;
+    2 * sheets * (sheets - 1)
+}
+
+// Numbers of a table over the first of the lent words.
+fn copy_numbers(table: &[u8], numbers: &mut [u32])
+    requires { length table.now ≤ length numbers.old }
+    ensures { numbers.new ≡ table.now ++ drop (length table.now) numbers.old }
+{
+    for (i, number) in table.iter().enumerate() {
+        numbers[i] = u32::from(*number);
     }
 }
 
-// The answer to a size, apart from the numbers.
-fn reply_of(size: u32) -> Reply
-    ensures { result ≡ answer_of size }
+// A section's numbers in the table's order, in the first of the lent words; any other size is refused with 33, and nothing is
+// written.
+#[tactic(auto, unfolding(crate::specs::Answer::answer_of, crate::specs::Answer::numbers_after, crate::specs::Folding::part_of), using(crate::specs::laws::Size::size_facts, crate::specs::laws::Table::section_copied))]
+pub fn section(size: u32, numbers: &mut [u32; 64]) -> Reply
+    ensures { Answered size numbers.old result numbers.new }
 {
     if !is_size(size) {
         return Reply {
@@ -55,17 +53,12 @@ fn reply_of(size: u32) -> Reply
             place: size,
         };
     }
+    let pages = size as usize;
+    let start = start_of(pages);
+    let table = table::numbers();
+    copy_numbers(&table[start..start + pages], numbers);
     Reply {
         number: 0,
         place: 0,
     }
-}
-
-// A section's numbers in the table's order, in the first of the lent words; any other size is refused with 33, and nothing is
-// written.
-pub fn section(size: u32, numbers: &mut [u32; 64]) -> Reply
-    ensures { Answered size numbers.old result numbers.new }
-{
-    write_numbers(size, numbers);
-    reply_of(size)
 }

@@ -1,7 +1,12 @@
 -- What saving, dropping and seeking do to what is held under a name, for any layouts.
 use Prim.Native.Nat.{ℕ, zero, suc, ◌≤◌, ◌<◌}
-use Rattle.std.proofs.Common.{arith, sym, subst, ◌∙◌, take_at, eqb-true, ne_eqb, ltb-false}
-use Rattle.std.specs.Prelude.{Bool, ◌&&◌, ◌≡◌, eqb, ltb, get_or, set, take, drop, replicate}
+use Rattle.std.proofs.Common.{arith, sym, subst, ◌∙◌, take_at, eqb-true, ne_eqb}
+use Rattle.std.specs.Prelude.{Bool, ◌&&◌, ◌≡◌, eqb, get_or, set, take, drop, replicate, Option, None, Some}
+use Rattle.std.specs.Option.{option_or}
+use Rattle.std.specs.List.{position_or_len}
+use Rattle.std.proofs.lemmas.List.Quantifiers.{position-Some}
+use Rattle.std.proofs.lemmas.List.Sums.{fails_before_first}
+use Rattle.std.proofs.lemmas.Grind.{common_steps}
 use Rattle.std.proofs.Math.Bool.{true, false}
 use mathlib.Core.List.{List, [], ◌∷◌, map}
 use Rattle.std.proofs.Math.Path.{refl, ap}
@@ -13,7 +18,6 @@ use Rattle.model.proofs.laws.Gather.{and_left, and_right}
 use Rattle.model.proofs.laws.Valid.{same_true, same_refl}
 use Rattle.layouts.specs.declared.Layout.{Layout}
 use Rattle.layouts.specs.Names.{is_name, is_named, find_named, room_for, padded, layout_of, no_layout, freed}
-use Rattle.desk.specs.Calls.{None, Some}
 use Rattle.desk.specs.Held.{held_in}
 use Rattle.layouts.specs.laws.Names.{name_some}
 
@@ -57,44 +61,39 @@ kept_named name list n = go (eqb (length name) (length n)) refl
         sym (false_of (same name n) (λ h. eqb-false (length name) (length n) e (ap length (same_true name n h))))
 
 -- ---- by numbers
+-- No layout is under a name that is not found.
+pub none_named : (vs : List Layout) (name : List ℕ) → find_named vs name ≡ None → (j : ℕ) → j < length vs
+    → is_named (get_or vs j no_layout) name ≡ false
+none_named vs name e j low =
+    let p : Layout → Bool = λ v. is_named v name in
+    let far : length vs ≤ position_or_len p vs = grind (arith, common_steps) in
+    fails_before_first p vs j no_layout (omega arith)
+
 module _ (name : List ℕ) where
-  -- What is found is under the name, and is what is held.
-  pub found_named : (vs : List Layout) → find_named vs name < length vs → is_named (get_or vs (find_named vs name) no_layout) name ≡ true
-  unfolding find_named
-  found_named [] low = absurd (omega arith)
-  found_named (v ∷ vs) low = go (is_named v name) refl low (found_named vs)
-    where
-      go : (b : Bool) → is_named v name ≡ b → pick b 0 (suc (find_named vs name)) < suc (length vs)
-          → (find_named vs name < length vs → is_named (get_or vs (find_named vs name) no_layout) name ≡ true)
-          → is_named (get_or (v ∷ vs) (pick b 0 (suc (find_named vs name))) no_layout) name ≡ true
-      go true e l after = e
-      go false e l after = after (omega arith)
+  -- The first layout that is under a name is held under it,
+  pub held_first : (vs : List Layout) (k : ℕ) → k < length vs → is_named (get_or vs k no_layout) name ≡ true
+      → ((j : ℕ) → j < k → is_named (get_or vs j no_layout) name ≡ false) → held_in vs name ≡ Some (get_or vs k no_layout).list
+  unfolding held_in
+  held_first [] k low h before = absurd (omega arith)
+  held_first (v ∷ vs) zero low h before = rw h
+  held_first (v ∷ vs) (suc k) low h before =
+      rw (before 0 (omega arith)) (held_first vs k (omega arith) h (λ j l. before (suc j) (omega arith)))
 
-  pub found_held : (vs : List Layout) → find_named vs name < length vs → held_in vs name ≡ Some (get_or vs (find_named vs name) no_layout).list
-  unfolding find_named held_in
-  found_held [] low = absurd (omega arith)
-  found_held (v ∷ vs) low = go (is_named v name) low (found_held vs)
-    where
-      go : (b : Bool) → pick b 0 (suc (find_named vs name)) < suc (length vs)
-          → (find_named vs name < length vs → held_in vs name ≡ Some (get_or vs (find_named vs name) no_layout).list)
-          → pick b (Some v.list) (held_in vs name) ≡ Some (get_or (v ∷ vs) (pick b 0 (suc (find_named vs name))) no_layout).list
-      go true l after = refl
-      go false l after = after (omega arith)
+  pub found_held : (vs : List Layout) (at : ℕ) → find_named vs name ≡ Some at → held_in vs name ≡ Some (get_or vs at no_layout).list
+  found_held vs at e =
+      let it = position-Some (λ (v : Layout). is_named v name) vs at no_layout e in
+      held_first vs at it.0 it.1 it.2
 
-  -- A layout stored where none before it is under its name is held under it,
-  held_here : (vs : List Layout) (k : ℕ) (w : Layout) → is_named w name ≡ true → k < length vs → k ≤ find_named vs name
-      → held_in (set vs k w) name ≡ Some w.list
-  unfolding find_named held_in
+  -- and so is one that is stored where none before it is.
+  held_here : (vs : List Layout) (k : ℕ) (w : Layout) → is_named w name ≡ true → k < length vs
+      → ((j : ℕ) → j < k → is_named (get_or vs j no_layout) name ≡ false) → held_in (set vs k w) name ≡ Some w.list
+  unfolding held_in
   held_here [] k w h low first = absurd (omega arith)
   held_here (v ∷ vs) zero w h low first = rw h
-  held_here (v ∷ vs) (suc k) w h low first = go (is_named v name) first (held_here vs k w h (omega arith))
-    where
-      go : (b : Bool) → suc k ≤ pick b 0 (suc (find_named vs name)) → (k ≤ find_named vs name → held_in (set vs k w) name ≡ Some w.list)
-          → pick b (Some v.list) (held_in (set vs k w) name) ≡ Some w.list
-      go true l after = absurd (omega arith)
-      go false l after = after (omega arith)
+  held_here (v ∷ vs) (suc k) w h low first =
+      rw (first 0 (omega arith)) (held_here vs k w h (omega arith) (λ j l. first (suc j) (omega arith)))
 
-  -- and one that is not under a name, in place of one that was not, changes nothing there.
+  -- One that is not under a name, in place of one that was not, changes nothing there.
   held_other : (vs : List Layout) (k : ℕ) (w : Layout) → is_named w name ≡ false → is_named (get_or vs k no_layout) name ≡ false
       → held_in (set vs k w) name ≡ held_in vs name
   unfolding held_in
@@ -125,38 +124,37 @@ freed_miss name v h = rw h
 -- ---- by calls
 -- Where a list is kept the layout was under its name or free, and none before it was under its name.
 pub record Room (vs : List Layout) (name : List ℕ) (k : ℕ) : Type 0 where
-  pub first : k ≤ find_named vs name
+  pub low : k < length vs
+  pub first : (j : ℕ) → j < k → is_named (get_or vs j no_layout) name ≡ false
   pub was : (n : List ℕ) → is_name n ≡ true → same name n ≡ false → is_named (get_or vs k no_layout) n ≡ false
 
-pub room_is : (vs : List Layout) (name : List ℕ) → room_for vs name < length vs → Room vs name (room_for vs name)
-unfolding room_for
-room_is vs name = go (ltb (find_named vs name) (length vs)) refl
+pub room_is : (vs : List Layout) (name : List ℕ) (k : ℕ) → room_for vs name ≡ Some k → Room vs name k
+room_is vs name k = go (find_named vs name) refl
   where
-    go : (b : Bool) → ltb (find_named vs name) (length vs) ≡ b → pick b (find_named vs name) (find_named vs []) < length vs
-        → Room vs name (pick b (find_named vs name) (find_named vs []))
-    go true e low =
+    go : (o : Option ℕ) → find_named vs name ≡ o → option_or o (find_named vs []) ≡ Some k → Room vs name k
+    go (Some i) e h =
+        let it = position-Some (λ (v : Layout). is_named v name) vs k no_layout (e ∙ h) in
+        record { low = it.0; first = it.2; was = λ n proper differ. other_name (get_or vs k no_layout) name n it.1 differ }
+    go None e h =
+        let it = position-Some (λ (v : Layout). is_named v []) vs k no_layout h in
+        let low = it.0 in
         record {
-          first = omega arith;
-          was = λ n proper differ. other_name (get_or vs (find_named vs name) no_layout) name n (found_named name vs low) differ;
-        }
-    go false e low =
-        let high = ltb-false (find_named vs name) (length vs) e in
-        record {
-          first = omega arith;
-          was = λ n proper differ. other_name (get_or vs (find_named vs []) no_layout) [] n (found_named [] vs low) (none_same n proper);
+          low = low;
+          first = λ j l. none_named vs name e j (omega arith);
+          was = λ n proper differ. other_name (get_or vs k no_layout) [] n it.1 (none_same n proper);
         }
 
 -- Saving keeps the list under the name, and what is held under any other.
-pub save_held : (vs : List Layout) (name list n : List ℕ) → is_name n ≡ true → room_for vs name < length vs
-    → held_in (set vs (room_for vs name) (layout_of name list)) n ≡ pick (same name n) (Some list) (held_in vs n)
-save_held vs name list n proper low = go (same name n) refl
+pub save_held : (vs : List Layout) (name list n : List ℕ) (k : ℕ) → is_name n ≡ true → room_for vs name ≡ Some k
+    → held_in (set vs k (layout_of name list)) n ≡ pick (same name n) (Some list) (held_in vs n)
+save_held vs name list n k proper room = go (same name n) refl
   where
-    go : (b : Bool) → same name n ≡ b → held_in (set vs (room_for vs name) (layout_of name list)) n ≡ pick b (Some list) (held_in vs n)
+    go : (b : Bool) → same name n ≡ b → held_in (set vs k (layout_of name list)) n ≡ pick b (Some list) (held_in vs n)
     go true e =
-        subst (λ (m : List ℕ). held_in (set vs (room_for vs name) (layout_of name list)) m ≡ Some list) (same_true name n e)
-        (held_here name vs (room_for vs name) (layout_of name list) (kept_named name list name ∙ same_refl name) low (room_is vs name low).first)
-    go false e =
-        held_other n vs (room_for vs name) (layout_of name list) (kept_named name list n ∙ e) ((room_is vs name low).was n proper e)
+        let it = room_is vs name k room in
+        subst (λ (m : List ℕ). held_in (set vs k (layout_of name list)) m ≡ Some list) (same_true name n e)
+        (held_here name vs k (layout_of name list) (kept_named name list name ∙ same_refl name) it.low it.first)
+    go false e = held_other n vs k (layout_of name list) (kept_named name list n ∙ e) ((room_is vs name k room).was n proper e)
 
 -- A layout that is freed of a name is under the other names that it was under, and keeps its list.
 pub freed_named : (name : List ℕ) (v : Layout) (n : List ℕ) → is_name n ≡ true → is_named (freed name v) n ≡ pick (same name n) false (is_named v n)
@@ -185,7 +183,7 @@ pub drop_held : (vs : List Layout) (name n : List ℕ) → is_name n ≡ true
 unfolding held_in
 drop_held [] name n proper = go (same name n)
   where
-    go : (b : Bool) → None ≡ pick b None None
+    go : (b : Bool) → ◌≡◌ {A = Option (List ℕ)} None (pick b None None)
     go true = refl
     go false = refl
 drop_held (v ∷ vs) name n proper =

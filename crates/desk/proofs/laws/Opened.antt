@@ -1,5 +1,5 @@
 -- A desk that is opened unrefused: its list in force is the opening one, and nothing is pending.
-use Rattle.std.specs.Prelude.{ℕ, zero, suc, ◌+◌, ◌*◌, ◌/◌, ◌≤◌, Bool, true, false, ◌&&◌, List, [], ◌++◌, ◌≡◌, eqb, leb, length, replicate}
+use Rattle.std.specs.Prelude.{ℕ, zero, suc, ◌*◌, ◌/◌, ◌≤◌, Bool, true, false, ◌&&◌, List, [], ◌++◌, ◌≡◌, eqb, leb, length, replicate, Option, None, is_some, option_map}
 use Rattle.std.proofs.Common.{arith, ◌∙◌, leb-true, le-leb}
 use Rattle.std.proofs.Math.Path.{refl, sym, ap}
 use Rattle.std.proofs.Math.ListN.{take, drop, length-replicate}
@@ -19,14 +19,13 @@ use Rattle.galley.specs.Model.{model_of}
 use Rattle.blocks.specs.laws.Counts.{streams_of_lem}
 use Rattle.marking.specs.Mark.{mark_read, mark_of}
 use Rattle.desk.specs.declared.Desk.{Desk}
-use Rattle.desk.specs.declared.Told.{Told}
-use Rattle.desk.specs.Calls.{Perhaps, None, is_some}
+use Rattle.desk.specs.Desk.{Told}
 use Rattle.desk.specs.Pages.{pages_on, words_on, in_force, is_inner, width_of}
 use Rattle.desk.specs.Opening.{closed, opened, open_on, open_read, open_desk}
 use Rattle.layouts.specs.Names.{is_name, free_layout}
 use Rattle.desk.specs.Sitting.{under, begin}
 use Rattle.desk.specs.Desk.{pending_on}
-use Rattle.desk.specs.Held.{held_in, cut, held_on}
+use Rattle.desk.specs.Held.{held_in, held_on}
 use Rattle.desk.proofs.laws.Held.{free_unnamed}
 use Rattle.desk.proofs.laws.Opening.{Whole, marked_pages_lem, width_least, width_most, width_is, whole_long}
 use Rattle.desk.proofs.laws.Room.{copies, no_bytes}
@@ -128,7 +127,7 @@ module _ (list : List ℕ) (pages : ℕ) (whole : Whole list pages) (few : pages
   -- Nothing is held: every layout is free.
   opened_held : (name : List ℕ) → is_name name ≡ true → held_on (opened list pages) name ≡ None
   unfolding held_on opened
-  opened_held name proper = ap (cut (words_on (opened list pages))) (none_held name proper 8)
+  opened_held name proper = ap (option_map (take (words_on (opened list pages)))) (none_held name proper 8)
 
   pub opened_stands : (g : model.Galley) → width_of (length list) pages ≡ model.streams g → pages ≡ length list / model.streams g
       → Stands g (length list) (opened list pages) (begin list)
@@ -143,7 +142,7 @@ module _ (list : List ℕ) (pages : ℕ) (whole : Whole list pages) (few : pages
         lays =
             record {
               eight = length-replicate 8 free_layout;
-              sole = λ n proper. none_copies n proper 8 ∙ sym (ap (λ (k : Perhaps). one (is_some k)) (none_held n proper 8));
+              sole = λ n proper. none_copies n proper 8 ∙ sym (ap (λ (k : Option (List ℕ)). one (is_some k)) (none_held n proper 8));
               once = none_once;
               room = let e = all_free 8 in omega arith;
             };

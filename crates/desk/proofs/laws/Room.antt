@@ -1,6 +1,8 @@
 -- How many layouts are under a name, and how many are free: what saving and dropping do to these, for any layouts.
-use Rattle.std.specs.Prelude.{ℕ, zero, suc, ◌+◌, ◌<◌, Bool, ◌||◌, ◌≡◌, get_or, set}
-use Rattle.std.proofs.Common.{arith, sym, subst, ltb-true, ltb-false, lt-ltb, le-ltb}
+use Rattle.std.specs.Prelude.{ℕ, zero, suc, ◌+◌, ◌<◌, Bool, ◌||◌, ◌≡◌, get_or, set, Option, None, Some, is_some}
+use Rattle.std.specs.Option.{option_or}
+use Rattle.std.proofs.lemmas.List.Quantifiers.{position-Some}
+use Rattle.std.proofs.Common.{arith, sym, subst, lt-ltb, le-ltb, ◌∙◌}
 use Rattle.std.proofs.Math.Bool.{true, false, not}
 use mathlib.Core.List.{List, [], ◌∷◌, map}
 use Rattle.std.proofs.Math.Path.{refl}
@@ -11,9 +13,8 @@ use Rattle.model.specs.Gather.{pick, one}
 use Rattle.model.proofs.laws.Valid.{same_true, same_refl}
 use Rattle.layouts.specs.declared.Layout.{Layout}
 use Rattle.layouts.specs.Names.{is_name, is_named, find_named, room_for, layout_of, no_layout, freed}
-use Rattle.desk.specs.Calls.{None, Some, is_some}
 use Rattle.desk.specs.Held.{held_in}
-use Rattle.desk.proofs.laws.Held.{other_name, kept_named, found_named, none_same, same_none, room_is, freed_hit, freed_miss, freed_named, save_held, drop_held}
+use Rattle.desk.proofs.laws.Held.{other_name, kept_named, none_named, found_held, none_same, same_none, room_is, freed_hit, freed_miss, freed_named, save_held, drop_held}
 
 -- How many layouts are under a name; under no bytes they are free.
 unfoldable pub copies : List Layout → List ℕ → ℕ
@@ -21,19 +22,17 @@ copies [] n = 0
 copies (v ∷ vs) n = one (is_named v n) + copies vs n
 
 -- A layout is found exactly where one is held, and then there are some.
-pub found_some : (vs : List Layout) (n : List ℕ) → ltb (find_named vs n) (length vs) ≡ is_some (held_in vs n)
-unfolding find_named held_in
-found_some [] n = le-ltb 0 0 (omega arith)
-found_some (v ∷ vs) n = go (is_named v n) (found_some vs n)
+pub found_some : (vs : List Layout) (n : List ℕ) → is_some (find_named vs n) ≡ is_some (held_in vs n)
+unfolding held_in
+found_some vs n = go (find_named vs n) refl
   where
-    next : (a b : ℕ) (c : Bool) → ltb a b ≡ c → ltb (suc a) (suc b) ≡ c
-    next a b true e = let l = ltb-true a b e in lt-ltb (suc a) (suc b) (omega arith)
-    next a b false e = let l = ltb-false a b e in le-ltb (suc a) (suc b) (omega arith)
+    none : (vs : List Layout) → ((j : ℕ) → j < length vs → is_named (get_or vs j no_layout) n ≡ false) → held_in vs n ≡ None
+    none [] h = refl
+    none (v ∷ vs) h = rw (h 0 (omega arith)) (none vs (λ j l. h (suc j) (omega arith)))
 
-    go : (b : Bool) → ltb (find_named vs n) (length vs) ≡ is_some (held_in vs n)
-        → ltb (pick b 0 (suc (find_named vs n))) (suc (length vs)) ≡ is_some (pick b (Some v.list) (held_in vs n))
-    go true rest = lt-ltb 0 (suc (length vs)) (omega arith)
-    go false rest = next (find_named vs n) (length vs) (is_some (held_in vs n)) rest
+    go : (o : Option ℕ) → find_named vs n ≡ o → is_some o ≡ is_some (held_in vs n)
+    go None e = rw (none vs (none_named vs n e))
+    go (Some at) e = rw (found_held n vs at e)
 
 pub some_copies : (vs : List Layout) (n : List ℕ) → is_some (held_in vs n) ≡ ltb 0 (copies vs n)
 unfolding held_in copies
@@ -46,15 +45,12 @@ some_copies (v ∷ vs) n = go (is_named v n) (some_copies vs n)
     go false rest = let e : 0 + copies vs n ≡ copies vs n = omega arith in rw e rest
 
 -- There is room for a name where it is held, or a layout is free.
-pub room_some : (vs : List Layout) (name : List ℕ)
-    → ltb (room_for vs name) (length vs) ≡ is_some (held_in vs name) || ltb 0 (copies vs [])
-unfolding room_for
-room_some vs name = rw (← found_some vs name, ← some_copies vs [], ← found_some vs []) (go (ltb (find_named vs name) (length vs)) refl)
+pub room_some : (vs : List Layout) (name : List ℕ) → is_some (room_for vs name) ≡ is_some (held_in vs name) || ltb 0 (copies vs [])
+room_some vs name = rw (← found_some vs name, ← some_copies vs [], ← found_some vs []) (go (find_named vs name))
   where
-    go : (b : Bool) → ltb (find_named vs name) (length vs) ≡ b
-        → ltb (pick b (find_named vs name) (find_named vs [])) (length vs) ≡ b || ltb (find_named vs []) (length vs)
-    go true e = e
-    go false e = refl
+    go : (o : Option ℕ) → is_some (option_or o (find_named vs [])) ≡ is_some o || is_some (find_named vs [])
+    go None = refl
+    go (Some at) = refl
 
 -- One layout in place of another.
 copies_set : (vs : List Layout) (k : ℕ) (w : Layout) (n : List ℕ) → k < length vs
@@ -69,52 +65,49 @@ abbrev pub Sole : List Layout → Type 0
 Sole vs = (n : List ℕ) → is_name n ≡ true → copies vs n ≡ one (is_some (held_in vs n))
 
 -- What is replaced was under the name where that is held, and else was free.
-module _ (vs : List Layout) (name : List ℕ) (proper : is_name name ≡ true) (low : room_for vs name < length vs) where
+module _ (vs : List Layout) (name : List ℕ) (k : ℕ) (proper : is_name name ≡ true) (room : room_for vs name ≡ Some k) where
   abbrev was : Layout
-  was = get_or vs (room_for vs name) no_layout
+  was = get_or vs k no_layout
 
   was_named : (is_named was name ≡ is_some (held_in vs name)) × (is_named was [] ≡ not (is_some (held_in vs name)))
-  unfolding room_for
-  was_named = rw (← found_some vs name) (go (ltb (find_named vs name) (length vs)) refl low)
+  was_named = rw (← found_some vs name) (go (find_named vs name) refl room)
     where
-      go : (b : Bool) → ltb (find_named vs name) (length vs) ≡ b → pick b (find_named vs name) (find_named vs []) < length vs
-          → (is_named (get_or vs (pick b (find_named vs name) (find_named vs [])) no_layout) name ≡ b)
-          × (is_named (get_or vs (pick b (find_named vs name) (find_named vs [])) no_layout) [] ≡ not b)
-      go true e l =
-          let it = found_named name vs l in
-          (it, other_name (get_or vs (find_named vs name) no_layout) name [] it (same_none name proper))
-      go false e l =
-          let it = found_named [] vs l in
-          (other_name (get_or vs (find_named vs []) no_layout) [] name it (none_same name proper), it)
+      go : (o : Option ℕ) → find_named vs name ≡ o → option_or o (find_named vs []) ≡ Some k
+          → (is_named was name ≡ is_some o) × (is_named was [] ≡ not (is_some o))
+      go (Some i) e h =
+          let it = position-Some (λ (v : Layout). is_named v name) vs k no_layout (e ∙ h) in
+          (it.1, other_name was name [] it.1 (same_none name proper))
+      go None e h =
+          let it = position-Some (λ (v : Layout). is_named v []) vs k no_layout h in
+          (other_name was [] name it.1 (none_same name proper), it.1)
 
   -- Saving takes a free layout where the name is not held,
-  pub save_room : (list : List ℕ)
-      → copies (set vs (room_for vs name) (layout_of name list)) [] + one (not (is_some (held_in vs name))) ≡ copies vs []
+  pub save_room : (list : List ℕ) → copies (set vs k (layout_of name list)) [] + one (not (is_some (held_in vs name))) ≡ copies vs []
   save_room list =
-      let c = copies_set vs (room_for vs name) (layout_of name list) [] low in
-      let e : copies (set vs (room_for vs name) (layout_of name list)) [] + one (not (is_some (held_in vs name))) ≡ copies vs [] + 0 =
+      let c = copies_set vs k (layout_of name list) [] (room_is vs name k room).low in
+      let e : copies (set vs k (layout_of name list)) [] + one (not (is_some (held_in vs name))) ≡ copies vs [] + 0 =
       rw (was_named.1, kept_named name list [], same_none name proper) at c in
       omega arith
 
   -- and leaves each name held once.
-  pub save_sole : Sole vs → (list : List ℕ) → Sole (set vs (room_for vs name) (layout_of name list))
-  save_sole sole list n fine = rw (save_held vs name list n fine low) (go (same name n) refl)
+  pub save_sole : Sole vs → (list : List ℕ) → Sole (set vs k (layout_of name list))
+  save_sole sole list n fine = rw (save_held vs name list n k fine room) (go (same name n) refl)
     where
       now : List Layout
-      now = set vs (room_for vs name) (layout_of name list)
+      now = set vs k (layout_of name list)
 
       go : (b : Bool) → same name n ≡ b → copies now n ≡ one (is_some (pick b (Some list) (held_in vs n)))
       go true e =
-          let c = copies_set vs (room_for vs name) (layout_of name list) name low in
+          let c = copies_set vs k (layout_of name list) name (room_is vs name k room).low in
           let k : copies now name + one (is_some (held_in vs name)) ≡ copies vs name + 1 =
           rw (was_named.0, kept_named name list name, same_refl name) at c in
           let was_sole = sole name proper in
           let l : copies now name ≡ 1 = omega arith in
           subst (λ (m : List ℕ). copies now m ≡ 1) (same_true name n e) l
       go false e =
-          let c = copies_set vs (room_for vs name) (layout_of name list) n low in
+          let c = copies_set vs k (layout_of name list) n (room_is vs name k room).low in
           let k : copies now n + 0 ≡ copies vs n + 0 =
-          rw ((room_is vs name low).was n fine e, kept_named name list n, e) at c in
+          rw ((room_is vs name k room).was n fine e, kept_named name list n, e) at c in
           let was_sole = sole n fine in
           omega arith
 

@@ -1,5 +1,5 @@
 -- What the calls of a sitting keep.
-use Rattle.std.specs.Prelude.{ℕ, suc, ◌+◌, true, false, ◌&&◌, ◌≡◌, leb, ltb, length}
+use Rattle.std.specs.Prelude.{ℕ, suc, ◌+◌, true, false, ◌&&◌, ◌≡◌, leb, ltb, length, Option, None, Some, is_some}
 use Rattle.std.proofs.Common.{arith, sym, ap, subst, ◌∙◌}
 use Rattle.std.proofs.Math.Bool.{Bool}
 use mathlib.Core.List.{List, [], ◌∷◌, ◌++◌}
@@ -10,7 +10,7 @@ use Rattle.model.specs.Answers.{accepted, pages_of, same, marked}
 use Rattle.model.specs.Gather.{pick, one}
 use Rattle.model.proofs.laws.Valid.{same_true, same_refl}
 use Rattle.layouts.specs.Names.{is_name}
-use Rattle.desk.specs.Calls.{End, Call, Ask, Commit, Save, Back, Drop, Number, Spares, Quiet, Onward, Perhaps, None, Some, is_some, Named, Sitting, Step}
+use Rattle.desk.specs.Calls.{End, Call, Ask, Commit, Save, Back, Drop, Number, Spares, Quiet, Onward, Named, Sitting, Step}
 use Rattle.desk.specs.Sitting.{under, without, has_room, says, hold, put_or, named, other_end, tried, step, begin, sat}
 
 -- ---- what is held
@@ -19,7 +19,7 @@ pub under_without : (held : List Named) (name n : List ℕ) → under (without n
 unfolding under without
 under_without [] name n = go (same name n)
   where
-    go : (b : Bool) → None ≡ pick b None None
+    go : (b : Bool) → ◌≡◌ {A = Option (List ℕ)} None (pick b None None)
     go true = refl
     go false = refl
 under_without (it ∷ held) name n = go (same it.name name) (same name n) refl refl (under_without held name n)
@@ -91,7 +91,7 @@ more_once held name list once n = rw (times_without held name n, under_without h
 
 -- ---- every list
 -- Something holds of a list, if there is one,
-abbrev pub Each : (List ℕ → Type 0) → Perhaps → Type 0
+abbrev pub Each : (List ℕ → Type 0) → Option (List ℕ) → Type 0
 Each P None = Unit {0}
 Each P (Some list) = P list
 
@@ -110,11 +110,11 @@ abbrev pub Lasts : Galley → (List ℕ → Type 0) → Type 0
 Lasts g P = (list : List ℕ) (page : ℕ) (end : End) → P list → accepted (tried g list page end) ≡ true → P (other_end g list page end)
 
 module _ (g : Galley) (P : List ℕ → Type 0) (lasts : Lasts g P) (s : Sitting) (all : All P s) where
-  either : (b : Bool) (x y : Perhaps) → Each P x → Each P y → Each P (pick b x y)
+  either : (b : Bool) (x y : Option (List ℕ)) → Each P x → Each P y → Each P (pick b x y)
   either true x y h k = h
   either false x y h k = k
 
-  put_all : (number : ℕ) (list : Perhaps) → Each P list → All P (put_or number s list).after
+  put_all : (number : ℕ) (list : Option (List ℕ)) → Each P list → All P (put_or number s list).after
   put_all number None h = all
   put_all number (Some list) h = record { force = h; pending = tt; held = all.held }
 
@@ -166,12 +166,12 @@ taken_lasts g list page end was = go (leb 1 page && ltb page (length (pages_of g
 
 -- ---- what is pending
 -- Nothing is pending, or the list in force with another end of a page.
-pub data Pends (g : Galley) (force : List ℕ) (pending : Perhaps) : Type 0 where
+pub data Pends (g : Galley) (force : List ℕ) (pending : Option (List ℕ)) : Type 0 where
   nothing : pending ≡ None → Pends g force pending
   ending : (page : ℕ) (end : End) → pending ≡ Some (other_end g force page end) → Pends g force pending
 
 module _ (g : Galley) (s : Sitting) (pends : Pends g s.force s.pending) where
-  put_pends : (number : ℕ) (list : Perhaps) → Pends g (put_or number s list).after.force (put_or number s list).after.pending
+  put_pends : (number : ℕ) (list : Option (List ℕ)) → Pends g (put_or number s list).after.force (put_or number s list).after.pending
   put_pends number None = pends
   put_pends number (Some list) = nothing refl
 
@@ -224,7 +224,7 @@ module _ (g : Galley) (name : List ℕ) where
       go true = h
       go false = refl
 
-  spares_put : (number : ℕ) (s : Sitting) (list : Perhaps) → (put_or number s list).after.held ≡ s.held
+  spares_put : (number : ℕ) (s : Sitting) (list : Option (List ℕ)) → (put_or number s list).after.held ≡ s.held
   spares_put number s None = refl
   spares_put number s (Some list) = refl
 
@@ -276,7 +276,7 @@ module _ (g : Galley) (name : List ℕ) where
   pub drop_under : (s : Sitting) → is_name name ≡ true → under (step g s (Drop name)).after.held name ≡ None
   drop_under s proper = rw proper (go (under s.held name) refl)
     where
-      go : (p : Perhaps) → under s.held name ≡ p
+      go : (p : Option (List ℕ)) → under s.held name ≡ p
           → under (pick (is_some p) (says 0 (hold s (without name s.held))) (says 26 s)).after.held name ≡ None
       go None e = e
       go (Some list) e = under_without s.held name name ∙ rw (same_refl name)
@@ -310,9 +310,9 @@ ask_alike g s t alike page end =
 
 commit_alike : (g : Galley) (s t : Sitting) → Alike s t → Alike (step g s Commit).after (step g t Commit).after
 commit_alike g s t alike =
-    subst⁻¹ (λ (p : Perhaps). Alike (put_or 24 s p).after (put_or 24 t t.pending).after) alike.pending (go t.pending)
+    subst⁻¹ (λ (p : Option (List ℕ)). Alike (put_or 24 s p).after (put_or 24 t t.pending).after) alike.pending (go t.pending)
   where
-    go : (p : Perhaps) → Alike (put_or 24 s p).after (put_or 24 t p).after
+    go : (p : Option (List ℕ)) → Alike (put_or 24 s p).after (put_or 24 t p).after
     go None = alike
     go (Some list) = record { force = refl; pending = refl }
 

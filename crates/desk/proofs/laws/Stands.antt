@@ -1,10 +1,10 @@
 -- A desk stands as a sitting does.
-use Rattle.std.specs.Prelude.{ℕ, ◌+◌, ◌*◌, ◌/◌, ◌≤◌, true, List, [], ◌≡◌, refl, length}
+use Rattle.std.specs.Prelude.{ℕ, ◌+◌, ◌*◌, ◌/◌, ◌≤◌, true, List, [], ◌≡◌, refl, length, Option, None}
 use Rattle.model.specs.Galley.{Galley, streams}
 use Rattle.layouts.specs.declared.Layout.{Layout}
 use Rattle.layouts.specs.Names.{is_name}
 use Rattle.desk.specs.declared.Desk.{Desk}
-use Rattle.desk.specs.Calls.{Reply, Number, Perhaps, None, Named, Sitting, Step}
+use Rattle.desk.specs.Calls.{Reply, Number, Named, Sitting, Step}
 use Rattle.desk.specs.Sitting.{under, says, pend, hold}
 use Rattle.desk.specs.Pages.{pages_on, words_on, in_force, is_inner}
 use Rattle.desk.specs.Desk.{pended, altered, pending_on, put_in, lay_in}
@@ -49,7 +49,7 @@ module _ (g : Galley) (n : ℕ) (d : Desk) (s : Sitting) (so : Stands g n d s) w
   stays number = record { reply = refl; stands = so }
 
   -- Another page is pending,
-  pub pend_stands : (page : ℕ) (end : List ℕ) (pending : Perhaps) → pending_on (pended d page end) ≡ pending
+  pub pend_stands : (page : ℕ) (end : List ℕ) (pending : Option (List ℕ)) → pending_on (pended d page end) ≡ pending
       → Stands g n (pended d page end) (pend s pending)
   unfolding pages_on words_on in_force held_on
   pend_stands page end pending h =

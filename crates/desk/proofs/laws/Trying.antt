@@ -2,7 +2,7 @@
 use Prim.Native.Nat.{ℕ, suc, ◌-◌, ◌*◌, ◌/◌, ◌<◌}
 use native.Mathlib.Omega.{arith}
 use Rattle.std.proofs.Math.Bool.{Bool, true, false}
-use Rattle.std.specs.Prelude.{◌&&◌, ◌≡◌, refl, leb, ltb}
+use Rattle.std.specs.Prelude.{◌&&◌, ◌≡◌, refl, leb, ltb, Option, None, Some}
 use mathlib.Core.List.{List}
 use Rattle.std.proofs.Math.Path.{sym, ap, subst}
 use Rattle.std.proofs.Common.{◌∙◌}
@@ -17,11 +17,10 @@ use Rattle.model.proofs.laws.Gather.{and_left, and_right}
 use Rattle.model.proofs.laws.Words.{length_pages}
 use Rattle.marking.specs.Mark.{mark_of}
 use Rattle.desk.specs.declared.Desk.{Desk}
-use Rattle.desk.specs.declared.Told.{Told}
-use Rattle.desk.specs.Calls.{End, Ask, Commit, Marking, Number, words_at, Perhaps, None, Some, Sitting, Step}
+use Rattle.desk.specs.Calls.{End, Ask, Commit, Marking, Number, words_at, Sitting, Step}
 use Rattle.desk.specs.Sitting.{pend, put_or, other_end, tried, step}
 use Rattle.desk.specs.Pages.{pages_on, words_on, in_force, is_inner, with_end}
-use Rattle.desk.specs.Desk.{pended, cleared, altered, after_ask, ask_marked, ask_off, ask_desk, pending_on, committed, commit_by, commit_desk}
+use Rattle.desk.specs.Desk.{Told, pended, cleared, altered, after_ask, ask_marked, ask_off, ask_desk, pending_on, committed, commit_by, commit_desk}
 use Rattle.desk.proofs.laws.Ends.{take_end, end_pages}
 use Rattle.desk.proofs.laws.Stands.{Fits, Sized, Stands, Follows, stays, pend_stands, put_stands}
 
@@ -95,7 +94,7 @@ module _ (g : Galley) (n : ℕ) (d : Desk) (s : Sitting) (so : Stands g n d s) w
   pub commit_follows : Follows g n (commit_desk d).desk (Number (commit_desk d).number) (step g s Commit)
   unfolding commit_desk
   commit_follows =
-      subst (λ (p : Perhaps). Follows g n (commit_by (is_inner d d.page) d).desk (Number (commit_by (is_inner d d.page) d).number) (put_or 24 s p))
+      subst (λ (p : Option (List ℕ)). Follows g n (commit_by (is_inner d d.page) d).desk (Number (commit_by (is_inner d d.page) d).number) (put_or 24 s p))
       (committed_pending d ∙ so.pending) (go (is_inner d d.page))
     where
       go : (b : Bool) → Follows g n (commit_by b d).desk (Number (commit_by b d).number) (put_or 24 s (pick b (Some (in_force (committed d))) None))

@@ -3,35 +3,11 @@
 use Prim.Native.Nat.{ℕ, ◌≤◌}
 use mathlib.Core.Path.{sym, ◌∙◌}
 use native.Mathlib.Omega.{arith}
-use borrow.Author.Tests.{lt-ltb, le-ltb}
 use Rattle.galley.specs.Block.{Has}
 use Rattle.galley.proofs.laws.Sound.{sound}
-use Rattle.galley_probe.specs.Words.{block_words}
 use Rattle.galley_probe.specs.laws.Stream.{stream_sound}
 use Rattle.galley_probe.proofs.galley_probe_block.Goals as goal
 use Rattle.galley_probe.proofs.galley_probe_block.Goals.{Else-stream-k}
-
-pub returns-in_default : goal.returns-in_default
-unfolding block_words
-returns-in_default c = simp (sym c.read_galley-reading.ensures ∙ c.in_default.is)
-
-pub returns-then-k-lt1 : goal.returns-then-k-lt1
-unfolding block_words
-returns-then-k-lt1 c =
-    simp (
-      sym c.read_galley-reading.ensures ∙ c.in-Galley.is,
-      lt-ltb _ _ c.if-k-lt1.true,
-    )
-
-pub returns-then-stream-k : goal.returns-then-stream-k
-unfolding block_words
-returns-then-stream-k c =
-    simp (
-      sym c.read_galley-reading.ensures ∙ c.in-Galley.is,
-      le-ltb _ _ c.if-k-lt1.false,
-      ← c.stream_at-stream.ensures,
-      lt-ltb _ _ c.if-stream-k.true,
-    )
 
 -- Once the number is tested, block k has each of its fields.
 has : (c : Else-stream-k) (at : ℕ) → at ≤ 14
@@ -45,22 +21,6 @@ has c at inside =
       high = c.if-stream-k.false;
       field = inside;
     }
-
-pub returns : goal.returns
-unfolding block_words
-returns c =
-    simp (
-      sym c.read_galley-reading.ensures ∙ c.in-Galley.is,
-      le-ltb _ _ c.if-k-lt1.false,
-      ← c.stream_at-stream.ensures,
-      le-ltb _ _ c.if-stream-k.false,
-      ← c.is_legal.ensures,
-      ← c.flag-legal.ensures,
-      ← c.field.ensures,
-      ← c.field-2.ensures,
-      ← c.field-3.ensures,
-      ← c.field-4.ensures,
-    )
 
 pub is_legal-requires : goal.is_legal-requires
 is_legal-requires c = has (goal.at.is_legal-requires c).Else-stream-k _ (omega arith)

@@ -2,7 +2,6 @@
 -- counts fit, since a galley that reads is sound.
 use mathlib.Core.Path.{sym, ◌∙◌}
 use native.Mathlib.Omega.{arith}
-use Rattle.galley_probe.specs.Words.{words_of}
 use Rattle.galley.proofs.laws.Sound.{sound}
 use Rattle.galley_probe.proofs.galley_probe_read.Goals as goal
 
@@ -14,15 +13,3 @@ overflow_cast-out-in-Galley c = omega (arith, (sound _ _ (sym c.read_galley-read
 
 pub overflow_cast-out-in-Galley-2 : goal.overflow_cast-out-in-Galley-2
 overflow_cast-out-in-Galley-2 c = omega (arith, (sound _ _ (sym c.read_galley-reading.ensures ∙ c.in-Galley.is)).tables.few)
-
-pub returns-in-Galley : goal.returns-in-Galley
-unfolding words_of
-returns-in-Galley c =
-    simp
-    (sym c.read_galley-reading.ensures ∙ c.in-Galley.is)
-
-pub returns-in-Refused : goal.returns-in-Refused
-unfolding words_of
-returns-in-Refused c =
-    simp
-    (sym c.read_galley-reading.ensures ∙ c.in-Refused.is)

@@ -21,10 +21,6 @@ fine c =
     rw c.stream_at-floats.ensures
     (stream_sound a.bytes.now _ a.number (sound _ _ (sym c.read_galley-reading.ensures ∙ c.in-Galley.is)))
 
-pub returns-in_default : goal.returns-in_default
-unfolding waiting_of
-returns-in_default c = simp (sym c.read_galley-reading.ensures ∙ c.in_default.is)
-
 pub returns-then-floats-j : goal.returns-then-floats-j
 unfolding waiting_of
 returns-then-floats-j c =
@@ -41,16 +37,6 @@ overflow_cast-result c =
     let a = c.args in
     let few = waits_few (floats_of a.bytes.now c.stream_at-floats.result) a.i a.j in
     omega (arith, few, c.waiting_floats.ensures, (fine (goal.at.overflow_cast-result c).After-stream_at-floats).1)
-
-pub returns : goal.returns
-unfolding waiting_of
-returns c =
-    simp (
-      sym c.read_galley-reading.ensures
-          ∙ c.in-Galley.is,
-      ← c.stream_at-floats.ensures,
-    )
-    c.waiting_floats.ensures
 
 pub known_from-known-requires : goal.known_from-known-requires
 known_from-known-requires c = ((fine (goal.at.known_from-known-requires c).After-stream_at-floats).0, c.if-floats-j.false)

@@ -1,7 +1,8 @@
 -- The first of 1 to n at which a test holds.
-use Rattle.std.specs.Prelude.{ℕ, zero, suc, ◌≤◌, ◌<◌, ◌≡◌, refl, ◌⊎◌, Bool, true, false, ltb}
+use Rattle.std.specs.Prelude.{ℕ, zero, suc, ◌≤◌, ◌<◌, ◌≡◌, refl, ◌⊎◌, Bool, true, false, Option, Some, None}
+use Rattle.std.specs.Option.{option_or}
 use Rattle.std.proofs.Math.Nat.{le-suc_iff}
-use Rattle.std.proofs.Common.{arith, ap, ◌∙◌, inl, inr, lt-ltb}
+use Rattle.std.proofs.Common.{arith, ap, ◌∙◌, inl, inr}
 use Rattle.model.specs.Gather.{pick}
 use Rattle.report.specs.Report.{first}
 
@@ -9,10 +10,10 @@ use Rattle.report.specs.Report.{first}
 abbrev pub Fails : ℕ → (ℕ → Bool) → Type 0
 Fails n f = (k : ℕ) → 1 ≤ k → k ≤ n → f k ≡ false
 
--- 0 where the test fails at each of 1 to n, else the first at which it holds.
-pub data First (n : ℕ) (f : ℕ → Bool) : ℕ → Type 0 where
-  nowhere : Fails n f → First n f 0
-  somewhere : {j : ℕ} → j < n → f (suc j) ≡ true → Fails j f → First n f (suc j)
+-- None where the test fails at each of 1 to n, else the first at which it holds.
+pub data First (n : ℕ) (f : ℕ → Bool) : Option ℕ → Type 0 where
+  nowhere : Fails n f → First n f None
+  somewhere : {j : ℕ} → j < n → f (suc j) ≡ true → Fails j f → First n f (Some (suc j))
 
 -- It fails up to n + 1 where it fails up to n and there.
 fails_next : (n : ℕ) (f : ℕ → Bool) → Fails n f → f (suc n) ≡ false → Fails (suc n) f
@@ -28,7 +29,7 @@ unfolding first
 first_is zero f = nowhere (λ k p q. absurd (omega arith))
 first_is (suc n) f = go (f (suc n)) refl (first_is n f)
   where
-    go : (b : Bool) → f (suc n) ≡ b → {j : ℕ} → First n f j → First (suc n) f (pick (ltb 0 j) j (pick b (suc n) 0))
+    go : (b : Bool) → f (suc n) ≡ b → {o : Option ℕ} → First n f o → First (suc n) f (option_or o (pick b (Some (suc n)) None))
     go true e (nowhere none) = somewhere {j = n} (omega arith) e none
     go false e (nowhere none) = nowhere (fails_next n f none e)
-    go b e (somewhere {j} low holds none) = rw (lt-ltb 0 (suc j) (omega arith)) (somewhere {j = j} (omega arith) holds none)
+    go b e (somewhere {j} low holds none) = somewhere {j = j} (omega arith) holds none
