@@ -96,7 +96,7 @@ made_refused g n at e = go (best g) e
 
     go : (b : Option (List model.Place)) → answer b ≡ Refused n at → (n ≡ 11) × (words b ≡ [])
     go none e = (cc, refl)
-    go (some ps) e = let z : ◌≡◌ {A = ℕ} 0 1 = cc in absurd (omega arith)
+    go (some ps) e = absurd cc
 
 refused_list : (bytes : List ℕ) (work : ℕ) (list : List ℕ) (n at : ℕ) → make_of bytes work (length list) ≡ Refused n at
     → list_after bytes work list ≡ list

@@ -43,7 +43,7 @@ pub record Counts (bytes : List ℕ) (answer : Answer) (count : ℕ) : Type 0 wh
 
 module _ (bytes : List ℕ) where
   not_sought : {A : Type 0} (n at : ℕ) → n ≤ 10 → Sought (Refused n at) → A
-  not_sought n at l (inl e) = let z : ◌≡◌ {A = ℕ} 0 1 = cc in absurd (omega arith)
+  not_sought n at l (inl e) = absurd cc
   not_sought n at l (inr e) = absurd (omega arith)
 
   sought_weighed : (work list : ℕ) → Sought (make_of bytes work list)

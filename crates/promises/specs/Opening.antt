@@ -67,7 +67,7 @@ module _ (g : model.Galley) (ows : List ℕ) where
       → (ws ≡ []) × (¬ (n ≡ 11) → (r : Answer) × (opening_turned g ows ≡ some r))
   after_refused (turned_away {a} t h) n at e = (refl, λ o. (a, t))
   after_refused (no_list s empty) n at e = (refl, λ o. absurd (o (cc)))
-  after_refused (best_list rest s m long best whiter) n at e = let z : ◌≡◌ {A = ℕ} 0 1 = cc in absurd (omega arith)
+  after_refused (best_list rest s m long best whiter) n at e = absurd cc
 
 -- What is promised of making after an opening.
 module _ {bytes opening work list : List ℕ} {answer : Answer} {count : ℕ} {work' list' : List ℕ}
