@@ -6,6 +6,7 @@ use Rattle.std.proofs.Math.Path.{refl}
 use Rattle.std.proofs.Common.{sym, subst, eqb-true, le-leb}
 use Rattle.std.proofs.Math.Dec.{eqb-suc-zero}
 use Rattle.std.proofs.lemmas.Bool.{eqb-false, lt-leb}
+use Rattle.std.proofs.lemmas.Bool.Decides.{nat_tests}
 use Rattle.model.specs.Gather.{pick}
 use Rattle.galley.specs.Place.{GS, G2, FO, TL, FG, FK, TB, ED, spec_mark, spec_size, spec, folio, line, figure, table, row_of, kind_of, unfit}
 use Rattle.galley.specs.Record.{cite_at}
@@ -122,11 +123,7 @@ all_marks P gs g2 fo tl fg fk tb ed unknown mark =
 
 -- As many as there may be, where there are no more.
 full_is : (n top : ℕ) → n ≤ top → leb top n ≡ eqb n top
-full_is n top few = go (eqb n top) refl
-  where
-    go : (b : Bool) → eqb n top ≡ b → leb top n ≡ b
-    go true e = le-leb top n (let h = eqb-true n top e in omega arith)
-    go false e = lt-leb top n (let h = eqb-false n top e in omega arith)
+full_is n top few = grind (arith, nat_tests)
 
 -- No more than there may be of each kind.
 abbrev pub Few : Start → Type 0

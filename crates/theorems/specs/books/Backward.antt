@@ -1,6 +1,7 @@
 -- A book read from its last chapter: a choice, its sums and its ties grow by one chapter at a time, as the chapters are made.
 use Rattle.std.specs.Prelude.{ℕ, ◌+◌, ◌≡◌}
 use native.Mathlib.Omega.{arith}
+use Rattle.std.proofs.Math.Nat.{add-zero, add_assoc}
 use Rattle.std.proofs.Math.Path.{refl, ap, subst}
 use Rattle.std.proofs.Common.{sym, ◌∙◌, inl, inr}
 use mathlib.Core.List.Memᴰ
@@ -40,10 +41,6 @@ ties_back f [] cs = []
 ties_back f (g ∷ rs) [] = []
 ties_back f (g ∷ rs) (ps ∷ cs) = tie_of (open_on (f + pages_in cs) g) ps ∷ ties_back f rs cs
 
--- Chapters that follow on folio n after pages of a choice open on the folio after them.
-on_folio_lem : (f a b : ℕ) → (f + a) + b ≡ f + (a + b)
-on_folio_lem f a b = omega arith
-
 -- There is but one choice for no chapter.
 only_empty : (cs : Choice) → cs ∈ ([] ∷ []) → cs ≡ []
 only_empty cs m = elim (Memᴰ.cases_cons m) [ inl e ↦ e | inr k ↦ absurd (Memᴰ.not-nil k) ]
@@ -58,7 +55,7 @@ module _ (f : ℕ) where
       let (ps, v, n) =
       ∈-ungathered (λ ps. map (λ cs. ps ∷ cs) (choices ((f + pages_in ds) + length ps) gs)) cs (valid (open_on (f + pages_in ds) g)) m in
       let (es, e, k) = ∈-unmap (λ cs. ps ∷ cs) cs (choices ((f + pages_in ds) + length ps) gs) n in
-      let k' = subst (λ n. es ∈ choices n gs) (on_folio_lem f (pages_in ds) (length ps)) k in
+      let k' = subst (λ n. es ∈ choices n gs) (add_assoc f (pages_in ds) (length ps)) k in
       rw e (chosen_on gs (g ∷ rs) es (ps ∷ ds) k' (v, c))
 
   -- and a choice for all is one that goes on from a choice.
@@ -78,7 +75,7 @@ module _ (f : ℕ) where
           → Parted (g ∷ gs) rs es
       next [] later m is c = absurd c
       next (ps ∷ ds) later m is c =
-          let k = subst (λ n. later ∈ choices n gs) (sym (on_folio_lem f (pages_in ds) (length ps))) m in
+          let k = subst (λ n. later ∈ choices n gs) (sym (add_assoc f (pages_in ds) (length ps))) m in
           record {
             later = ps ∷ later;
             sooner = ds;
@@ -101,9 +98,9 @@ module _ (f : ℕ) where
       let (ps, v, n) =
       ∈-ungathered (λ ps. map (λ cs. ps ∷ cs) (choices ((f + pages_in ds) + length ps) gs)) cs (valid (open_on (f + pages_in ds) g)) m in
       let (es, e, k) = ∈-unmap (λ cs. ps ∷ cs) cs (choices ((f + pages_in ds) + length ps) gs) n in
-      let k' = subst (λ n. es ∈ choices n gs) (on_folio_lem f (pages_in ds) (length ps)) k in
+      let k' = subst (λ n. es ∈ choices n gs) (add_assoc f (pages_in ds) (length ps)) k in
       let rest = sum_on h gs (g ∷ rs) es (ps ∷ ds) k' in
-      let same = ap (λ n. summed h n gs es) (on_folio_lem f (pages_in ds) (length ps)) in
+      let same = ap (λ n. summed h n gs es) (add_assoc f (pages_in ds) (length ps)) in
       rw e (omega arith)
 
   -- and so are its ties.
@@ -115,8 +112,8 @@ module _ (f : ℕ) where
       let (ps, v, n) =
       ∈-ungathered (λ ps. map (λ cs. ps ∷ cs) (choices ((f + pages_in ds) + length ps) gs)) cs (valid (open_on (f + pages_in ds) g)) m in
       let (es, e, k) = ∈-unmap (λ cs. ps ∷ cs) cs (choices ((f + pages_in ds) + length ps) gs) n in
-      let k' = subst (λ n. es ∈ choices n gs) (on_folio_lem f (pages_in ds) (length ps)) k in
-      rw e (ap (λ n. ties_of n gs es (ties_back f (g ∷ rs) (ps ∷ ds))) (on_folio_lem f (pages_in ds) (length ps)) ∙ ties_on gs (g ∷ rs) es (ps ∷ ds) k')
+      let k' = subst (λ n. es ∈ choices n gs) (add_assoc f (pages_in ds) (length ps)) k in
+      rw e (ap (λ n. ties_of n gs es (ties_back f (g ∷ rs) (ps ∷ ds))) (add_assoc f (pages_in ds) (length ps)) ∙ ties_on gs (g ∷ rs) es (ps ∷ ds) k')
 
   -- Pages are such a sum.
   pub pages_sum : (rs : List Galley) (cs : Choice) → Chosen f rs cs → sum_back (λ g ps. length ps) f rs cs ≡ pages_in cs
@@ -144,14 +141,11 @@ module _ (f : ℕ) where
       cc
 
 -- A whole book: nothing comes before it.
-no_pages : (f : ℕ) → f + 0 ≡ f
-no_pages f = omega arith
-
 module _ (f : ℕ) (gs : List Galley) where
   -- A choice for a book is one backwards,
   pub chosen_front : (cs : Choice) → cs ∈ choices f gs → Chosen f (reverse_aux gs []) (reverse_aux cs [])
   unfolding pages_in Chosen
-  chosen_front cs m = chosen_on f gs [] cs [] (subst (λ n. cs ∈ choices n gs) (sym (no_pages f)) m) tt
+  chosen_front cs m = chosen_on f gs [] cs [] (subst (λ n. cs ∈ choices n gs) (sym (add-zero f)) m) tt
 
   -- and one backwards is a choice for the book,
   pub chosen_back : (es : Choice) → Chosen f (reverse_aux gs []) es → (cs : Choice) × (es ≡ reverse_aux cs []) × (cs ∈ choices f gs)
@@ -160,7 +154,7 @@ module _ (f : ℕ) (gs : List Galley) where
     where
       go : (ds cs : Choice) → es ≡ reverse_aux cs ds → cs ∈ choices (f + pages_in ds) gs → Chosen f [] ds
           → (cs : Choice) × (es ≡ reverse_aux cs []) × (cs ∈ choices f gs)
-      go [] cs is m d = (cs, is, subst (λ n. cs ∈ choices n gs) (no_pages f) m)
+      go [] cs is m d = (cs, is, subst (λ n. cs ∈ choices n gs) (add-zero f) m)
       go (ps ∷ ds) cs is m d = absurd d
 
   -- with the same sums
@@ -168,13 +162,13 @@ module _ (f : ℕ) (gs : List Galley) where
       → summed h f gs cs ≡ sum_back h f (reverse_aux gs []) (reverse_aux cs [])
   unfolding pages_in sum_back
   sum_front h cs m =
-      let same = ap (λ n. summed h n gs cs) (no_pages f) in
-      let all = sum_on f h gs [] cs [] (subst (λ n. cs ∈ choices n gs) (sym (no_pages f)) m) in
+      let same = ap (λ n. summed h n gs cs) (add-zero f) in
+      let all = sum_on f h gs [] cs [] (subst (λ n. cs ∈ choices n gs) (sym (add-zero f)) m) in
       omega arith
 
   -- and the same ties.
   pub ties_front : (cs : Choice) → cs ∈ choices f gs → ties_of f gs cs [] ≡ ties_back f (reverse_aux gs []) (reverse_aux cs [])
   unfolding pages_in ties_back
   ties_front cs m =
-      ap (λ n. ties_of n gs cs []) (sym (no_pages f))
-      ∙ ties_on f gs [] cs [] (subst (λ n. cs ∈ choices n gs) (sym (no_pages f)) m)
+      ap (λ n. ties_of n gs cs []) (sym (add-zero f))
+      ∙ ties_on f gs [] cs [] (subst (λ n. cs ∈ choices n gs) (sym (add-zero f)) m)

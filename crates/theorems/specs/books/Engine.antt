@@ -65,11 +65,11 @@ through_onward h f g rs o next r e = from (route h f rs o) refl e
           | none ↦ none
           | some ps ↦ some (with_list h g (no_chapter rs) o q ps)
         ]) (some r) → Onward h f rs o r
-    with_list_lem q is none e = let z : ◌≡◌ {A = ℕ} 0 1 = cc in absurd (omega arith)
+    with_list_lem q is none e = absurd cc
     with_list_lem q is (some ps) e = record { before = q; was = is; folios = let z : ◌≡◌ {A = List ℕ} r.folios (o ∷ q.folios) = cc in z }
 
     from : (q : Option Route) → route h f rs o ≡ q → through h g (no_chapter rs) o next q ≡ some r → Onward h f rs o r
-    from none is e = unfold through in (let z : ◌≡◌ {A = ℕ} 0 1 = cc in absurd (omega arith))
+    from none is e = unfold through in (absurd cc)
     from (some q) is e = with_list_lem q is (best_closing (open_on o g) (side h.spec.sides (o + next))) (unfold through in e)
 
 -- One of the two is taken.
@@ -103,13 +103,13 @@ route_onward h f g rs next r e = occurs (eqb (like h.spec.sides next) next) e
 
     occurs : (b : Bool) → ◌≡◌ {A = Option Route} (pick b (choose one two) none) (some r) → Onward h f rs (taken one two) r
     occurs true e = out (taken_range one two r (sym (taken_is one two) ∙ e))
-    occurs false e = let z : ◌≡◌ {A = ℕ} 0 1 = cc in absurd (omega arith)
+    occurs false e = absurd cc
 
 -- The route at the end leads to that folio.
 pub ending_is : (a b : Option Route) (r : Route) → finish a b ≡ some r
     → ((ending a b ≡ 1) × (a ≡ some r)) ⊎ ((ending a b ≡ 2) × (b ≡ some r))
 unfolding finish ending
-ending_is none none r e = let z : ◌≡◌ {A = ℕ} 0 1 = cc in absurd (omega arith)
+ending_is none none r e = absurd cc
 ending_is none (some b) r e = inr (refl, e)
 ending_is (some a) none r e = inl (refl, e)
 ending_is (some a) (some b) r e = go (cheaper a b) e

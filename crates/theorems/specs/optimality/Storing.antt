@@ -9,8 +9,8 @@ pub none_reached : (G : Graph) (most : G.C) (D : Table G) {v : G.S} → ((u : G.
     → Seen G most D v unreached
 none_reached G most D f =
     record {
-      offered = λ c u q. let z : ◌≡◌ {A = ℕ} 0 1 = cc in absurd (omega arith);
-      best = λ c u x m. let y = f u x.may in let z : ◌≡◌ {A = ℕ} 0 1 = cc in absurd (omega arith);
+      offered = λ c u q. absurd cc;
+      best = λ c u x m. let y = f u x.may in absurd cc;
     }
 
 -- What is offered under D is offered under E, where E has the start's entry.

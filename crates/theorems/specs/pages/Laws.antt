@@ -83,7 +83,7 @@ module _ (g : Galley) (from : Origin) where
       let counts = ap (λ x. get_or x f.more.0 0) at_origin_lem in
       let more = f.more.2 in
       omega arith
-  no_origin (stop u b) end p e = let z : ◌≡◌ {A = ℕ} 0 1 = cc in absurd (omega arith)
+  no_origin (stop u b) end p e = absurd cc
   no_origin end t p e = p
 
   -- Of two costs one is no more than the other.
