@@ -7,7 +7,7 @@ use Rattle.std.proofs.Common.{◌∙◌, subst, inl, inr, length-take-le}
 use Rattle.std.specs.Prelude.{Bool, true, false, ◌||◌, List, ◌++◌, length, drop, eqb, Err, Ok}
 use Rattle.std.proofs.Math.ListN.{take}
 use Rattle.std.proofs.Math.Dec.{ltb}
-use borrow.Author.Tests.{ltb-true, ltb-false, lt-ltb, le-ltb}
+use borrow.Author.Tests.{ltb-false, le-ltb}
 use Rattle.std.proofs.lemmas.Bool.Decides.{nat_tests}
 use Rattle.model.specs.Gather.{pick}
 use Rattle.model.specs.Book.{open_on}

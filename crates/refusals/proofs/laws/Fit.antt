@@ -15,19 +15,13 @@ pub fits_turned : (b : Start) (mark : ℕ) → fits b mark ≡ true → turned b
 fits_turned b mark = go (may_follow b mark) (early b mark) (crowded b mark)
   where
     go : (a c d : Bool) → (a && not c && not d) ≡ true → ◌≡◌ {A = ℕ} (pick a (pick c 5 (pick d 4 0)) 2) 0
-    go true false false h = refl
-    go true false true h = absurd cc
-    go true true d h = absurd cc
-    go false c d h = absurd cc
+    go a c d h = grind arith
 
 pub turned_fits : (b : Start) (mark : ℕ) → turned b mark ≡ 0 → fits b mark ≡ true
 turned_fits b mark = go (may_follow b mark) (early b mark) (crowded b mark)
   where
     go : (a c d : Bool) → ◌≡◌ {A = ℕ} (pick a (pick c 5 (pick d 4 0)) 2) 0 → (a && not c && not d) ≡ true
-    go true false false h = refl
-    go true false true h = absurd (omega arith)
-    go true true d h = absurd (omega arith)
-    go false c d h = absurd (omega arith)
+    go a c d h = grind arith
 
 -- Where it is false that a mark may follow, it does not fit.
 unfollowed : {A : Type 0} (b : Start) (mark : ℕ) → may_follow b mark ≡ false → fits b mark ≡ true → A

@@ -17,9 +17,7 @@ use Rattle.model.specs.Book.{open_on, first_folio, Choice, choices, book_pages, 
 use Rattle.model.specs.laws.Lists.{◌∈◌}
 use Rattle.model.proofs.laws.Lists.{∈-unmap}
 use Rattle.model.proofs.laws.Book.{∈-ungathered}
-use Rattle.theorems.specs.pages.Graph.{side}
 use Rattle.theorems.specs.books.Folios.{like, x_on_lem, white_on_lem}
-use Rattle.theorems.specs.books.Closing.{best_closing}
 use Rattle.theorems.specs.books.Backward.{pages_in}
 use Rattle.theorems.specs.books.Turns.{no_chapter}
 use Rattle.theorems.specs.books.Routes.{Route, preferred, choose, with_list, through, route, cheaper, finish, ending, Along}
@@ -41,8 +39,7 @@ taken_is (some a) none = refl
 taken_is (some a) (some b) = go (preferred a b)
   where
     go : (t : Bool) → ◌≡◌ {A = Option Route} (some (pick t a b)) (pick (eqb (pick t 1 2) 1) (some a) (some b))
-    go true = refl
-    go false = refl
+    go t = grind arith
 
 -- The folio that the route to the next comes from, after chapter g.
 unfoldable pub comes_from : Galley → ℕ → Galley → List Galley → ℕ → ℕ
@@ -65,12 +62,10 @@ through_onward h f g rs o next r e = from (route h f rs o) refl e
           | none ↦ none
           | some ps ↦ some (with_list h g (no_chapter rs) o q ps)
         ]) (some r) → Onward h f rs o r
-    with_list_lem q is none e = absurd cc
-    with_list_lem q is (some ps) e = record { before = q; was = is; folios = let z : ◌≡◌ {A = List ℕ} r.folios (o ∷ q.folios) = cc in z }
+    with_list_lem q is b e = grind arith
 
     from : (q : Option Route) → route h f rs o ≡ q → through h g (no_chapter rs) o next q ≡ some r → Onward h f rs o r
-    from none is e = unfold through in (absurd cc)
-    from (some q) is e = with_list_lem q is (best_closing (open_on o g) (side h.spec.sides (o + next))) (unfold through in e)
+    from q is e = grind arith
 
 -- One of the two is taken.
 taken_range : (a b : Option Route) (r : Route) → pick (eqb (taken a b) 1) a b ≡ some r
@@ -82,8 +77,7 @@ taken_range (some a) (some b) r e = go (preferred a b) e
   where
     go : (t : Bool) → ◌≡◌ {A = Option Route} (pick (eqb (pick t 1 2) 1) (some a) (some b)) (some r)
         → ((◌≡◌ {A = ℕ} (pick t 1 2) 1) × (some a ≡ some r)) ⊎ ((◌≡◌ {A = ℕ} (pick t 1 2) 2) × (some b ≡ some r))
-    go true e = inl (refl, e)
-    go false e = inr (refl, e)
+    go t e = grind arith
 
 -- A route after a chapter comes from that folio.
 pub route_onward : (h : Galley) (f : ℕ) (g : Galley) (rs : List Galley) (next : ℕ) (r : Route) → route h f (g ∷ rs) next ≡ some r
@@ -116,8 +110,7 @@ ending_is (some a) (some b) r e = go (cheaper a b) e
   where
     go : (t : Bool) → ◌≡◌ {A = Option Route} (some (pick t a b)) (some r)
         → ((◌≡◌ {A = ℕ} (pick t 1 2) 1) × (some a ≡ some r)) ⊎ ((◌≡◌ {A = ℕ} (pick t 1 2) 2) × (some b ≡ some r))
-    go true e = inl (refl, e)
-    go false e = inr (refl, e)
+    go t e = grind arith
 
 -- A choice has a list for each chapter.
 pub choices_long : (f : ℕ) (gs : List Galley) (cs : Choice) → cs ∈ choices f gs → length cs ≡ length gs
