@@ -7,7 +7,9 @@ ghost use Rattle.model.specs.Gather.{pick};
 ghost use Rattle.galley.specs.declared.Record.TheVariants as records;
 ghost use Rattle.galley.specs.Whole.{Small, Fitting, Opened, beginning, moved, refused, with_folio, with_line, with_figure, with_table, cited, galley_so_far, closed, after, step_from, galley_of};
 
-use galley::{Galley, Kind, Reading, Record, Sofar, Spec, Step, Stream};
+use galley::{Galley, Kind, Reading, Record, Sofar, Spec, Step, Stream, Unread};
+use model::answer::Refusal;
+use std::ops::ControlFlow;
 
 pub mod reader; // reader.rt: the reader over the lent bytes
 
@@ -96,10 +98,10 @@ fn refused(number: u32, at: usize) -> Step
     requires { at ≤ 100000 }
     ensures { result ≡ refused number at }
 {
-    Step::Done(Reading::Refused {
+    ControlFlow::Break(Err(Refusal {
         number,
         place: at as u32,
-    })
+    }))
 }
 
 // One float more, if its citation is right: 6, then 7.
@@ -116,7 +118,7 @@ fn cited(so: Sofar, cite: usize, next: Sofar, at: usize) -> Step
     if falls {
         return refused(7, at);
     }
-    Step::On(next)
+    ControlFlow::Continue(next)
 }
 
 // The galley of a specification, and of streams that follow one another.
@@ -154,28 +156,29 @@ fn closed(s: &[u8], so: Sofar) -> Step
     }
     let second = galley::word::mark_at(s, 0) == galley::place::G2;
     let spec = records::spec_of(s, 0, second);
-    Step::Done(Reading::Galley(galley_so_far(spec, so)))
+    ControlFlow::Break(Ok(galley_so_far(spec, so)))
 }
 
 // How reading goes on after the record at an offset.
-fn after(s: &[u8], so: Sofar, found: Record, at: usize) -> Step
-    requires { (at ≤ 100000) × (Fitting so) × (found ≡ records.End → Opened s.now) }
+#[tactic(auto, unfolding(galley::specs::Whole::after))]
+fn after(s: &[u8], so: Sofar, found: Result<Record, Unread>, at: usize) -> Step
+    requires { (at ≤ 100000) × (Fitting so) × (found ≡ Ok records.End → Opened s.now) }
     ensures { result ≡ after s.now so at found }
 {
     match found {
-        Record::Spec(_g) => Step::On(with_folio(so, 1)),
-        Record::Folio(f) => Step::On(with_folio(so, f)),
-        Record::Line(_l) => Step::On(with_line(so)),
-        Record::Figure(f) => {
+        Ok(Record::Spec(_g)) => ControlFlow::Continue(with_folio(so, 1)),
+        Ok(Record::Folio(f)) => ControlFlow::Continue(with_folio(so, f)),
+        Ok(Record::Line(_l)) => ControlFlow::Continue(with_line(so)),
+        Ok(Record::Figure(f)) => {
             let cite = galley::word::size(f.cite);
             cited(so, cite, with_figure(so, cite), at)
         }
-        Record::Table(f) => {
+        Ok(Record::Table(f)) => {
             let cite = galley::word::size(f.cite);
             cited(so, cite, with_table(so, cite), at)
         }
-        Record::End => closed(s, so),
-        Record::Refused { number, place: _p } => refused(number, at),
+        Ok(Record::End) => closed(s, so),
+        Err(unread) => refused(unread.number, at),
     }
 }
 
@@ -205,10 +208,10 @@ pub fn read_galley(s: &[u8]) -> Reading
     loop {
         let step = step_from(s, so);
         match step {
-            Step::On(next) => {
+            ControlFlow::Continue(next) => {
                 so = next;
             }
-            Step::Done(reading) => {
+            ControlFlow::Break(reading) => {
                 return reading;
             }
         }

@@ -8,19 +8,19 @@ ghost use Rattle.galley.specs.declared.Record.TheVariants as found;
 ghost use Rattle.galley.specs.Record.{HasSpec, block_of, ranged, last_least, spec_of, spec_at, folio_at, line_at, float_of, float_at, fields_of, record_at};
 
 use galley::place::{ED, FG, FK, FO, G2, GS, TB, TL};
-use galley::{Block, Float, Line, Record, Spec};
+use galley::{Block, Float, Line, Record, Spec, Unread};
 
 // A record whose fields are in range, or 3.
-fn ranged(fine: bool, found: Record, at: usize) -> Record
+fn ranged(fine: bool, found: Record, at: usize) -> Result<Record, Unread>
     ensures { result ≡ ranged fine found at }
 {
     if fine {
-        found
+        Ok(found)
     } else {
-        Record::Refused {
+        Err(Unread {
             number: 3,
             place: at,
-        }
+        })
     }
 }
 
@@ -61,7 +61,7 @@ pub fn spec_of(s: &[u8], at: usize, second: bool) -> Spec
 }
 
 // A specification.
-fn spec_at(s: &[u8], at: usize, second: bool) -> Record
+fn spec_at(s: &[u8], at: usize, second: bool) -> Result<Record, Unread>
     requires { HasSpec s.now at second }
     ensures { result ≡ spec_at second s.now at }
 {
@@ -70,7 +70,7 @@ fn spec_at(s: &[u8], at: usize, second: bool) -> Record
 }
 
 // The folio of the first page.
-fn folio_at(s: &[u8], at: usize) -> Record
+fn folio_at(s: &[u8], at: usize) -> Result<Record, Unread>
     requires { at + 6 ≤ length s.now }
     ensures { result ≡ folio_at s.now at }
 {
@@ -91,7 +91,7 @@ fn block_fields(s: &[u8], at: usize) -> Block
 }
 
 // A line.
-fn line_at(s: &[u8], at: usize) -> Record
+fn line_at(s: &[u8], at: usize) -> Result<Record, Unread>
     requires { at + 18 ≤ length s.now }
     ensures { result ≡ line_at s.now at }
 {
@@ -114,7 +114,7 @@ fn float_of(s: &[u8], at: usize, kept: bool) -> Float
 }
 
 // A figure; its citation is tested where its place is known.
-fn figure_at(s: &[u8], at: usize, kept: bool) -> Record
+fn figure_at(s: &[u8], at: usize, kept: bool) -> Result<Record, Unread>
     requires { at + 18 ≤ length s.now }
     ensures { result ≡ float_at found.Figure kept s.now at }
 {
@@ -127,7 +127,7 @@ fn figure_at(s: &[u8], at: usize, kept: bool) -> Record
 }
 
 // A table, which is never kept.
-fn table_at(s: &[u8], at: usize) -> Record
+fn table_at(s: &[u8], at: usize) -> Result<Record, Unread>
     requires { at + 18 ≤ length s.now }
     ensures { result ≡ float_at found.Table false s.now at }
 {
@@ -136,7 +136,7 @@ fn table_at(s: &[u8], at: usize) -> Record
 }
 
 // What the fields after a mark say; an unknown mark is 2.
-fn fields_of(mark: u32, s: &[u8], at: usize) -> Record
+fn fields_of(mark: u32, s: &[u8], at: usize) -> Result<Record, Unread>
     requires { at + (kind_of mark).size ≤ length s.now }
     ensures { result ≡ fields_of mark s.now at }
 {
@@ -150,11 +150,11 @@ fn fields_of(mark: u32, s: &[u8], at: usize) -> Record
         FG => figure_at(s, at, false),
         FK => figure_at(s, at, true),
         TB => table_at(s, at),
-        ED => Record::End,
-        _ => Record::Refused {
+        ED => Ok(Record::End),
+        _ => Err(Unread {
             number: 2,
             place: at,
-        },
+        }),
     }
 }
 
@@ -170,22 +170,22 @@ fn is_short(left: usize, mark: u32) -> bool
 }
 
 // The record at any offset, also past the end: its mark is there, its fields are there and in range.
-pub fn record_at(s: &[u8], at: usize) -> Record
+pub fn record_at(s: &[u8], at: usize) -> Result<Record, Unread>
     ensures { result ≡ record_at s.now at }
 {
     let left = galley::word::left_from(s, at);
     if left < 2 {
-        return Record::Refused {
+        return Err(Unread {
             number: 1,
             place: at,
-        };
+        });
     }
     let mark = galley::word::mark_at(s, at);
     if is_short(left, mark) {
-        return Record::Refused {
+        return Err(Unread {
             number: 1,
             place: at,
-        };
+        });
     }
     fields_of(mark, s, at)
 }

@@ -3,8 +3,5 @@ use mathlib.Core.Path.{sym, ◌∙◌}
 use Rattle.forecast.specs.laws.Forecast.{forecast_refused}
 use Rattle.forecast.proofs.forecast_of.Goals as goal
 
-pub forecast_read-requires : goal.forecast_read-requires
-forecast_read-requires c = sym c.read_galley-reading.ensures ∙ c.in-Galley.is
-
 pub returns-in-Refused : goal.returns-in-Refused
 returns-in-Refused c = forecast_refused _ _ _ (sym c.read_galley-reading.ensures ∙ c.in-Refused.is)

@@ -11,10 +11,10 @@ pub step_from-step-requires : goal.step_from-step-requires
 step_from-step-requires c = (underway_small c.loop-next.invariant, underway_opened c.loop-next.invariant)
 
 pub loop-next-smaller : goal.loop-next-smaller
-loop-next-smaller c = underway_farther c.loop-next.invariant (sym c.step_from-step.ensures ∙ c.in-On.is)
+loop-next-smaller c = underway_farther c.loop-next.invariant (sym c.step_from-step.ensures ∙ c.in-Continue.is)
 
 pub loop-next-preserved : goal.loop-next-preserved
-loop-next-preserved c = underway_on c.loop-next.invariant (sym c.step_from-step.ensures ∙ c.in-On.is)
+loop-next-preserved c = underway_on c.loop-next.invariant (sym c.step_from-step.ensures ∙ c.in-Continue.is)
 
-pub returns-in-Done : goal.returns-in-Done
-returns-in-Done c = underway_done c.loop-next.invariant (sym c.step_from-step.ensures ∙ c.in-Done.is)
+pub returns-in-Break : goal.returns-in-Break
+returns-in-Break c = underway_done c.loop-next.invariant (sym c.step_from-step.ensures ∙ c.in-Break.is)

@@ -3,6 +3,7 @@ use mathlib.Core.Path.{◌≡◌, sym, ◌∙◌}
 use Prim.Native.Nat.{◌≤◌}
 use native.Mathlib.Omega.{arith}
 use lib.Dec.{ltb}
+use Rattle.std.specs.Prelude.{Ok}
 use borrow.Author.Tests.{lt-ltb, le-ltb}
 use borrow.Author.Rules.{rules}
 use Rattle.model.specs.Gather.{pick}
@@ -41,7 +42,7 @@ short c = rw c.kind_of-kind.ensures (kind_sized c.mark_at.result).1
 -- The end comes after a specification.
 opened : (c : After-moved)
     → let s = c.args.s.now in
-    c.read_record-found.result ≡ found.End → Opened s
+    c.read_record-found.result ≡ Ok found.End → Opened s
 opened c e =
     let unfit = c.unfit_for-number in
     let none : unfit.result ≡ 0 = omega (arith, c.if-number-gt0.false) in

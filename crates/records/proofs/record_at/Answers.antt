@@ -4,8 +4,7 @@ use native.Mathlib.Omega.{arith}
 use borrow.Author.Tests.{lt-ltb, le-ltb, ltb-false}
 use Rattle.model.specs.Gather.{pick}
 use Rattle.galley.specs.Place.{kind_of}
-use Rattle.galley.specs.Record.{fields_of, record_at}
-use Rattle.galley.specs.declared.Record.TheVariants as found
+use Rattle.galley.specs.Record.{unread, fields_of, record_at}
 use Rattle.records.proofs.record_at.Goals as goal
 use Rattle.records.proofs.record_at.Goals.{After-is_short}
 
@@ -13,7 +12,7 @@ use Rattle.records.proofs.record_at.Goals.{After-is_short}
 marked : (c : After-is_short)
     → let a = c.args in
     record_at a.s.now a.at
-    ≡ pick c.is_short.result (found.Refused 1 a.at)
+    ≡ pick c.is_short.result (unread 1 a.at)
     (fields_of c.mark_at-mark.result a.s.now a.at)
 unfolding record_at
 marked c =
