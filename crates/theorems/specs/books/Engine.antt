@@ -4,21 +4,17 @@ use Rattle.std.specs.Prelude.{ℕ, ◌+◌, ◌≤◌, refl, Bool, true, false, 
 use native.Mathlib.Omega.{arith}
 use Rattle.std.proofs.Math.Path.{◌≡◌}
 use Rattle.std.proofs.Common.{sym, ◌∙◌, ap, subst, inl, inr}
-use mathlib.Core.List.Memᴰ
-use mathlib.Core.List.{List, [], ◌∷◌, map, reverse_aux}
+use mathlib.Core.List.{List, [], ◌∷◌, reverse_aux}
 use Rattle.std.proofs.Math.Option.{Option, none, some}
 use Rattle.std.proofs.Math.ListN.{length}
 use Rattle.model.specs.Gather.{pick}
 use Rattle.model.specs.Galley.{Galley, Place}
 use Rattle.model.specs.Turns.{x_of}
 use Rattle.model.specs.White.{white}
-use Rattle.model.specs.Best.{valid}
-use Rattle.model.specs.Book.{open_on, first_folio, Choice, choices, book_pages, book_x, book_white}
+use Rattle.model.specs.Book.{first_folio, Choice, choices, book_pages, book_x, book_white}
 use Rattle.model.specs.laws.Lists.{◌∈◌}
-use Rattle.model.proofs.laws.Lists.{∈-unmap}
-use Rattle.model.proofs.laws.Book.{∈-ungathered}
 use Rattle.theorems.specs.books.Folios.{like, x_on_lem, white_on_lem}
-use Rattle.theorems.specs.books.Backward.{pages_in}
+use Rattle.theorems.specs.books.Backward.{pages_in, only_empty, opened}
 use Rattle.theorems.specs.books.Turns.{no_chapter}
 use Rattle.theorems.specs.books.Routes.{Route, preferred, choose, with_list, through, route, cheaper, finish, ending, Along}
 use Rattle.theorems.specs.books.Choosing.{AllAlike}
@@ -114,13 +110,11 @@ ending_is (some a) (some b) r e = go (cheaper a b) e
 
 -- A choice has a list for each chapter.
 pub choices_long : (f : ℕ) (gs : List Galley) (cs : Choice) → cs ∈ choices f gs → length cs ≡ length gs
-unfolding choices
-choices_long f [] cs m = elim (Memᴰ.cases_cons m) [ inl e ↦ ap length e | inr k ↦ absurd (Memᴰ.not-nil k) ]
+choices_long f [] cs m = ap length (only_empty f cs m)
 choices_long f (g ∷ gs) cs m =
-    let (ps, v, n) = ∈-ungathered (λ ps. map (λ cs. ps ∷ cs) (choices (f + length ps) gs)) cs (valid (open_on f g)) m in
-    let (es, e, k) = ∈-unmap (λ cs. ps ∷ cs) cs (choices (f + length ps) gs) n in
-    let long = choices_long (f + length ps) gs es k in
-    rw e (omega arith)
+    let o = opened f g gs cs m in
+    let long = choices_long (f + length o.list) gs o.rest o.later in
+    rw o.is (omega arith)
 
 module _ (h : Galley) (gs : List Galley) (all : AllAlike h gs) (some_folio_lem : 1 ≤ first_folio (h ∷ gs)) where
   -- The best choice in the order of the book: each chapter by the best list from its folio to the next, and the sums of their counts.
