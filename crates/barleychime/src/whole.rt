@@ -22,15 +22,32 @@ pub extern "C" fn barleychime_book(
         answer.new }
 {
     let made = book::make_book(galleys, lengths, work, pages);
-    *answer = [
-        made.number as u64,
-        made.place as u64,
-        made.pages,
-        made.x,
-        made.y,
-        made.turns,
-        made.white,
-        made.weighed,
-    ];
-    made.number
+    match made.answer {
+        Ok(counted) => {
+            *answer = [
+                0,
+                0,
+                counted.pages,
+                counted.x,
+                counted.y,
+                counted.turns,
+                counted.white,
+                made.weighed,
+            ];
+            0
+        }
+        Err(refusal) => {
+            *answer = [
+                u64::from(refusal.number),
+                u64::from(refusal.place),
+                0,
+                0,
+                0,
+                0,
+                0,
+                made.weighed,
+            ];
+            refusal.number
+        }
+    }
 }

@@ -1,6 +1,6 @@
 // Which record a mark opens, and where it may come: a row for each.
 ghost use Rattle.std.specs.Prelude.{◌≡◌};
-ghost use Rattle.galley.specs.Place.{row_of, kind_of, misplaced, too_early, too_many, unfit};
+ghost use Rattle.galley.specs.Place.{row_of, kind_of, misplaced, too_early, too_many, unfit, turning};
 
 use crate::{Kind, Sofar};
 
@@ -50,6 +50,7 @@ fn row(stage: u32, earliest: u32, latest: u32, most: usize, size: usize) -> Kind
 }
 
 // The kind of record that a mark opens; one that is unknown fits nowhere.
+#[tactic(auto, unfolding(crate::specs::Place::kind_of))]
 pub fn kind_of(mark: u32) -> Kind
     ensures { result ≡ kind_of mark }
 {
@@ -87,18 +88,18 @@ fn is_too_many(kind: Kind, so: Sofar) -> bool
     (kind.stage == so.stage) & (kind.most <= so.count)
 }
 
-// The number that turns a record away from its place, or 0 where it fits.
-pub fn unfit_for(kind: Kind, so: Sofar) -> u32
-    ensures { result ≡ unfit kind so }
+// The number that turns a record away from its place; none where it fits.
+pub fn unfit_for(kind: Kind, so: Sofar) -> Option<u32>
+    ensures { result ≡ turning (unfit kind so) }
 {
     if is_misplaced(kind, so) {
-        return 2;
+        return Some(2);
     }
     if is_too_early(kind, so) {
-        return 5;
+        return Some(5);
     }
     if is_too_many(kind, so) {
-        return 4;
+        return Some(4);
     }
-    0
+    None
 }

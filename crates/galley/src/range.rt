@@ -5,6 +5,7 @@ ghost use Rattle.galley.specs.Range.{spec_in_range, block_in_range};
 use crate::{Block, Spec};
 
 // Whether a specification's fields are in range.
+#[tactic(auto, unfolding(crate::specs::Range::spec_in_range))]
 pub fn spec_in_range(g: Spec) -> bool
     ensures { result ≡ spec_in_range g }
 {
@@ -21,6 +22,7 @@ pub fn spec_in_range(g: Spec) -> bool
 }
 
 // Whether a block's heights are in range.
+#[tactic(auto, unfolding(crate::specs::Range::block_in_range))]
 pub fn block_in_range(b: Block) -> bool
     ensures { result ≡ block_in_range b }
 {

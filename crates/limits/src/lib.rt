@@ -14,13 +14,7 @@ use places::{BOUNDLESS, Origin};
 fn limited(origin: Origin, limit: u64) -> Origin
     ensures { result ≡ within limit origin }
 {
-    let place = origin.place;
-    Origin {
-        place,
-        pages: origin.pages,
-        cost: origin.cost,
-        limit,
-    }
+    Origin { limit, ..origin }
 }
 
 // The limit of so many turns, with any white; none where they are more than a guess should say.

@@ -1,5 +1,5 @@
 // Where making begins after an opening. Document 02, S-6.
-ghost use Rattle.std.specs.Prelude.{◌≡◌, ◌++◌, ◌≤◌, length, drop};
+ghost use Rattle.std.specs.Prelude.{◌≡◌};
 ghost use Rattle.galley.specs.Sound.{Sound};
 ghost use Rattle.solving.specs.Begun.{Ending, origin_after, BegunAfter};
 
@@ -40,17 +40,5 @@ pub fn begin_after(s: &[u8], g: Galley, opening: &[u32]) -> Begun
     match judged {
         Opening::Refused { number, place } => Begun::Refused { number, place },
         Opening::Ends { pages, at, sums } => Begun::From(origin_after(g, pages, at, sums)),
-    }
-}
-
-// The words of the opening over the first of the page list.
-pub fn copy_words(opening: &[u32], pages: &mut [u32])
-    requires { length opening.now ≤ length pages.old }
-    ensures { pages.new ≡ opening.now ++ drop (length opening.now) pages.old }
-{
-    let mut i = 0;
-    while i < opening.len() {
-        pages[i] = opening[i];
-        i += 1;
     }
 }

@@ -114,15 +114,13 @@ pub fn count_pages(g: Galley, work: &[u32], origin: Origin, last: Stop) -> usize
 {
     let most = g.text.count + g.figures.count + g.tables.count;
     let mut at = last;
-    let mut p = 0;
-    while p < most {
+    for p in 0..most {
         if at_origin(g, origin, at) {
             return p;
         }
         at = page_before(g, work, at);
-        p += 1;
     }
-    p
+    most
 }
 
 // The words of the page that stops at a place, from word k on: the lines, the figures and, where there are any, the tables placed so
@@ -146,9 +144,7 @@ pub fn write_pages(g: Galley, work: &[u32], last: Stop, p: usize, pages: &mut [u
 {
     let wide = blocks::page_words(g);
     let mut at = last;
-    let mut r = p;
-    while 0 < r {
-        r -= 1;
+    for r in (0..p).rev() {
         write_page(g, at.place, wide * r, pages);
         at = page_before(g, work, at);
     }
