@@ -30,7 +30,6 @@ use Rattle.galley.specs.declared.Kind.{Kind}
 use Rattle.galley.specs.declared.Spec.{Spec}
 use Rattle.galley.specs.declared.Stream.{Stream}
 use Rattle.galley.specs.declared.Galley.{Galley}
-use Rattle.galley.specs.declared.Record.{Record}
 use Rattle.galley.specs.declared.Record.TheVariants as found
 use Rattle.galley.specs.declared.Sofar.{Sofar}
 use Rattle.chapters.specs.Book.{has_folio}

@@ -1,5 +1,5 @@
 -- Bytes with six more put in: what stands after them is read as before, 6 bytes farther on.
-use Rattle.std.specs.Prelude.{ℕ, suc, ◌+◌, ◌-◌, ◌≤◌, ◌<◌, ◌≡◌, refl, Bool, true, false, List, ◌++◌, length, take, drop, Err, Ok}
+use Rattle.std.specs.Prelude.{ℕ, suc, ◌+◌, ◌-◌, ◌≤◌, ◌<◌, ◌≡◌, Bool, List, ◌++◌, length, take, drop, Err, Ok}
 use native.Mathlib.Omega.{arith}
 use Rattle.std.proofs.Common.{◌∙◌, ap, length-append, length-drop, length-take-le, get_or-take, get_or-drop, get_or-append-add}
 use Rattle.std.proofs.Math.ListN.{get_or-append}
@@ -7,8 +7,6 @@ use Rattle.model.specs.Gather.{pick}
 use Rattle.galley.specs.Word.{byte_at, word_at, mark_at}
 use Rattle.galley.specs.Record.{Read, unread, fields_of, record_at}
 use Rattle.galley.specs.Write.{stated, folio_bytes}
-use Rattle.galley.specs.declared.Record.{Record}
-use Rattle.galley.specs.declared.Record.TheVariants as found
 
 -- The second bytes are the first with six more put in after n.
 pub record Shifted (n : ℕ) (bytes bytes' : List ℕ) : Type 0 where
