@@ -7,7 +7,8 @@ use Rattle.std.proofs.Common.{◌∙◌, subst, inl, inr, length-take-le}
 use Rattle.std.specs.Prelude.{Bool, true, false, ◌||◌, List, ◌++◌, length, drop, eqb, Err, Ok}
 use Rattle.std.proofs.Math.ListN.{take}
 use Rattle.std.proofs.Math.Dec.{ltb}
-use borrow.Author.Tests.{ltb-true, ltb-false, lt-ltb, le-ltb}
+use borrow.Author.Tests.{ltb-false, le-ltb}
+use Rattle.std.proofs.lemmas.Bool.Decides.{nat_tests}
 use Rattle.model.specs.Gather.{pick}
 use Rattle.model.specs.Book.{open_on}
 use Rattle.galley.specs.Word.{word_at, mark_at}
@@ -29,7 +30,6 @@ use Rattle.galley.specs.declared.Kind.{Kind}
 use Rattle.galley.specs.declared.Spec.{Spec}
 use Rattle.galley.specs.declared.Stream.{Stream}
 use Rattle.galley.specs.declared.Galley.{Galley}
-use Rattle.galley.specs.declared.Record.{Record}
 use Rattle.galley.specs.declared.Record.TheVariants as found
 use Rattle.galley.specs.declared.Sofar.{Sofar}
 use Rattle.chapters.specs.Book.{has_folio}
@@ -47,11 +47,7 @@ pick_both P false x y x' y' f g = g refl
 
 -- Both sides of a test are farther on.
 test_farther : (a b : ℕ) → ltb (a + 6) (b + 6) ≡ ltb a b
-test_farther a b = go (ltb a b) refl
-  where
-    go : (t : Bool) → ltb a b ≡ t → ltb (a + 6) (b + 6) ≡ t
-    go true e = lt-ltb (a + 6) (b + 6) (let h = ltb-true a b e in omega arith)
-    go false e = le-ltb (a + 6) (b + 6) (let h = ltb-false a b e in omega arith)
+test_farther a b = grind (arith, nat_tests)
 
 module _ (f n : ℕ) where
   -- Reading that has come 6 bytes farther, with another folio.
@@ -151,7 +147,7 @@ module _ (f n : ℕ) where
     read_alike : (most most' : ℕ) (so : Sofar) (g : Galley) → most ≤ most' → line ≤ so.stage → n ≤ so.at
         → read_from bytes most so ≡ Ok g → read_from bytes' most' (shifted so) ≡ Ok (opened f g)
     unfolding read_from settled
-    read_alike zero most' so g more late far e = let z : ◌≡◌ {A = ℕ} 0 1 = cc in absurd (omega arith)
+    read_alike zero most' so g more late far e = absurd cc
     read_alike (suc most) zero so g more late far e = absurd (omega arith)
     read_alike (suc most) (suc most') so g more late far e =
         go (step_from bytes so) (step_from bytes' (shifted so)) (step_alike so late far) e (read_alike most most')
@@ -260,20 +256,6 @@ module _ (bytes : List ℕ) (g : Galley) (read : galley_of bytes ≡ Ok g) (none
       go true e = word_before put_in 30 (omega arith)
       go false e = refl
 
-  spec_same : spec_of (is_second stated_bytes 0) stated_bytes 0 ≡ spec_of (is_second bytes 0) bytes 0
-  spec_same =
-      rw (
-        first_mark,
-        word_before put_in 2 (omega (arith, large)),
-        word_before put_in 6 (omega (arith, large)),
-        word_before put_in 10 (omega (arith, large)),
-        word_before put_in 14 (omega (arith, large)),
-        word_before put_in 18 (omega (arith, large)),
-        word_before put_in 22 (omega (arith, large)),
-        word_before put_in 26 (omega (arith, large)),
-        last_same,
-      ) refl
-
   -- The specification is read as before,
   spec_again : record_at stated_bytes 0 ≡ Ok (found.Spec g.spec)
   unfolding record_at fields_of Found
@@ -297,6 +279,10 @@ module _ (bytes : List ℕ) (g : Galley) (read : galley_of bytes ≡ Ok g) (none
         le-ltb (length bytes - 0) 2 (omega (arith, whole, large)),
         le-ltb (length bytes - 0) (kind_of (mark_at bytes 0)).size (omega (arith, size)),
       ) at there)
+
+  spec_same : spec_of (is_second stated_bytes 0) stated_bytes 0 ≡ spec_of (is_second bytes 0) bytes 0
+  unfolding Found
+  spec_same = sym (rw spec_again at (found_at stated_bytes 0)).same ∙ here.same
 
   -- then the folio,
   folio_read : record_at stated_bytes (begun g.spec).at ≡ Ok (found.Folio f)

@@ -24,7 +24,7 @@ use Rattle.promises.specs.Loosening.{Loosens, after_is, after_made, refusal_loos
 pub made_loosened : (m : model.Galley) (h : ℕ) → h ≤ m.spec.htmin → (opening : List ℕ) {a a' : Answer} {list list' : List ℕ}
     → MakingAfter m opening a list → MakingAfter (with_htmin h m) opening a' list' → Loosens a a'
 made_loosened m h low opening {a = a} (turned_away e by) made' = refusal_loosens (turned_refused a by)
-made_loosened m h low opening (no_list e empty) made' = refusal_loosens (λ a. let z : ◌≡◌ {A = ℕ} 0 1 = cc in omega arith)
+made_loosened m h low opening (no_list e empty) made' = refusal_loosens (λ a. absurd cc)
 made_loosened m h low opening (best_list words e is long best whiter) made' =
     made_best (with_htmin h m) opening words (standing_loosened m h low opening e)
     (marked_loosened m h low (opening ++ words) (ap accepted is) ∙ is) made'

@@ -75,8 +75,7 @@ module _ (bytes : List ℕ) (g : Galley) (read : galley_of bytes ≡ reads.Galle
         go (inl e) =
             let no = (demand q few).none.0 e (drop (q * model.streams (model_of bytes g)) words) in
             let yes' = subst (λ l. accepted (mark_of bytes l) ≡ true) (whole q) taken in
-            let z : ◌≡◌ {A = ℕ} 0 1 = cc in
-            absurd (omega arith)
+            absurd cc
 
     -- No better by turns, and of as many no better by white.
     abbrev NoBetter : Answer → Answer → Type 0

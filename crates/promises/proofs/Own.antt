@@ -37,7 +37,7 @@ unfolding make_of make_read
 make_own {bytes} {work} {list} {answer} {count} {work'} {list'} m h = go (galley_of bytes) refl (ap accepted (sym m.answers) ∙ h)
   where
     go : (r : Reading) → galley_of bytes ≡ r → accepted (make_read bytes (length work) (length list) r) ≡ true → OwnPages bytes list' answer
-    go (reads.Refused n at) e k = let z : ◌≡◌ {A = ℕ} 0 1 = cc in absurd (omega arith)
+    go (reads.Refused n at) e k = absurd cc
     go (reads.Galley g) e k =
         let (enough, room, taken) = unrefused g (length work) (length list) (made (model_of bytes g)) k in
         same_own bytes list' answer g e h ((third_demand m g e enough room).same h)
@@ -45,8 +45,8 @@ make_own {bytes} {work} {list} {answer} {count} {work'} {list'} m h = go (galley
 -- An opening after which a list was found stands.
 stood : (g : model.Galley) (opening : List ℕ) {a : Answer} {ws : List ℕ} → MakingAfter g opening a ws → accepted a ≡ true
     → opening_turned g opening ≡ none
-stood g opening (turned_away {a} t (at, inl e)) h = let z : ◌≡◌ {A = ℕ} 0 1 = cc in absurd (omega arith)
-stood g opening (turned_away {a} t (at, inr e)) h = let z : ◌≡◌ {A = ℕ} 0 1 = cc in absurd (omega arith)
+stood g opening (turned_away {a} t (at, inl e)) h = absurd cc
+stood g opening (turned_away {a} t (at, inr e)) h = absurd cc
 stood g opening (no_list s empty) h = s
 stood g opening (best_list rest s m long best whiter) h = s
 
@@ -59,7 +59,7 @@ after_own {bytes} {opening} {work} {list} {answer} {count} {work'} {list'} m h =
   where
     go : (r : Reading) → galley_of bytes ≡ r → accepted (make_after_read bytes opening (length work) (length list) r) ≡ true
         → OwnPages bytes list' answer
-    go (reads.Refused n at) e k = let z : ◌≡◌ {A = ℕ} 0 1 = cc in absurd (omega arith)
+    go (reads.Refused n at) e k = absurd cc
     go (reads.Galley g) e k =
         let (enough, room, taken) = unrefused g (length work) (length list) (made_after (model_of bytes g) opening) k in
         let stands = stood (model_of bytes g) opening (making_after (model_of bytes g) opening) taken in

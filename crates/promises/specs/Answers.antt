@@ -1,6 +1,6 @@
 -- What has to be shown of an answer, of making or of marking: of each refusal that comes before a list is looked at, and of what
 -- the page model answers for the galley that was read.
-use Rattle.std.specs.Prelude.{ℕ, ◌≤◌, ◌≡◌, ◌⊎◌, Bool, true, false, List, ltb}
+use Rattle.std.specs.Prelude.{ℕ, ◌≤◌, ◌≡◌, ◌⊎◌, Bool, true, false, ◌||◌, List, ltb}
 use native.Mathlib.Omega.{arith}
 use Rattle.std.proofs.Math.Path.{refl}
 use Rattle.model.specs.declared.answer.Answer.{Answer}
@@ -31,6 +31,19 @@ pub picked : (P : Answer → Type 0) (b : Bool) (x y : Answer) → P x → P y �
 picked P true x y p q = p
 picked P false x y p q = q
 
+-- And so where too little memory is looked for before: by 9 in the work area, by 10 in the page list.
+pub with_memory : (P : Answer → Type 0) (few short : Bool) {i j : ℕ} {a : Answer} → P (Refused 9 i) → P (Refused 10 j) → P a
+    → P (pick few (Refused 9 i) (pick short (Refused 10 j) a))
+with_memory P few short {i} {j} {a} nine ten read =
+    picked P few (Refused 9 i) (pick short (Refused 10 j) a) nine (picked P short (Refused 10 j) a ten read)
+
+-- What holds with too little memory, and otherwise where the answer after that is this refusal, holds where making gives this refusal.
+pub past_memory : (Out : Bool → Type 0) (a : Answer) (i j : ℕ) {n at : ℕ} → Out true → (a ≡ Refused n at → Out false) → (few short : Bool)
+    → pick few (Refused 9 i) (pick short (Refused 10 j) a) ≡ Refused n at → Out (few || short)
+past_memory Out a i j lent read true short e = lent
+past_memory Out a i j lent read false true e = lent
+past_memory Out a i j lent read false false e = read e
+
 module _ (P : Answer → Type 0) (bytes : List ℕ) where
   -- Of marking,
   pub of_marking : (words : List ℕ) → ((n at : ℕ) → 1 ≤ n → n ≤ 8 → P (Refused n at))
@@ -50,8 +63,6 @@ module _ (P : Answer → Type 0) (bytes : List ℕ) where
     where
       go : (r : Reading) → galley_of bytes ≡ r → P (make_read bytes work list r)
       go (reads.Galley g) e =
-          picked P (ltb work (work_needed g)) (Refused 9 (work_needed g))
-          (pick (ltb list (list_needed g)) (Refused 10 (list_needed g)) (made (model_of bytes g))) (away 9 (work_needed g) (omega arith, omega arith))
-          (picked P (ltb list (list_needed g)) (Refused 10 (list_needed g)) (made (model_of bytes g))
-          (away 10 (list_needed g) (omega arith, omega arith)) (read g e))
+          with_memory P (ltb work (work_needed g)) (ltb list (list_needed g)) (away 9 (work_needed g) (omega arith, omega arith))
+          (away 10 (list_needed g) (omega arith, omega arith)) (read g e)
       go (reads.Refused n at) e = let h = refusal_number bytes n at e in away n at (h.0, omega (arith, h.1))

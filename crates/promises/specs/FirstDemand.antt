@@ -21,7 +21,7 @@ use Rattle.places.specs.Entry.{cleared}
 use Rattle.marking.specs.Mark.{mark_of}
 use Rattle.needs.specs.Needs.{work_needed, list_needed}
 use Rattle.making.specs.Make.{make_read, make_of, work_read, work_after, list_read, list_after, Made}
-use Rattle.promises.specs.Answers.{ByMarking, ByMaking, picked, of_marking}
+use Rattle.promises.specs.Answers.{ByMarking, ByMaking, picked, past_memory, of_marking}
 
 -- The numbers of an answer are those of a finished call, with number and place 0, or of a refusal with one of the numbers that may be,
 -- its place, and no counts (document 01, "Numbers that turn work away"; document 02, S-10).
@@ -96,22 +96,19 @@ made_refused g n at e = go (best g) e
 
     go : (b : Option (List model.Place)) → answer b ≡ Refused n at → (n ≡ 11) × (words b ≡ [])
     go none e = (cc, refl)
-    go (some ps) e = let z : ◌≡◌ {A = ℕ} 0 1 = cc in absurd (omega arith)
+    go (some ps) e = absurd cc
 
 refused_list : (bytes : List ℕ) (work : ℕ) (list : List ℕ) (n at : ℕ) → make_of bytes work (length list) ≡ Refused n at
     → list_after bytes work list ≡ list
 unfolding make_of make_read list_after list_read
 refused_list bytes work list n at e = go (galley_of bytes) e
   where
-    kept : (g : Galley) (a b : Bool)
-        → pick a (Refused 9 (work_needed g)) (pick b (Refused 10 (list_needed g)) (made (model_of bytes g))) ≡ Refused n at
-        → pick (a || b) list (made_words (model_of bytes g) ++ drop (length (made_words (model_of bytes g))) list) ≡ list
-    kept g true b e = refl
-    kept g false true e = refl
-    kept g false false e = let m = (made_refused (model_of bytes g) n at e).1 in rw m
-
     go : (r : Reading) → make_read bytes work (length list) r ≡ Refused n at → list_read bytes work list r ≡ list
-    go (reads.Galley g) e = kept g (ltb work (work_needed g)) (ltb (length list) (list_needed g)) e
+    go (reads.Galley g) e =
+        let words = made_words (model_of bytes g) in
+        past_memory (λ short. pick short list (words ++ drop (length words) list) ≡ list) (made (model_of bytes g)) _ _ refl
+        (λ e. let m = (made_refused (model_of bytes g) n at e).1 in rw m)
+        (ltb work (work_needed g)) (ltb (length list) (list_needed g)) e
     go (reads.Refused m there) e = refl
 
 refused_work : (bytes work : List ℕ) (list n at : ℕ) → make_of bytes (length work) list ≡ Refused n at → ¬ (n ≡ 11)
@@ -119,15 +116,11 @@ refused_work : (bytes work : List ℕ) (list n at : ℕ) → make_of bytes (leng
 unfolding make_of make_read work_after work_read
 refused_work bytes work list n at e other = go (galley_of bytes) e
   where
-    kept : (g : Galley) (a b : Bool)
-        → pick a (Refused 9 (work_needed g)) (pick b (Refused 10 (list_needed g)) (made (model_of bytes g))) ≡ Refused n at
-        → pick (a || b) work (cleared (work_needed g) work) ≡ work
-    kept g true b e = refl
-    kept g false true e = refl
-    kept g false false e = absurd (other (made_refused (model_of bytes g) n at e).0)
-
     go : (r : Reading) → make_read bytes (length work) list r ≡ Refused n at → work_read work list r ≡ work
-    go (reads.Galley g) e = kept g (ltb (length work) (work_needed g)) (ltb list (list_needed g)) e
+    go (reads.Galley g) e =
+        past_memory (λ short. pick short work (cleared (work_needed g) work) ≡ work) (made (model_of bytes g)) _ _ refl
+        (λ e. absurd (other (made_refused (model_of bytes g) n at e).0))
+        (ltb (length work) (work_needed g)) (ltb list (list_needed g)) e
     go (reads.Refused m there) e = refl
 
 -- What the contract of `make` promises of its answer and of the lent memory, whatever that held.

@@ -24,6 +24,7 @@ use Rattle.making.specs.Make.{too_short, make_read, make_of, weighed_read, weigh
 use Rattle.forecast.specs.Forecast.{forecast_read, forecast_of}
 use Rattle.forecast.specs.Ceiling.{factors}
 use Rattle.forecast.specs.laws.Ceiling.{greatest_low, factors_is, factors_few, ceiling_low, ceiling_is}
+use Rattle.promises.specs.Answers.{past_memory}
 use Rattle.promises.specs.FirstDemand.{made_refused}
 
 -- A list was sought: making finished, or answered 11.
@@ -43,7 +44,7 @@ pub record Counts (bytes : List ℕ) (answer : Answer) (count : ℕ) : Type 0 wh
 
 module _ (bytes : List ℕ) where
   not_sought : {A : Type 0} (n at : ℕ) → n ≤ 10 → Sought (Refused n at) → A
-  not_sought n at l (inl e) = let z : ◌≡◌ {A = ℕ} 0 1 = cc in absurd (omega arith)
+  not_sought n at l (inl e) = absurd cc
   not_sought n at l (inr e) = absurd (omega arith)
 
   sought_weighed : (work list : ℕ) → Sought (make_of bytes work list)
@@ -67,15 +68,11 @@ module _ (bytes : List ℕ) where
   unfolding make_of make_read weighed_of weighed_read
   refused_none work list n at e other = go (galley_of bytes) e
     where
-      none : (g : Galley) (a b : Bool)
-          → pick a (Refused 9 (work_needed g)) (pick b (Refused 10 (list_needed g)) (made (model_of bytes g))) ≡ Refused n at
-          → pick (a || b) 0 (weighed (model_of bytes g)) ≡ 0
-      none g true b e = refl
-      none g false true e = refl
-      none g false false e = absurd (other (made_refused (model_of bytes g) n at e).0)
-
       go : (r : Reading) → make_read bytes work list r ≡ Refused n at → weighed_read bytes work list r ≡ 0
-      go (reads.Galley g) e = none g (ltb work (work_needed g)) (ltb list (list_needed g)) e
+      go (reads.Galley g) e =
+          past_memory (λ short. pick short 0 (weighed (model_of bytes g)) ≡ 0) (made (model_of bytes g)) _ _ refl
+          (λ e. absurd (other (made_refused (model_of bytes g) n at e).0))
+          (ltb work (work_needed g)) (ltb list (list_needed g)) e
       go (reads.Refused m there) e = refl
 
   weighed_low : (work list : ℕ) → weighed_of bytes work list ≤ (forecast_of bytes).ceiling

@@ -75,7 +75,7 @@ untabled_costs bytes untabled g e ps h =
 
 -- What is not accepted has no turns and no white.
 refused_within : (most : ℕ) (a : Answer) → accepted a ≡ false → Within most a
-refused_within most (Counted p x y t w) e = let z : ◌≡◌ {A = ℕ} 0 1 = cc in absurd (omega arith)
+refused_within most (Counted p x y t w) e = absurd cc
 refused_within most (Refused n at) e = (omega arith, omega arith)
 
 module _ (most : ℕ) (g : model.Galley) (limits : Limits g) (dear : Dearest most g) where

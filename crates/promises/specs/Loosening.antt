@@ -51,8 +51,8 @@ module _ (bytes : List ℕ) (g : Galley) (read : galley_of bytes ≡ reads.Galle
       answer few short = pick few (Refused 9 (work_needed g)) (pick short (Refused 10 (list_needed g)) (made_after (model_of bytes g) opening))
 
       go : (few short : Bool) → accepted (answer few short) ≡ true → answer few short ≡ made_after (model_of bytes g) opening
-      go true short a = let z : ◌≡◌ {A = ℕ} 0 1 = cc in absurd (omega arith)
-      go false true a = let z : ◌≡◌ {A = ℕ} 0 1 = cc in absurd (omega arith)
+      go true short a = absurd cc
+      go false true a = absurd cc
       go false false a = refl
 
   -- After no page it is what making answers without an opening.
@@ -63,23 +63,23 @@ module _ (bytes : List ℕ) (g : Galley) (read : galley_of bytes ≡ reads.Galle
 -- What is not turned away.
 none_turned : (t : Option Answer) → elim t [ none ↦ true | some refusal ↦ false ] ≡ true → t ≡ none
 none_turned none e = refl
-none_turned (some refusal) e = let z : ◌≡◌ {A = ℕ} 0 1 = cc in absurd (omega arith)
+none_turned (some refusal) e = absurd cc
 
 -- Of a refusal nothing is promised.
 pub refusal_loosens : {higher lower : Answer} → (accepted higher ≡ true → ⊥) → Loosens higher lower
 refusal_loosens refused = record { finishes = λ a. absurd (refused a); turns = λ a. absurd (refused a) }
 
 pub turned_refused : (a : Answer) → ByOpening a → accepted a ≡ true → ⊥
-turned_refused a (at, inl e) h = let z : ◌≡◌ {A = ℕ} 0 1 = cc in omega arith
-turned_refused a (at, inr e) h = let z : ◌≡◌ {A = ℕ} 0 1 = cc in omega arith
+turned_refused a (at, inl e) h = absurd cc
+turned_refused a (at, inr e) h = absurd cc
 
 -- In the page model: what is made after an opening is no worse than any list that is accepted and begins with it.
 pub made_best : (m : model.Galley) (opening words : List ℕ) {p x y t w : ℕ} → opening_turned m opening ≡ none
     → marked m (opening ++ words) ≡ Counted p x y t w → {a : Answer} {list : List ℕ} → MakingAfter m opening a list
     → Loosens (Counted p x y t w) a
-made_best m opening words through is (turned_away e by) = let z : ◌≡◌ {A = ℕ} 0 1 = cc in absurd (omega arith)
+made_best m opening words through is (turned_away e by) = absurd cc
 made_best m opening words through is (no_list e empty) =
-    let a = empty words in let b = ap accepted is in let z : ◌≡◌ {A = ℕ} 0 1 = cc in absurd (omega arith)
+    let a = empty words in let b = ap accepted is in absurd cc
 made_best m opening words through is (best_list vs e is' long best whiter) =
     record { finishes = λ _. refl; turns = λ _. let few = rw is at (best words (ap accepted is)) in omega arith }
 

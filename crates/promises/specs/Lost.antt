@@ -126,20 +126,9 @@ page_accepted g words a =
     let count = ap (λ r. (numbers_of r).pages) (marked_counts g words a) in
     omega (arith, count, ((marked_accepted g words).0 a).pages.some)
 
-module _ (bytes : List ℕ) (g : Galley) (read : galley_of bytes ≡ reads.Galley g) (words : List ℕ) (taken : accepted (mark_of bytes words) ≡ true) where
-  abbrev mark : Answer
-  mark = mark_of bytes words
-
-  abbrev pages : ℕ
-  pages = (numbers_of mark).pages
-
-  abbrev first : ℕ → List ℕ
-  first q = first_pages (model_of bytes g) q words
-
-  is : mark ≡ marked (model_of bytes g) words
-  is = mark_is bytes words g read
-
-  -- The first pages of an accepted list, but not all of them, are an opening that neither 20 nor 21 turns away.
-  pub first_pages_stand : (q : ℕ) → q < pages → opening_turned (model_of bytes g) (first q) ≡ none
-  first_pages_stand q few =
-      first_stand (model_of bytes g) words (sym (ap accepted is) ∙ taken) q (subst (λ a. q < (numbers_of a).pages) is few)
+-- In the engine's words: the first pages of an accepted list, but not all of them, are an opening that neither 20 nor 21 turns away.
+pub first_pages_stand : (bytes : List ℕ) (g : Galley) → galley_of bytes ≡ reads.Galley g → (words : List ℕ) → accepted (mark_of bytes words) ≡ true
+    → (q : ℕ) → q < (numbers_of (mark_of bytes words)).pages → opening_turned (model_of bytes g) (first_pages (model_of bytes g) q words) ≡ none
+first_pages_stand bytes g read words taken q few =
+    let is = mark_is bytes words g read in
+    first_stand (model_of bytes g) words (sym (ap accepted is) ∙ taken) q (subst (λ a. q < (numbers_of a).pages) is few)

@@ -27,7 +27,7 @@ use Rattle.needs.specs.Needs.{work_needed, list_needed}
 use Rattle.making.specs.After.{stands, sought, make_after_read, make_after_of, work_made_read, work_made_after, list_made_read, list_made_after, weighed_after_read, weighed_after_of, MadeAfter}
 use Rattle.solving.specs.laws.Solved.{reads_limits}
 use Rattle.forecast.specs.Forecast.{forecast_read, forecast_of}
-use Rattle.promises.specs.Answers.{ByMaking, picked}
+use Rattle.promises.specs.Answers.{ByMaking, with_memory, past_memory}
 use Rattle.promises.specs.FirstDemand.{Answered, finished, refused}
 use Rattle.promises.specs.Limit.{Within, Costs, marked_within}
 
@@ -44,10 +44,8 @@ of_making_after P bytes opening work list away read = go (galley_of bytes) refl
   where
     go : (r : Reading) → galley_of bytes ≡ r → P (make_after_read bytes opening work list r)
     go (reads.Galley g) e =
-        picked P (ltb work (work_needed g)) (Refused 9 (work_needed g))
-        (pick (ltb list (list_needed g)) (Refused 10 (list_needed g)) (made_after (model_of bytes g) opening)) (away 9 (work_needed g) (omega arith, omega arith))
-        (picked P (ltb list (list_needed g)) (Refused 10 (list_needed g)) (made_after (model_of bytes g) opening)
-        (away 10 (list_needed g) (omega arith, omega arith)) (read g e))
+        with_memory P (ltb work (work_needed g)) (ltb list (list_needed g)) (away 9 (work_needed g) (omega arith, omega arith))
+        (away 10 (list_needed g) (omega arith, omega arith)) (read g e)
     go (reads.Refused n at) e = let h = refusal_number bytes n at e in away n at (h.0, omega (arith, h.1))
 
 -- One of the opening's refusals has its number.
@@ -67,7 +65,7 @@ module _ (g : model.Galley) (ows : List ℕ) where
       → (ws ≡ []) × (¬ (n ≡ 11) → (r : Answer) × (opening_turned g ows ≡ some r))
   after_refused (turned_away {a} t h) n at e = (refl, λ o. (a, t))
   after_refused (no_list s empty) n at e = (refl, λ o. absurd (o (cc)))
-  after_refused (best_list rest s m long best whiter) n at e = let z : ◌≡◌ {A = ℕ} 0 1 = cc in absurd (omega arith)
+  after_refused (best_list rest s m long best whiter) n at e = absurd cc
 
 -- What is promised of making after an opening.
 module _ {bytes opening work list : List ℕ} {answer : Answer} {count : ℕ} {work' list' : List ℕ}
@@ -77,19 +75,13 @@ module _ {bytes opening work list : List ℕ} {answer : Answer} {count : ℕ} {w
   unfolding make_after_of make_after_read list_made_after list_made_read
   after_keeps_list n at e = m.listed ∙ go (galley_of bytes) (sym m.answers ∙ e)
     where
-      kept : (g : Galley) (a b : Bool)
-          → pick a (Refused 9 (work_needed g)) (pick b (Refused 10 (list_needed g)) (made_after (model_of bytes g) opening)) ≡ Refused n at
-          → pick (a || b) list (made_words_after (model_of bytes g) opening ++ drop (length (made_words_after (model_of bytes g) opening)) list) ≡ list
-      kept g true b e = refl
-      kept g false true e = refl
-      kept g false false e =
-          let w = (after_refused (model_of bytes g) opening
-          (making_after (model_of bytes g) opening) n at e).0 in
-          rw w
-
       go : (r : Reading) → make_after_read bytes opening (length work) (length list) r ≡ Refused n at
           → list_made_read bytes opening (length work) list r ≡ list
-      go (reads.Galley g) e = kept g (ltb (length work) (work_needed g)) (ltb (length list) (list_needed g)) e
+      go (reads.Galley g) e =
+          let words = made_words_after (model_of bytes g) opening in
+          past_memory (λ short. pick short list (words ++ drop (length words) list) ≡ list) (made_after (model_of bytes g) opening) _ _ refl
+          (λ e. let w = (after_refused (model_of bytes g) opening (making_after (model_of bytes g) opening) n at e).0 in rw w)
+          (ltb (length work) (work_needed g)) (ltb (length list) (list_needed g)) e
       go (reads.Refused k there) e = refl
 
   -- Nothing is sought with a refusal other than 11: nothing turned the lent memory, or something the opening, away.
@@ -97,13 +89,10 @@ module _ {bytes opening work list : List ℕ} {answer : Answer} {count : ℕ} {w
       → pick a (Refused 9 (work_needed g)) (pick b (Refused 10 (list_needed g)) (made_after (model_of bytes g) opening)) ≡ Refused n at
       → (not (a || b) && stands bytes g opening) ≡ false
   unfolding stands
-  unsought g n at other true b e = refl
-  unsought g n at other false true e = refl
-  unsought g n at other false false e =
-      let (r, t) =
-      (after_refused (model_of bytes g) opening
-      (making_after (model_of bytes g) opening) n at e).1 other in
-      ap (λ (o : Option Answer). elim o [ none ↦ true | some refusal ↦ false ]) t
+  unsought g n at other =
+      past_memory (λ short. (not short && stands bytes g opening) ≡ false) (made_after (model_of bytes g) opening) _ _ refl (λ e.
+      let (r, t) = (after_refused (model_of bytes g) opening (making_after (model_of bytes g) opening) n at e).1 other in
+      ap (λ (o : Option Answer). elim o [ none ↦ true | some refusal ↦ false ]) t)
 
   -- A refusal other than 11 leaves the work area untouched too.
   pub after_keeps_work : (n at : ℕ) → answer ≡ Refused n at → ¬ (n ≡ 11) → work' ≡ work

@@ -70,8 +70,8 @@ unrefused g work list a = go (ltb work (work_needed g)) (ltb list (list_needed g
     go : (b c : Bool) → ltb work (work_needed g) ≡ b → ltb list (list_needed g) ≡ c
         → accepted (pick b (Refused 9 (work_needed g)) (pick c (Refused 10 (list_needed g)) a)) ≡ true
         → (work_needed g ≤ work) × (list_needed g ≤ list) × (accepted a ≡ true)
-    go true c x y h = let z : ◌≡◌ {A = ℕ} 0 1 = cc in absurd (omega arith)
-    go false true x y h = let z : ◌≡◌ {A = ℕ} 0 1 = cc in absurd (omega arith)
+    go true c x y h = absurd cc
+    go false true x y h = absurd cc
     go false false x y h = (ltb-false work (work_needed g) x, ltb-false list (list_needed g) y, h)
 
 -- ---- of a book

@@ -34,7 +34,7 @@ accepted_reads : (bytes words : List ℕ) (r : Reading) → galley_of bytes ≡ 
     → (g : Galley) × (galley_of bytes ≡ reads.Galley g)
 unfolding mark_read
 accepted_reads bytes words (reads.Galley g) e h = (g, e)
-accepted_reads bytes words (reads.Refused number place) e h = let z : ◌≡◌ {A = ℕ} 0 1 = cc in absurd (omega arith)
+accepted_reads bytes words (reads.Refused number place) e h = absurd cc
 
 -- Marking accepts the words exactly where they are the list of a pagination of the galley that the bytes say.
 pub accepts_paginations : (bytes words : List ℕ)

@@ -54,8 +54,7 @@ module _ (bytes : List ℕ) (g : Galley) (read : galley_of bytes ≡ reads.Galle
       → made_words_after (model_of bytes g) opening ≡ ws → ThirdDemandAfter bytes g opening answer list'
   from_making (turned_away t h) e f =
       let s = stands in
-      let z : ◌≡◌ {A = ℕ} 0 1 = cc in
-      absurd (omega arith)
+      absurd cc
   from_making (no_list s empty) e f =
       record {
         outcome = inl (makes ∙ e);

@@ -3,9 +3,8 @@ use Prim.Native.Nat.{ℕ, zero, suc, ◌+◌, ◌-◌, ◌*◌, ◌≤◌, ◌<�
 use native.Mathlib.Omega.{arith}
 use Rattle.std.specs.Prelude.{◌≡◌, List, Ok}
 use Rattle.std.proofs.Math.Path.{refl, ap, subst}
-use Rattle.std.proofs.Common.{sym, ◌∙◌, ne_eqb}
+use Rattle.std.proofs.Common.{sym, ◌∙◌}
 use Rattle.std.proofs.Math.Bool.{false}
-use Rattle.std.proofs.Math.Dec.{eqb-suc-zero}
 use Rattle.galley.specs.Place.{spec_size, FO, TL, FG, TB, kind_of}
 use Rattle.galley.specs.Word.{word_at}
 use Rattle.galley.specs.Record.{cite_at, line_of, float_of, is_kept, record_at}
@@ -47,12 +46,7 @@ module _ (bytes : List ℕ) where
     module _ (o : Stated) (folio : FolioAt bytes (spec_size s.edition) o) where
       line_fit : (m : ℕ) → m < 4000 → turned (begun s o m 0 0) TL ≡ 0
       unfolding may_follow early crowded
-      line_fit zero h = go o
-        where
-          go : (o : Stated) → turned (begun s o 0 0 0) TL ≡ 0
-          go unstated = refl
-          go (stated f) = refl
-      line_fit (suc m) h = rw (ne_eqb (suc m) 4000 (λ e. omega arith)) refl
+      line_fit m h = grind arith
 
       -- the lines,
       reach_lines : (m : ℕ) → m ≤ 4000 → Reads bytes (galley_in s o m 0 0).text (λ at. found.Line (line_of bytes at))
@@ -71,8 +65,7 @@ module _ (bytes : List ℕ) where
       -- The line cited last is none that the next float of the stream comes after.
       last_low : (floats : Stream) (m n : ℕ) → SoundCitations bytes (record { first = floats.first; count = suc n }) m
           → last_cited bytes (record { first = floats.first; count = n }) ≤ field_of bytes (record { first = floats.first; count = suc n }) cite_at (suc n)
-      last_low floats m zero c = omega arith
-      last_low floats m (suc n) c = rw (eqb-suc-zero n) (c.grow (suc n) (suc (suc n)) (omega arith) (omega arith) (omega arith))
+      last_low floats m n c = grind arith
 
       abbrev Figures : ℕ → ℕ → Type 0
       Figures m n = Floats bytes (galley_in s o m n 0).figures m 200 (λ at. found.Figure (float_of (is_kept bytes at) bytes at))
@@ -82,14 +75,11 @@ module _ (bytes : List ℕ) where
 
       figure_fit : (m n : ℕ) → n < 200 → turned (begun s o (suc m) n 0) FG ≡ 0
       unfolding may_follow early crowded
-      figure_fit m zero h = refl
-      figure_fit m (suc n) h = rw (ne_eqb (suc n) 200 (λ e. omega arith)) refl
+      figure_fit m n h = grind arith
 
       table_fit : (m n k : ℕ) → k < 50 → turned (begun s o (suc m) n k) TB ≡ 0
       unfolding may_follow early crowded
-      table_fit m zero zero h = refl
-      table_fit m (suc n) zero h = refl
-      table_fit m n (suc k) h = rw (ne_eqb (suc k) 50 (λ e. omega arith)) refl
+      table_fit m n k h = grind arith
 
       -- one figure more,
       figure_on : (m n : ℕ) → m ≤ 4000 → Figures m (suc n) → Underway bytes (state_of bytes (begun s o m n 0))
@@ -140,18 +130,7 @@ module _ (bytes : List ℕ) where
       -- Fewer floats stand too.
       fewer_floats : {first n m most : ℕ} {due : ℕ → Record} → Floats bytes (record { first = first; count = suc n }) m most due
           → Floats bytes (record { first = first; count = n }) m most due
-      fewer_floats r =
-          let all = r.few in
-          record {
-            few = omega arith;
-            read = λ k one h. r.read k one (omega arith);
-            citations =
-                record {
-                  some = λ k one h. r.citations.some k one (omega arith);
-                  line = λ k one h. r.citations.line k one (omega arith);
-                  grow = λ j k one less h. r.citations.grow j k one less (omega arith);
-                };
-          }
+      fewer_floats r = grind arith
 
       module _ (m : ℕ) (few : m ≤ 4000) (text : Reads bytes (galley_in s o m 0 0).text (λ at. found.Line (line_of bytes at))) where
         -- the figures,
@@ -173,5 +152,4 @@ module _ (bytes : List ℕ) where
   -- There are no more records than there may be.
   pub begins_few : (b : Start) → Begins bytes b → Few b
   unfolding Begins
-  begins_few nothing h = tt
-  begins_few (begun s o m n k) h = (h.few, h.figures.few, h.tables.few)
+  begins_few b h = grind arith

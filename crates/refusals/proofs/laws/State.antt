@@ -1,11 +1,10 @@
 -- How far reading has come where these records stand.
 use Prim.Native.Nat.{ℕ, zero, suc, ◌+◌, ◌*◌, ◌≤◌}
 use native.Mathlib.Omega.{arith}
-use Rattle.std.specs.Prelude.{◌≡◌, Bool, true, false, List, leb, eqb}
+use Rattle.std.specs.Prelude.{◌≡◌, false, List, leb, eqb}
 use Rattle.std.proofs.Math.Path.{refl}
-use Rattle.std.proofs.Common.{sym, subst, eqb-true, le-leb}
 use Rattle.std.proofs.Math.Dec.{eqb-suc-zero}
-use Rattle.std.proofs.lemmas.Bool.{eqb-false, lt-leb}
+use Rattle.std.proofs.lemmas.Bool.Decides.{nat_tests}
 use Rattle.model.specs.Gather.{pick}
 use Rattle.galley.specs.Place.{GS, G2, FO, TL, FG, FK, TB, ED, spec_mark, spec_size, spec, folio, line, figure, table, row_of, kind_of, unfit}
 use Rattle.galley.specs.Record.{cite_at}
@@ -79,12 +78,7 @@ state_of bytes (begun s o m n k) = table_state bytes s o m n k
 -- It is due where the next record is.
 pub state_at : (bytes : List ℕ) (b : Start) → (state_of bytes b).at ≡ due_at b
 unfolding state_of due_at
-state_at bytes nothing = refl
-state_at bytes (begun s unstated zero zero zero) = omega arith
-state_at bytes (begun s (stated f) zero zero zero) = omega arith
-state_at bytes (begun s o (suc m) zero zero) = omega arith
-state_at bytes (begun s o m (suc n) zero) = omega arith
-state_at bytes (begun s o m n (suc k)) = omega arith
+state_at bytes b = grind arith
 
 -- The number that turns a mark away, 2 before 5 before 4; 0 where it fits.
 abbrev pub turned : Start → ℕ → ℕ
@@ -102,31 +96,15 @@ pub record Unknown (mark : ℕ) : Type 0 where
   pub ed : eqb mark ED ≡ false
 
 by_mark : (P : ℕ → Type 0) (mark m : ℕ) → P m → (eqb mark m ≡ false → P mark) → P mark
-by_mark P mark m here other = go (eqb mark m) refl
-  where
-    go : (b : Bool) → eqb mark m ≡ b → P mark
-    go true e = subst P (sym (eqb-true mark m e)) here
-    go false e = other e
+by_mark P mark m here other = grind arith
 
 pub all_marks : (P : ℕ → Type 0) → P GS → P G2 → P FO → P TL → P FG → P FK → P TB → P ED → ((mark : ℕ) → Unknown mark → P mark)
     → (mark : ℕ) → P mark
-all_marks P gs g2 fo tl fg fk tb ed unknown mark =
-    by_mark P mark GS gs (λ a.
-    by_mark P mark G2 g2 (λ b.
-    by_mark P mark FO fo (λ c.
-    by_mark P mark TL tl (λ d.
-    by_mark P mark FG fg (λ e.
-    by_mark P mark FK fk (λ f.
-    by_mark P mark TB tb (λ g.
-    by_mark P mark ED ed (λ h. unknown mark (record { gs = a; g2 = b; fo = c; tl = d; fg = e; fk = f; tb = g; ed = h })))))))))
+all_marks P gs g2 fo tl fg fk tb ed unknown mark = grind arith
 
 -- As many as there may be, where there are no more.
 full_is : (n top : ℕ) → n ≤ top → leb top n ≡ eqb n top
-full_is n top few = go (eqb n top) refl
-  where
-    go : (b : Bool) → eqb n top ≡ b → leb top n ≡ b
-    go true e = le-leb top n (let h = eqb-true n top e in omega arith)
-    go false e = lt-leb top n (let h = eqb-false n top e in omega arith)
+full_is n top few = grind (arith, nat_tests)
 
 -- No more than there may be of each kind.
 abbrev pub Few : Start → Type 0
@@ -221,53 +199,36 @@ module _ (bytes : List ℕ) (s : Spec) where
   -- a line,
   pub line_more : (o : Stated) (m : ℕ) → with_line (moved (state_of bytes (begun s o m 0 0)) (kind_of TL)) ≡ state_of bytes (begun s o (suc m) 0 0)
   unfolding state_of kind_of
-  line_more unstated zero = refl
-  line_more (stated f) zero = refl
-  line_more o (suc m) = more_eq (omega arith) refl (omega arith) (omega arith) refl refl
+  line_more o m = grind arith
 
   -- a figure,
   pub figure_more : (o : Stated) (m n cite : ℕ) → cite ≡ field_of bytes (galley_in s o (suc m) (suc n) 0).figures cite_at (suc n)
       → with_figure (moved (state_of bytes (begun s o (suc m) n 0)) (kind_of FG)) cite ≡ state_of bytes (begun s o (suc m) (suc n) 0)
   unfolding state_of kind_of
-  figure_more o m zero cite e = more_eq refl e (omega arith) refl refl refl
-  figure_more o m (suc n) cite e = more_eq (omega arith) e (omega arith) refl (omega arith) refl
+  figure_more o m n cite e = grind arith
 
   -- a table.
   pub table_more : (o : Stated) (m n k cite : ℕ) → cite ≡ field_of bytes (galley_in s o (suc m) n (suc k)).tables cite_at (suc k)
       → with_table (moved (state_of bytes (begun s o (suc m) n k)) (kind_of TB)) cite ≡ state_of bytes (begun s o (suc m) n (suc k))
   unfolding state_of kind_of
-  table_more o m zero zero cite e = more_eq refl e (omega arith) refl refl refl
-  table_more o m (suc n) zero cite e = more_eq refl e (omega arith) refl refl refl
-  table_more o m n (suc k) cite e = more_eq (omega arith) e (omega arith) refl refl (omega arith)
+  table_more o m n k cite e = grind arith
 
 -- The line cited last, where another float of a stream is read.
 pub figure_last : (bytes : List ℕ) (s : Spec) (o : Stated) (m n : ℕ)
     → (moved (state_of bytes (begun s o (suc m) n 0)) (kind_of FG)).last ≡ last_cited bytes (galley_in s o (suc m) n 0).figures
 unfolding state_of kind_of
-figure_last bytes s o m zero = refl
-figure_last bytes s o m (suc n) = rw (eqb-suc-zero n) refl
+figure_last bytes s o m n = grind arith
 
 pub table_last : (bytes : List ℕ) (s : Spec) (o : Stated) (m n k : ℕ)
     → (moved (state_of bytes (begun s o (suc m) n k)) (kind_of TB)).last ≡ last_cited bytes (galley_in s o (suc m) n k).tables
 unfolding state_of kind_of
-table_last bytes s o m zero zero = refl
-table_last bytes s o m (suc n) zero = refl
-table_last bytes s o m n (suc k) = rw (eqb-suc-zero k) refl
+table_last bytes s o m n k = grind arith
 
 -- The lines that were read, and where the galley has come to.
 pub state_lines : (bytes : List ℕ) (b : Start) → (state_of bytes b).lines ≡ lines_in b
 unfolding state_of
-state_lines bytes nothing = refl
-state_lines bytes (begun s unstated zero zero zero) = refl
-state_lines bytes (begun s (stated f) zero zero zero) = refl
-state_lines bytes (begun s o (suc m) zero zero) = refl
-state_lines bytes (begun s o m (suc n) zero) = refl
-state_lines bytes (begun s o m n (suc k)) = refl
+state_lines bytes b = grind arith
 
 pub state_galley : (bytes : List ℕ) (s : Spec) (o : Stated) (m n k : ℕ) → galley_so_far s (state_of bytes (begun s o m n k)) ≡ galley_in s o m n k
 unfolding state_of head_of
-state_galley bytes s unstated zero zero zero = refl
-state_galley bytes s (stated f) zero zero zero = refl
-state_galley bytes s o (suc m) zero zero = refl
-state_galley bytes s o m (suc n) zero = refl
-state_galley bytes s o m n (suc k) = refl
+state_galley bytes s o m n k = grind arith

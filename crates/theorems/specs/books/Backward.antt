@@ -1,6 +1,7 @@
 -- A book read from its last chapter: a choice, its sums and its ties grow by one chapter at a time, as the chapters are made.
 use Rattle.std.specs.Prelude.{ℕ, ◌+◌, ◌≡◌}
 use native.Mathlib.Omega.{arith}
+use Rattle.std.proofs.Math.Nat.{add-zero, add_assoc}
 use Rattle.std.proofs.Math.Path.{refl, ap, subst}
 use Rattle.std.proofs.Common.{sym, ◌∙◌, inl, inr}
 use mathlib.Core.List.Memᴰ
@@ -40,26 +41,41 @@ ties_back f [] cs = []
 ties_back f (g ∷ rs) [] = []
 ties_back f (g ∷ rs) (ps ∷ cs) = tie_of (open_on (f + pages_in cs) g) ps ∷ ties_back f rs cs
 
--- Chapters that follow on folio n after pages of a choice open on the folio after them.
-on_folio_lem : (f a b : ℕ) → (f + a) + b ≡ f + (a + b)
-on_folio_lem f a b = omega arith
+-- There is but one choice for no chapter,
+pub only_empty : (f : ℕ) (cs : Choice) → cs ∈ choices f [] → cs ≡ []
+unfolding choices
+only_empty f cs m = elim (Memᴰ.cases_cons m) [ inl e ↦ e | inr k ↦ absurd (Memᴰ.not-nil k) ]
 
--- There is but one choice for no chapter.
-only_empty : (cs : Choice) → cs ∈ ([] ∷ []) → cs ≡ []
-only_empty cs m = elim (Memᴰ.cases_cons m) [ inl e ↦ e | inr k ↦ absurd (Memᴰ.not-nil k) ]
+-- and any other is a list for its first chapter and a choice for those after it.
+pub record Opened (f : ℕ) (g : Galley) (gs : List Galley) (cs : Choice) : Type 0 where
+  pub list : List Place
+  pub rest : Choice
+  pub is : cs ≡ list ∷ rest
+  pub lawful : list ∈ valid (open_on f g)
+  pub later : rest ∈ choices (f + length list) gs
+
+pub opened : (f : ℕ) (g : Galley) (gs : List Galley) (cs : Choice) → cs ∈ choices f (g ∷ gs) → Opened f g gs cs
+unfolding choices
+opened f g gs cs m =
+    let (ps, v, n) = ∈-ungathered (λ ps. map (λ cs. ps ∷ cs) (choices (f + length ps) gs)) cs (valid (open_on f g)) m in
+    let (es, e, k) = ∈-unmap (λ cs. ps ∷ cs) cs (choices (f + length ps) gs) n in
+    record { list = ps; rest = es; is = e; lawful = v; later = k }
 
 module _ (f : ℕ) where
+  -- What goes on from a choice goes on from it with one list more.
+  on_after : (ds : Choice) {g : Galley} {gs : List Galley} {cs : Choice} (o : Opened (f + pages_in ds) g gs cs)
+      → o.rest ∈ choices (f + pages_in (o.list ∷ ds)) gs
+  unfolding pages_in
+  on_after ds {g} {gs} o = subst (λ n. o.rest ∈ choices n gs) (add_assoc f (pages_in ds) (length o.list)) o.later
+
   -- A choice that goes on from a choice is one for all the chapters,
   pub chosen_on : (gs rs : List Galley) (cs ds : Choice) → cs ∈ choices (f + pages_in ds) gs → Chosen f rs ds
       → Chosen f (reverse_aux gs rs) (reverse_aux cs ds)
   unfolding choices pages_in Chosen
-  chosen_on [] rs cs ds m c = rw (only_empty cs m) c
+  chosen_on [] rs cs ds m c = rw (only_empty (f + pages_in ds) cs m) c
   chosen_on (g ∷ gs) rs cs ds m c =
-      let (ps, v, n) =
-      ∈-ungathered (λ ps. map (λ cs. ps ∷ cs) (choices ((f + pages_in ds) + length ps) gs)) cs (valid (open_on (f + pages_in ds) g)) m in
-      let (es, e, k) = ∈-unmap (λ cs. ps ∷ cs) cs (choices ((f + pages_in ds) + length ps) gs) n in
-      let k' = subst (λ n. es ∈ choices n gs) (on_folio_lem f (pages_in ds) (length ps)) k in
-      rw e (chosen_on gs (g ∷ rs) es (ps ∷ ds) k' (v, c))
+      let o = opened (f + pages_in ds) g gs cs m in
+      rw o.is (chosen_on gs (g ∷ rs) o.rest (o.list ∷ ds) (on_after ds o) (o.lawful, c))
 
   -- and a choice for all is one that goes on from a choice.
   pub record Parted (gs rs : List Galley) (es : Choice) : Type 0 where
@@ -78,7 +94,7 @@ module _ (f : ℕ) where
           → Parted (g ∷ gs) rs es
       next [] later m is c = absurd c
       next (ps ∷ ds) later m is c =
-          let k = subst (λ n. later ∈ choices n gs) (sym (on_folio_lem f (pages_in ds) (length ps))) m in
+          let k = subst (λ n. later ∈ choices n gs) (sym (add_assoc f (pages_in ds) (length ps))) m in
           record {
             later = ps ∷ later;
             sooner = ds;
@@ -96,27 +112,23 @@ module _ (f : ℕ) where
   pub sum_on : (h : Galley → List Place → ℕ) (gs rs : List Galley) (cs ds : Choice) → cs ∈ choices (f + pages_in ds) gs
       → sum_back h f rs ds + summed h (f + pages_in ds) gs cs ≡ sum_back h f (reverse_aux gs rs) (reverse_aux cs ds)
   unfolding choices pages_in summed sum_back
-  sum_on h [] rs cs ds m = rw (only_empty cs m) (omega arith)
+  sum_on h [] rs cs ds m = rw (only_empty (f + pages_in ds) cs m) (omega arith)
   sum_on h (g ∷ gs) rs cs ds m =
-      let (ps, v, n) =
-      ∈-ungathered (λ ps. map (λ cs. ps ∷ cs) (choices ((f + pages_in ds) + length ps) gs)) cs (valid (open_on (f + pages_in ds) g)) m in
-      let (es, e, k) = ∈-unmap (λ cs. ps ∷ cs) cs (choices ((f + pages_in ds) + length ps) gs) n in
-      let k' = subst (λ n. es ∈ choices n gs) (on_folio_lem f (pages_in ds) (length ps)) k in
-      let rest = sum_on h gs (g ∷ rs) es (ps ∷ ds) k' in
-      let same = ap (λ n. summed h n gs es) (on_folio_lem f (pages_in ds) (length ps)) in
-      rw e (omega arith)
+      let o = opened (f + pages_in ds) g gs cs m in
+      let rest = sum_on h gs (g ∷ rs) o.rest (o.list ∷ ds) (on_after ds o) in
+      let same = ap (λ n. summed h n gs o.rest) (add_assoc f (pages_in ds) (length o.list)) in
+      rw o.is (omega arith)
 
   -- and so are its ties.
   pub ties_on : (gs rs : List Galley) (cs ds : Choice) → cs ∈ choices (f + pages_in ds) gs
       → ties_of (f + pages_in ds) gs cs (ties_back f rs ds) ≡ ties_back f (reverse_aux gs rs) (reverse_aux cs ds)
   unfolding choices pages_in ties_of ties_back
-  ties_on [] rs cs ds m = rw (only_empty cs m) refl
+  ties_on [] rs cs ds m = rw (only_empty (f + pages_in ds) cs m) refl
   ties_on (g ∷ gs) rs cs ds m =
-      let (ps, v, n) =
-      ∈-ungathered (λ ps. map (λ cs. ps ∷ cs) (choices ((f + pages_in ds) + length ps) gs)) cs (valid (open_on (f + pages_in ds) g)) m in
-      let (es, e, k) = ∈-unmap (λ cs. ps ∷ cs) cs (choices ((f + pages_in ds) + length ps) gs) n in
-      let k' = subst (λ n. es ∈ choices n gs) (on_folio_lem f (pages_in ds) (length ps)) k in
-      rw e (ap (λ n. ties_of n gs es (ties_back f (g ∷ rs) (ps ∷ ds))) (on_folio_lem f (pages_in ds) (length ps)) ∙ ties_on gs (g ∷ rs) es (ps ∷ ds) k')
+      let o = opened (f + pages_in ds) g gs cs m in
+      rw o.is
+      (ap (λ n. ties_of n gs o.rest (ties_back f (g ∷ rs) (o.list ∷ ds))) (add_assoc f (pages_in ds) (length o.list))
+      ∙ ties_on gs (g ∷ rs) o.rest (o.list ∷ ds) (on_after ds o))
 
   -- Pages are such a sum.
   pub pages_sum : (rs : List Galley) (cs : Choice) → Chosen f rs cs → sum_back (λ g ps. length ps) f rs cs ≡ pages_in cs
@@ -144,14 +156,11 @@ module _ (f : ℕ) where
       cc
 
 -- A whole book: nothing comes before it.
-no_pages : (f : ℕ) → f + 0 ≡ f
-no_pages f = omega arith
-
 module _ (f : ℕ) (gs : List Galley) where
   -- A choice for a book is one backwards,
   pub chosen_front : (cs : Choice) → cs ∈ choices f gs → Chosen f (reverse_aux gs []) (reverse_aux cs [])
   unfolding pages_in Chosen
-  chosen_front cs m = chosen_on f gs [] cs [] (subst (λ n. cs ∈ choices n gs) (sym (no_pages f)) m) tt
+  chosen_front cs m = chosen_on f gs [] cs [] (subst (λ n. cs ∈ choices n gs) (sym (add-zero f)) m) tt
 
   -- and one backwards is a choice for the book,
   pub chosen_back : (es : Choice) → Chosen f (reverse_aux gs []) es → (cs : Choice) × (es ≡ reverse_aux cs []) × (cs ∈ choices f gs)
@@ -160,7 +169,7 @@ module _ (f : ℕ) (gs : List Galley) where
     where
       go : (ds cs : Choice) → es ≡ reverse_aux cs ds → cs ∈ choices (f + pages_in ds) gs → Chosen f [] ds
           → (cs : Choice) × (es ≡ reverse_aux cs []) × (cs ∈ choices f gs)
-      go [] cs is m d = (cs, is, subst (λ n. cs ∈ choices n gs) (no_pages f) m)
+      go [] cs is m d = (cs, is, subst (λ n. cs ∈ choices n gs) (add-zero f) m)
       go (ps ∷ ds) cs is m d = absurd d
 
   -- with the same sums
@@ -168,13 +177,13 @@ module _ (f : ℕ) (gs : List Galley) where
       → summed h f gs cs ≡ sum_back h f (reverse_aux gs []) (reverse_aux cs [])
   unfolding pages_in sum_back
   sum_front h cs m =
-      let same = ap (λ n. summed h n gs cs) (no_pages f) in
-      let all = sum_on f h gs [] cs [] (subst (λ n. cs ∈ choices n gs) (sym (no_pages f)) m) in
+      let same = ap (λ n. summed h n gs cs) (add-zero f) in
+      let all = sum_on f h gs [] cs [] (subst (λ n. cs ∈ choices n gs) (sym (add-zero f)) m) in
       omega arith
 
   -- and the same ties.
   pub ties_front : (cs : Choice) → cs ∈ choices f gs → ties_of f gs cs [] ≡ ties_back f (reverse_aux gs []) (reverse_aux cs [])
   unfolding pages_in ties_back
   ties_front cs m =
-      ap (λ n. ties_of n gs cs []) (sym (no_pages f))
-      ∙ ties_on f gs [] cs [] (subst (λ n. cs ∈ choices n gs) (sym (no_pages f)) m)
+      ap (λ n. ties_of n gs cs []) (sym (add-zero f))
+      ∙ ties_on f gs [] cs [] (subst (λ n. cs ∈ choices n gs) (sym (add-zero f)) m)

@@ -1,6 +1,6 @@
 -- What making a book has to find: the best choice is that of the best route, and there is no route where the book has no choice.
 use Prim.Native.Nat.{ℕ, ◌≤◌}
-use Rattle.std.proofs.Common.{arith, ◌∙◌}
+use Rattle.std.proofs.Common.{◌∙◌}
 use Rattle.std.specs.Prelude.{◌≡◌, true}
 use Rattle.std.proofs.Math.Path.{refl, sym, ap, subst}
 use mathlib.Core.List.{List, [], ◌∷◌, reverse, reverse_aux, reverse-reverse}
@@ -28,7 +28,7 @@ all_onto h (g ∷ gs) rs a b = all_onto h gs (g ∷ rs) a.1 (a.0, b)
 
 -- A chapter more is one at least.
 not_empty : (gs rs : List Galley) (g : Galley) → ¬ (reverse_aux gs (g ∷ rs) ≡ [])
-not_empty [] rs g e = let z : ◌≡◌ {A = ℕ} 0 1 = cc in omega arith
+not_empty [] rs g e = absurd cc
 not_empty (x ∷ gs) rs g e = not_empty gs (g ∷ rs) x e
 
 -- A galley is like itself.

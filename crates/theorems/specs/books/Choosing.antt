@@ -165,7 +165,7 @@ module _ (h : Galley) (f : ℕ) (some_folio_lem : 1 ≤ f) (g : Galley) (a : Ali
 
       back : back_before h f (g ∷ rs) mine other ≡ false → (back_before h f (g ∷ rs) mine other ≡ true) ⊎ (back_before h f (g ∷ rs) other mine ≡ true)
           → back_before h f (g ∷ rs) other mine ≡ true
-      back e (inl k) = let z : ◌≡◌ {A = ℕ} 0 1 = cc in absurd (omega arith)
+      back e (inl k) = absurd cc
       back e (inr k) = k
 
       go : (b : Bool) → back_before h f (g ∷ rs) mine other ≡ b → Routes h f (g ∷ rs) next (some (pick b r r'))

@@ -4,23 +4,17 @@ use Rattle.std.specs.Prelude.{ℕ, ◌+◌, ◌≤◌, refl, Bool, true, false, 
 use native.Mathlib.Omega.{arith}
 use Rattle.std.proofs.Math.Path.{◌≡◌}
 use Rattle.std.proofs.Common.{sym, ◌∙◌, ap, subst, inl, inr}
-use mathlib.Core.List.Memᴰ
-use mathlib.Core.List.{List, [], ◌∷◌, map, reverse_aux}
+use mathlib.Core.List.{List, [], ◌∷◌, reverse_aux}
 use Rattle.std.proofs.Math.Option.{Option, none, some}
 use Rattle.std.proofs.Math.ListN.{length}
 use Rattle.model.specs.Gather.{pick}
 use Rattle.model.specs.Galley.{Galley, Place}
 use Rattle.model.specs.Turns.{x_of}
 use Rattle.model.specs.White.{white}
-use Rattle.model.specs.Best.{valid}
-use Rattle.model.specs.Book.{open_on, first_folio, Choice, choices, book_pages, book_x, book_white}
+use Rattle.model.specs.Book.{first_folio, Choice, choices, book_pages, book_x, book_white}
 use Rattle.model.specs.laws.Lists.{◌∈◌}
-use Rattle.model.proofs.laws.Lists.{∈-unmap}
-use Rattle.model.proofs.laws.Book.{∈-ungathered}
-use Rattle.theorems.specs.pages.Graph.{side}
 use Rattle.theorems.specs.books.Folios.{like, x_on_lem, white_on_lem}
-use Rattle.theorems.specs.books.Closing.{best_closing}
-use Rattle.theorems.specs.books.Backward.{pages_in}
+use Rattle.theorems.specs.books.Backward.{pages_in, only_empty, opened}
 use Rattle.theorems.specs.books.Turns.{no_chapter}
 use Rattle.theorems.specs.books.Routes.{Route, preferred, choose, with_list, through, route, cheaper, finish, ending, Along}
 use Rattle.theorems.specs.books.Choosing.{AllAlike}
@@ -41,8 +35,7 @@ taken_is (some a) none = refl
 taken_is (some a) (some b) = go (preferred a b)
   where
     go : (t : Bool) → ◌≡◌ {A = Option Route} (some (pick t a b)) (pick (eqb (pick t 1 2) 1) (some a) (some b))
-    go true = refl
-    go false = refl
+    go t = grind arith
 
 -- The folio that the route to the next comes from, after chapter g.
 unfoldable pub comes_from : Galley → ℕ → Galley → List Galley → ℕ → ℕ
@@ -65,12 +58,10 @@ through_onward h f g rs o next r e = from (route h f rs o) refl e
           | none ↦ none
           | some ps ↦ some (with_list h g (no_chapter rs) o q ps)
         ]) (some r) → Onward h f rs o r
-    with_list_lem q is none e = let z : ◌≡◌ {A = ℕ} 0 1 = cc in absurd (omega arith)
-    with_list_lem q is (some ps) e = record { before = q; was = is; folios = let z : ◌≡◌ {A = List ℕ} r.folios (o ∷ q.folios) = cc in z }
+    with_list_lem q is b e = grind arith
 
     from : (q : Option Route) → route h f rs o ≡ q → through h g (no_chapter rs) o next q ≡ some r → Onward h f rs o r
-    from none is e = unfold through in (let z : ◌≡◌ {A = ℕ} 0 1 = cc in absurd (omega arith))
-    from (some q) is e = with_list_lem q is (best_closing (open_on o g) (side h.spec.sides (o + next))) (unfold through in e)
+    from q is e = grind arith
 
 -- One of the two is taken.
 taken_range : (a b : Option Route) (r : Route) → pick (eqb (taken a b) 1) a b ≡ some r
@@ -82,8 +73,7 @@ taken_range (some a) (some b) r e = go (preferred a b) e
   where
     go : (t : Bool) → ◌≡◌ {A = Option Route} (pick (eqb (pick t 1 2) 1) (some a) (some b)) (some r)
         → ((◌≡◌ {A = ℕ} (pick t 1 2) 1) × (some a ≡ some r)) ⊎ ((◌≡◌ {A = ℕ} (pick t 1 2) 2) × (some b ≡ some r))
-    go true e = inl (refl, e)
-    go false e = inr (refl, e)
+    go t e = grind arith
 
 -- A route after a chapter comes from that folio.
 pub route_onward : (h : Galley) (f : ℕ) (g : Galley) (rs : List Galley) (next : ℕ) (r : Route) → route h f (g ∷ rs) next ≡ some r
@@ -103,31 +93,28 @@ route_onward h f g rs next r e = occurs (eqb (like h.spec.sides next) next) e
 
     occurs : (b : Bool) → ◌≡◌ {A = Option Route} (pick b (choose one two) none) (some r) → Onward h f rs (taken one two) r
     occurs true e = out (taken_range one two r (sym (taken_is one two) ∙ e))
-    occurs false e = let z : ◌≡◌ {A = ℕ} 0 1 = cc in absurd (omega arith)
+    occurs false e = absurd cc
 
 -- The route at the end leads to that folio.
 pub ending_is : (a b : Option Route) (r : Route) → finish a b ≡ some r
     → ((ending a b ≡ 1) × (a ≡ some r)) ⊎ ((ending a b ≡ 2) × (b ≡ some r))
 unfolding finish ending
-ending_is none none r e = let z : ◌≡◌ {A = ℕ} 0 1 = cc in absurd (omega arith)
+ending_is none none r e = absurd cc
 ending_is none (some b) r e = inr (refl, e)
 ending_is (some a) none r e = inl (refl, e)
 ending_is (some a) (some b) r e = go (cheaper a b) e
   where
     go : (t : Bool) → ◌≡◌ {A = Option Route} (some (pick t a b)) (some r)
         → ((◌≡◌ {A = ℕ} (pick t 1 2) 1) × (some a ≡ some r)) ⊎ ((◌≡◌ {A = ℕ} (pick t 1 2) 2) × (some b ≡ some r))
-    go true e = inl (refl, e)
-    go false e = inr (refl, e)
+    go t e = grind arith
 
 -- A choice has a list for each chapter.
 pub choices_long : (f : ℕ) (gs : List Galley) (cs : Choice) → cs ∈ choices f gs → length cs ≡ length gs
-unfolding choices
-choices_long f [] cs m = elim (Memᴰ.cases_cons m) [ inl e ↦ ap length e | inr k ↦ absurd (Memᴰ.not-nil k) ]
+choices_long f [] cs m = ap length (only_empty f cs m)
 choices_long f (g ∷ gs) cs m =
-    let (ps, v, n) = ∈-ungathered (λ ps. map (λ cs. ps ∷ cs) (choices (f + length ps) gs)) cs (valid (open_on f g)) m in
-    let (es, e, k) = ∈-unmap (λ cs. ps ∷ cs) cs (choices (f + length ps) gs) n in
-    let long = choices_long (f + length ps) gs es k in
-    rw e (omega arith)
+    let o = opened f g gs cs m in
+    let long = choices_long (f + length o.list) gs o.rest o.later in
+    rw o.is (omega arith)
 
 module _ (h : Galley) (gs : List Galley) (all : AllAlike h gs) (some_folio_lem : 1 ≤ first_folio (h ∷ gs)) where
   -- The best choice in the order of the book: each chapter by the best list from its folio to the next, and the sums of their counts.

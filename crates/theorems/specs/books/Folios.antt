@@ -9,7 +9,7 @@ use Rattle.model.specs.Galley.{Sides, single, double, Galley, Place, streams, ze
 use Rattle.model.specs.Height.{kinds, height, tightest, loosest}
 use Rattle.model.specs.Leaf.{leaf, ends}
 use Rattle.model.specs.Rules.{forward, closes, fits, fills, cited, broken}
-use Rattle.model.specs.Turns.{page_of, apart, x_of, y_of, turns}
+use Rattle.model.specs.Turns.{apart, x_of, y_of, turns}
 use Rattle.model.specs.White.{white_on, whites, white}
 use Rattle.model.specs.Answers.{ended}
 use Rattle.model.specs.Order.{oddly}
@@ -104,10 +104,7 @@ module _ (g : Galley) (f e : ℕ) (sh : Shifted (sides_on f g.spec.sides) (sides
 
   apart_on : (ps : List Place) (s k : ℕ) → apart (open_on f g) ps s k ≡ apart (open_on e g) ps s k
   unfolding apart open_on
-  apart_on ps s k =
-      let a = sh.leaves (page_of s k 1 ps) in
-      let b = sh.leaves (page_of 0 ((g.stream s).cite k) 1 ps) in
-      omega arith
+  apart_on ps s k = grind arith
 
   -- with the same turns to floats,
   pub x_on_lem : (ps : List Place) → x_of (open_on f g) ps ≡ x_of (open_on e g) ps
@@ -132,9 +129,7 @@ module _ (g : Galley) (f e : ℕ) (sh : Shifted (sides_on f g.spec.sides) (sides
 -- White has nothing to do with folios.
 whites_on : (g : Galley) (f e : ℕ) (u : Place) (ps : List Place) → whites (open_on f g) u ps ≡ whites (open_on e g) u ps
 unfolding whites white_on loosest height kinds open_on
-whites_on g f e u [] = refl
-whites_on g f e u (v ∷ []) = refl
-whites_on g f e u (v ∷ (w ∷ ws)) = rw (whites_on g f e v (w ∷ ws))
+whites_on g f e u ps = grind arith
 
 pub white_on_lem : (g : Galley) (f e : ℕ) (ps : List Place) → white (open_on f g) ps ≡ white (open_on e g) ps
 unfolding white zeros streams open_on

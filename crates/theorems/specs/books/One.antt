@@ -4,7 +4,6 @@ use native.Mathlib.Omega.{arith}
 use Rattle.std.specs.Prelude.{◌≡◌, Bool, true, false, ◌&&◌}
 use Rattle.std.proofs.Math.Path.{refl, ap, subst}
 use Rattle.std.proofs.Common.{sym, ◌∙◌}
-use Rattle.std.proofs.Math.Logic.{inl, inr}
 use mathlib.Core.List.Memᴰ
 use mathlib.Core.List.{List, [], ◌∷◌, map, append-nil}
 use Rattle.std.proofs.Math.Option.{Option, none, some}
@@ -19,7 +18,8 @@ use Rattle.model.specs.Best.{valid, best, made, made_words}
 use Rattle.model.specs.Book.{sides_on, open_on, folio_in, first_folio, Choice, gathered, choices, summed, book_pages, book_x, book_white, book_y, book_turns, tie_of, tie_order, ties_of, book_before, best_book, book_counts, book_made, book_words}
 use Rattle.model.specs.laws.Lists.{◌∈◌}
 use Rattle.model.proofs.laws.Best.{Makes, impossible, makes, best_makes}
-use Rattle.model.proofs.laws.Book.{∈-gathered, ∈-ungathered}
+use Rattle.model.proofs.laws.Book.{∈-gathered}
+use Rattle.theorems.specs.books.Backward.{only_empty, opened}
 use Rattle.theorems.specs.books.Choosing.{AllAlike}
 use Rattle.theorems.specs.books.Best.{best_is, best_none}
 
@@ -86,13 +86,9 @@ module _ (g : Galley) where
       (unfold choices in Memᴰ.head refl)
 
   one_list : (cs : Choice) → cs ∈ choices f (g ∷ []) → (ps : List Place) × (cs ≡ ps ∷ []) × (ps ∈ valid g)
-  unfolding choices
   one_list cs m =
-      let (ps, v, n) = ∈-ungathered (λ ps. map (λ cs. ps ∷ cs) (choices (f + length ps) [])) cs (valid (open_on f g)) m in
-      (ps, only ps n, subst (λ x. ps ∈ valid x) (own_folio g) v)
-    where
-      only : (ps : List Place) → cs ∈ ((ps ∷ []) ∷ []) → cs ≡ ps ∷ []
-      only ps n = elim (Memᴰ.cases_cons n) [ inl e ↦ e | inr k ↦ absurd (Memᴰ.not-nil k) ]
+      let o = opened f g [] cs m in
+      (o.list, o.is ∙ ap (λ ds. o.list ∷ ds) (only_empty _ o.rest o.later), subst (λ x. o.list ∈ valid x) (own_folio g) o.lawful)
 
   module _ (some_folio_lem : 1 ≤ first_folio (g ∷ [])) where
     -- So its best choice is its best list.

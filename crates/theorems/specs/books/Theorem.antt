@@ -114,7 +114,7 @@ module _ (h : Galley) (f : ℕ) (some_folio_lem : 1 ≤ f) (g : Galley) (a : Ali
       back : back_before h f (g ∷ rs) x.choice y.choice ≡ false
           → (back_before h f (g ∷ rs) x.choice y.choice ≡ true) ⊎ (back_before h f (g ∷ rs) y.choice x.choice ≡ true)
           → back_before h f (g ∷ rs) y.choice x.choice ≡ true
-      back e (inl k) = let z : ◌≡◌ {A = ℕ} 0 1 = cc in absurd (omega arith)
+      back e (inl k) = absurd cc
       back e (inr k) = k
 
       go : (b : Bool) → back_before h f (g ∷ rs) x.choice y.choice ≡ b → Finishes (pick b 1 2) (some (pick b r r'))

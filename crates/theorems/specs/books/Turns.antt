@@ -90,11 +90,7 @@ leaves_after s f P q some page pages =
 -- Before the first chapter there are none.
 leaves_first : (s : Sides) (f q : ℕ) → 1 ≤ f
     → leaf (sides_on f s) (0 + q) - leaf (sides_on f s) 1 ≡ leaf (sides_on (f + 0) s) q - leaf (sides_on (f + 0) s) 1
-leaves_first s f q some =
-    let m = moved s f 0 some in
-    let all = m.leaves q in
-    let one = m.leaves 1 in
-    omega arith
+leaves_first s f q some = grind arith
 
 module _ (h : Galley) (f : ℕ) (some : 1 ≤ f) where
   -- A chapter's own turns, by the weights that all share.

@@ -1,22 +1,17 @@
 -- A table filled entry by entry: a cell that no start reaches is unreached, and right cells stay right when another is stored.
-use Rattle.std.specs.Prelude.{◌⊎◌, ◌≡◌, ℕ}
-use Rattle.std.proofs.Common.{⊎_elim, sym, ◌∙◌, arith}
+use Rattle.std.specs.Prelude.{◌⊎◌, ◌≡◌}
+use Rattle.std.proofs.Common.{⊎_elim, sym, arith}
 use Rattle.theorems.specs.optimality.Graph.{Graph, Entry, unreached}
 use Rattle.theorems.specs.optimality.Cell.{Table, Offer, Seen, Cell, base, inner, Right}
 
 -- Where every start with a step to v is unreached, so is v.
 pub none_reached : (G : Graph) (most : G.C) (D : Table G) {v : G.S} → ((u : G.S) → G.step u v → D u ≡ unreached)
     → Seen G most D v unreached
-none_reached G most D f =
-    record {
-      offered = λ c u q. let z : ◌≡◌ {A = ℕ} 0 1 = cc in absurd (omega arith);
-      best = λ c u x m. let y = f u x.may in let z : ◌≡◌ {A = ℕ} 0 1 = cc in absurd (omega arith);
-    }
+none_reached G most D f = grind arith
 
 -- What is offered under D is offered under E, where E has the start's entry.
 moved : (G : Graph) (D E : Table G) {v : G.S} {c : G.C} {u : G.S} → (G.step u v → E u ≡ D u) → Offer G D v c u → Offer G E v c u
-moved G D E f x =
-    record { may = x.may; cost = x.cost; start = x.start; reached = f x.may ∙ x.reached; price = x.price }
+moved G D E f x = grind arith
 
 module _ (G : Graph) (most : G.C) (D E : Table G) where
   open G use {S, C, step}

@@ -173,7 +173,7 @@ module _ (G : Graph) (L : Laws G) (R : Domain G) (most : G.C) (D : Table G) (rig
   pub optimality : (v : S) → R.In v → Answer G most D v (D v)
   optimality v i =
       record {
-        none = λ e us w h. let r = reached us i w h in let z : ◌≡◌ {A = ℕ} 0 1 = cc in absurd (omega arith);
+        none = λ e us w h. let r = reached us i w h in absurd cc;
         found =
             λ c u e.
             let (us, t) = traced i e in

@@ -3,7 +3,7 @@ use Rattle.std.specs.Prelude.{ℕ, suc, ◌+◌, true, ◌&&◌}
 use native.Mathlib.Omega.{arith}
 use Rattle.std.proofs.Math.Path.{◌≡◌, refl, ap}
 use Rattle.std.proofs.Common.{sym, ◌∙◌}
-use Rattle.std.proofs.Math.Bool.{Bool, false}
+use Rattle.std.proofs.Math.Bool.{Bool, false, and_assoc}
 use mathlib.Core.List.{List, [], ◌∷◌, ◌++◌}
 use Rattle.std.proofs.Math.ListN.{length}
 use Rattle.model.specs.Galley.{Galley, Place, Sane, streams, zeros, sizes}
@@ -32,10 +32,6 @@ ended_append : (os ps : List Place) (p : Place) → ended (os ++ (p ∷ ps)) ≡
 ended_append [] ps p = refl
 ended_append (v ∷ vs) ps p = refl
 
-and_assoc : (a b c : Bool) → a && (b && c) ≡ (a && b) && c
-and_assoc true b c = refl
-and_assoc false b c = refl
-
 -- Two lists of places are of a shape together.
 shaped_append : (k : ℕ) (os ps : List Place) → Shaped k os → Shaped k ps → Shaped k (os ++ ps)
 shaped_append k [] ps sh th = th
@@ -57,7 +53,7 @@ module _ (g : Galley) where
       ap (λ b. allowed g (suc o.pages) b o.place v && accepts (allowed g) (sizes g) (suc (suc o.pages)) v (vs ++ (p ∷ ps)))
       (ended_append vs ps p)
       ∙ ap (λ b. here && b) (accepts_onto (printed g o v) vs p ps)
-      ∙ and_assoc here (passes g (printed g o v) vs) _
+      ∙ sym (and_assoc here (passes g (printed g o v) vs) _)
 
   -- it costs what the opening and what follows cost, with their white;
   ranked_onto : (o : Origin) (os : List Place) (p : Place) (ps : List Place)
@@ -93,7 +89,7 @@ module _ (g : Galley) where
     -- There is a page after an opening.
     not_all : Follows g (after g os) [] → ⊥
     unfolding accepts full
-    not_all f = let t = f.taken in let l = opening.left in let z : ◌≡◌ {A = ℕ} 0 1 = cc in omega arith
+    not_all f = let t = f.taken in let l = opening.left in absurd cc
 
     -- The opening and what follows is a list that the rules accept,
     pub follows_accepted : (ps : List Place) → Follows g (after g os) ps → Accepted g (os ++ ps)
@@ -110,8 +106,7 @@ module _ (g : Galley) where
     accepted_follows [] a =
         let w = whole_onto (beginning g) os a.taken in
         let l = opening.left in
-        let z : ◌≡◌ {A = ℕ} 0 1 = cc in
-        absurd (omega arith)
+        absurd cc
     accepted_follows (p ∷ ps) a =
         record {
           shaped = shaped_rest (streams g) os (p ∷ ps) a.shaped;

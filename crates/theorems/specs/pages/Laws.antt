@@ -1,7 +1,6 @@
 -- The graph of pages obeys the laws of graphs, and the states of the table are a domain.
 use Rattle.std.specs.Prelude.{ℕ, suc, ◌≤◌, ◌<◌, refl, ◌⊎◌, true}
-use Rattle.std.proofs.Common.{le_trans, sym, ◌∙◌, inl, inr}
-use Rattle.std.proofs.Math.Decide.{dec_lt}
+use Rattle.std.proofs.Common.{le_trans, sym, ◌∙◌}
 use native.Mathlib.Omega.{arith}
 use Rattle.std.proofs.Math.Path.{◌≡◌, ap}
 use Rattle.std.proofs.Math.ListN.{get_or}
@@ -83,16 +82,12 @@ module _ (g : Galley) (from : Origin) where
       let counts = ap (λ x. get_or x f.more.0 0) at_origin_lem in
       let more = f.more.2 in
       omega arith
-  no_origin (stop u b) end p e = let z : ◌≡◌ {A = ℕ} 0 1 = cc in absurd (omega arith)
+  no_origin (stop u b) end p e = absurd cc
   no_origin end t p e = p
 
   -- Of two costs one is no more than the other.
   either : (a b : ℕ) → (a ≤ b) ⊎ (b ≤ a)
-  either a b = go (dec_lt b a)
-    where
-      go : Dec (b < a) → (a ≤ b) ⊎ (b ≤ a)
-      go (yes l) = inr (omega arith)
-      go (no n) = inl (omega arith)
+  either a b = grind arith
 
   -- The graph of pages obeys the laws of graphs.
   pub page_laws : Laws (page_graph g from)
@@ -114,9 +109,7 @@ module _ (g : Galley) (from : Origin) where
   -- A step starts within the table,
   pub step_within : (s t : State) → Step g from s t → Within g from s
   unfolding Step
-  step_within (stop u b) (stop v c) p = p.within
-  step_within (stop u b) end p = p.within
-  step_within end t p = absurd p
+  step_within s t p = grind arith
 
   -- with fewer blocks placed than where it stops.
   pub step_falls : (s t : State) → Step g from s t → blocks_at g s < blocks_at g t

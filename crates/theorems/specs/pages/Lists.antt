@@ -73,7 +73,7 @@ module _ (g : Galley) (from : Origin) where
 
   pub way_ends : (us : List State) → Way (page_graph g from) us end → Ends us
   unfolding Way Step pages_to accepts Within
-  way_ends [] e = let z : ◌≡◌ {A = ℕ} 0 1 = cc in absurd (omega arith)
+  way_ends [] e = absurd cc
   way_ends (stop v c ∷ us) (p, w) =
       let f = p.whole in
       let w' : Way (page_graph g from) us (stop (sizes g) c) = rw f at w in

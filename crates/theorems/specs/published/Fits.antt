@@ -2,7 +2,7 @@
 -- blocks to pages that are so related say the same.
 use Rattle.std.specs.Prelude.{ℕ, zero, suc, ◌+◌, ◌-◌, ◌≤◌, ◌<◌, min, ◌≡◌, refl, ◌↔◌, Bool, true, false, leb, eqb}
 use Rattle.std.proofs.Math.Nat.{le-suc_iff}
-use Rattle.std.proofs.Common.{le_refl, le_trans, arith, ◌∙◌, ap, inl, inr, leb-true, leb-false, le-leb, eqb-true, eq-eqb}
+use Rattle.std.proofs.Common.{le_refl, le_trans, arith, ◌∙◌, ap, inl, inr, leb-true, leb-false, le-leb, eqb-true}
 use Rattle.std.proofs.Math.Decide.{dec_le}
 use Rattle.model.specs.Gather.{pick, one, sum, between}
 use Rattle.model.proofs.laws.Gather.{sum_ext, between_sum}
@@ -99,16 +99,10 @@ pub fits_page : {n q a b : ℕ} {P : ℕ → ℕ} → Fits n q a P → Fits n (s
 fits_page {n} {q} {a} {b} {P} F G k i j = (to, from)
   where
     to : eqb (P k) (suc q) ≡ true → (a < k) × (k ≤ b)
-    to e =
-        let at = eqb-true (P k) (suc q) e in
-        let before : ¬ (k ≤ a) = λ l. (let r = F.early k i l in omega arith) in
-        ((omega arith), G.late k i j (omega arith))
+    to e = grind arith
 
     from : (a < k) × (k ≤ b) → eqb (P k) (suc q) ≡ true
-    from r =
-        let upto = G.early k i r.1 in
-        let before : ¬ (P k ≤ q) = λ l. (let s = F.late k i j l in omega arith) in
-        eq-eqb (P k) (suc q) (omega arith)
+    from r = grind arith
 
 -- The counts are known from the map: c is the number of blocks on page q or earlier.
 pub fits_count : {n q c : ℕ} {P : ℕ → ℕ} → Fits n q c P → sum n (λ k. one (leb (P k) q)) ≡ c

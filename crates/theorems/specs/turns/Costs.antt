@@ -1,7 +1,7 @@
 -- The turns of an accepted list are a sum over its pages.
-use Rattle.std.specs.Prelude.{ℕ, zero, suc, ◌+◌, ◌*◌, ◌≤◌, ◌<◌, ◌≡◌, refl, ◌⊎◌, Bool, true, false, ◌||◌, List, leb, ltb}
+use Rattle.std.specs.Prelude.{ℕ, zero, suc, ◌+◌, ◌*◌, ◌≤◌, ◌<◌, ◌≡◌, ◌⊎◌, Bool, true, ◌||◌, List, leb, ltb}
 use Rattle.std.proofs.Math.Nat.{le-suc_iff}
-use Rattle.std.proofs.Common.{mul-zero, mul-one, arith, ◌∙◌, ap, inl, inr, leb-true, lt-ltb}
+use Rattle.std.proofs.Common.{arith, ◌∙◌, ap, inl, inr, leb-true, lt-ltb}
 use Rattle.model.specs.Gather.{pick, implies, one, each}
 use Rattle.model.specs.Galley.{Galley, Place, Block, Sane, count, zeros, sizes}
 use Rattle.model.specs.Leaf.{ends}
@@ -61,10 +61,7 @@ cost_parts g q last v h = go last (ends g.spec.sides q) h
     go : (last b : Bool) → (last ≡ true → waiting g v ≡ 0)
         → g.spec.alpha * pick b (waiting g v) 0 + g.spec.beta * pick last 0 (one b)
         ≡ pick last 0 (pick b (g.spec.alpha * waiting g v + g.spec.beta) 0)
-    go true true h = simp (h refl, mul-zero)
-    go true false h = simp mul-zero
-    go false true h = simp mul-one
-    go false false h = simp mul-zero
+    go last b h = grind arith
 
 -- What `accepts_along` tells of a page of an accepted list.
 abbrev Judged : Galley → About

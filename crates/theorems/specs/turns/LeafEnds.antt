@@ -1,6 +1,6 @@
 -- X and Y of a list by the pages that end their leaf: one stream at a time, and streams added.
 use Rattle.std.specs.Prelude.{ℕ, suc, ◌+◌, ◌*◌, ◌≤◌, ◌≡◌, refl, Bool, true, false, ◌&&◌, List, [], ◌∷◌, length, leb, ltb}
-use Rattle.std.proofs.Common.{arith, ◌∙◌, ap, ltb-false, leb-true, leb-false, lt-ltb, le-ltb}
+use Rattle.std.proofs.Common.{arith, ◌∙◌, ap}
 use Rattle.model.specs.Gather.{pick, one, sum}
 use Rattle.model.specs.Galley.{Sides, Galley, Place, Block, count}
 use Rattle.model.specs.Leaf.{leaf, ends}
@@ -24,13 +24,7 @@ split : (placed k done line : ℕ) → (k ≤ placed → line ≤ done)
 split placed k done line h = go (ltb placed k) (leb line done) refl refl
   where
     go : (x y : Bool) → ltb placed k ≡ x → leb line done ≡ y → one x ≡ one (ltb done line) + one (x && y)
-    go true true e f = simp (le-ltb done line (leb-true line done f))
-    go true false e f = simp (lt-ltb done line (leb-false line done f))
-    go false true e f = simp (le-ltb done line (leb-true line done f))
-    go false false e f =
-        let late = leb-false line done f in
-        let cited = h (ltb-false placed k e) in
-        absurd (omega arith)
+    go x y e f = grind arith
 
 -- A float's leaf is its citation's and one more for each page that ends its leaf while the float dangles.
 pub leaf_of_float : (g : Galley) (s k q : ℕ) (u : Place) (ps : List Place) → 1 ≤ s → Block g s k → Along (Orderly g) q u ps

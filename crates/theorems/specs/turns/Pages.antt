@@ -33,7 +33,7 @@ accepts_along ok l q u (v ∷ []) h =
     ((and_left (ok q true u v) (same v l) h, λ e. same_true v l (and_right (ok q true u v) (same v l) h)), tt)
 accepts_along ok l q u (v ∷ (w ∷ ws)) h =
     let rest : Bool = accepts ok l (suc q) v (w ∷ ws) in (
-      (and_left (ok q false u v) rest h, λ e. let z : ◌≡◌ {A = ℕ} 0 1 = cc in absurd (omega arith)),
+      (and_left (ok q false u v) rest h, λ e. absurd cc),
       accepts_along ok l (suc q) v (w ∷ ws) (and_right (ok q false u v) rest h),
     )
 
