@@ -4,7 +4,7 @@
 // in two words, the low one first, and the line and column that the page starts at. Places stand column by column.
 #![tactic(auto)]
 
-ghost use Rattle.std.specs.Prelude.{◌≡◌, ◌+◌, ◌≤◌, [], ◌∷◌, length, take, replicate};
+ghost use Rattle.std.specs.Prelude.{◌≡◌, ◌+◌, ◌≤◌, length, take, replicate};
 ghost use Rattle.std.proofs.lemmas.List.Edits.{sets};
 ghost use Rattle.places.specs.Entry.{low_of, high_of, joined, entry_at, stored, cleared};
 ghost use Rattle.places.specs.Address.{address, words_needed, Inside, Small, Limited, Stands};

@@ -7,7 +7,7 @@ use mathlib.Core.List.{List}
 use lib.ListN.{length}
 use Rattle.places.specs.Best.{Paid}
 use Rattle.window.specs.Rows.{Beside, pushed}
-use Rattle.queues.specs.Queue.{added_of, lines_in, tailed, Held}
+use Rattle.queues.specs.Queue.{added_of, lines_in, tailed, queued, Held}
 use Rattle.queues.proofs.laws.Held.{paid_of, held_passed}
 use Rattle.window.specs.laws.Rows.{pushed_length, pushed_beside}
 use Rattle.queues.proofs.laws.Pushed.{held_pushed}
@@ -46,11 +46,11 @@ loop-a-preserved c =
     let col = lines_in a.work.now a.source in
     let add = added_of a.sums.now a.queue.lacks in
     let t = c.drop_dearer-tail.result in
-    let drops = rw c.from.ensures at c.drop_dearer-tail.ensures in
-    let new = rw (c.place_of-place.ensures, c.high_of.ensures, c.low_of.ensures, c.from.ensures)
-    at c.put.ensures in
     let x = c.in-Some.found.cost in
     let more = c.added-more.result in
+    let drops = rw c.from.ensures at c.drop_dearer-tail.ensures in
+    let new : c.put.new.words ≡ queued st.words t st.a (x + more) =
+    rw (c.place_of-place.ensures, c.high_of.ensures, c.low_of.ensures, c.from.ensures) at c.put.ensures in
     let here : Paid (col st.a) (add st.a) (x + more) =
     paid_of x (add st.a) (x + more) (read (goal.at.loop-a-preserved c).After-entry_of-entry ∙ c.in-Some.is) (omega (arith, c.added-more.ensures)) in
     let room : 3 * t + 3 ≤ length st.words =

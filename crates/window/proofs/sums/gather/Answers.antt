@@ -6,7 +6,7 @@ use mathlib.Core.Path.{ap, ◌∙◌}
 use lib.ListN.{length}
 use Rattle.window.specs.Rows.{pushed}
 use Rattle.window.specs.laws.Rows.{pushed_length}
-use Rattle.window.specs.laws.Sums.{sums_first, sums_fit, sums_next}
+use Rattle.window.specs.laws.Sums.{sums_first, sums_fit, sums_next, sums_last}
 use Rattle.window.proofs.sums.gather.Goals as goal
 use Rattle.window.proofs.sums.gather.Goals.{After-field-most, At-loop-k}
 
@@ -50,3 +50,11 @@ loop-k-preserved c =
     c.loop-k-test.true
     c.field-height.ensures c.field-least.ensures c.field-most.ensures _ (room (goal.at.loop-k-preserved c).At-loop-k)
     c.put-in-loop-k.ensures
+
+pub returns : goal.returns
+unfolding pushed
+returns c =
+    let st = c.loop-k in
+    let a = c.args in
+    sums_last a.s.now a.text _ st.sums _ st.tight st.loose st.k st.invariant c.loop-k-test.false
+    (room (goal.at.returns c).At-loop-k) c.put-2.ensures
