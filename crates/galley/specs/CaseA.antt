@@ -1,5 +1,5 @@
 -- The galley of case A, byte by byte, read by computation: document 01, "Galleys to try".
-use Rattle.std.specs.Prelude.{ℕ, false, ◌≡◌, refl, List, [], ◌∷◌, ◌++◌}
+use Rattle.std.specs.Prelude.{ℕ, false, ◌≡◌, refl, List, [], ◌∷◌, ◌++◌, Ok}
 use Rattle.galley.specs.Whole.{galley_of}
 use Rattle.galley.specs.Word.{word_at, mark_at}
 use Rattle.galley.specs.Range.{spec_in_range, block_in_range}
@@ -8,7 +8,6 @@ use Rattle.galley.specs.Record.{line_of, float_of, fields_of, record_at}
 use Rattle.galley.specs.Whole.{cited, closed, after, step_from, settled, read_from}
 use Rattle.galley.specs.Block.{offset}
 use Rattle.galley.specs.declared.Galley.{Galley}
-use Rattle.galley.specs.declared.Reading.TheVariants as reads
 
 abbrev spec_bytes : List ℕ
 spec_bytes =
@@ -35,7 +34,7 @@ galley_a =
     }
 
 -- Case A reads without refusal.
-a_reads : galley_of case_a ≡ reads.Galley galley_a
+a_reads : galley_of case_a ≡ Ok galley_a
 unfolding word_at mark_at kind_of spec_in_range block_in_range fields_of record_at cited closed after step_from settled read_from galley_of
 a_reads = refl
 

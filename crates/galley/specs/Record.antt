@@ -1,5 +1,5 @@
 -- The record at an offset: document 01, "The galley file".
-use Rattle.std.specs.Prelude.{ℕ, ◌+◌, ◌-◌, ◌≤◌, List, length, Bool, true, false, ◌||◌, ◌≡◌, ltb, eqb}
+use Rattle.std.specs.Prelude.{ℕ, ◌+◌, ◌-◌, ◌≤◌, List, length, Bool, true, false, ◌||◌, ◌≡◌, ltb, eqb, Result, Ok, Err}
 use Rattle.model.specs.Gather.{pick}
 use Rattle.galley.specs.Word.{word_at, mark_at}
 use Rattle.galley.specs.Range.{spec_in_range, folio_in_range, block_in_range, line_in_range}
@@ -10,6 +10,7 @@ use Rattle.galley.specs.declared.Line.{Line}
 use Rattle.galley.specs.declared.Float.{Float}
 use Rattle.galley.specs.declared.Record.{Record}
 use Rattle.galley.specs.declared.Record.TheVariants as found
+use Rattle.galley.specs.declared.Unread.{Unread}
 
 -- Whether the record at an offset is a `G2`: a specification of the second edition (document 02, S-11).
 abbrev pub is_second : List ℕ → ℕ → Bool
@@ -81,28 +82,35 @@ float_of kept bytes at = record { block = block_of bytes at; cite = word_at byte
 abbrev pub is_kept : List ℕ → ℕ → Bool
 is_kept bytes at = eqb (mark_at bytes at) FK
 
+-- What reading a record gives: the record, or the number that turns it away and the offset where it starts.
+abbrev pub Read : Type 0
+Read = Result Record Unread
+
+abbrev pub unread : ℕ → ℕ → Read
+unread number at = Err (record { number = number; place = at })
+
 -- A record whose fields are in range, or 3.
-abbrev pub ranged : Bool → Record → ℕ → Record
-ranged fine r at = pick fine r (found.Refused 3 at)
+abbrev pub ranged : Bool → Record → ℕ → Read
+ranged fine r at = pick fine (Ok r) (unread 3 at)
 
 -- A specification in range.
-abbrev pub spec_at : Bool → List ℕ → ℕ → Record
+abbrev pub spec_at : Bool → List ℕ → ℕ → Read
 spec_at second bytes at = ranged (spec_in_range (spec_of second bytes at)) (found.Spec (spec_of second bytes at)) at
 
 -- A first folio in range.
-abbrev pub folio_at : List ℕ → ℕ → Record
+abbrev pub folio_at : List ℕ → ℕ → Read
 folio_at bytes at = ranged (folio_in_range (opening_folio bytes at)) (found.Folio (opening_folio bytes at)) at
 
 -- A line in range.
-abbrev pub line_at : List ℕ → ℕ → Record
+abbrev pub line_at : List ℕ → ℕ → Read
 line_at bytes at = ranged (line_in_range (line_of bytes at)) (found.Line (line_of bytes at)) at
 
 -- A figure or a table in range; its citation is tested where its place is known.
-abbrev pub float_at : (Float → Record) → Bool → List ℕ → ℕ → Record
+abbrev pub float_at : (Float → Record) → Bool → List ℕ → ℕ → Read
 float_at kind kept bytes at = ranged (block_in_range (block_of bytes at)) (kind (float_of kept bytes at)) at
 
 -- What the fields after a mark say; an unknown mark is 2.
-unfoldable pub fields_of : ℕ → List ℕ → ℕ → Record
+unfoldable pub fields_of : ℕ → List ℕ → ℕ → Read
 fields_of mark bytes at =
     pick (eqb mark GS || eqb mark G2) (spec_at (eqb mark G2) bytes at)
     (pick (eqb mark FO) (folio_at bytes at)
@@ -110,13 +118,13 @@ fields_of mark bytes at =
     (pick (eqb mark FG) (float_at found.Figure false bytes at)
     (pick (eqb mark FK) (float_at found.Figure true bytes at)
     (pick (eqb mark TB) (float_at found.Table false bytes at)
-    (pick (eqb mark ED) found.End
-    (found.Refused 2 at)))))))
+    (pick (eqb mark ED) (Ok found.End)
+    (unread 2 at)))))))
 
 -- The record at an offset: its mark is there (1), its fields are there (1), the mark is known (2) and the fields are in range (3).
-unfoldable pub record_at : List ℕ → ℕ → Record
+unfoldable pub record_at : List ℕ → ℕ → Read
 record_at bytes at =
     let mark = mark_at bytes at in
-    pick (ltb (length bytes - at) 2) (found.Refused 1 at)
-    (pick (ltb (length bytes - at) (kind_of mark).size) (found.Refused 1 at)
+    pick (ltb (length bytes - at) 2) (unread 1 at)
+    (pick (ltb (length bytes - at) (kind_of mark).size) (unread 1 at)
     (fields_of mark bytes at))

@@ -1,5 +1,5 @@
 -- What a galley that reads without refusal keeps to: document 01, "The galley file".
-use Rattle.std.specs.Prelude.{ℕ, ◌+◌, ◌*◌, ◌≤◌, List, false, ◌⊎◌, ◌≡◌, length}
+use Rattle.std.specs.Prelude.{ℕ, ◌+◌, ◌*◌, ◌≤◌, List, false, ◌⊎◌, ◌≡◌, length, Ok}
 use Rattle.galley.specs.Record.{legal_at, cite_at, block_of, line_of, float_of, is_kept, record_at}
 use Rattle.galley.specs.Place.{spec_size}
 use Rattle.galley.specs.Block.{offset, field_of}
@@ -16,13 +16,13 @@ pub record SoundStream (bytes : List ℕ) (stream : Stream) : Type 0 where
 
 -- Each block of the stream is read where its number says, as the record that is due at that offset.
 abbrev pub Reads : List ℕ → Stream → (ℕ → Record) → Type 0
-Reads bytes stream due = (k : ℕ) → 1 ≤ k → k ≤ stream.count → record_at bytes (offset stream k) ≡ due (offset stream k)
+Reads bytes stream due = (k : ℕ) → 1 ≤ k → k ≤ stream.count → record_at bytes (offset stream k) ≡ Ok (due (offset stream k))
 
 -- The first folio stands in an `FO` straight after the specification, or there is none and it is 1; line 1 follows.
 abbrev pub Opening : List ℕ → Galley → Type 0
 Opening bytes g =
     let end = spec_size g.spec.edition in
-    ((g.folio ≡ 1) × (g.text.first ≡ end)) ⊎ ((record_at bytes end ≡ found.Folio g.folio) × (g.text.first ≡ end + 6))
+    ((g.folio ≡ 1) × (g.text.first ≡ end)) ⊎ ((record_at bytes end ≡ Ok (found.Folio g.folio)) × (g.text.first ≡ end + 6))
 
 -- Citations never decrease along the stream.
 abbrev pub Growing : List ℕ → Stream → Type 0
@@ -54,7 +54,7 @@ pub record Sound (bytes : List ℕ) (g : Galley) : Type 0 where
   pub few_lines : g.text.count ≤ 4000
   pub spec_ranged : SpecRanged g.spec
   pub edition : Edition g.spec
-  pub spec_read : record_at bytes 0 ≡ found.Spec g.spec
+  pub spec_read : record_at bytes 0 ≡ Ok (found.Spec g.spec)
   pub some_folio : 1 ≤ g.folio
   pub few_folios : g.folio ≤ 9999
   pub text : SoundStream bytes g.text

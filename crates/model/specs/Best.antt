@@ -2,12 +2,10 @@
 -- counts here, and not how long it takes.
 use Rattle.std.specs.Prelude.{ℕ, zero, suc, Bool, true, false, not, ◌||◌, List, [], ◌∷◌, ◌++◌, map, eqb}
 use Rattle.std.proofs.Math.Option.{Option, none, some}
-use Rattle.model.specs.declared.answer.Answer.{Answer}
-use Rattle.model.specs.declared.answer.Answer.TheVariants.{Refused}
 use Rattle.model.specs.Gather.{pick}
 use Rattle.model.specs.Galley.{Galley, Place, zeros, sizes, blocks}
 use Rattle.model.specs.Rules.{broken}
-use Rattle.model.specs.Answers.{same, ended, counts_of, words_of}
+use Rattle.model.specs.Answers.{Answer, refused, same, ended, counts_of, words_of}
 use Rattle.model.specs.Order.{before}
 
 -- The numbers k, …, 1, 0, each put before each of the given places (for the search of all lists: document 01, "Making").
@@ -64,7 +62,7 @@ best g = first_of (before g) (valid g)
 -- The answer of making for a galley that reads without refusal, with enough memory: the counts of the best list, or 11
 -- (document 01, "Making").
 unfoldable pub made : Galley → Answer
-made g = elim (best g) [ none ↦ Refused 11 0 | some ps ↦ counts_of g ps ]
+made g = elim (best g) [ none ↦ refused 11 0 | some ps ↦ counts_of g ps ]
 
 -- The words that making writes to the page list (document 01, "Making").
 unfoldable pub made_words : Galley → List ℕ

@@ -2,13 +2,11 @@
 -- choice, which is the meaning of making a book (document 02, S-9).
 use Rattle.std.specs.Prelude.{ℕ, ◌+◌, ◌*◌, ◌-◌, Bool, List, [], ◌∷◌, ◌++◌, map, length, leb}
 use Rattle.std.proofs.Math.Option.{Option, none, some}
-use Rattle.model.specs.declared.answer.Answer.{Answer}
-use Rattle.model.specs.declared.answer.Answer.TheVariants.{Counted, Refused}
 use Rattle.model.specs.Galley.{Sides, single, double, Galley, respecified, Place, zeros}
 use Rattle.model.specs.Leaf.{leaf}
 use Rattle.model.specs.Turns.{x_of}
 use Rattle.model.specs.White.{white}
-use Rattle.model.specs.Answers.{words_of}
+use Rattle.model.specs.Answers.{Answer, counted_as, refused, words_of}
 use Rattle.model.specs.Order.{then_by, by, lex, geb, oddly, starts_of}
 use Rattle.model.specs.Best.{valid, first_of}
 
@@ -105,12 +103,12 @@ best_book gs = first_of (book_before (first_folio gs) gs) (choices (first_folio 
 -- Page count, X, Y, T and W of a choice (document 02, S-9 and S-10).
 unfoldable pub book_counts : ℕ → List Galley → Choice → Answer
 book_counts f gs cs =
-    Counted (book_pages f gs cs) (book_x f gs cs) (book_y f gs (book_pages f gs cs)) (book_turns f gs cs) (book_white f gs cs)
+    counted_as (book_pages f gs cs) (book_x f gs cs) (book_y f gs (book_pages f gs cs)) (book_turns f gs cs) (book_white f gs cs)
 
 -- The answer of making a book of chapters that read without refusal and are alike, with enough memory: the counts of the best
 -- choice, or 11 (document 02, S-9).
 unfoldable pub book_made : List Galley → Answer
-book_made gs = elim (best_book gs) [ none ↦ Refused 11 0 | some cs ↦ book_counts (first_folio gs) gs cs ]
+book_made gs = elim (best_book gs) [ none ↦ refused 11 0 | some cs ↦ book_counts (first_folio gs) gs cs ]
 
 -- The words that making a book writes to the page list: its chapters' pages, one chapter after another (document 02, S-9).
 unfoldable pub book_words : List Galley → List ℕ

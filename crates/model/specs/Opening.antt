@@ -2,11 +2,9 @@
 -- opening away (document 02, S-6).
 use Rattle.std.specs.Prelude.{ℕ, suc, pred, ◌%◌, Bool, true, false, ◌&&◌, List, [], ◌∷◌, length, eqb}
 use Rattle.std.proofs.Math.Option.{Option, none, some}
-use Rattle.model.specs.declared.answer.Answer.{Answer}
-use Rattle.model.specs.declared.answer.Answer.TheVariants.{Refused}
 use Rattle.model.specs.Gather.{pick}
 use Rattle.model.specs.Galley.{Galley, Place, streams, zeros, sizes}
-use Rattle.model.specs.Answers.{same, counts_of, pages_of, words_of}
+use Rattle.model.specs.Answers.{Answer, refused, same, counts_of, pages_of, words_of}
 use Rattle.model.specs.Order.{before}
 use Rattle.model.specs.Best.{allowed, keep, valid, first_of}
 
@@ -32,19 +30,19 @@ end_of u (v ∷ vs) = end_of v vs
 -- What turns away the pages of an opening, numbered from q, that start at place u: 20, a page breaks one of 13 to 17, asked as of a page
 -- in the middle of a list; then 21, they place everything (document 02, S-6).
 unfoldable pub pages_turned : Galley → ℕ → Place → List Place → Option Answer
-pages_turned g q u [] = pick (same u (sizes g)) (some (Refused 21 (pred q))) none
-pages_turned g q u (v ∷ vs) = pick (allowed g q false u v) (pages_turned g (suc q) v vs) (some (Refused 20 q))
+pages_turned g q u [] = pick (same u (sizes g)) (some (refused 21 (pred q))) none
+pages_turned g q u (v ∷ vs) = pick (allowed g q false u v) (pages_turned g (suc q) v vs) (some (refused 20 q))
 
 -- What turns away the words of an opening: 20 for an incomplete page, before any page; then what turns its pages away (document 02, S-6).
 unfoldable pub opening_turned : Galley → List ℕ → Option Answer
-opening_turned g ws = pick (eqb (length ws % streams g) 0) (pages_turned g 1 (zeros g) (pages_of g ws)) (some (Refused 20 0))
+opening_turned g ws = pick (eqb (length ws % streams g) 0) (pages_turned g 1 (zeros g) (pages_of g ws)) (some (refused 20 0))
 
 -- The answer of making after an opening for a galley that reads without refusal, with enough memory: what turns the opening away, else the
 -- counts of the best list that begins with it, or 11 (document 02, S-6).
 unfoldable pub made_after : Galley → List ℕ → Answer
 made_after g ws =
     elim (opening_turned g ws) [
-      | none ↦ elim (best_after g (pages_of g ws)) [ none ↦ Refused 11 0 | some ps ↦ counts_of g ps ]
+      | none ↦ elim (best_after g (pages_of g ws)) [ none ↦ refused 11 0 | some ps ↦ counts_of g ps ]
       | some refusal ↦ refusal
     ]
 

@@ -2,23 +2,27 @@
 ghost use Rattle.std.specs.Prelude.{◌≡◌};
 ghost use Rattle.model.specs.Answers.{numbers_of};
 
-#[derive(Clone, Copy)]
-pub enum Answer {
-    Counted {
-        pages: u32,
-        x: u32,
-        y: u32,
-        turns: u32,
-        white: u32,
-    },
-    Refused {
-        number: u32,
-        place: u32,
-    },
+// The number that turns work away, and its place: both of document 01, whose numbers the C interface and the theorems state.
+#[derive(Clone, Copy, PartialEq, Eq, Debug)]
+pub struct Refusal {
+    pub number: u32,
+    pub place: u32,
 }
 
+// The counts of a pagination: its pages, X, Y, its turns and its white.
+#[derive(Clone, Copy, PartialEq, Eq, Debug)]
+pub struct Counted {
+    pub pages: u32,
+    pub x: u32,
+    pub y: u32,
+    pub turns: u32,
+    pub white: u32,
+}
+
+pub type Answer = Result<Counted, Refusal>;
+
 // An answer as the six numbers of document 01 and its white: in a refusal the counts are 0, in a success number and place are.
-#[derive(Clone, Copy)]
+#[derive(Clone, Copy, PartialEq, Eq, Debug)]
 pub struct Numbers {
     pub number: u32,
     pub place: u32,
@@ -33,13 +37,15 @@ pub fn numbers_of(answer: Answer) -> Numbers
     ensures { result ≡ numbers_of answer }
 {
     match answer {
-        Answer::Counted {
-            pages,
-            x,
-            y,
-            turns,
-            white,
-        } => Numbers {
+        Ok(
+            Counted {
+                pages,
+                x,
+                y,
+                turns,
+                white,
+            },
+        ) => Numbers {
             number: 0,
             place: 0,
             pages,
@@ -48,7 +54,7 @@ pub fn numbers_of(answer: Answer) -> Numbers
             turns,
             white,
         },
-        Answer::Refused { number, place } => Numbers {
+        Err(Refusal { number, place }) => Numbers {
             number,
             place,
             pages: 0,

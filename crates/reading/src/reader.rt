@@ -3,7 +3,7 @@
 ghost use Rattle.std.specs.Prelude.{◌≡◌};
 ghost use Rattle.galley.specs.Record.{record_at};
 
-use galley::Record;
+use galley::{Record, Unread};
 
 // The lent bytes, and an offset in them or past their end.
 #[derive(Clone, Copy)]
@@ -21,7 +21,7 @@ impl<'a> Reader<'a> {
     }
 
     // The record that is due.
-    pub fn next(self) -> Record
+    pub fn next(self) -> Result<Record, Unread>
         ensures { result ≡ record_at self.entry.src.now self.entry.at }
     {
         records::record_at(self.src, self.at)
@@ -36,7 +36,7 @@ impl<'a> Reader<'a> {
 }
 
 // The record at an offset, read by a reader that was moved there.
-pub fn read_record(s: &[u8], at: usize) -> Record
+pub fn read_record(s: &[u8], at: usize) -> Result<Record, Unread>
     ensures { result ≡ record_at s.now at }
 {
     Reader::new(s).moved(at).next()

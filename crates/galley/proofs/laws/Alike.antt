@@ -1,14 +1,14 @@
 -- Bytes that are alike in all but htMin hold galleys that differ in htMin alone, as they are read and in the page model.
 use Prim.Native.Nat.{ℕ, zero, suc, ◌+◌, ◌-◌, ◌≤◌}
 use Rattle.std.proofs.Common.{arith, ◌∙◌, inl, inr}
-use Rattle.std.specs.Prelude.{◌≡◌, Bool, true, false, ◌||◌, List, length, ltb, eqb}
+use Rattle.std.specs.Prelude.{◌≡◌, Bool, true, false, ◌||◌, List, length, ltb, eqb, Err, Ok}
 use Rattle.std.proofs.Math.Path.{refl, sym, ap, fun_ext}
 use Rattle.model.specs.Gather.{pick}
 use Rattle.model.specs.Loosened as model
 use Rattle.galley.specs.Word.{word_at, mark_at}
 use Rattle.galley.specs.Place.{spec_mark, spec_size, kind_of}
-use Rattle.galley.specs.Record.{height_at, least_at, most_at, legal_at, cite_at, fields_of, record_at}
-use Rattle.galley.specs.Whole.{beginning, moved, with_folio, refused, cited, closed, after, step_from, settled, read_from, galley_of}
+use Rattle.galley.specs.Record.{height_at, least_at, most_at, legal_at, cite_at, fields_of, record_at, Read}
+use Rattle.galley.specs.Whole.{beginning, moved, with_folio, refused, cited, closed, after, step_from, settled, read_from, galley_of, Reading, Step}
 use Rattle.galley.specs.Alike.{Alike, with_htmin}
 use Rattle.galley.specs.Block.{offset, field_of}
 use Rattle.galley.specs.Sound.{Opening}
@@ -23,22 +23,18 @@ use Rattle.galley.proofs.laws.Sound.{sound, opening}
 use Rattle.galley.specs.declared.Galley.{Galley}
 use Rattle.galley.specs.declared.Spec.{Spec}
 use Rattle.galley.specs.declared.Stream.{Stream}
-use Rattle.galley.specs.declared.Record.{Record}
 use Rattle.galley.specs.declared.Record.TheVariants as found
-use Rattle.galley.specs.declared.Reading.{Reading}
-use Rattle.galley.specs.declared.Reading.TheVariants as reads
 use Rattle.galley.specs.declared.Sofar.{Sofar}
-use Rattle.galley.specs.declared.Step.{Step}
-use Rattle.galley.specs.declared.Step.TheVariants.{On, Done}
+use Rattle.std.specs.declared.ops.ControlFlow.TheVariants.{Break, Continue}
 
 -- A reading with h for its htMin, and a step of reading.
 abbrev reading_with : ℕ → Reading → Reading
-reading_with h (reads.Galley g) = reads.Galley (with_htmin h g)
-reading_with h (reads.Refused number place) = reads.Refused number place
+reading_with h (Ok g) = Ok (with_htmin h g)
+reading_with h (Err r) = Err r
 
 abbrev step_with : ℕ → Step → Step
-step_with h (On so) = On so
-step_with h (Done reading) = Done (reading_with h reading)
+step_with h (Continue so) = Continue so
+step_with h (Break reading) = Break (reading_with h reading)
 
 pick_with : (h : ℕ) (b : Bool) (x y : Step) → step_with h (pick b x y) ≡ pick b (step_with h x) (step_with h y)
 pick_with h true x y = refl
@@ -49,7 +45,7 @@ cited_with : (h : ℕ) (so : Sofar) (cite : ℕ) (next : Sofar) (at : ℕ) → s
 unfolding cited
 cited_with h so cite next at = go (eqb cite 0 || ltb so.lines cite) (ltb cite so.last)
   where
-    go : (a b : Bool) → (let step = pick a (refused 6 at) (pick b (refused 7 at) (On next)) in step_with h step ≡ step)
+    go : (a b : Bool) → (let step = pick a (refused 6 at) (pick b (refused 7 at) (Continue next)) in step_with h step ≡ step)
     go true b = refl
     go false true = refl
     go false false = refl
@@ -113,15 +109,15 @@ module _ {bytes bytes' : List ℕ} (like : Alike bytes bytes') where
         word_same 30 (omega arith),
       ) (sym (pick_with least (ltb so.at (length bytes)) _ _))
 
-  after_same : (so : Sofar) (at : ℕ) (r : Record) → after bytes' so at r ≡ step_with least (after bytes so at r)
+  after_same : (so : Sofar) (at : ℕ) (r : Read) → after bytes' so at r ≡ step_with least (after bytes so at r)
   unfolding after
-  after_same so at (found.Spec g) = refl
-  after_same so at (found.Folio f) = refl
-  after_same so at (found.Line l) = refl
-  after_same so at (found.Figure f) = sym (cited_with least so f.cite _ at)
-  after_same so at (found.Table f) = sym (cited_with least so f.cite _ at)
-  after_same so at found.End = closed_same so
-  after_same so at (found.Refused number place) = refl
+  after_same so at (Ok (found.Spec g)) = refl
+  after_same so at (Ok (found.Folio f)) = refl
+  after_same so at (Ok (found.Line l)) = refl
+  after_same so at (Ok (found.Figure f)) = sym (cited_with least so f.cite _ at)
+  after_same so at (Ok (found.Table f)) = sym (cited_with least so f.cite _ at)
+  after_same so at (Ok found.End) = closed_same so
+  after_same so at (Err r) = refl
 
   -- Past htMin reading goes the same way, and ends with the same galley but for its htMin.
   step_same : (so : Sofar) → 6 ≤ so.at → step_from bytes' so ≡ step_with least (step_from bytes so)
@@ -139,16 +135,16 @@ module _ {bytes bytes' : List ℕ} (like : Alike bytes bytes') where
       go : (step : Step) → Fine bytes so step
           → ((next : Sofar) → 6 ≤ next.at → Reached bytes next → read_from bytes' most next ≡ reading_with least (read_from bytes most next))
           → settled (read_from bytes' most) (step_with least step) ≡ reading_with least (settled (read_from bytes most) step)
-      go (On next) fine on = unfold settled in unfold Fine in on next (omega (arith, fine.0)) fine.1
-      go (Done reading) fine on = unfold settled in refl
+      go (Continue next) fine on = unfold settled in unfold Fine in on next (omega (arith, fine.0)) fine.1
+      go (Break reading) fine on = unfold settled in refl
 
 -- The mark of a specification that was read.
-spec_marked : (bytes : List ℕ) (g : Spec) → record_at bytes 0 ≡ found.Spec g → mark_at bytes 0 ≡ spec_mark g.edition
+spec_marked : (bytes : List ℕ) (g : Spec) → record_at bytes 0 ≡ Ok (found.Spec g) → mark_at bytes 0 ≡ spec_mark g.edition
 unfolding Found
 spec_marked bytes g e = (rw e at (found_at bytes 0)).marked
 
 -- Reading goes on after it, past htMin.
-begins : (bytes : List ℕ) (g : Galley) → galley_of bytes ≡ reads.Galley g
+begins : (bytes : List ℕ) (g : Galley) → galley_of bytes ≡ Ok g
     → (galley_of bytes ≡ read_from bytes (length bytes) (begun g.spec)) × Reached bytes (begun g.spec)
 unfolding galley_of Fine
 begins bytes g read =
@@ -158,8 +154,8 @@ begins bytes g read =
 far_begun : (g : Spec) → 6 ≤ (begun g).at
 far_begun g = rw (spec_kind g.edition) (let h = spec_large g.edition in omega arith)
 
-module _ {bytes bytes' : List ℕ} (like : Alike bytes bytes') (g g' : Galley) (read : galley_of bytes ≡ reads.Galley g)
-    (read' : galley_of bytes' ≡ reads.Galley g') where
+module _ {bytes bytes' : List ℕ} (like : Alike bytes bytes') (g g' : Galley) (read : galley_of bytes ≡ Ok g)
+    (read' : galley_of bytes' ≡ Ok g') where
   same_begun : begun g'.spec ≡ begun g.spec
   same_begun =
       let a = spec_marked bytes g.spec (sound bytes g read).spec_read in
@@ -169,7 +165,7 @@ module _ {bytes bytes' : List ℕ} (like : Alike bytes bytes') (g g' : Galley) (
   -- The two galleys that are read differ in their htMin alone.
   pub galleys_alike : g' ≡ with_htmin g'.spec.htmin g
   galleys_alike =
-      let e : reads.Galley g' ≡ reads.Galley (with_htmin (word_at bytes' 2) g) =
+      let e : Ok g' ≡ Ok (with_htmin (word_at bytes' 2) g) =
       sym read' ∙ (begins bytes' g' read').0
       ∙ rw (like.long, same_begun) (read_same like (length bytes) (begun g.spec) (far_begun g.spec) (begins bytes g read).1)
       ∙ ap (reading_with (word_at bytes' 2)) (sym (begins bytes g read).0 ∙ read) in

@@ -1,7 +1,7 @@
 -- Lines, figures and tables that were written are read one after the other, to the end.
-use Prim.Native.Nat.{◌<◌, ℕ, zero, suc, ◌+◌, ◌-◌, ◌*◌, ◌≤◌}
+use Prim.Native.Nat.{◌<◌, ℕ, zero, suc, ◌+◌, ◌*◌, ◌≤◌}
 use Rattle.std.proofs.Common.{arith, sym, ◌∙◌, eq-eqb, ne_eqb}
-use Rattle.std.specs.Prelude.{List, [], ◌∷◌, ◌++◌, ◌≡◌, eqb}
+use Rattle.std.specs.Prelude.{List, [], ◌∷◌, ◌++◌, ◌≡◌, eqb, Ok}
 use Rattle.std.proofs.Math.Path.{refl, ap}
 use Rattle.std.proofs.Math.ListN.{length, length-append}
 use Rattle.model.specs.Gather.{pick}
@@ -18,9 +18,8 @@ use Rattle.galley.specs.declared.Spec.{Spec}
 use Rattle.galley.specs.declared.Line.{Line}
 use Rattle.galley.specs.declared.Float.{Float}
 use Rattle.galley.specs.declared.Galley.{Galley}
-use Rattle.galley.specs.declared.Reading.TheVariants as reads
 use Rattle.galley.specs.declared.Sofar.{Sofar}
-use Rattle.galley.specs.declared.Step.TheVariants.{On}
+use Rattle.std.specs.declared.ops.ControlFlow.TheVariants.{Continue}
 
 -- The galley of a specification and a first folio, with so many lines from an offset on, and so many figures and tables after them.
 abbrev pub galley_with : Spec → ℕ → ℕ → ℕ → ℕ → ℕ → Galley
@@ -133,7 +132,7 @@ module _ (bytes : List ℕ) (Held : ℕ → Sofar → Type 0) (Fine : Float → 
       })
 
   floats_go : (next : Sofar) → line ≤ stage → next.stage ≡ stage → next.count ≡ pick (eqb stage so.stage) (so.count + 1) 1
-      → next.last ≡ f.cite → next.at ≡ so.at + 18 → next.lines ≡ so.lines → Held (left.read + 1) next → step_from bytes so ≡ On next
+      → next.last ≡ f.cite → next.at ≡ so.at + 18 → next.lines ≡ so.lines → Held (left.read + 1) next → step_from bytes so ≡ Continue next
       → Goes bytes (FloatsLeft Held Fine lines stage start total) so fs
   unfolding FloatsRanged
   floats_go next low same count last far text held on =
@@ -201,7 +200,7 @@ module _ (bytes : List ℕ) (folio first lines : ℕ) (some : 1 ≤ lines) (few 
   -- The end comes after the last table.
   pub end_read : (before : List ℕ) (figures total turns : ℕ) (so : Sofar) → 1 ≤ turns → bytes ≡ before ++ 69 ∷ 68 ∷ []
       → length before ≡ first + lines * 18 + figures * 18 + total * 18 → TablesLeft figures total [] so
-      → read_from bytes turns so ≡ reads.Galley (galley_with (spec_in bytes) folio first lines figures total)
+      → read_from bytes turns so ≡ Ok (galley_with (spec_in bytes) folio first lines figures total)
   unfolding read_from settled kind_of
   end_read before figures total zero so one e at left = absurd (omega arith)
   end_read before figures total (suc turns) so one e at left =

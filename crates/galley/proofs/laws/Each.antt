@@ -6,12 +6,11 @@ use Rattle.std.specs.Prelude.{◌≡◌, refl, get_or}
 use Rattle.std.proofs.Math.Path.{sym, ap}
 use Rattle.std.proofs.Common.{◌∙◌}
 use Rattle.std.proofs.Math.ListN.{length, length-append}
-use Rattle.galley.specs.Whole.{step_from, read_from}
+use Rattle.galley.specs.Whole.{step_from, read_from, Reading}
 use Rattle.galley.specs.Write.{each}
 use Rattle.galley.proofs.laws.Underway.{read_on}
-use Rattle.galley.specs.declared.Reading.{Reading}
 use Rattle.galley.specs.declared.Sofar.{Sofar}
-use Rattle.galley.specs.declared.Step.TheVariants.{On}
+use Rattle.std.specs.declared.ops.ControlFlow.TheVariants.{Continue}
 
 -- What follows them may be written with them or after them.
 each_append : {A : Type 0} (write : A → List ℕ → List ℕ)
@@ -44,7 +43,7 @@ module _ {A : Type 0} (write : A → List ℕ → List ℕ) (bytes before : List
 -- A record goes on to what holds of those after it.
 pub record Goes {A : Type 0} (bytes : List ℕ) (Left : List A → Sofar → Type 0) (so : Sofar) (rest : List A) : Type 0 where
   pub next : Sofar
-  pub on : step_from bytes so ≡ On next
+  pub on : step_from bytes so ≡ Continue next
   pub left : Left rest next
   pub due : next.at ≡ so.at + 18
 

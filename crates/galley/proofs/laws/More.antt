@@ -1,5 +1,5 @@
 -- With one record more of each kind what was read is known again.
-use Rattle.std.specs.Prelude.{ℕ, ◌+◌, ◌-◌, ◌*◌, ◌≤◌, ◌<◌, false, List, ◌≡◌, length, eqb}
+use Rattle.std.specs.Prelude.{ℕ, ◌+◌, ◌*◌, ◌≤◌, ◌<◌, false, List, ◌≡◌, length, eqb, Ok}
 use native.Mathlib.Omega.{arith}
 use Rattle.std.proofs.Common.{inl, sym, ◌∙◌, eqb-true}
 use Rattle.std.proofs.Math.Logic.{inr}
@@ -51,7 +51,7 @@ module _ (bytes : List ℕ) (so : Sofar) (r : Reached bytes so) where
 
   -- A specification comes first.
   pub spec_reached : (g : Spec) → let kind = kind_of (spec_mark g.edition) in
-      Fits kind so → record_at bytes so.at ≡ found.Spec g → g ≡ spec_of (is_second bytes so.at) bytes so.at
+      Fits kind so → record_at bytes so.at ≡ Ok (found.Spec g) → g ≡ spec_of (is_second bytes so.at) bytes so.at
       → so.at + kind.size ≤ length bytes → Reached bytes (with_folio (moved so kind) 1)
   spec_reached g fits e same there =
       let row = spec_kind g.edition in
@@ -66,13 +66,13 @@ module _ (bytes : List ℕ) (so : Sofar) (r : Reached bytes so) where
       (record {
         starts = λ l. absurd (omega arith);
         ends = λ e. omega (arith, long);
-        spec_read = λ l. rw zero at e ∙ ap found.Spec is;
+        spec_read = λ l. rw zero at e ∙ ap (λ r. Ok (found.Spec r)) is;
         folio = record { some = omega arith; few = omega arith };
         opens = λ l. inl (refl, omega (arith, long));
       }))
 
   -- A folio comes straight after it.
-  pub folio_reached : (f : ℕ) → Fits (kind_of FO) so → record_at bytes so.at ≡ found.Folio f → FolioRanged f
+  pub folio_reached : (f : ℕ) → Fits (kind_of FO) so → record_at bytes so.at ≡ Ok (found.Folio f) → FolioRanged f
       → so.at + (kind_of FO).size ≤ length bytes → Reached bytes (with_folio (moved so (kind_of FO)) f)
   unfolding kind_of
   folio_reached f fits e fine there =
@@ -88,7 +88,7 @@ module _ (bytes : List ℕ) (so : Sofar) (r : Reached bytes so) where
       })
 
   -- A line comes after the specification, before any float.
-  pub line_reached : (l : Line) → Fits (kind_of TL) so → record_at bytes so.at ≡ found.Line l → l ≡ line_of bytes so.at
+  pub line_reached : (l : Line) → Fits (kind_of TL) so → record_at bytes so.at ≡ Ok (found.Line l) → l ≡ line_of bytes so.at
       → so.at + (kind_of TL).size ≤ length bytes → Reached bytes (with_line (moved so (kind_of TL)))
   unfolding kind_of
   line_reached l fits e same there =
@@ -114,7 +114,7 @@ module _ (bytes : List ℕ) (so : Sofar) (r : Reached bytes so) where
         head = head_kept _ fits.soon (omega arith) refl refl;
         text =
             reads_more bytes (λ at. found.Line (line_of bytes at)) so.first so.lines so.at r.text (omega arith)
-            (e ∙ ap found.Line same);
+            (e ∙ ap (λ r. Ok (found.Line r)) same);
         figures = floats_none bytes _ figure _ _ (omega arith) figures;
         tables = floats_none bytes _ table _ _ (omega arith) tables;
       })
@@ -136,7 +136,7 @@ module _ (bytes : List ℕ) (so : Sofar) (r : Reached bytes so) where
       }
 
   -- A figure comes after a line, before any table.
-  pub figure_reached : (f : Float) → Fits (kind_of FG) so → record_at bytes so.at ≡ found.Figure f
+  pub figure_reached : (f : Float) → Fits (kind_of FG) so → record_at bytes so.at ≡ Ok (found.Figure f)
       → f ≡ float_of (is_kept bytes so.at) bytes so.at → so.at + (kind_of FG).size ≤ length bytes → 1 ≤ f.cite → f.cite ≤ so.lines
       → (moved so (kind_of FG)).last ≤ f.cite → Reached bytes (with_figure (moved so (kind_of FG)) f.cite)
   unfolding kind_of
@@ -151,11 +151,11 @@ module _ (bytes : List ℕ) (so : Sofar) (r : Reached bytes so) where
       (float_reached _ fits.soon (omega arith) refl refl refl
       (record { few_lines = shape.few_lines; few_figures = few; few_tables = omega arith; first = shape.first; due = omega arith; within = there })
       (omega (arith, few))
-      (floats_more r.figures _ refl late (rw here (e ∙ ap found.Figure same)) (rw here (sym (ap (λ (f : Float). f.cite) same))) one within grows refl refl)
+      (floats_more r.figures _ refl late (rw here (e ∙ ap (λ r. Ok (found.Figure r)) same)) (rw here (sym (ap (λ (f : Float). f.cite) same))) one within grows refl refl)
       (floats_none bytes _ table _ _ (omega arith) tables))
 
   -- A table comes after a line.
-  pub table_reached : (f : Float) → Fits (kind_of TB) so → record_at bytes so.at ≡ found.Table f → f ≡ float_of false bytes so.at
+  pub table_reached : (f : Float) → Fits (kind_of TB) so → record_at bytes so.at ≡ Ok (found.Table f) → f ≡ float_of false bytes so.at
       → so.at + (kind_of TB).size ≤ length bytes → 1 ≤ f.cite → f.cite ≤ so.lines → (moved so (kind_of TB)).last ≤ f.cite
       → Reached bytes (with_table (moved so (kind_of TB)) f.cite)
   unfolding kind_of
@@ -169,4 +169,4 @@ module _ (bytes : List ℕ) (so : Sofar) (r : Reached bytes so) where
       (float_reached _ fits.soon (omega arith) refl refl refl
       (record { few_lines = shape.few_lines; few_figures = shape.few_figures; few_tables = few; first = shape.first; due = omega arith; within = there })
       (omega (arith, few)) (floats_kept r.figures _ refl (omega arith))
-      (floats_more r.tables _ refl late (rw here (e ∙ ap found.Table same)) (rw here (sym (ap (λ (f : Float). f.cite) same))) one within grows refl refl))
+      (floats_more r.tables _ refl late (rw here (e ∙ ap (λ r. Ok (found.Table r)) same)) (rw here (sym (ap (λ (f : Float). f.cite) same))) one within grows refl refl))

@@ -1,5 +1,5 @@
 -- What is known of a galley as far as it was read: each block stands where its number says, and citations grow up to the last.
-use Rattle.std.specs.Prelude.{ℕ, ◌+◌, ◌-◌, ◌*◌, ◌≤◌, ◌<◌, Bool, true, false, List, ◌≡◌, refl, length, eqb}
+use Rattle.std.specs.Prelude.{ℕ, ◌+◌, ◌-◌, ◌*◌, ◌≤◌, ◌<◌, Bool, true, false, List, ◌≡◌, refl, length, eqb, Ok}
 use Rattle.std.proofs.Common.{arith, eq-or-lt_of_le, ⊎_elim, sym, ap, subst, ◌∙◌, eqb-true}
 use Rattle.std.proofs.lemmas.Bool.{eqb-false}
 use Rattle.model.specs.Gather.{pick}
@@ -51,7 +51,7 @@ pub record Shape (bytes : List ℕ) (so : Sofar) : Type 0 where
 pub record Head (bytes : List ℕ) (so : Sofar) : Type 0 where
   pub starts : so.stage < spec → so.at ≡ 0
   pub ends : so.stage ≡ spec → so.at ≡ spec_size (spec_in bytes).edition
-  pub spec_read : spec ≤ so.stage → record_at bytes 0 ≡ found.Spec (spec_in bytes)
+  pub spec_read : spec ≤ so.stage → record_at bytes 0 ≡ Ok (found.Spec (spec_in bytes))
   pub folio : FolioRanged so.folio
   pub opens : spec ≤ so.stage → Opening bytes (galley_in bytes so)
 
@@ -80,10 +80,10 @@ upto_more P n f top k one h =
 
 -- One block more is read where the stream went to so far.
 pub reads_more : (bytes : List ℕ) (due : ℕ → Record) (first n at : ℕ) → Reads bytes (record { first = first; count = n }) due
-    → at ≡ first + n * 18 → record_at bytes at ≡ due at → Reads bytes (record { first = first; count = n + 1 }) due
+    → at ≡ first + n * 18 → record_at bytes at ≡ Ok (due at) → Reads bytes (record { first = first; count = n + 1 }) due
 reads_more bytes due first n at so here top =
     let there : at ≡ first + (n + 1 - 1) * 18 = omega arith in
-    upto_more (λ k. record_at bytes (first + (k - 1) * 18) ≡ due (first + (k - 1) * 18)) n so (rw there at top)
+    upto_more (λ k. record_at bytes (first + (k - 1) * 18) ≡ Ok (due (first + (k - 1) * 18))) n so (rw there at top)
 
 -- One float more, that cites one of the lines and none before the last line cited.
 citations_more : (bytes : List ℕ) (first n lines last cite : ℕ)
@@ -151,7 +151,7 @@ module _ {bytes : List ℕ} {so : Sofar} {stage : ℕ} {floats : Stream} {due : 
       go false e = let z = r.counted.before (omega (arith, eqb-false stage so.stage e)) in absurd (omega arith)
 
   -- One float more of the stage, read where the stream went to so far and rightly cited.
-  pub floats_more : so.stage ≤ stage → record_at bytes (floats.first + floats.count * 18) ≡ due (floats.first + floats.count * 18)
+  pub floats_more : so.stage ≤ stage → record_at bytes (floats.first + floats.count * 18) ≡ Ok (due (floats.first + floats.count * 18))
       → word_at bytes (floats.first + floats.count * 18 + cite_at) ≡ next.last → 1 ≤ next.last → next.last ≤ so.lines
       → pick (eqb stage so.stage) so.last 0 ≤ next.last → next.stage ≡ stage → next.count ≡ floats.count + 1
       → Floats bytes next stage (record { first = floats.first; count = floats.count + 1 }) due

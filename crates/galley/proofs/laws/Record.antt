@@ -1,5 +1,5 @@
 -- What is known of the record at an offset once it was read.
-use Rattle.std.specs.Prelude.{ℕ, ◌+◌, ◌-◌, ◌≤◌, Bool, ◌||◌, List, ◌≡◌, length, ltb}
+use Rattle.std.specs.Prelude.{ℕ, ◌+◌, ◌-◌, ◌≤◌, Bool, ◌||◌, List, ◌≡◌, length, ltb, Err, Ok}
 use Rattle.std.proofs.Common.{arith, true≢false, sym}
 use Rattle.std.proofs.Math.Bool.{true, false}
 use Rattle.std.proofs.Math.Path.{refl}
@@ -9,7 +9,7 @@ use Rattle.model.specs.Gather.{pick}
 use Rattle.galley.specs.Word.{mark_at}
 use Rattle.galley.specs.Range.{spec_in_range, folio_in_range, block_in_range, line_in_range, SpecRanged, Edition, FolioRanged, LineRanged, FigureRanged, TableRanged}
 use Rattle.galley.specs.Place.{GS, G2, FO, TL, FG, FK, TB, ED, spec_mark, figure_mark, kind_of}
-use Rattle.galley.specs.Record.{HasSpec, is_second, spec_of, spec_at, opening_folio, block_of, line_of, float_of, is_kept, float_at, ranged, fields_of, record_at}
+use Rattle.galley.specs.Record.{HasSpec, is_second, spec_of, spec_at, opening_folio, block_of, line_of, float_of, is_kept, float_at, ranged, fields_of, record_at, unread, Read}
 use Rattle.galley.proofs.laws.Pick.{pick_has}
 use Rattle.galley.proofs.laws.Range.{spec_ranged_lem, folio_ranged, block_ranged, line_ranged}
 use Rattle.galley.specs.declared.Spec.{Spec}
@@ -39,14 +39,14 @@ pub record RefusedAt (at number place : ℕ) : Type 0 where
   pub here : place ≡ at
 
 -- What a record that was read at an offset tells.
-unfoldable pub Found : List ℕ → ℕ → Record → Type 0
-Found bytes at (found.Spec g) = Stands SpecFine bytes at (spec_mark g.edition) g (spec_of (is_second bytes at) bytes at)
-Found bytes at (found.Folio f) = Stands FolioRanged bytes at FO f (opening_folio bytes at)
-Found bytes at (found.Line l) = Stands LineRanged bytes at TL l (line_of bytes at)
-Found bytes at (found.Figure f) = Stands FigureRanged bytes at (figure_mark f.kept) f (float_of (is_kept bytes at) bytes at)
-Found bytes at (found.Table f) = Stands TableRanged bytes at TB f (float_of false bytes at)
-Found bytes at found.End = Stands Ending bytes at ED tt tt
-Found bytes at (found.Refused number place) = RefusedAt at number place
+unfoldable pub Found : List ℕ → ℕ → Read → Type 0
+Found bytes at (Ok (found.Spec g)) = Stands SpecFine bytes at (spec_mark g.edition) g (spec_of (is_second bytes at) bytes at)
+Found bytes at (Ok (found.Folio f)) = Stands FolioRanged bytes at FO f (opening_folio bytes at)
+Found bytes at (Ok (found.Line l)) = Stands LineRanged bytes at TL l (line_of bytes at)
+Found bytes at (Ok (found.Figure f)) = Stands FigureRanged bytes at (figure_mark f.kept) f (float_of (is_kept bytes at) bytes at)
+Found bytes at (Ok (found.Table f)) = Stands TableRanged bytes at TB f (float_of false bytes at)
+Found bytes at (Ok found.End) = Stands Ending bytes at ED tt tt
+Found bytes at (Err r) = RefusedAt at r.number r.place
 
 -- The mark of a figure tells whether it is kept.
 pub kept_mark : (kept : Bool) → eqb (figure_mark kept) FK ≡ kept
@@ -67,13 +67,13 @@ spec_room bytes at mark h there = go (eqb mark GS) (eqb mark G2) refl refl h
     go false false a b h = absurd (true≢false (sym h))
 
 module _ (bytes : List ℕ) (at : ℕ) where
-  refused_found : (number : ℕ) → 1 ≤ number → number ≤ 3 → Found bytes at (found.Refused number at)
+  refused_found : (number : ℕ) → 1 ≤ number → number ≤ 3 → Found bytes at (unread number at)
   unfolding Found
   refused_found number low high = record { low = low; high = high; here = refl }
 
-  ranged_found : (fine : Bool) (r : Record) → (fine ≡ true → Found bytes at r) → Found bytes at (ranged fine r at)
+  ranged_found : (fine : Bool) (r : Record) → (fine ≡ true → Found bytes at (Ok r)) → Found bytes at (ranged fine r at)
   ranged_found fine r h =
-      pick_has (Found bytes at) fine r (found.Refused 3 at) h (λ _. refused_found 3 (omega arith) (omega arith))
+      pick_has (Found bytes at) fine (Ok r) (unread 3 at) h (λ _. refused_found 3 (omega arith) (omega arith))
 
   stands : {A : Type 0} (Fine : A → Type 0) (mark : ℕ) (value : A) → eqb (mark_at bytes at) mark ≡ true
       → at + (kind_of (mark_at bytes at)).size ≤ length bytes → Fine value → Stands Fine bytes at mark value value

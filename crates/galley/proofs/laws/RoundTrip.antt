@@ -1,10 +1,10 @@
 -- Reading what was written gives the values back.
-use Rattle.std.specs.Prelude.{◌<◌, ℕ, zero, suc, ◌+◌, ◌-◌, ◌*◌, ◌≤◌, List, [], ◌∷◌, ◌++◌, ◌≡◌, refl, length}
+use Rattle.std.specs.Prelude.{◌<◌, ℕ, zero, suc, ◌+◌, ◌*◌, ◌≤◌, List, [], ◌∷◌, ◌++◌, ◌≡◌, refl, length, Ok}
 use Rattle.std.proofs.Common.{arith, eq-or-lt_of_le, ⊎_elim, append_assoc, sym, ap, ◌∙◌, length-append}
 use Rattle.galley.specs.Range.{SpecRanged, Edition, FolioRanged, FigureRanged, TableRanged}
 use Rattle.galley.specs.Place.{spec, folio, line, figure, table, FO, row_of, kind_of}
 use Rattle.galley.specs.Record.{record_at}
-use Rattle.galley.specs.Whole.{beginning, moved, with_folio, step_from, read_from, galley_of}
+use Rattle.galley.specs.Whole.{beginning, moved, with_folio, step_from, read_from, galley_of, Reading}
 use Rattle.galley.specs.Write.{spec_bytes, line_bytes, figure_bytes, table_bytes, each, Stated, unstated, stated, folio_of, folio_bytes, head_bytes, StatedRanged, bytes_of, BlocksInRange, InRange}
 use Rattle.galley.proofs.laws.Place.{spec_kind, Fits}
 use Rattle.galley.proofs.laws.Stand.{folio_step, begun, spec_first}
@@ -19,10 +19,8 @@ use Rattle.galley.specs.declared.Line.{Line}
 use Rattle.galley.specs.declared.Float.{Float}
 use Rattle.galley.specs.declared.Galley.{Galley}
 use Rattle.galley.specs.declared.Record.TheVariants as found
-use Rattle.galley.specs.declared.Reading.{Reading}
-use Rattle.galley.specs.declared.Reading.TheVariants as reads
 use Rattle.galley.specs.declared.Sofar.{Sofar}
-use Rattle.galley.specs.declared.Step.TheVariants.{On}
+use Rattle.std.specs.declared.ops.ControlFlow.TheVariants.{Continue}
 
 -- The galley that values make.
 abbrev pub galley_from : Spec → Stated → List Line → List Float → List Float → Galley
@@ -62,11 +60,11 @@ folio_fits so s =
     record { soon = omega arith; late = omega arith; timely = λ l. absurd (omega arith); few = λ e. absurd (omega arith) }
 
 -- A specification is read where nothing was read, and a folio straight after it.
-begins : (bytes rest : List ℕ) (g : Spec) → SpecRanged g → Edition g → bytes ≡ spec_bytes g rest → step_from bytes beginning ≡ On (begun g)
+begins : (bytes rest : List ℕ) (g : Spec) → SpecRanged g → Edition g → bytes ≡ spec_bytes g rest → step_from bytes beginning ≡ Continue (begun g)
 begins bytes rest g s of e = spec_first bytes g (rw e (spec_after [] rest g s of))
 
 goes_on : (bytes rest : List ℕ) (g : Spec) (f : ℕ) → FolioRanged f → bytes ≡ spec_bytes g (folio_bytes (stated f) rest)
-    → step_from bytes (begun g) ≡ On (foliated g f)
+    → step_from bytes (begun g) ≡ Continue (foliated g f)
 goes_on bytes rest g f fine e =
     let split : bytes ≡ spec_bytes g [] ++ folio_bytes (stated f) rest = e ∙ sym (spec_joins g (folio_bytes (stated f) rest)) in
     folio_step bytes (begun g) f (rw (split, ← begun_at g) (folio_after (spec_bytes g []) rest f fine)) (folio_fits (begun g) (begun_stage g))
@@ -93,7 +91,7 @@ head_read bytes rest g (stated f) (suc (suc turns)) reading e enough s of fine o
 blocks_read : (bytes before : List ℕ) (folio : ℕ) (ls : List Line) (fs ts : List Float) (turns : ℕ) (so : Sofar) → BlocksInRange ls fs ts
     → bytes ≡ before ++ each line_bytes ls (each figure_bytes fs (each table_bytes ts (69 ∷ 68 ∷ []))) → length before ≡ so.at
     → length ls + (length fs + (length ts + 1)) ≤ turns → LinesLeft folio (length before) (length ls) ls so
-    → read_from bytes turns so ≡ reads.Galley (galley_with (spec_in bytes) folio (length before) (length ls) (length fs) (length ts))
+    → read_from bytes turns so ≡ Ok (galley_with (spec_in bytes) folio (length before) (length ls) (length fs) (length ts))
 blocks_read bytes before folio ls fs ts turns so r e at enough left =
     let first = length before in
     let lines = length ls in
@@ -140,13 +138,13 @@ blocks_read bytes before folio ls fs ts turns so r e at enough left =
         (omega (arith, c.at)) r.tables
 
 -- The specification at the start is the one that was read there.
-spec_is : (bytes : List ℕ) (g : Spec) → record_at bytes 0 ≡ found.Spec g → spec_in bytes ≡ g
+spec_is : (bytes : List ℕ) (g : Spec) → record_at bytes 0 ≡ Ok (found.Spec g) → spec_in bytes ≡ g
 unfolding Found
 spec_is bytes g e = sym (rw e at (found_at bytes 0)).same
 
 -- What was written for values in range reads without refusal, as many lines, figures and tables as there are.
 pub round_trip : (g : Spec) (o : Stated) (ls : List Line) (fs ts : List Float) → InRange g o ls fs ts
-    → galley_of (bytes_of g o ls fs ts) ≡ reads.Galley (galley_from g o ls fs ts)
+    → galley_of (bytes_of g o ls fs ts) ≡ Ok (galley_from g o ls fs ts)
 unfolding galley_of bytes_of
 round_trip g o ls fs ts r =
     let bytes = bytes_of g o ls fs ts in
@@ -167,4 +165,4 @@ round_trip g o ls fs ts r =
       come = come_first spec line (length before + 0 * 18) (length ls) so low high (omega arith);
       ranged = r.blocks.lines;
     }))
-    ∙ ap (λ (g : Spec). reads.Galley (galley_with g (folio_of o) (length before) (length ls) (length fs) (length ts))) is
+    ∙ ap (λ (g : Spec). Ok (galley_with g (folio_of o) (length before) (length ls) (length fs) (length ts))) is

@@ -1,5 +1,5 @@
 -- Records that fit are read one after the other.
-use Rattle.std.specs.Prelude.{ℕ, ◌+◌, ◌-◌, ◌≤◌, List, ◌≡◌, length}
+use Rattle.std.specs.Prelude.{ℕ, ◌+◌, ◌-◌, ◌≤◌, List, ◌≡◌, length, Ok}
 use Rattle.std.proofs.Common.{arith, ◌∙◌}
 use borrow.Author.Tests.{le-ltb, ne_eqb}
 use Rattle.galley.specs.Word.{mark_at}
@@ -15,9 +15,8 @@ use Rattle.galley.specs.declared.Line.{Line}
 use Rattle.galley.specs.declared.Float.{Float}
 use Rattle.galley.specs.declared.Record.{Record}
 use Rattle.galley.specs.declared.Record.TheVariants as found
-use Rattle.galley.specs.declared.Reading.TheVariants as reads
 use Rattle.galley.specs.declared.Sofar.{Sofar}
-use Rattle.galley.specs.declared.Step.TheVariants.{On, Done}
+use Rattle.std.specs.declared.ops.ControlFlow.TheVariants.{Break, Continue}
 
 module _ (bytes : List ℕ) (so : Sofar) where
   -- A record that fits decides how reading goes on.
@@ -31,24 +30,24 @@ module _ (bytes : List ℕ) (so : Sofar) where
         fits_unfit (kind_of mark) so fits,
       )
 
-  pub spec_step : (g : Spec) → record_at bytes so.at ≡ found.Spec g → Fits (kind_of (spec_mark g.edition)) so
-      → step_from bytes so ≡ On (with_folio (moved so (kind_of (spec_mark g.edition))) 1)
+  pub spec_step : (g : Spec) → record_at bytes so.at ≡ Ok (found.Spec g) → Fits (kind_of (spec_mark g.edition)) so
+      → step_from bytes so ≡ Continue (with_folio (moved so (kind_of (spec_mark g.edition))) 1)
   unfolding Found after
   spec_step g e fits = let h = rw e at (found_at bytes so.at) in fit_step (spec_mark g.edition) h.marked h.there fits ∙ rw e
 
-  pub folio_step : (f : ℕ) → record_at bytes so.at ≡ found.Folio f → Fits (kind_of FO) so
-      → step_from bytes so ≡ On (with_folio (moved so (kind_of FO)) f)
+  pub folio_step : (f : ℕ) → record_at bytes so.at ≡ Ok (found.Folio f) → Fits (kind_of FO) so
+      → step_from bytes so ≡ Continue (with_folio (moved so (kind_of FO)) f)
   unfolding Found after
   folio_step f e fits = let h = rw e at (found_at bytes so.at) in fit_step FO h.marked h.there fits ∙ rw e
 
-  pub line_step : (l : Line) → record_at bytes so.at ≡ found.Line l → Fits (kind_of TL) so
-      → step_from bytes so ≡ On (with_line (moved so (kind_of TL)))
+  pub line_step : (l : Line) → record_at bytes so.at ≡ Ok (found.Line l) → Fits (kind_of TL) so
+      → step_from bytes so ≡ Continue (with_line (moved so (kind_of TL)))
   unfolding Found after
   line_step l e fits = let h = rw e at (found_at bytes so.at) in fit_step TL h.marked h.there fits ∙ rw e
 
   -- A float goes on where it is rightly cited.
   cited_on : (kind : Kind) (cite : ℕ) (next : Sofar) → 1 ≤ cite → cite ≤ so.lines → (moved so kind).last ≤ cite
-      → cited (moved so kind) cite next so.at ≡ On next
+      → cited (moved so kind) cite next so.at ≡ Continue next
   unfolding cited
   cited_on kind cite next one within grows =
       simp (
@@ -60,8 +59,8 @@ module _ (bytes : List ℕ) (so : Sofar) where
   -- A float of a stream goes on where it fits and is rightly cited.
   abbrev FloatStep : ℕ → (Sofar → ℕ → Sofar) → (Float → Record) → Type 0
   FloatStep mark with_one_lem due =
-      (f : Float) → record_at bytes so.at ≡ due f → Fits (kind_of mark) so → 1 ≤ f.cite → f.cite ≤ so.lines
-      → (moved so (kind_of mark)).last ≤ f.cite → step_from bytes so ≡ On (with_one_lem (moved so (kind_of mark)) f.cite)
+      (f : Float) → record_at bytes so.at ≡ Ok (due f) → Fits (kind_of mark) so → 1 ≤ f.cite → f.cite ≤ so.lines
+      → (moved so (kind_of mark)).last ≤ f.cite → step_from bytes so ≡ Continue (with_one_lem (moved so (kind_of mark)) f.cite)
 
   pub figure_step : FloatStep FG with_figure found.Figure
   unfolding Found after
@@ -76,8 +75,8 @@ module _ (bytes : List ℕ) (so : Sofar) where
       let h = rw e at (found_at bytes so.at) in
       fit_step TB h.marked h.there fits ∙ rw e (cited_on (kind_of TB) f.cite _ one within grows)
 
-  pub end_step : record_at bytes so.at ≡ found.End → Fits (kind_of ED) so → so.at + 2 ≡ length bytes
-      → step_from bytes so ≡ Done (reads.Galley (galley_in bytes so))
+  pub end_step : record_at bytes so.at ≡ Ok found.End → Fits (kind_of ED) so → so.at + 2 ≡ length bytes
+      → step_from bytes so ≡ Break (Ok (galley_in bytes so))
   unfolding Found after closed kind_of
   end_step e fits whole =
       let h = rw e at (found_at bytes so.at) in
@@ -88,7 +87,7 @@ abbrev pub begun : Spec → Sofar
 begun g = with_folio (moved beginning (kind_of (spec_mark g.edition))) 1
 
 -- A specification is read where nothing was read.
-pub spec_first : (bytes : List ℕ) (g : Spec) → record_at bytes 0 ≡ found.Spec g → step_from bytes beginning ≡ On (begun g)
+pub spec_first : (bytes : List ℕ) (g : Spec) → record_at bytes 0 ≡ Ok (found.Spec g) → step_from bytes beginning ≡ Continue (begun g)
 spec_first bytes g e =
     spec_step bytes beginning g e
     (rw (spec_kind g.edition)

@@ -1,5 +1,5 @@
 -- What one record more tells of a galley: reading goes on and is known so far, or its answer is right.
-use Rattle.std.specs.Prelude.{ℕ, ◌+◌, ◌-◌, ◌*◌, ◌≤◌, ◌<◌, Bool, true, false, ◌||◌, List, ◌≡◌, length, eqb}
+use Rattle.std.specs.Prelude.{ℕ, ◌+◌, ◌-◌, ◌*◌, ◌≤◌, ◌<◌, Bool, true, false, ◌||◌, List, ◌≡◌, length, eqb, Err, Ok}
 use Rattle.std.proofs.Common.{arith}
 use Rattle.std.proofs.Math.Path.{refl}
 use Rattle.std.proofs.Math.Dec.{ltb}
@@ -7,8 +7,8 @@ use borrow.Author.Tests.{ltb-true, ltb-false, eqb-false}
 use Rattle.model.specs.Gather.{pick}
 use Rattle.galley.specs.Word.{mark_at}
 use Rattle.galley.specs.Place.{spec, GS, G2, spec_mark, FO, TL, FG, TB, ED, kind_of, misplaced, too_early, too_many, unfit}
-use Rattle.galley.specs.Record.{is_second, block_of, line_of, record_at}
-use Rattle.galley.specs.Whole.{Opened, moved, refused, cited, closed, after, step_from}
+use Rattle.galley.specs.Record.{is_second, block_of, line_of, record_at, Read}
+use Rattle.galley.specs.Whole.{Opened, moved, refused, cited, closed, after, step_from, Reading, Step}
 use Rattle.galley.specs.Block.{offset}
 use Rattle.galley.specs.Range.{BlockRanged, LineRanged}
 use Rattle.galley.specs.Sound.{SoundFloats, Sound, Opening}
@@ -25,41 +25,38 @@ use Rattle.galley.specs.declared.Stream.{Stream}
 use Rattle.galley.specs.declared.Record.{Record}
 use Rattle.galley.specs.declared.Record.TheVariants as found
 use Rattle.galley.specs.declared.Sofar.{Sofar}
-use Rattle.galley.specs.declared.Reading.{Reading}
-use Rattle.galley.specs.declared.Reading.TheVariants as reads
-use Rattle.galley.specs.declared.Step.{Step}
-use Rattle.galley.specs.declared.Step.TheVariants.{On, Done}
+use Rattle.std.specs.declared.ops.ControlFlow.TheVariants.{Break, Continue}
 
 -- A galley is sound, and a refusal has a number from 1 to 8.
 unfoldable pub Right : List ℕ → Reading → Type 0
-Right bytes (reads.Galley g) = Sound bytes g × Opening bytes g
-Right bytes (reads.Refused number place) = (1 ≤ number) × (number ≤ 8)
+Right bytes (Ok g) = Sound bytes g × Opening bytes g
+Right bytes (Err r) = (1 ≤ r.number) × (r.number ≤ 8)
 
 -- Where reading goes on, it has come farther, and what was read is known; where it is done, the answer is right.
 unfoldable pub Fine : List ℕ → Sofar → Step → Type 0
-Fine bytes so (On next) = (so.at < next.at) × Reached bytes next
-Fine bytes so (Done reading) = Right bytes reading
+Fine bytes so (Continue next) = (so.at < next.at) × Reached bytes next
+Fine bytes so (Break reading) = Right bytes reading
 
 -- A record that was read is in range.
 module _ (bytes : List ℕ) (at : ℕ) where
-  spec_read_fine : {g : Spec} → record_at bytes at ≡ found.Spec g → SpecFine g
+  spec_read_fine : {g : Spec} → record_at bytes at ≡ Ok (found.Spec g) → SpecFine g
   unfolding Found
   spec_read_fine e = let h = rw e at (found_at bytes at) in rw h.same h.fine
 
-  line_read_ranged : {l : Line} → record_at bytes at ≡ found.Line l → LineRanged l
+  line_read_ranged : {l : Line} → record_at bytes at ≡ Ok (found.Line l) → LineRanged l
   unfolding Found
   line_read_ranged e = let h = rw e at (found_at bytes at) in rw h.same h.fine
 
-  figure_read_ranged : {f : Float} → record_at bytes at ≡ found.Figure f → BlockRanged f.block
+  figure_read_ranged : {f : Float} → record_at bytes at ≡ Ok (found.Figure f) → BlockRanged f.block
   unfolding Found
   figure_read_ranged e = let h = rw e at (found_at bytes at) in rw h.same h.fine
 
-  table_read_ranged : {f : Float} → record_at bytes at ≡ found.Table f → BlockRanged f.block
+  table_read_ranged : {f : Float} → record_at bytes at ≡ Ok (found.Table f) → BlockRanged f.block
   unfolding Found
   table_read_ranged e = let h = rw e at (found_at bytes at) in rw h.same h.fine.block
 
 -- An end that fits comes after a specification.
-pub end_begun : (bytes : List ℕ) (so : Sofar) → unfit (kind_of (mark_at bytes so.at)) so ≡ 0 → record_at bytes so.at ≡ found.End
+pub end_begun : (bytes : List ℕ) (so : Sofar) → unfit (kind_of (mark_at bytes so.at)) so ≡ 0 → record_at bytes so.at ≡ Ok found.End
     → spec ≤ so.stage
 unfolding Found kind_of
 end_begun bytes so fits e =
@@ -79,7 +76,7 @@ reached_opened {bytes} r begun =
 -- The floats of one stream are sound, once there are no more of them than there may be.
 floats_fine : {bytes : List ℕ} {so : Sofar} {stage most : ℕ} {floats : Stream} {due : ℕ → Record} → Floats bytes so stage floats due
     → floats.count ≤ most → floats.first + floats.count * 18 ≤ length bytes
-    → ((at : ℕ) → record_at bytes at ≡ due at → BlockRanged (block_of bytes at)) → SoundFloats bytes floats so.lines most due
+    → ((at : ℕ) → record_at bytes at ≡ Ok (due at) → BlockRanged (block_of bytes at)) → SoundFloats bytes floats so.lines most due
 floats_fine {floats = floats} r few within ranged =
     record {
       few = few;
@@ -135,27 +132,27 @@ module _ (bytes : List ℕ) (so : Sofar) (r : Reached bytes so) where
       (known, r.head.opens fits.soon))
 
   -- What the record at an offset says decides how reading goes on.
-  after_fine : (found : Record) → record_at bytes so.at ≡ found → Found bytes so.at found → Fits (kind_of (mark_at bytes so.at)) so
+  after_fine : (found : Read) → record_at bytes so.at ≡ found → Found bytes so.at found → Fits (kind_of (mark_at bytes so.at)) so
       → Fine bytes so (after bytes (moved so (kind_of (mark_at bytes so.at))) so.at found)
   unfolding after Found Fine
-  after_fine (found.Spec g) e h fits =
+  after_fine (Ok (found.Spec g)) e h fits =
       rw h.marked (omega (arith, kind_sized (spec_mark g.edition)), spec_reached bytes so r g (rw h.marked at fits) e h.same h.there)
-  after_fine (found.Folio f) e h fits =
+  after_fine (Ok (found.Folio f)) e h fits =
       rw h.marked (omega (arith, kind_sized FO), folio_reached bytes so r f (rw h.marked at fits) e (rw h.same h.fine) h.there)
-  after_fine (found.Line l) e h fits =
+  after_fine (Ok (found.Line l)) e h fits =
       rw h.marked (omega (arith, kind_sized TL), line_reached bytes so r l (rw h.marked at fits) e h.same h.there)
-  after_fine (found.Figure f) e h fits =
+  after_fine (Ok (found.Figure f)) e h fits =
       let same = figure_kind f.kept in
       rw (h.marked, same)
       (cited_fine (kind_of FG) f.cite _ (omega (arith, kind_sized FG))
       (figure_reached bytes so r f (rw (h.marked, same) at fits) e h.same (rw same at h.there)))
-  after_fine (found.Table f) e h fits =
+  after_fine (Ok (found.Table f)) e h fits =
       rw h.marked
       (cited_fine (kind_of TB) f.cite _ (omega (arith, kind_sized TB))
       (table_reached bytes so r f (rw h.marked at fits) e h.same h.there))
-  after_fine found.End e h fits =
+  after_fine (Ok found.End) e h fits =
       rw h.marked (closed_fine (rw h.marked at fits) h.there)
-  after_fine (found.Refused number place) e h fits = refused_fine number so.at h.low (omega (arith, h.high))
+  after_fine (Err r) e h fits = refused_fine r.number so.at h.low (omega (arith, h.high))
 
   unfit_low : (kind : Kind) → unfit kind so ≤ 5
   unfit_low kind =

@@ -5,15 +5,14 @@ use Rattle.std.specs.Prelude.{List, ◌≡◌, refl}
 use Rattle.std.proofs.Math.Path.{sym}
 use Rattle.std.proofs.Math.ListN.{length}
 use Rattle.galley.specs.Place.{spec}
-use Rattle.galley.specs.Whole.{Small, Opened, beginning, settled, step_from, read_from, galley_of}
+use Rattle.galley.specs.Whole.{Small, Opened, beginning, settled, step_from, read_from, galley_of, Reading}
 use Rattle.galley.proofs.laws.Reached.{Reached, reached_none}
 use Rattle.galley.proofs.laws.Step.{Fine, reached_opened, step_fine}
-use Rattle.galley.specs.declared.Reading.{Reading}
 use Rattle.galley.specs.declared.Sofar.{Sofar}
-use Rattle.galley.specs.declared.Step.TheVariants.{On, Done}
+use Rattle.std.specs.declared.ops.ControlFlow.TheVariants.{Break, Continue}
 
 -- After a record, reading goes on from there.
-pub read_on : (bytes : List ℕ) (turns : ℕ) (so next : Sofar) → step_from bytes so ≡ On next
+pub read_on : (bytes : List ℕ) (turns : ℕ) (so next : Sofar) → step_from bytes so ≡ Continue next
     → read_from bytes (suc turns) so ≡ read_from bytes turns next
 unfolding read_from settled
 read_on bytes turns so next e = rw e
@@ -41,13 +40,13 @@ underway_opened u begun = reached_opened u.reached begun
 
 module _ {bytes : List ℕ} {so : Sofar} (u : Underway bytes so) where
   -- Reading goes on, farther on.
-  pub underway_farther : {next : Sofar} → step_from bytes so ≡ On next → length bytes - next.at < length bytes - so.at
+  pub underway_farther : {next : Sofar} → step_from bytes so ≡ Continue next → length bytes - next.at < length bytes - so.at
   unfolding Fine
   underway_farther e =
       let fine = rw e at (step_fine bytes so u.reached) in
       omega (arith, fine.0, fine.1.shape.within)
 
-  pub underway_on : {next : Sofar} → step_from bytes so ≡ On next → Underway bytes next
+  pub underway_on : {next : Sofar} → step_from bytes so ≡ Continue next → Underway bytes next
   unfolding Fine
   underway_on {next} e =
       let fine = rw e at (step_fine bytes so u.reached) in
@@ -60,6 +59,6 @@ module _ {bytes : List ℕ} {so : Sofar} (u : Underway bytes so) where
           record { reached = r; turns = turns; enough = omega arith; run = sym (read_on bytes (suc turns) so next e) ∙ run }
 
   -- Reading is done.
-  pub underway_done : {reading : Reading} → step_from bytes so ≡ Done reading → reading ≡ galley_of bytes
+  pub underway_done : {reading : Reading} → step_from bytes so ≡ Break reading → reading ≡ galley_of bytes
   unfolding read_from settled
   underway_done e = rw e at u.run

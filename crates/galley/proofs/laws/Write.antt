@@ -1,12 +1,12 @@
 -- What was written is read back: words, records, and where they stand.
-use Rattle.std.specs.Prelude.{ℕ, ◌+◌, ◌-◌, ◌*◌, ◌/◌, ◌%◌, ◌≤◌, ◌<◌, List, [], ◌∷◌, ◌++◌, Bool, true, false, ◌≡◌, refl, eqb, length, get_or}
+use Rattle.std.specs.Prelude.{ℕ, ◌+◌, ◌-◌, ◌*◌, ◌/◌, ◌%◌, ◌≤◌, ◌<◌, List, [], ◌∷◌, ◌++◌, Bool, true, false, ◌≡◌, refl, eqb, length, get_or, Ok}
 use Rattle.std.proofs.Common.{arith, add_assoc, sym, ap, ◌∙◌, length-append, get_or-append-add, le-ltb, eqb-true}
 use Rattle.std.proofs.lemmas.Bool.{eqb-false}
 use Rattle.model.specs.Gather.{pick}
 use Rattle.galley.specs.Word.{word_at, mark_at}
 use Rattle.galley.specs.Place.{GS, G2, spec_size, FO, TL, TB, ED, figure_mark, kind_of}
 use Rattle.galley.specs.Range.{SpecRanged, Edition, FolioRanged, BlockRanged, LineRanged, FigureRanged, TableRanged}
-use Rattle.galley.specs.Record.{height_at, least_at, most_at, cite_at, last_least, spec_of, block_of, line_of, float_of, is_kept, float_at, fields_of, record_at}
+use Rattle.galley.specs.Record.{height_at, least_at, most_at, cite_at, last_least, spec_of, block_of, line_of, float_of, is_kept, float_at, fields_of, record_at, Read}
 use Rattle.galley.specs.Write.{word, spec_bytes_in, spec_bytes, folio_bytes, stated, block_bytes, line_bytes, figure_bytes, table_bytes}
 use Rattle.galley.proofs.laws.Place.{figure_kind}
 use Rattle.galley.proofs.laws.Record.{kept_mark}
@@ -15,7 +15,6 @@ use Rattle.galley.specs.declared.Spec.{Spec}
 use Rattle.galley.specs.declared.Block.{Block}
 use Rattle.galley.specs.declared.Line.{Line}
 use Rattle.galley.specs.declared.Float.{Float}
-use Rattle.galley.specs.declared.Record.{Record}
 use Rattle.galley.specs.declared.Record.TheVariants as found
 
 -- The four bytes of a number below 2 ^ 32 make it again.
@@ -43,7 +42,7 @@ left_after : (before rest : List ℕ) → length (before ++ rest) - length befor
 left_after before rest = simp length-append (omega arith)
 
 -- A record that was written is read back: its mark and its fields are there.
-written : (before tail : List ℕ) (mark : ℕ) (r : Record) → mark_at tail 0 ≡ mark → 2 ≤ length tail
+written : (before tail : List ℕ) (mark : ℕ) (r : Read) → mark_at tail 0 ≡ mark → 2 ≤ length tail
     → (kind_of mark).size ≤ length tail → fields_of mark (before ++ tail) (length before) ≡ r
     → record_at (before ++ tail) (length before) ≡ r
 unfolding record_at
@@ -84,11 +83,11 @@ line_fields before rest l r =
     let h = block_back before rest 84 76 l.legal l.block r.block (omega arith) in simp (h.0, h.1)
 
 pub line_after : (before rest : List ℕ) (l : Line) → LineRanged l
-    → record_at (before ++ line_bytes l rest) (length before) ≡ found.Line l
+    → record_at (before ++ line_bytes l rest) (length before) ≡ Ok (found.Line l)
 unfolding kind_of mark_at fields_of
 line_after before rest l r =
     let h = block_back before rest 84 76 l.legal l.block r.block (omega arith) in
-    written before (line_bytes l rest) TL (found.Line l) refl (omega arith) (omega arith) (simp (h.0, h.1, ranged_line l r))
+    written before (line_bytes l rest) TL (Ok (found.Line l)) refl (omega arith) (omega arith) (simp (h.0, h.1, ranged_line l r))
 
 -- The mark that was written for a figure.
 marked_figure : (f : Float) (rest : List ℕ) → mark_at (figure_bytes f rest) 0 ≡ figure_mark f.kept
@@ -112,11 +111,11 @@ figure_fields before rest f r small =
     simp (mark_after before (figure_bytes f rest), marked_figure f rest, kept_mark f.kept, h.0, h.1)
 
 pub figure_after : (before rest : List ℕ) (f : Float) → FigureRanged f → f.cite ≤ 4000
-    → record_at (before ++ figure_bytes f rest) (length before) ≡ found.Figure f
+    → record_at (before ++ figure_bytes f rest) (length before) ≡ Ok (found.Figure f)
 unfolding kind_of
 figure_after before rest f r small =
     let h = block_back before rest 70 (pick f.kept 75 71) f.cite f.block r small in
-    written before (figure_bytes f rest) (figure_mark f.kept) (found.Figure f) (marked_figure f rest) (omega arith)
+    written before (figure_bytes f rest) (figure_mark f.kept) (Ok (found.Figure f)) (marked_figure f rest) (omega arith)
     (rw (figure_kind f.kept) (omega arith))
     (figure_read f.kept _ _ ∙ simp (h.0, h.1, ranged_block f.block r))
 
@@ -127,11 +126,11 @@ table_fields before rest f r small =
     let h = block_back before rest 84 66 f.cite f.block r.block small in simp (h.0, h.1, ← r.free)
 
 pub table_after : (before rest : List ℕ) (f : Float) → TableRanged f → f.cite ≤ 4000
-    → record_at (before ++ table_bytes f rest) (length before) ≡ found.Table f
+    → record_at (before ++ table_bytes f rest) (length before) ≡ Ok (found.Table f)
 unfolding kind_of mark_at fields_of
 table_after before rest f r small =
     let h = block_back before rest 84 66 f.cite f.block r.block small in
-    written before (table_bytes f rest) TB (found.Table f) refl (omega arith) (omega arith)
+    written before (table_bytes f rest) TB (Ok (found.Table f)) refl (omega arith) (omega arith)
     (simp (h.0, h.1, ranged_block f.block r.block) (rw (← r.free)))
 
 -- A specification that was written has its fields, and it is read back.
@@ -153,20 +152,20 @@ spec_fields before rest second g r e l =
     (rw (← e, ← l))
 
 spec_after_in : (before rest : List ℕ) (second : Bool) (g : Spec) → SpecRanged g → Edition g → eqb g.edition 2 ≡ second
-    → record_at (before ++ spec_bytes_in second g rest) (length before) ≡ found.Spec g
+    → record_at (before ++ spec_bytes_in second g rest) (length before) ≡ Ok (found.Spec g)
 unfolding word_at kind_of mark_at fields_of
 spec_after_in before rest true g r e two =
     let tail = spec_bytes_in true g rest in
     let least : word_at (before ++ tail) (length before + 30) ≡ g.lastmin = word_back before tail 30 g.lastmin (omega arith) refl in
-    written before tail G2 (found.Spec g) refl (omega arith) (omega arith)
+    written before tail G2 (Ok (found.Spec g)) refl (omega arith) (omega arith)
     (simp (spec_fields before rest true g r (eqb-true g.edition 2 two) (sym least), ranged_spec g r))
 spec_after_in before rest false g r e one =
     let first : g.edition ≡ 1 = let s = e.some in let t = e.two in omega (arith, eqb-false g.edition 2 one) in
-    written before (spec_bytes_in false g rest) GS (found.Spec g) refl (omega arith) (omega arith)
+    written before (spec_bytes_in false g rest) GS (Ok (found.Spec g)) refl (omega arith) (omega arith)
     (simp (spec_fields before rest false g r first (e.plain first), ranged_spec g r))
 
 pub spec_after : (before rest : List ℕ) (g : Spec) → SpecRanged g → Edition g
-    → record_at (before ++ spec_bytes g rest) (length before) ≡ found.Spec g
+    → record_at (before ++ spec_bytes g rest) (length before) ≡ Ok (found.Spec g)
 spec_after before rest g r e = spec_after_in before rest (eqb g.edition 2) g r e refl
 
 -- Its bytes, and what follows it.
@@ -186,14 +185,14 @@ spec_joins g rest = go (eqb g.edition 2)
 
 -- So is a folio.
 pub folio_after : (before rest : List ℕ) (f : ℕ) → FolioRanged f
-    → record_at (before ++ folio_bytes (stated f) rest) (length before) ≡ found.Folio f
+    → record_at (before ++ folio_bytes (stated f) rest) (length before) ≡ Ok (found.Folio f)
 unfolding word_at kind_of mark_at fields_of
 folio_after before rest f r =
     let tail = folio_bytes (stated f) rest in
-    written before tail FO (found.Folio f) refl (omega arith) (omega arith)
+    written before tail FO (Ok (found.Folio f)) refl (omega arith) (omega arith)
     (simp (word_back before tail 2 f (omega arith) refl, ranged_folio f r))
 
 -- The end is read back.
-pub end_after : (before rest : List ℕ) → record_at (before ++ 69 ∷ 68 ∷ rest) (length before) ≡ found.End
+pub end_after : (before rest : List ℕ) → record_at (before ++ 69 ∷ 68 ∷ rest) (length before) ≡ Ok found.End
 unfolding kind_of mark_at fields_of
-end_after before rest = written before (69 ∷ 68 ∷ rest) ED found.End refl (omega arith) (omega arith) refl
+end_after before rest = written before (69 ∷ 68 ∷ rest) ED (Ok found.End) refl (omega arith) (omega arith) refl

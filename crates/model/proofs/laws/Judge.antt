@@ -2,16 +2,14 @@
 use Rattle.std.specs.Prelude.{ℕ, zero, suc, pred, ◌≡◌, refl, Bool, true, false, ◌&&◌, List, [], ◌∷◌, eqb}
 use Rattle.std.proofs.Common.{arith, ◌∙◌, ap}
 use Rattle.std.proofs.Math.Dec.{eqb-suc-zero}
-use Rattle.model.specs.declared.answer.Answer.{Answer}
-use Rattle.model.specs.declared.answer.Answer.TheVariants.{Refused}
 use Rattle.model.specs.Gather.{pick}
 use Rattle.model.specs.Galley.{Galley, Place, sizes}
 use Rattle.model.specs.Rules.{broken}
-use Rattle.model.specs.Answers.{accepted, same, ended, refuse, judge}
+use Rattle.model.specs.Answers.{Answer, refused, accepted, same, ended, refuse, judge}
 use Rattle.model.specs.Best.{allowed}
 use Rattle.model.specs.laws.Judge.{accepts}
 
-accepted_pick : (b : Bool) (good : Answer) (n at : ℕ) → accepted good ≡ true → accepted (pick b good (Refused n at)) ≡ b
+accepted_pick : (b : Bool) (good : Answer) (n at : ℕ) → accepted good ≡ true → accepted (pick b good (refused n at)) ≡ b
 accepted_pick true good n at h = h
 accepted_pick false good n at h = refl
 
@@ -35,7 +33,7 @@ pub judge_good : (g : Galley) (good : Answer) (q : ℕ) (u : Place) (ps : List P
 unfolding judge refuse
 judge_good g good q u [] h = go (same u (sizes g)) h
   where
-    go : (b : Bool) → accepted (pick b good (Refused 18 (pred q))) ≡ true → pick b good (Refused 18 (pred q)) ≡ good
+    go : (b : Bool) → accepted (pick b good (refused 18 (pred q))) ≡ true → pick b good (refused 18 (pred q)) ≡ good
     go true h = refl
     go false h = let z : ◌≡◌ {A = ℕ} 0 1 = cc in absurd (omega arith)
 judge_good g good q u (v ∷ vs) h = go (broken g q (ended vs) u v) h (judge_good g good (suc q) v vs)

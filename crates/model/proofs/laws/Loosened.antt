@@ -6,14 +6,13 @@ use Rattle.std.proofs.Math.Bool.{true, false}
 use mathlib.Core.List.{List, [], ◌∷◌}
 use Rattle.std.proofs.Math.Option.{none, some}
 use borrow.Author.Tests.{leb-true, le-leb}
-use Rattle.model.specs.declared.answer.Answer.TheVariants.{Counted, Refused}
 use Rattle.model.specs.Gather.{pick}
 use Rattle.model.specs.Galley.{Galley, Place, streams, zeros, sizes, blocks}
 use Rattle.model.specs.Height.{kinds, height, tightest, loosest}
 use Rattle.model.specs.Rules.{forward, closes, fits, fills, cited}
 use Rattle.model.specs.Turns.{apart, x_of, y_of, turns}
 use Rattle.model.specs.White.{white_on, whites, white}
-use Rattle.model.specs.Answers.{accepted, ended, counted, counts_of, pages_of, marked}
+use Rattle.model.specs.Answers.{counted_as, refused, accepted, ended, counted, counts_of, pages_of, marked}
 use Rattle.model.specs.Best.{allowed, valid}
 use Rattle.model.specs.Opening.{pages_turned, opening_turned}
 use Rattle.model.specs.Loosened.{with_htmin}
@@ -73,7 +72,7 @@ module _ (g : Galley) (h : ℕ) (low : h ≤ g.spec.htmin) where
   -- and has the same counts.
   counts_loosened : (ps : List Place) → counts_of (with_htmin h g) ps ≡ counts_of g ps
   unfolding counts_of x_of y_of turns apart white zeros streams
-  counts_loosened ps = ap (λ x. Counted (length ps) (x_of g ps) (y_of g ps) (turns g ps) x) (whites_loosened (zeros g) ps)
+  counts_loosened ps = ap (λ x. counted_as (length ps) (x_of g ps) (y_of g ps) (turns g ps) x) (whites_loosened (zeros g) ps)
 
   -- Marking accepts for the lower htMin every list that it accepts for the higher, with the same numbers.
   pub marked_loosened : (ws : List ℕ) → accepted (marked g ws) ≡ true → marked (with_htmin h g) ws ≡ marked g ws
@@ -90,9 +89,9 @@ module _ (g : Galley) (h : ℕ) (low : h ≤ g.spec.htmin) where
   turned_loosened q u [] e = e
   turned_loosened q u (v ∷ vs) e = go (allowed g q false u v) refl e (turned_loosened (suc q) v vs)
     where
-      go : (b : Bool) → allowed g q false u v ≡ b → pick b (pages_turned g (suc q) v vs) (some (Refused 20 q)) ≡ none
+      go : (b : Bool) → allowed g q false u v ≡ b → pick b (pages_turned g (suc q) v vs) (some (refused 20 q)) ≡ none
           → (pages_turned g (suc q) v vs ≡ none → pages_turned (with_htmin h g) (suc q) v vs ≡ none)
-          → pick (allowed (with_htmin h g) q false u v) (pages_turned (with_htmin h g) (suc q) v vs) (some (Refused 20 q)) ≡ none
+          → pick (allowed (with_htmin h g) q false u v) (pages_turned (with_htmin h g) (suc q) v vs) (some (refused 20 q)) ≡ none
       go true ok e after = rw (allowed_loosened q false u v ok) (after e)
       go false ok e after = let z : ◌≡◌ {A = ℕ} 0 1 = cc in absurd (omega arith)
 
@@ -101,7 +100,7 @@ module _ (g : Galley) (h : ℕ) (low : h ≤ g.spec.htmin) where
   unfolding opening_turned zeros streams pages_of
   standing_loosened ws = go (eqb (length ws % streams g) 0)
     where
-      go : (whole : Bool) → pick whole (pages_turned g 1 (zeros g) (pages_of g ws)) (some (Refused 20 0)) ≡ none
-          → pick whole (pages_turned (with_htmin h g) 1 (zeros g) (pages_of g ws)) (some (Refused 20 0)) ≡ none
+      go : (whole : Bool) → pick whole (pages_turned g 1 (zeros g) (pages_of g ws)) (some (refused 20 0)) ≡ none
+          → pick whole (pages_turned (with_htmin h g) 1 (zeros g) (pages_of g ws)) (some (refused 20 0)) ≡ none
       go true e = turned_loosened 1 (zeros g) (pages_of g ws) e
       go false e = e

@@ -7,11 +7,10 @@ use Rattle.std.proofs.Math.Path.{refl, ap}
 use Rattle.std.proofs.Math.Bool.{true, false}
 use mathlib.Core.List.{List, [], ◌∷◌, ◌++◌}
 use Rattle.std.proofs.Math.Option.{Option, none, some}
-use Rattle.model.specs.declared.answer.Answer.{Answer}
-use Rattle.model.specs.declared.answer.Answer.TheVariants.{Refused}
+use Rattle.model.specs.declared.answer.Counted.{Counted}
 use Rattle.model.specs.Gather.{pick}
 use Rattle.model.specs.Galley.{Galley, Place, Sane, count, streams, zeros, sizes}
-use Rattle.model.specs.Answers.{same, chunks, pages_of, words_of, counts_of}
+use Rattle.model.specs.Answers.{Answer, refused, same, chunks, pages_of, words_of, counts_of}
 use Rattle.model.specs.Best.{keep, valid, best, made, made_words}
 use Rattle.model.specs.Opening.{begins, valid_after, best_after, pages_turned, opening_turned, made_after, made_words_after}
 use Rattle.model.proofs.laws.Gather.{and_left, and_right, and_both}
@@ -61,7 +60,7 @@ module _ (g : Galley) where
   unfolding opening_turned pages_turned
   nothing_turned sane = rw (zero-mod (streams g), no_pages) (go (same (zeros g) (sizes g)) refl)
     where
-      go : (b : Bool) → same (zeros g) (sizes g) ≡ b → pick b (some (Refused 21 0)) none ≡ none
+      go : (b : Bool) → same (zeros g) (sizes g) ≡ b → pick b (some (refused {A = Counted} 21 0)) none ≡ none
       go false e = refl
       go true e =
           let counts = ap (λ v. count v 0) (same_true (zeros g) (sizes g) e) in
@@ -71,7 +70,7 @@ module _ (g : Galley) where
   pub made_after_nothing : Sane g → made_after g [] ≡ made g
   unfolding made_after made
   made_after_nothing sane =
-      let counts : Option (List Place) → Answer = λ r. elim r [ none ↦ Refused 11 0 | some ps ↦ counts_of g ps ] in
+      let counts : Option (List Place) → Answer = λ r. elim r [ none ↦ refused 11 0 | some ps ↦ counts_of g ps ] in
       ap (λ (t : Option Answer). elim t [ none ↦ counts (best_after g (pages_of g [])) | some refusal ↦ refusal ]) (nothing_turned sane)
       ∙ ap (λ os. counts (best_after g os)) no_pages
       ∙ ap counts best_after_nothing

@@ -8,11 +8,9 @@ use Rattle.std.proofs.Common.{◌∙◌, subst, eqb-true, eq-eqb}
 use Rattle.std.proofs.Math.Bool.{not}
 use mathlib.Core.List.{List, [], ◌∷◌}
 use Rattle.std.proofs.Math.ListN.{get_or, get_or-eq_default}
-use Rattle.model.specs.declared.answer.Answer.{Answer}
-use Rattle.model.specs.declared.answer.Answer.TheVariants.{Refused}
 use Rattle.model.specs.Gather.{pick}
 use Rattle.model.specs.Galley.{Galley, Place, count, streams, zeros, sizes, blocks}
-use Rattle.model.specs.Answers.{accepted, same, ended, judge, counted, counts_of, pages_of, words_of, marked}
+use Rattle.model.specs.Answers.{Answer, refused, accepted, same, ended, judge, counted, counts_of, pages_of, words_of, marked}
 use Rattle.model.specs.Best.{allowed, valid}
 use Rattle.model.proofs.laws.Gather.{and_left, and_right, and_both, total_ext, length_row, row_at}
 use Rattle.model.specs.laws.Rules.{placed}
@@ -135,7 +133,7 @@ module _ (g : Galley) where
     pub whole : counted g ws ≡ true
     pub pages : Accepted (pages_of g ws)
 
-  picked : (b : Bool) (a : Answer) → accepted (pick b a (Refused 12 0)) ≡ true → (b ≡ true) × (accepted a ≡ true)
+  picked : (b : Bool) (a : Answer) → accepted (pick b a (refused 12 0)) ≡ true → (b ≡ true) × (accepted a ≡ true)
   picked true a h = (refl, h)
   picked false a h = let z : ◌≡◌ {A = ℕ} 0 1 = cc in absurd (omega arith)
 
@@ -149,7 +147,7 @@ module _ (g : Galley) where
       same_test : accepted judged ≡ accepts (allowed g) (sizes g) 1 (zeros g) (pages_of g ws)
       same_test = judge_accepts g (counts_of g (pages_of g ws)) 1 (zeros g) (pages_of g ws) refl
 
-      out : accepted (pick (counted g ws) judged (Refused 12 0)) ≡ true → MarkAccepted ws
+      out : accepted (pick (counted g ws) judged (refused 12 0)) ≡ true → MarkAccepted ws
       out h =
           let b = picked (counted g ws) judged h in
           let w = counted_at g ws b.0 in
@@ -160,7 +158,7 @@ module _ (g : Galley) where
             pages = record { some = omega arith; shaped = pages_shaped g ws b.0; taken = sym same_test ∙ b.1 };
           }
 
-      into : MarkAccepted ws → accepted (pick (counted g ws) judged (Refused 12 0)) ≡ true
+      into : MarkAccepted ws → accepted (pick (counted g ws) judged (refused 12 0)) ≡ true
       into m = rw m.whole (same_test ∙ m.pages.taken)
 
   -- An accepted list is answered with the counts of its pages.
