@@ -5,13 +5,14 @@ ghost use Rattle.blocks.specs.Heights.{Joint, Room, Separable, put_on, with_bloc
 use galley::{Galley, Stream};
 
 // Heights with every space at its least, and with every space at its greatest.
-#[derive(Clone, Copy)]
+#[derive(Clone, Copy, PartialEq, Eq, Debug)]
 pub struct Heights {
     pub tight: u32,
     pub loose: u32,
 }
 
 // The heights with block k more, and with the space after block `gap` where that is on the page.
+#[tactic(auto, unfolding(crate::specs::Heights::added, crate::specs::Heights::put_on))]
 fn put_on(s: &[u8], stream: Stream, heights: Heights, k: usize, gap: usize, spaced: bool) -> Heights
     requires { Joint s.now stream heights k gap spaced }
     ensures { result ≡ put_on s.now stream heights k gap spaced }
@@ -51,6 +52,7 @@ pub fn block_before(s: &[u8], stream: Stream, heights: Heights, a: usize, b: usi
 }
 
 // The heights with so many separations more: a page of several kinds has one for each kind beyond the first.
+#[tactic(auto, using(crate::specs::laws::Heights::separated_low))]
 pub fn separated(g: Galley, n: u32, heights: Heights) -> Heights
     requires { Separable g.spec n heights }
     ensures { result ≡ separated g.spec n heights }

@@ -1,5 +1,5 @@
 -- Which record a mark opens, and where it may come: document 01, "The galley file".
-use Rattle.std.specs.Prelude.{ℕ, Bool, ◌||◌, ◌&&◌, ltb, leb, eqb}
+use Rattle.std.specs.Prelude.{ℕ, zero, suc, Option, Some, None, Bool, ◌||◌, ◌&&◌, ltb, leb, eqb}
 use Rattle.model.specs.Gather.{pick}
 use Rattle.galley.specs.declared.Kind.{Kind}
 use Rattle.galley.specs.declared.Sofar.{Sofar}
@@ -105,3 +105,8 @@ unfit kind so =
     (pick (too_early kind so) 5
     (pick (too_many kind so) 4
     0))
+
+-- The number as it is answered: none is 0.
+abbrev pub turning : ℕ → Option ℕ
+turning zero = None
+turning (suc n) = Some (suc n)

@@ -10,7 +10,7 @@ pub mod range; // range.rt: the ranges of the fields
 pub mod word; // word.rt: bytes, fields and marks
 
 // The page specification that `GS` holds, or `G2` in its second edition; the least height of the last page is 0 in the first.
-#[derive(Clone, Copy)]
+#[derive(Clone, Copy, PartialEq, Eq, Debug)]
 pub struct Spec {
     pub htmin: u32,
     pub htmax: u32,
@@ -19,27 +19,27 @@ pub struct Spec {
     pub sides: u32,
     pub alpha: u32,
     pub beta: u32,
-    pub edition: u32,
+    pub edition: u32, // 1 or 2: a number, since a theorem of promises.Editions states it
     pub lastmin: u32,
 }
 
 // The height of a block, a line, a figure or a table, and the least and the greatest height of the space after it.
-#[derive(Clone, Copy)]
+#[derive(Clone, Copy, PartialEq, Eq, Debug)]
 pub struct Block {
     pub height: u32,
     pub least: u32,
     pub most: u32,
 }
 
-// A text line; `legal` is 1 where a page may end in the space after it.
-#[derive(Clone, Copy)]
+// A text line; `legal` is 1 where a page may end in the space after it. It is the field as read, which `LineRanged` holds to 0 and 1.
+#[derive(Clone, Copy, PartialEq, Eq, Debug)]
 pub struct Line {
     pub block: Block,
     pub legal: u32,
 }
 
 // A figure or a table, the number of the line that cites it, and whether it is kept with the next one, as only a figure can be.
-#[derive(Clone, Copy)]
+#[derive(Clone, Copy, PartialEq, Eq, Debug)]
 pub struct Float {
     pub block: Block,
     pub cite: u32,
@@ -58,7 +58,7 @@ pub const LEGAL: usize = 14;
 pub const CITE: usize = 14;
 
 // What stands at an offset.
-#[derive(Clone, Copy)]
+#[derive(Clone, Copy, PartialEq, Eq, Debug)]
 pub enum Record {
     Spec(Spec),
     Folio(u32),
@@ -77,14 +77,14 @@ pub struct Unread {
 
 // One stream of blocks, the lines, the figures or the tables: how many there are, and the offset of the first, from which every other is
 // found.
-#[derive(Clone, Copy)]
+#[derive(Clone, Copy, PartialEq, Eq, Debug)]
 pub struct Stream {
     pub first: usize,
     pub count: usize,
 }
 
 // A galley that was read: its specification, the folio of its first page, and its streams.
-#[derive(Clone, Copy)]
+#[derive(Clone, Copy, PartialEq, Eq, Debug)]
 pub struct Galley {
     pub spec: Spec,
     pub folio: u32,
@@ -98,7 +98,7 @@ pub type Reading = Result<Galley, Refusal>;
 
 // A kind of record: the stage that it reaches, the first and the last stage after which it may come, how many there may be of
 // its stage, and its bytes.
-#[derive(Clone, Copy)]
+#[derive(Clone, Copy, PartialEq, Eq, Debug)]
 pub struct Kind {
     pub stage: u32,
     pub earliest: u32,
@@ -110,7 +110,7 @@ pub struct Kind {
 // How far reading has come: the stage reached, how many records of that stage there were, the line cited last in it, where the
 // next record is due, the folio of the first page, where the text begins, and how many blocks of each stream there were. The
 // specification is not carried along: it stands at the start of the bytes, and is read once, at the end.
-#[derive(Clone, Copy)]
+#[derive(Clone, Copy, PartialEq, Eq, Debug)]
 pub struct Sofar {
     pub stage: u32,
     pub count: usize,

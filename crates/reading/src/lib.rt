@@ -3,7 +3,6 @@
 #![tactic(auto)]
 
 ghost use Rattle.std.specs.Prelude.{◌≡◌, ◌+◌, ◌≤◌};
-ghost use Rattle.model.specs.Gather.{pick};
 ghost use Rattle.galley.specs.declared.Record.TheVariants as records;
 ghost use Rattle.galley.specs.Whole.{Small, Fitting, Opened, beginning, moved, refused, with_folio, with_line, with_figure, with_table, cited, galley_so_far, closed, after, step_from, galley_of};
 
@@ -31,66 +30,61 @@ fn beginning() -> Sofar
 }
 
 // A specification or a folio more: the text is still to come, after it.
-fn with_folio(mut so: Sofar, folio: u32) -> Sofar
+fn with_folio(so: Sofar, folio: u32) -> Sofar
     ensures { result ≡ with_folio so folio }
 {
-    so.folio = folio;
-    so.first = so.at;
-    so
+    Sofar {
+        folio,
+        first: so.at,
+        ..so
+    }
 }
 
 // One line more.
-fn with_line(mut so: Sofar) -> Sofar
+fn with_line(so: Sofar) -> Sofar
     ensures { result ≡ with_line so }
 {
-    so.lines = so.count;
-    so
+    Sofar {
+        lines: so.count,
+        ..so
+    }
 }
 
 // One figure more, whose citation is the last.
-fn with_figure(mut so: Sofar, cite: usize) -> Sofar
+fn with_figure(so: Sofar, cite: usize) -> Sofar
     ensures { result ≡ with_figure so cite }
 {
-    so.figures = so.count;
-    so.last = cite;
-    so
+    Sofar {
+        figures: so.count,
+        last: cite,
+        ..so
+    }
 }
 
 // One table more, whose citation is the last.
-fn with_table(mut so: Sofar, cite: usize) -> Sofar
+fn with_table(so: Sofar, cite: usize) -> Sofar
     ensures { result ≡ with_table so cite }
 {
-    so.tables = so.count;
-    so.last = cite;
-    so
+    Sofar {
+        tables: so.count,
+        last: cite,
+        ..so
+    }
 }
 
-// One more of a stage, or the first.
-fn one_more(same: bool, count: usize) -> usize
-    requires { count ≤ 4000 }
-    ensures { result ≡ pick same (count + 1) 1 }
-{
-    if same { count + 1 } else { 1 }
-}
-
-// What goes on with the same stage, or begins anew.
-fn kept(same: bool, last: usize) -> usize
-    ensures { result ≡ pick same last 0 }
-{
-    if same { last } else { 0 }
-}
-
-// One record more of a kind: its stage is reached, and the next record is due after it. Citations begin anew with a stage.
-fn moved(mut so: Sofar, kind: Kind) -> Sofar
+// One record more of a kind: its stage is reached, and the next record is due after it. Counts and citations begin anew with a stage.
+fn moved(so: Sofar, kind: Kind) -> Sofar
     requires { (Small so) × (kind.size ≤ 34) }
     ensures { result ≡ moved so kind }
 {
     let same = kind.stage == so.stage;
-    so.stage = kind.stage;
-    so.count = one_more(same, so.count);
-    so.last = kept(same, so.last);
-    so.at = so.at + kind.size;
-    so
+    Sofar {
+        stage: kind.stage,
+        count: if same { so.count + 1 } else { 1 },
+        last: if same { so.last } else { 0 },
+        at: so.at + kind.size,
+        ..so
+    }
 }
 
 // Reading is done with a refusal.
@@ -110,12 +104,11 @@ fn cited(so: Sofar, cite: usize, next: Sofar, at: usize) -> Step
     requires { at ≤ 100000 }
     ensures { result ≡ cited so cite next at }
 {
-    let beyond = (cite == 0) | (so.lines < cite);
-    let falls = cite < so.last;
+    let beyond = cite == 0 || so.lines < cite;
     if beyond {
         return refused(6, at);
     }
-    if falls {
+    if cite < so.last {
         return refused(7, at);
     }
     ControlFlow::Continue(next)
@@ -147,6 +140,7 @@ fn galley_so_far(spec: Spec, so: Sofar) -> Galley
 }
 
 // The end, if nothing follows it: 8. The specification is read at the start of the bytes.
+#[tactic(auto, unfolding(galley::specs::Whole::closed))]
 fn closed(s: &[u8], so: Sofar) -> Step
     requires { (Fitting so) × (Opened s.now) }
     ensures { result ≡ closed s.now so }
@@ -166,15 +160,15 @@ fn after(s: &[u8], so: Sofar, found: Result<Record, Unread>, at: usize) -> Step
     ensures { result ≡ after s.now so at found }
 {
     match found {
-        Ok(Record::Spec(_g)) => ControlFlow::Continue(with_folio(so, 1)),
+        Ok(Record::Spec(_)) => ControlFlow::Continue(with_folio(so, 1)),
         Ok(Record::Folio(f)) => ControlFlow::Continue(with_folio(so, f)),
-        Ok(Record::Line(_l)) => ControlFlow::Continue(with_line(so)),
+        Ok(Record::Line(_)) => ControlFlow::Continue(with_line(so)),
         Ok(Record::Figure(f)) => {
-            let cite = galley::word::size(f.cite);
+            let cite = f.cite as usize;
             cited(so, cite, with_figure(so, cite), at)
         }
         Ok(Record::Table(f)) => {
-            let cite = galley::word::size(f.cite);
+            let cite = f.cite as usize;
             cited(so, cite, with_table(so, cite), at)
         }
         Ok(Record::End) => closed(s, so),
@@ -183,17 +177,17 @@ fn after(s: &[u8], so: Sofar, found: Result<Record, Unread>, at: usize) -> Step
 }
 
 // The next record, in its place.
+#[tactic(auto, using(galley::proofs::laws::Place::kind_sized, galley::proofs::laws::Step::end_begun), unfolding(galley::specs::Whole::step_from))]
 fn step_from(s: &[u8], so: Sofar) -> Step
     requires { (Small so) × (1 ≤ so.stage → Opened s.now) }
     ensures { result ≡ step_from s.now so }
 {
     let at = so.at;
-    if galley::word::left_from(s, at) < 2 {
+    if s.len().saturating_sub(at) < 2 {
         return refused(1, at);
     }
     let kind = galley::place::kind_of(galley::word::mark_at(s, at));
-    let number = galley::place::unfit_for(kind, so);
-    if 0 < number {
+    if let Some(number) = galley::place::unfit_for(kind, so) {
         return refused(number, at);
     }
     let found = crate::reader::read_record(s, at);
@@ -201,19 +195,15 @@ fn step_from(s: &[u8], so: Sofar) -> Step
 }
 
 // The galley that any bytes hold, or the first refusal with its place.
+#[tactic(auto, using(galley::proofs::laws::Underway::underway_none, galley::proofs::laws::Underway::underway_small, galley::proofs::laws::Underway::underway_opened, galley::proofs::laws::Underway::underway_farther, galley::proofs::laws::Underway::underway_on, galley::proofs::laws::Underway::underway_done))]
 pub fn read_galley(s: &[u8]) -> Reading
     ensures { result ≡ galley_of s.now }
 {
     let mut so = beginning();
     loop {
-        let step = step_from(s, so);
-        match step {
-            ControlFlow::Continue(next) => {
-                so = next;
-            }
-            ControlFlow::Break(reading) => {
-                return reading;
-            }
+        match step_from(s, so) {
+            ControlFlow::Continue(next) => so = next,
+            ControlFlow::Break(reading) => return reading,
         }
     }
 }

@@ -2,10 +2,9 @@
 #![tactic(auto)]
 
 ghost use Rattle.std.specs.Prelude.{◌≡◌, ◌+◌, ◌≤◌, length, ltb, false};
-ghost use Rattle.model.specs.Gather.{pick};
 ghost use Rattle.galley.specs.Place.{kind_of};
 ghost use Rattle.galley.specs.declared.Record.TheVariants as found;
-ghost use Rattle.galley.specs.Record.{HasSpec, block_of, ranged, last_least, spec_of, spec_at, folio_at, line_at, float_of, float_at, fields_of, record_at};
+ghost use Rattle.galley.specs.Record.{HasSpec, block_of, ranged, spec_of, spec_at, folio_at, line_at, float_of, float_at, fields_of, record_at};
 
 use galley::place::{ED, FG, FK, FO, G2, GS, TB, TL};
 use galley::{Block, Float, Line, Record, Spec, Unread};
@@ -24,25 +23,7 @@ fn ranged(fine: bool, found: Record, at: usize) -> Result<Record, Unread>
     }
 }
 
-// The least height of the last page, which only the second edition states.
-fn last_least(s: &[u8], at: usize, second: bool) -> u32
-    requires { HasSpec s.now at second }
-    ensures { result ≡ last_least second s.now at }
-{
-    if second {
-        return galley::word::word_at(s, at + 30);
-    }
-    0
-}
-
-// The second edition or the first.
-fn edition_of(second: bool) -> u32
-    ensures { result ≡ pick second 2 1 }
-{
-    if second { 2 } else { 1 }
-}
-
-// The fields of a specification, of the second edition or the first.
+// The fields of a specification, of the second edition or the first; only the second states the least height of the last page.
 pub fn spec_of(s: &[u8], at: usize, second: bool) -> Spec
     requires { HasSpec s.now at second }
     ensures { result ≡ spec_of second s.now at }
@@ -55,8 +36,12 @@ pub fn spec_of(s: &[u8], at: usize, second: bool) -> Spec
         sides: galley::word::word_at(s, at + 18),
         alpha: galley::word::word_at(s, at + 22),
         beta: galley::word::word_at(s, at + 26),
-        edition: edition_of(second),
-        lastmin: last_least(s, at, second),
+        edition: if second { 2 } else { 1 },
+        lastmin: if second {
+            galley::word::word_at(s, at + 30)
+        } else {
+            0
+        },
     }
 }
 
@@ -75,7 +60,7 @@ fn folio_at(s: &[u8], at: usize) -> Result<Record, Unread>
     ensures { result ≡ folio_at s.now at }
 {
     let folio = galley::word::word_at(s, at + 2);
-    ranged((1 <= folio) & (folio <= 9999), Record::Folio(folio), at)
+    ranged(1 <= folio && folio <= 9999, Record::Folio(folio), at)
 }
 
 // The heights of a block.
@@ -97,7 +82,7 @@ fn line_at(s: &[u8], at: usize) -> Result<Record, Unread>
 {
     let block = block_fields(s, at);
     let legal = galley::word::word_at(s, at + galley::LEGAL);
-    let fine = galley::range::block_in_range(block) & (legal <= 1);
+    let fine = galley::range::block_in_range(block) && legal <= 1;
     ranged(fine, Record::Line(Line { block, legal }), at)
 }
 
@@ -136,12 +121,13 @@ fn table_at(s: &[u8], at: usize) -> Result<Record, Unread>
 }
 
 // What the fields after a mark say; an unknown mark is 2.
+#[tactic(auto, using(galley::proofs::laws::Record::spec_room), unfolding(galley::specs::Record::fields_of, galley::specs::Place::kind_of))]
 fn fields_of(mark: u32, s: &[u8], at: usize) -> Result<Record, Unread>
     requires { at + (kind_of mark).size ≤ length s.now }
     ensures { result ≡ fields_of mark s.now at }
 {
     let second = mark == G2;
-    if (mark == GS) | second {
+    if mark == GS || second {
         return spec_at(s, at, second);
     }
     match mark {
@@ -160,6 +146,7 @@ fn fields_of(mark: u32, s: &[u8], at: usize) -> Result<Record, Unread>
 
 // Whether so few bytes are left that a record with this mark is not there whole. No record has more than 34 bytes, so that its size
 // matters only near the end.
+#[tactic(auto, using(galley::proofs::laws::Place::kind_sized))]
 fn is_short(left: usize, mark: u32) -> bool
     ensures { result ≡ ltb left (kind_of mark).size }
 {
@@ -170,10 +157,11 @@ fn is_short(left: usize, mark: u32) -> bool
 }
 
 // The record at any offset, also past the end: its mark is there, its fields are there and in range.
+#[tactic(auto, unfolding(galley::specs::Record::record_at))]
 pub fn record_at(s: &[u8], at: usize) -> Result<Record, Unread>
     ensures { result ≡ record_at s.now at }
 {
-    let left = galley::word::left_from(s, at);
+    let left = s.len().saturating_sub(at);
     if left < 2 {
         return Err(Unread {
             number: 1,

@@ -1,9 +1,10 @@
 -- What is known of a record that fits its place.
-use Rattle.std.specs.Prelude.{ℕ, ◌≤◌, ◌<◌, Bool, true, false, ◌&&◌, ◌≡◌, refl, eqb, ltb, leb}
+use Rattle.std.specs.Prelude.{ℕ, zero, suc, None, ◌≤◌, ◌<◌, Bool, true, false, ◌&&◌, ◌≡◌, refl, eqb, ltb, leb}
 use Rattle.std.proofs.Common.{arith, sym, ltb-true, ltb-false, leb-false, eqb-true, le-ltb, lt-ltb, eq-eqb, ne_eqb}
 use Rattle.std.proofs.lemmas.Bool.{eqb-false, lt-leb}
+use Rattle.std.proofs.lemmas.Option.{none-some}
 use Rattle.model.specs.Gather.{pick}
-use Rattle.galley.specs.Place.{GS, G2, FO, TL, FG, FK, TB, ED, spec_mark, spec_size, nothing, spec, line, figure_mark, row_of, kind_of, misplaced, too_early, too_many, unfit}
+use Rattle.galley.specs.Place.{GS, G2, FO, TL, FG, FK, TB, ED, spec_mark, spec_size, nothing, spec, line, figure_mark, row_of, kind_of, misplaced, too_early, too_many, unfit, turning}
 use Rattle.galley.proofs.laws.Pick.{pick_has, or_false, and_false}
 use Rattle.galley.specs.declared.Kind.{Kind}
 use Rattle.galley.specs.declared.Sofar.{Sofar}
@@ -58,6 +59,11 @@ none_picked true e t h = absurd (omega arith)
 none_picked false true t h = absurd (omega arith)
 none_picked false false true h = absurd (omega arith)
 none_picked false false false h = (refl, refl, refl)
+
+-- Where no number is answered it is 0.
+pub turning_none : (n : ℕ) → turning n ≡ None → n ≡ 0
+turning_none zero h = refl
+turning_none (suc n) h = absurd (none-some (suc n) (sym h))
 
 -- A record with the number 0 fits.
 pub unfit_fits : (kind : Kind) (so : Sofar) → unfit kind so ≡ 0 → Fits kind so
