@@ -2,31 +2,24 @@
 ghost use Rattle.std.specs.Prelude.{◌≡◌};
 ghost use Rattle.places.specs.Address.{address, Stands};
 ghost use Rattle.places.specs.Best.{Affordable};
-ghost use Rattle.candidates.specs.Better.{no_later, beats, wins, chosen, Later, start_at, taken};
+ghost use Rattle.candidates.specs.Better.{beats, wins, chosen, Later, start_at, taken};
 
-use places::{Entry, Place};
+use places::{Entry, Least, Place};
 
-// Whether the start s is no later than r.
-fn no_later(r: Place, s: Place) -> bool
-    ensures { result ≡ no_later r s }
+// Whether a start is better than another, or is it. Both tests are made, and no branch depends on them.
+fn beats(y: Least, x: Least) -> bool
+    ensures { result ≡ beats y.cost y.start x.cost x.start }
 {
-    (s.line < r.line) | ((s.line == r.line) & (s.column <= r.column))
+    (y.cost < x.cost) | ((y.cost <= x.cost) & (x.start <= y.start))
 }
 
-// Whether r at cost y is better than s at cost x, or is s.
-fn beats(y: u64, r: Place, x: u64, s: Place) -> bool
-    ensures { result ≡ beats y r x s }
-{
-    places::less(y, x) | (!places::less(x, y) & no_later(r, s))
-}
-
-// Whether the start r at cost y is better than an entry, or is its start.
-fn wins(y: u64, r: Place, held: Entry) -> bool
-    ensures { result ≡ wins y r held }
+// Whether a start is better than an entry, or is its start.
+fn wins(y: Least, held: Entry) -> bool
+    ensures { result ≡ wins y.cost y.start held }
 {
     match held {
-        Entry::Unreached => true,
-        Entry::Least(x, s) => beats(y, r, x, s),
+        None => true,
+        Some(x) => beats(y, x),
     }
 }
 
@@ -34,11 +27,11 @@ fn wins(y: u64, r: Place, held: Entry) -> bool
 pub fn choose(held: Entry, other: Entry) -> Entry
     ensures { result ≡ chosen held other }
 {
-    let Entry::Least(y, r) = other else {
+    let Some(y) = other else {
         return held;
     };
-    if wins(y, r, held) {
-        return Entry::Least(y, r);
+    if wins(y, held) {
+        return other;
     }
     held
 }
@@ -48,16 +41,16 @@ pub fn choose_later(held: Entry, other: Entry) -> Entry
     requires { Later held other }
     ensures { result ≡ chosen held other }
 {
-    let Entry::Least(y, r) = other else {
+    let Some(y) = other else {
         return held;
     };
-    let Entry::Least(x, s) = held else {
-        return Entry::Least(y, r);
+    let Some(x) = held else {
+        return other;
     };
-    if places::less(x, y) {
-        return Entry::Least(x, s);
+    if x.cost < y.cost {
+        return held;
     }
-    Entry::Least(y, r)
+    other
 }
 
 // The entry of a place as a start there, with the white of the page in its cost. A place that was never reached offers no start for
@@ -66,10 +59,11 @@ pub fn start_at(entry: Entry, place: Place, white: u32) -> Entry
     requires { Affordable entry }
     ensures { result ≡ start_at entry white place.line place.column }
 {
-    let Entry::Least(x, _start) = entry else {
-        return Entry::Unreached;
-    };
-    Entry::Least(x + white as u64, place)
+    let x = entry?;
+    Some(Least {
+        cost: x.cost + u64::from(white),
+        start: place,
+    })
 }
 
 // An entry of the work area replaced where another is better.
@@ -77,11 +71,11 @@ pub fn offer(work: &mut [u32], tall: usize, place: Place, side: usize, other: En
     requires { Stands work.old tall place side }
     ensures { work.new ≡ taken work.old (address tall place.line place.column side) other }
 {
-    let Entry::Least(y, r) = other else {
+    let Some(y) = other else {
         return;
     };
     let held = places::entry_of(work, tall, place, side);
-    if wins(y, r, held) {
-        places::store(work, tall, place, side, Entry::Least(y, r));
+    if wins(y, held) {
+        places::store(work, tall, place, side, other);
     }
 }

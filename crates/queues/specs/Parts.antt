@@ -1,18 +1,25 @@
 -- The two parts of a window, each with its queue: the starts of full pages, which have no white, and those of the others, whose white is
 -- what they lack of htMax (document 02, S-10).
-use Rattle.std.specs.Prelude.{ℕ, ◌+◌, ◌-◌, ◌*◌, ◌≤◌, ◌<◌, ◌≡◌, true, false, List, [], ◌∷◌, length, get_or, ltb}
+use Rattle.std.specs.Prelude.{ℕ, ◌+◌, ◌-◌, ◌*◌, ◌≤◌, ◌<◌, ◌≡◌, true, false, List, [], ◌∷◌, length, get_or, max, Bool, None, Some}
 use Rattle.std.proofs.lemmas.List.Edits.{sets}
-use Rattle.model.specs.Gather.{pick}
 use Rattle.places.specs.declared.Place.{Place}
-use Rattle.places.specs.declared.Entry.{Entry}
-use Rattle.places.specs.declared.Entry.TheVariants.{Unreached, Least}
+use Rattle.places.specs.Entry.{Entry, least}
 use Rattle.places.specs.Address.{Stands}
 use Rattle.window.specs.declared.slide.Window.{Window}
 use Rattle.queues.specs.declared.queue.Source.{Source}
+use Rattle.queues.specs.declared.queue.Queue.{Queue}
 use Rattle.queues.specs.declared.parts.Parts.{Parts}
 use Rattle.window.specs.Rows.{Beside}
 use Rattle.window.specs.Slide.{Rises}
 use Rattle.queues.specs.Queue.{line_at, added_of, lines_in, Held, Payable}
+
+-- A queue from `base` on, whose head and tail are the words from `at` on.
+abbrev pub queue_at : List ℕ → ℕ → ℕ → Bool → Queue
+queue_at ends at base lacks = record { base = base; head = get_or ends at 0; tail = get_or ends (at + 1) 0; lacks = lacks }
+
+-- A queue of no line.
+abbrev pub emptied : ℕ → Bool → Queue
+emptied base lacks = record { base = base; head = base; tail = base; lacks = lacks }
 
 -- The queues of side c: each has the room of 4,000 entries, and their heads and tails stand as row c of `ends`.
 abbrev pub parts_of : List ℕ → ℕ → Parts
@@ -34,13 +41,9 @@ no_parts =
       rest = record { base = 4000; head = 4000; tail = 4000; lacks = true };
     }
 
--- The later of two lines.
-unfoldable pub later : ℕ → ℕ → ℕ
-later a b = pick (ltb a b) b a
-
 -- Where the part of the pages with white starts: from there on they are neither full nor too tall.
 abbrev pub rest_from : Window → ℕ
-rest_from window = later window.low window.split
+rest_from window = max window.low window.split
 
 -- Both queues lie from `base` on, and hold the parts of the window.
 pub record Both (col : ℕ → Entry) (sums words : List ℕ) (base : ℕ) (parts : Parts) (window : Window) : Type 0 where
@@ -79,10 +82,10 @@ pub record Moved (work sums old : List ℕ) (source : Source) (parts : Parts) (t
 -- A start whose cost has the height up to its line, with the page's white in its place: what the page, which reaches so far from the
 -- first line on, lacks of `top`.
 unfoldable pub whitened_of : Entry → ℕ → ℕ → Entry
-whitened_of Unreached top reached = Unreached
-whitened_of (Least x r) top reached = Least ((x + top) - reached) r
+whitened_of None top reached = None
+whitened_of (Some l) top reached = least ((l.cost + top) - reached) l.start
 
 -- The cost is small, and the page lacks something.
 pub record Whitenable (e : Entry) (top reached : ℕ) : Type 0 where
-  pub small : (x : ℕ) (r : Place) → e ≡ Least x r → x ≤ 11000000000000000000
-  pub enough : (x : ℕ) (r : Place) → e ≡ Least x r → reached ≤ x + top
+  pub small : (x : ℕ) (r : Place) → e ≡ least x r → x ≤ 11000000000000000000
+  pub enough : (x : ℕ) (r : Place) → e ≡ least x r → reached ≤ x + top
