@@ -13,7 +13,7 @@ use galley::{Galley, Stream};
 pub mod heights; // heights.rt: the heights of a page, block by block
 
 // The blocks of each stream placed so far. Where there are no tables a page has no word for them.
-#[derive(Clone, Copy, PartialEq, Eq, Debug)]
+#[derive(Clone, Copy, PartialEq, Eq, Default, Debug)]
 pub struct Counts {
     pub lines: usize,
     pub figures: usize,

@@ -7,7 +7,7 @@ ghost use Rattle.rules.specs.Sums.{Addable, with_page};
 
 use blocks::Counts;
 use galley::Galley;
-use model::answer::Answer;
+use model::answer::{Answer, Counted, Refusal};
 use model::page::Page;
 use rules::counts::Sums;
 use rules::waiting::Waiting;
@@ -44,7 +44,11 @@ fn leaves_turned(g: Galley, pages: u32) -> u32
 pub fn all_placed(g: Galley, at: Counts) -> bool
     ensures { result ≡ all_placed g at }
 {
-    (at.lines == g.text.count) & ((at.figures == g.figures.count) & (at.tables == g.tables.count))
+    at == Counts {
+        lines: g.text.count,
+        figures: g.figures.count,
+        tables: g.tables.count,
+    }
 }
 
 // What so many printed pages cost, after which a page follows: the floats that waited where a leaf ends, by α, and the leaves turned, by β,
@@ -55,7 +59,7 @@ pub fn printed_cost(g: Galley, pages: u32, sums: Sums) -> u64
 {
     let y = leaves_turned(g, pages + 1);
     let turns = g.spec.alpha * sums.x + g.spec.beta * y;
-    turns as u64 * 4294967296 + sums.white as u64
+    u64::from(turns) * 4294967296 + u64::from(sums.white)
 }
 
 // 18 where the last page does not end at the full place, else p, X, Y, T, W.
@@ -63,18 +67,18 @@ pub fn finish(g: Galley, pages: u32, at: Counts, sums: Sums) -> Answer
     requires { CountLimits g pages sums.x }
     ensures { result ≡ finished g pages at sums }
 {
-    if all_placed(g, at) {
-        let y = leaves_turned(g, pages);
-        return Answer::Counted {
-            pages,
-            x: sums.x,
-            y,
-            turns: g.spec.alpha * sums.x + g.spec.beta * y,
-            white: sums.white,
-        };
+    if !all_placed(g, at) {
+        return Err(Refusal {
+            number: 18,
+            place: pages,
+        });
     }
-    Answer::Refused {
-        number: 18,
-        place: pages,
-    }
+    let y = leaves_turned(g, pages);
+    Ok(Counted {
+        pages,
+        x: sums.x,
+        y,
+        turns: g.spec.alpha * sums.x + g.spec.beta * y,
+        white: sums.white,
+    })
 }

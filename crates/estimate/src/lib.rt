@@ -7,11 +7,10 @@
 // is the same, since a search that finds nothing within its limit is made again without one.
 #![tactic(auto)]
 
-ghost use Rattle.std.specs.Prelude.{true, ◌≡◌, ◌-◌, ◌≤◌, ◌<◌};
+ghost use Rattle.std.specs.Prelude.{true, ◌≡◌, ◌≤◌, ◌<◌};
 ghost use Rattle.galley.specs.Block.{Has};
 ghost use Rattle.galley.specs.Range.{SpecRanged};
 ghost use Rattle.galley.specs.Sound.{SoundStream};
-ghost use Rattle.rules.specs.Parts.{all_placed};
 ghost use Rattle.candidates.specs.Read.{Placed};
 ghost use Rattle.estimate.specs.Greedy.{Setting, Goes, Begins, Counted};
 
@@ -26,25 +25,13 @@ const MOST: u32 = 1000000000;
 
 // The pages set so far: the blocks placed of each stream, the room left on the present page and whether it ends its leaf, what the pages
 // before it cost, and how many of them ended theirs.
-#[derive(Clone, Copy)]
+#[derive(Clone, Copy, PartialEq, Eq, Debug)]
 pub struct Greedy {
-    pub lines: usize,
-    pub figures: usize,
-    pub tables: usize,
+    pub at: Counts,
     pub room: u32,
     pub ends: bool,
     pub cost: u32,
     pub turned: u32,
-}
-
-// What is left of the room once so much is taken; nothing where that is more than there is.
-fn left_of(room: u32, taken: u32) -> u32
-    ensures { result ≡ room - taken }
-{
-    if taken < room {
-        return room - taken;
-    }
-    0
 }
 
 // The room left after block k, with the space after it, or what floats are set apart by where that is more.
@@ -53,11 +40,8 @@ fn room_after(s: &[u8], stream: Stream, k: usize, room: u32, apart: u32) -> u32
     ensures { result ≤ room }
 {
     let least = blocks::field(s, stream, k, galley::LEAST);
-    let room = left_of(room, blocks::field(s, stream, k, galley::HEIGHT));
-    if least < apart {
-        return left_of(room, apart);
-    }
-    left_of(room, least)
+    let height = blocks::field(s, stream, k, galley::HEIGHT);
+    room.saturating_sub(height).saturating_sub(least.max(apart))
 }
 
 // Whether there is a next block of a stream that fits the present page. A page with all its room left takes every block, however high, so
@@ -80,7 +64,7 @@ fn float_fits(s: &[u8], g: Galley, floats: Stream, placed: usize, pages: Greedy)
 {
     if block_fits(s, g, floats, placed, pages) {
         let line = blocks::field(s, floats, placed + 1, galley::CITE);
-        return galley::word::size(line) <= pages.lines;
+        return galley::word::size(line) <= pages.at.lines;
     }
     false
 }
@@ -90,16 +74,7 @@ fn leaf_cost(s: &[u8], g: Galley, pages: Greedy) -> u32
     requires { Setting s.now g pages }
     ensures { result ≤ 251000 }
 {
-    let at = Counts {
-        lines: pages.lines,
-        figures: pages.figures,
-        tables: pages.tables,
-    };
-    let none = Waiting {
-        figures: 0,
-        tables: 0,
-    };
-    let waiting = rules::waiting::waiting_after(s, g, at, none);
+    let waiting = rules::waiting::waiting_after(s, g, pages.at, Waiting::default());
     g.spec.alpha * ((waiting.figures + waiting.tables) as u32) + g.spec.beta
 }
 
@@ -124,30 +99,22 @@ fn step(s: &[u8], g: Galley, mut pages: Greedy) -> Greedy
     requires { Setting s.now g pages }
     ensures { Goes g pages result }
 {
-    if float_fits(s, g, g.figures, pages.figures, pages) {
-        pages.figures += 1;
-        pages.room = room_after(s, g.figures, pages.figures, pages.room, g.spec.smin);
+    if float_fits(s, g, g.figures, pages.at.figures, pages) {
+        pages.at.figures += 1;
+        pages.room = room_after(s, g.figures, pages.at.figures, pages.room, g.spec.smin);
         return pages;
     }
-    if float_fits(s, g, g.tables, pages.tables, pages) {
-        pages.tables += 1;
-        pages.room = room_after(s, g.tables, pages.tables, pages.room, g.spec.smin);
+    if float_fits(s, g, g.tables, pages.at.tables, pages) {
+        pages.at.tables += 1;
+        pages.room = room_after(s, g.tables, pages.at.tables, pages.room, g.spec.smin);
         return pages;
     }
-    if block_fits(s, g, g.text, pages.lines, pages) {
-        pages.lines += 1;
-        pages.room = room_after(s, g.text, pages.lines, pages.room, 0);
+    if block_fits(s, g, g.text, pages.at.lines, pages) {
+        pages.at.lines += 1;
+        pages.room = room_after(s, g.text, pages.at.lines, pages.room, 0);
         return pages;
     }
     turn(s, g, pages)
-}
-
-// Whether nothing is left to place.
-fn is_whole(g: Galley, pages: Greedy) -> bool
-    ensures { result ≡ all_placed g (record { lines = pages.lines; figures = pages.figures; tables = pages.tables }) }
-{
-    (pages.lines == g.text.count)
-        & ((pages.figures == g.figures.count) & (pages.tables == g.tables.count))
 }
 
 // All pages from a beginning on. A page that is turned takes a block at once, so that twice as many steps as there are blocks are enough.
@@ -156,13 +123,11 @@ fn set_pages(s: &[u8], g: Galley, beginning: Greedy) -> Greedy
     ensures { Counted result }
 {
     let mut pages = beginning;
-    let mut left = 2 * (g.text.count + g.figures.count + g.tables.count);
-    while 0 < left {
-        if is_whole(g, pages) {
+    for _ in 0..2 * (g.text.count + g.figures.count + g.tables.count) {
+        if counting::all_placed(g, pages.at) {
             return pages;
         }
         pages = step(s, g, pages);
-        left -= 1;
     }
     pages
 }
@@ -177,10 +142,7 @@ fn guess_of(spec: Spec, pages: Greedy) -> u32
         return 0;
     }
     let limit = pages.cost + spec.beta * (pages.turned / 16) + 2 * (spec.alpha + spec.beta);
-    if limit < MOST {
-        return limit;
-    }
-    MOST
+    limit.min(MOST)
 }
 
 // The turns that the pages after the origin may cost on the first try.
@@ -196,9 +158,7 @@ pub fn first_limit(s: &[u8], g: Galley, origin: Origin) -> u32
     // The page after the printed ones, by its side alone.
     let first = Page(origin.pages % 2 + 1);
     let beginning = Greedy {
-        lines: at.lines,
-        figures: at.figures,
-        tables: at.tables,
+        at,
         room: g.spec.htmax,
         ends: model::page::ends_spread(g.spec.sides, g.folio, first),
         cost: 0,

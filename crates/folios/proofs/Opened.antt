@@ -4,7 +4,7 @@ use Prim.Native.Nat.{ℕ, zero, suc, ◌+◌, ◌-◌, ◌*◌, ◌≤◌, ◌<�
 use native.Mathlib.Omega.{arith}
 use Rattle.std.proofs.Math.Path.{◌≡◌, refl, sym, ap, fun_ext}
 use Rattle.std.proofs.Common.{◌∙◌, subst, inl, inr, length-take-le}
-use Rattle.std.specs.Prelude.{Bool, true, false, ◌||◌, List, ◌++◌, length, drop, eqb}
+use Rattle.std.specs.Prelude.{Bool, true, false, ◌||◌, List, ◌++◌, length, drop, eqb, Err, Ok}
 use Rattle.std.proofs.Math.ListN.{take}
 use Rattle.std.proofs.Math.Dec.{ltb}
 use borrow.Author.Tests.{ltb-true, ltb-false, lt-ltb, le-ltb}
@@ -13,8 +13,8 @@ use Rattle.model.specs.Book.{open_on}
 use Rattle.galley.specs.Word.{word_at, mark_at}
 use Rattle.galley.specs.Place.{spec_size, size_in, spec, folio, line, FO, TL, kind_of, unfit}
 use Rattle.galley.specs.Range.{FolioRanged}
-use Rattle.galley.specs.Record.{is_second, last_least, spec_of, height_at, least_at, most_at, legal_at, cite_at, line_of, fields_of, record_at}
-use Rattle.galley.specs.Whole.{beginning, moved, with_folio, with_line, cited, closed, after, step_from, settled, read_from, galley_of}
+use Rattle.galley.specs.Record.{Read, is_second, last_least, spec_of, height_at, least_at, most_at, legal_at, cite_at, line_of, fields_of, record_at}
+use Rattle.galley.specs.Whole.{beginning, moved, with_folio, with_line, cited, closed, after, step_from, settled, read_from, galley_of, Reading, Step}
 use Rattle.galley.specs.Block.{offset, field_of}
 use Rattle.galley.specs.Model.{stream_of, legal_of, streams_of, float_streams, model_of}
 use Rattle.galley.specs.Sound.{Opening}
@@ -31,15 +31,13 @@ use Rattle.galley.specs.declared.Stream.{Stream}
 use Rattle.galley.specs.declared.Galley.{Galley}
 use Rattle.galley.specs.declared.Record.{Record}
 use Rattle.galley.specs.declared.Record.TheVariants as found
-use Rattle.galley.specs.declared.Reading.{Reading}
-use Rattle.galley.specs.declared.Reading.TheVariants as reads
 use Rattle.galley.specs.declared.Sofar.{Sofar}
-use Rattle.galley.specs.declared.Step.{Step}
-use Rattle.galley.specs.declared.Step.TheVariants.{On, Done}
 use Rattle.chapters.specs.Book.{has_folio}
 use Rattle.chapters.specs.laws.Alike.{sides_on_lem}
 use Rattle.folios.specs.Stating.{stating, farther, opened}
 use Rattle.folios.specs.Shifted.{Shifted, folio_shifted, later, word_before, mark_before, word_after, mark_after, left_after, record_after}
+use Rattle.model.specs.Answers.{refused}
+use Rattle.std.specs.declared.ops.ControlFlow.TheVariants.{Break, Continue}
 
 -- What a test picks of each of two pairs.
 pick_both : {A B : Type 0} (P : A → B → Type 0) (b : Bool) (x y : A) (x' y' : B) → (b ≡ true → P x x') → (b ≡ false → P y y')
@@ -72,13 +70,13 @@ module _ (f n : ℕ) where
       }
 
   abbrev reread : Reading → Reading
-  reread (reads.Galley g) = reads.Galley (opened f g)
-  reread (reads.Refused number place) = reads.Refused number (place + 6)
+  reread (Ok g) = Ok (opened f g)
+  reread (Err r) = refused r.number (r.place + 6)
 
   -- A step over the bytes with more put in does what the step without does, past the specification and the folio.
   abbrev Alike : Step → Step → Type 0
-  Alike (On next) step = (step ≡ On (shifted next)) × (line ≤ next.stage) × (n ≤ next.at)
-  Alike (Done reading) step = step ≡ Done (reread reading)
+  Alike (Continue next) step = (step ≡ Continue (shifted next)) × (line ≤ next.stage) × (n ≤ next.at)
+  Alike (Break reading) step = step ≡ Break (reread reading)
 
   moved_shifted : (so : Sofar) (kind : Kind) → moved (shifted so) kind ≡ shifted (moved so kind)
   moved_shifted so kind =
@@ -113,8 +111,8 @@ module _ (f n : ℕ) where
         let farther : so.first + 6 + so.lines * 18 + so.figures * 18 ≡ so.first + so.lines * 18 + so.figures * 18 + 6 = omega arith in
         rw (s.long, test_farther so.at (length bytes))
         (pick_both Alike (ltb so.at (length bytes)) _ _ _ _ (λ _. refl) (λ _ i.
-        Done
-        (reads.Galley
+        Break
+        (Ok
         (record {
           spec = same i;
           folio = f;
@@ -123,20 +121,20 @@ module _ (f n : ℕ) where
           tables = record { first = farther i; count = so.tables };
         }))))
 
-    after_alike : (so : Sofar) → line ≤ so.stage → n ≤ so.at → Fits (kind_of (mark_at bytes so.at)) so → (r : Record)
+    after_alike : (so : Sofar) → line ≤ so.stage → n ≤ so.at → Fits (kind_of (mark_at bytes so.at)) so → (r : Read)
         → Found bytes so.at r
         → Alike (after bytes (moved so (kind_of (mark_at bytes so.at))) so.at r)
         (after bytes' (shifted (moved so (kind_of (mark_at bytes so.at)))) (so.at + 6) (later r))
     unfolding after Found kind_of
-    after_alike so late far fits (found.Spec g) h =
+    after_alike so late far fits (Ok (found.Spec g)) h =
         absurd (omega (arith, late, (rw (h.marked, spec_kind g.edition) at fits).late))
-    after_alike so late far fits (found.Folio o) h = absurd (omega (arith, late, (rw h.marked at fits).late))
-    after_alike so late far fits (found.Line l) h = (refl, rw h.marked (omega arith), omega arith)
-    after_alike so late far fits (found.Figure o) h =
+    after_alike so late far fits (Ok (found.Folio o)) h = absurd (omega (arith, late, (rw h.marked at fits).late))
+    after_alike so late far fits (Ok (found.Line l)) h = (refl, rw h.marked (omega arith), omega arith)
+    after_alike so late far fits (Ok (found.Figure o)) h =
         cited_alike _ _ o.cite so.at (rw (h.marked, figure_kind o.kept) (omega arith)) (omega arith)
-    after_alike so late far fits (found.Table o) h = cited_alike _ _ o.cite so.at (rw h.marked (omega arith)) (omega arith)
-    after_alike so late far fits found.End h = closed_alike _
-    after_alike so late far fits (found.Refused number place) h = refl
+    after_alike so late far fits (Ok (found.Table o)) h = cited_alike _ _ o.cite so.at (rw h.marked (omega arith)) (omega arith)
+    after_alike so late far fits (Ok found.End) h = closed_alike _
+    after_alike so late far fits (Err r) h = refl
 
     -- Past the specification and the folio, step by step,
     step_alike : (so : Sofar) → line ≤ so.stage → n ≤ so.at → Alike (step_from bytes so) (step_from bytes' (shifted so))
@@ -151,19 +149,19 @@ module _ (f n : ℕ) where
 
     -- and to the end, with as many turns or more.
     read_alike : (most most' : ℕ) (so : Sofar) (g : Galley) → most ≤ most' → line ≤ so.stage → n ≤ so.at
-        → read_from bytes most so ≡ reads.Galley g → read_from bytes' most' (shifted so) ≡ reads.Galley (opened f g)
+        → read_from bytes most so ≡ Ok g → read_from bytes' most' (shifted so) ≡ Ok (opened f g)
     unfolding read_from settled
     read_alike zero most' so g more late far e = let z : ◌≡◌ {A = ℕ} 0 1 = cc in absurd (omega arith)
     read_alike (suc most) zero so g more late far e = absurd (omega arith)
     read_alike (suc most) (suc most') so g more late far e =
         go (step_from bytes so) (step_from bytes' (shifted so)) (step_alike so late far) e (read_alike most most')
       where
-        go : (step step' : Step) → Alike step step' → settled (read_from bytes most) step ≡ reads.Galley g
-            → ((so : Sofar) (g : Galley) → most ≤ most' → line ≤ so.stage → n ≤ so.at → read_from bytes most so ≡ reads.Galley g
-            → read_from bytes' most' (shifted so) ≡ reads.Galley (opened f g))
-            → settled (read_from bytes' most') step' ≡ reads.Galley (opened f g)
-        go (On next) step' h e on = rw h.0 (on next g (omega arith) h.1 h.2 e)
-        go (Done reading) step' h e on = rw (h, e)
+        go : (step step' : Step) → Alike step step' → settled (read_from bytes most) step ≡ Ok g
+            → ((so : Sofar) (g : Galley) → most ≤ most' → line ≤ so.stage → n ≤ so.at → read_from bytes most so ≡ Ok g
+            → read_from bytes' most' (shifted so) ≡ Ok (opened f g))
+            → settled (read_from bytes' most') step' ≡ Ok (opened f g)
+        go (Continue next) step' h e on = rw h.0 (on next g (omega arith) h.1 h.2 e)
+        go (Break reading) step' h e on = rw (h, e)
 
 -- A folio fits straight after a specification, and a line after either.
 folio_fits : (g : Spec) → Fits (kind_of FO) (begun g)
@@ -214,7 +212,7 @@ size_of : (second : Bool) → size_in second ≡ spec_size (pick second 2 1)
 size_of true = refl
 size_of false = refl
 
-module _ (bytes : List ℕ) (g : Galley) (read : galley_of bytes ≡ reads.Galley g) (none : has_folio g ≡ false)
+module _ (bytes : List ℕ) (g : Galley) (read : galley_of bytes ≡ Ok g) (none : has_folio g ≡ false)
     (f : ℕ) (fine : FolioRanged f) where
   abbrev n : ℕ
   n = spec_size g.spec.edition
@@ -231,7 +229,7 @@ module _ (bytes : List ℕ) (g : Galley) (read : galley_of bytes ≡ reads.Galle
   abbrev stated_bytes : List ℕ
   stated_bytes = stating f bytes
 
-  here : Found bytes 0 (found.Spec g.spec)
+  here : Found bytes 0 (Ok (found.Spec g.spec))
   here = rw (sound bytes g read).spec_read at (found_at bytes 0)
 
   is_size_lem : size_in (is_second bytes 0) ≡ n
@@ -277,7 +275,7 @@ module _ (bytes : List ℕ) (g : Galley) (read : galley_of bytes ≡ reads.Galle
       ) refl
 
   -- The specification is read as before,
-  spec_again : record_at stated_bytes 0 ≡ found.Spec g.spec
+  spec_again : record_at stated_bytes 0 ≡ Ok (found.Spec g.spec)
   unfolding record_at fields_of Found
   spec_again =
       let long = put_in.long in
@@ -301,33 +299,33 @@ module _ (bytes : List ℕ) (g : Galley) (read : galley_of bytes ≡ reads.Galle
       ) at there)
 
   -- then the folio,
-  folio_read : record_at stated_bytes (begun g.spec).at ≡ found.Folio f
+  folio_read : record_at stated_bytes (begun g.spec).at ≡ Ok (found.Folio f)
   folio_read =
       let at : length (take n bytes) ≡ (begun g.spec).at = length-take-le n bytes whole ∙ sym (begun_at g.spec) in
       ap (λ l. record_at l (begun g.spec).at) is
-      ∙ subst (λ at. record_at (take n bytes ++ folio_bytes (stated f) (drop n bytes)) at ≡ found.Folio f) at
+      ∙ subst (λ at. record_at (take n bytes ++ folio_bytes (stated f) (drop n bytes)) at ≡ Ok (found.Folio f)) at
       (folio_after (take n bytes) (drop n bytes) f fine)
 
   -- and the first line, which follows the specification where no folio stands.
-  line_read : record_at bytes (begun g.spec).at ≡ found.Line (line_of bytes (begun g.spec).at)
+  line_read : record_at bytes (begun g.spec).at ≡ Ok (found.Line (line_of bytes (begun g.spec).at))
   line_read =
       let e : g.text.first + (1 - 1) * 18 ≡ (begun g.spec).at = omega (arith, plain, begun_at g.spec) in
-      subst (λ at. record_at bytes at ≡ found.Line (line_of bytes at)) e ((sound bytes g read).text_read 1 (omega arith) (sound bytes g read).some_lines)
+      subst (λ at. record_at bytes at ≡ Ok (found.Line (line_of bytes at))) e ((sound bytes g read).text_read 1 (omega arith) (sound bytes g read).some_lines)
 
-  line_again : record_at stated_bytes (foliated g.spec f).at ≡ found.Line (line_of bytes (begun g.spec).at)
+  line_again : record_at stated_bytes (foliated g.spec f).at ≡ Ok (found.Line (line_of bytes (begun g.spec).at))
   unfolding kind_of
   line_again = record_after put_in (begun g.spec).at (omega (arith, begun_at g.spec)) ∙ ap later line_read
 
   -- So the bytes with the folio put in are the galley opened on it.
-  pub reads_opened : galley_of stated_bytes ≡ reads.Galley (opened f g)
+  pub reads_opened : galley_of stated_bytes ≡ Ok (opened f g)
   unfolding galley_of
   reads_opened = go (length bytes) (length stated_bytes) (omega (arith, whole, large)) (omega (arith, put_in.long)) read
     where
       stage : (begun g.spec).stage ≡ spec
       stage = rw (spec_kind g.spec.edition)
 
-      go : (most most' : ℕ) → 2 ≤ most → most + 6 ≤ most' → read_from bytes (suc most) beginning ≡ reads.Galley g
-          → read_from stated_bytes (suc most') beginning ≡ reads.Galley (opened f g)
+      go : (most most' : ℕ) → 2 ≤ most → most + 6 ≤ most' → read_from bytes (suc most) beginning ≡ Ok g
+          → read_from stated_bytes (suc most') beginning ≡ Ok (opened f g)
       go zero most' two more e = absurd (omega arith)
       go (suc most) zero two more e = absurd (omega arith)
       go (suc most) (suc zero) two more e = absurd (omega arith)

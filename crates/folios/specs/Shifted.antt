@@ -1,11 +1,11 @@
 -- Bytes with six more put in: what stands after them is read as before, 6 bytes farther on.
-use Rattle.std.specs.Prelude.{ℕ, suc, ◌+◌, ◌-◌, ◌≤◌, ◌<◌, ◌≡◌, refl, Bool, true, false, List, ◌++◌, length, take, drop}
+use Rattle.std.specs.Prelude.{ℕ, suc, ◌+◌, ◌-◌, ◌≤◌, ◌<◌, ◌≡◌, refl, Bool, true, false, List, ◌++◌, length, take, drop, Err, Ok}
 use native.Mathlib.Omega.{arith}
 use Rattle.std.proofs.Common.{◌∙◌, ap, length-append, length-drop, length-take-le, get_or-take, get_or-drop, get_or-append-add}
 use Rattle.std.proofs.Math.ListN.{get_or-append}
 use Rattle.model.specs.Gather.{pick}
 use Rattle.galley.specs.Word.{byte_at, word_at, mark_at}
-use Rattle.galley.specs.Record.{fields_of, record_at}
+use Rattle.galley.specs.Record.{Read, unread, fields_of, record_at}
 use Rattle.galley.specs.Write.{stated, folio_bytes}
 use Rattle.galley.specs.declared.Record.{Record}
 use Rattle.galley.specs.declared.Record.TheVariants as found
@@ -37,16 +37,11 @@ folio_shifted n f bytes whole =
     tail = folio_bytes (stated f) (drop n bytes)
 
 -- A record that is refused is so at another place.
-abbrev pub later : Record → Record
-later (found.Spec g) = found.Spec g
-later (found.Folio f) = found.Folio f
-later (found.Line l) = found.Line l
-later (found.Figure f) = found.Figure f
-later (found.Table f) = found.Table f
-later found.End = found.End
-later (found.Refused number place) = found.Refused number (place + 6)
+abbrev pub later : Read → Read
+later (Ok r) = Ok r
+later (Err r) = unread r.number (r.place + 6)
 
-pick_later : (b : Bool) (x y : Record) → later (pick b x y) ≡ pick b (later x) (later y)
+pick_later : (b : Bool) (x y : Read) → later (pick b x y) ≡ pick b (later x) (later y)
 pick_later true x y = refl
 pick_later false x y = refl
 

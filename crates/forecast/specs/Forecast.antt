@@ -1,20 +1,18 @@
 -- What is told of a galley before it is made (document 02, S-5).
-use Rattle.std.specs.Prelude.{ℕ, List}
+use Rattle.std.specs.Prelude.{ℕ, List, Result, Err, Ok}
+use Rattle.model.specs.declared.answer.Refusal.{Refusal}
 use Rattle.model.specs.Weighed.{ceiling}
-use Rattle.galley.specs.declared.Reading.{Reading}
-use Rattle.galley.specs.declared.Reading.TheVariants as reads
-use Rattle.galley.specs.Whole.{galley_of}
+use Rattle.galley.specs.Whole.{galley_of, Reading}
 use Rattle.galley.specs.Model.{model_of}
 use Rattle.needs.specs.Needs.{work_needed, list_needed}
 use Rattle.forecast.specs.declared.Forecast.{Forecast}
 
 -- Of a galley that reads: the words of work and of list for want of which making answers 9 and 10, and the ceiling on the pages
--- weighed. A galley that is refused is refused alike, with zeros (document 02, S-5).
-unfoldable pub forecast_read : List ℕ → Reading → Forecast
-forecast_read bytes (reads.Galley g) =
-    record { number = 0; place = 0; work = work_needed g; list = list_needed g; ceiling = ceiling (model_of bytes g) }
-forecast_read bytes (reads.Refused number place) = record { number = number; place = place; work = 0; list = 0; ceiling = 0 }
+-- weighed. A galley that is refused is refused alike (document 02, S-5).
+unfoldable pub forecast_read : List ℕ → Reading → Result Forecast Refusal
+forecast_read bytes (Ok g) = Ok (record { work = work_needed g; list = list_needed g; ceiling = ceiling (model_of bytes g) })
+forecast_read bytes (Err r) = Err r
 
 -- The forecast for any bytes (document 02, S-5).
-unfoldable pub forecast_of : List ℕ → Forecast
+unfoldable pub forecast_of : List ℕ → Result Forecast Refusal
 forecast_of bytes = forecast_read bytes (galley_of bytes)

@@ -30,15 +30,13 @@ pub fn most_together(s: &[u8], stream: Stream, limit: u32) -> usize
         × (result ≤ stream.count) }
 {
     let mut a = 0;
-    let mut b = 0;
     let mut height = 0;
-    while b < stream.count {
+    for b in 0..stream.count {
         height += tight_of(s, stream, b + 1, b, a < b);
-        b += 1;
         if limit < height {
             a += 1;
-            height -= tight_of(s, stream, a, a, a < b);
+            height -= tight_of(s, stream, a, a, a < b + 1);
         }
     }
-    b - a
+    stream.count - a
 }

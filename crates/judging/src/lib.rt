@@ -3,7 +3,7 @@
 #![tactic(auto)]
 
 ghost use Rattle.std.specs.Prelude.{◌≡◌, Bool, ◌&&◌, ◌||◌, List, ℕ, ◌≤◌, length, leb, ltb};
-ghost use Rattle.model.specs.Gather.{implies, one};
+ghost use Rattle.model.specs.Gather.{implies};
 ghost use Rattle.model.specs.Rules.{forward, closes, floor, cited};
 ghost use Rattle.model.specs.Answers.{counted};
 ghost use Rattle.model.specs.Leaf.{ends};
@@ -68,36 +68,30 @@ pub fn are_cited(s: &[u8], g: Galley, asked: bool, v: Counts) -> bool
         & is_cited(s, g.tables, asked, v.lines, v.tables)
 }
 
-// 1 for a test that holds, else 0.
-fn one(test: bool) -> u32
-    ensures { (result ≡ one test) × (result ≤ 1) }
-{
-    if test { 1 } else { 0 }
-}
-
 // How many kinds a page from u to v has: of streams that it has a block of.
 pub fn kinds_on(u: Counts, v: Counts) -> u32
     ensures { (result ≡ kinds_on u v) × (result ≤ 3) }
 {
-    one(u.lines < v.lines) + (one(u.figures < v.figures) + one(u.tables < v.tables))
+    u32::from(u.lines < v.lines)
+        + (u32::from(u.figures < v.figures) + u32::from(u.tables < v.tables))
 }
 
-// The first that is broken of a rule and the one after it, or 0.
-fn first_fault(rule: u32, kept: bool, next: bool) -> u32
+// The first that is broken of a rule and the one after it.
+fn first_fault(rule: u32, kept: bool, next: bool) -> Option<u32>
     requires { rule ≤ 17 }
     ensures { result ≡ fault_from rule kept next }
 {
-    if kept {
-        if next {
-            return 0;
-        }
-        return rule + 1;
+    if !kept {
+        return Some(rule);
     }
-    rule
+    if !next {
+        return Some(rule + 1);
+    }
+    None
 }
 
-// The first of 13 and 14 that a page from u to v breaks, or 0.
-pub fn start_fault(s: &[u8], g: Galley, u: Counts, v: Counts) -> u32
+// The first of 13 and 14 that a page from u to v breaks.
+pub fn start_fault(s: &[u8], g: Galley, u: Counts, v: Counts) -> Option<u32>
     requires { (Sound s.now g) × (Proper g u) × (Proper g v) }
     ensures { result ≡ start_fault (model_of s.now g) (place_of g u) (place_of g v) }
 {
@@ -106,8 +100,8 @@ pub fn start_fault(s: &[u8], g: Galley, u: Counts, v: Counts) -> u32
     first_fault(13, forward, closes)
 }
 
-// The first of 16 and 17 that a page of this loosest height breaks, or 0.
-pub fn end_fault(s: &[u8], g: Galley, loose: u32, page: Page, last: bool, v: Counts) -> u32
+// The first of 16 and 17 that a page of this loosest height breaks.
+pub fn end_fault(s: &[u8], g: Galley, loose: u32, page: Page, last: bool, v: Counts) -> Option<u32>
     requires { (Sound s.now g) × (Within g v) }
     ensures { result ≡ fault_from 16 (leb (floor (model_of s.now g) last) loose) (cited (model_of s.now g) page.0 last (place_of g v)) }
 {

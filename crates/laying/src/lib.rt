@@ -58,30 +58,33 @@ pub fn with_next(s: &[u8], g: Galley, u: Counts, v: Counts, laid: Laid) -> Laid
     requires { Open s.now g v laid }
     ensures { result ≡ with_next s.now g u v laid }
 {
-    let on = laid.on;
+    let Laid { on, heights } = laid;
     if on.lines < v.lines {
-        let more = blocks::heights::with_block(s, g.text, laid.heights, u.lines, on.lines);
-        let on = Counts {
-            lines: on.lines + 1,
-            figures: on.figures,
-            tables: on.tables,
-        };
-        return laid_on(on, more);
+        let more = blocks::heights::with_block(s, g.text, heights, u.lines, on.lines);
+        return laid_on(
+            Counts {
+                lines: on.lines + 1,
+                ..on
+            },
+            more,
+        );
     }
     if on.figures < v.figures {
-        let more = blocks::heights::with_block(s, g.figures, laid.heights, u.figures, on.figures);
-        let on = Counts {
-            lines: on.lines,
-            figures: on.figures + 1,
-            tables: on.tables,
-        };
-        return laid_on(on, more);
+        let more = blocks::heights::with_block(s, g.figures, heights, u.figures, on.figures);
+        return laid_on(
+            Counts {
+                figures: on.figures + 1,
+                ..on
+            },
+            more,
+        );
     }
-    let more = blocks::heights::with_block(s, g.tables, laid.heights, u.tables, on.tables);
-    let on = Counts {
-        lines: on.lines,
-        figures: on.figures,
-        tables: on.tables + 1,
-    };
-    laid_on(on, more)
+    let more = blocks::heights::with_block(s, g.tables, heights, u.tables, on.tables);
+    laid_on(
+        Counts {
+            tables: on.tables + 1,
+            ..on
+        },
+        more,
+    )
 }

@@ -1,11 +1,10 @@
 -- How pages are judged, those of a list that is marked and those of an opening alike: by the first that breaks a rule.
-use Rattle.std.specs.Prelude.{ℕ, zero, suc, ◌+◌, ◌*◌, ◌≤◌, ◌≡◌, List, [], ◌∷◌, eqb}
+use Rattle.std.specs.Prelude.{ℕ, zero, suc, ◌+◌, ◌*◌, ◌≤◌, ◌≡◌, List, [], ◌∷◌, Result, Ok, Err, eqb}
 use Rattle.std.proofs.Math.Option.{Option, none, some}
-use Rattle.model.specs.declared.answer.Answer.{Answer}
-use Rattle.model.specs.declared.answer.Answer.TheVariants.{Refused}
+use Rattle.model.specs.declared.answer.Refusal.{Refusal}
 use Rattle.model.specs.Galley as model
 use Rattle.model.specs.Rules.{broken}
-use Rattle.model.specs.Answers.{pages_of}
+use Rattle.model.specs.Answers.{pages_of, Answer, refused}
 use Rattle.model.specs.Opening.{end_of}
 use Rattle.model.specs.laws.White.{page_white}
 use Rattle.theorems.specs.turns.Waiting.{waiting, page_sum, at_end}
@@ -14,14 +13,13 @@ use Rattle.galley.specs.Model.{model_of}
 use Rattle.blocks.specs.declared.Counts.{Counts}
 use Rattle.blocks.specs.Counts.{place_of, Within}
 use Rattle.rules.specs.declared.counts.Sums.{Sums}
-use Rattle.marking.specs.declared.pages.Judged.{Judged}
-use Rattle.marking.specs.declared.pages.Judged.TheVariants.{Broken, Kept}
+use Rattle.marking.specs.declared.pages.Kept.{Kept}
 use Rattle.marking.specs.Parts.{pages_in}
 
 -- A broken rule refuses its page; otherwise it is as after the page.
 unfoldable pub refusal : ℕ → ℕ → Option Answer → Option Answer
 refusal zero q after = after
-refusal (suc n) q after = some (Refused (suc n) q)
+refusal (suc n) q after = some (refused (suc n) q)
 
 -- The refusal of the first page that breaks one of 13 to 17, of pages numbered from q that start at place u; page `last` alone counts as
 -- the last of its list.
@@ -56,11 +54,11 @@ pub record KeptPages (bytes : List ℕ) (g : Galley) (ws : List ℕ) (last : ℕ
   pub whitens : sums.white ≡ all_lacked bytes g ws last
 
 -- The refusal that was found.
-abbrev pub fault_told : Judged → Option Answer
-fault_told (Broken n q) = some (Refused n q)
-fault_told (Kept at sums) = none
+abbrev pub fault_told : Result Kept Refusal → Option Answer
+fault_told (Err r) = some (Err r)
+fault_told (Ok kept) = none
 
 -- The pages of a list are judged, of which page `last` counts as the last.
-pub record JudgedPages (bytes : List ℕ) (g : Galley) (ws : List ℕ) (last : ℕ) (r : Judged) : Type 0 where
+pub record JudgedPages (bytes : List ℕ) (g : Galley) (ws : List ℕ) (last : ℕ) (r : Result Kept Refusal) : Type 0 where
   pub fault : fault_told r ≡ first_fault bytes g ws last
-  pub kept : (at : Counts) (sums : Sums) → r ≡ Kept at sums → KeptPages bytes g ws last at sums
+  pub kept : (k : Kept) → r ≡ Ok k → KeptPages bytes g ws last k.at k.sums

@@ -5,7 +5,6 @@
 ghost use Rattle.std.specs.Prelude.{◌≡◌};
 ghost use Rattle.marking.specs.Mark.{mark_of};
 
-use galley::Reading;
 use model::answer::Answer;
 
 pub mod pages; // pages.rt: the loop over pages
@@ -15,9 +14,6 @@ pub mod pages; // pages.rt: the loop over pages
 pub fn mark(galley: &[u8], list: &[u32]) -> Answer
     ensures { result ≡ mark_of galley.now list.now }
 {
-    let reading = reading::read_galley(galley);
-    match reading {
-        Reading::Galley(g) => pages::mark_read(galley, g, list),
-        Reading::Refused { number, place } => Answer::Refused { number, place },
-    }
+    let g = reading::read_galley(galley)?;
+    pages::mark_read(galley, g, list)
 }

@@ -1,5 +1,5 @@
 // The loop over pages.
-ghost use Rattle.std.specs.Prelude.{◌≡◌, ◌+◌, ◌≤◌, length};
+ghost use Rattle.std.specs.Prelude.{◌≡◌, ◌+◌, ◌≤◌, length, unwrap_or};
 ghost use Rattle.galley.specs.Model.{model_of};
 ghost use Rattle.galley.specs.Sound.{Sound};
 ghost use Rattle.blocks.specs.Counts.{page_words, counts_in};
@@ -9,7 +9,7 @@ ghost use Rattle.marking.specs.Judged.{JudgedPages};
 
 use blocks::Counts;
 use galley::Galley;
-use model::answer::Answer;
+use model::answer::{Answer, Refusal};
 use model::page::Page;
 use rules::counts::Sums;
 use rules::waiting::Waiting;
@@ -19,89 +19,62 @@ fn page_at(g: Galley, list: &[u32], from: usize) -> Counts
     requires { from + page_words g ≤ length list.now }
     ensures { result ≡ counts_in g list.now from }
 {
-    let lines = galley::word::size(list[from]);
-    let figures = galley::word::size(list[from + 1]);
-    if g.tables.count == 0 {
-        return Counts {
-            lines,
-            figures,
-            tables: 0,
-        };
-    }
-    let tables = galley::word::size(list[from + 2]);
     Counts {
-        lines,
-        figures,
-        tables,
+        lines: galley::word::size(list[from]),
+        figures: galley::word::size(list[from + 1]),
+        tables: if g.tables.count == 0 {
+            0
+        } else {
+            galley::word::size(list[from + 2])
+        },
     }
 }
 
-// How pages are judged: the first page that breaks a rule, and there the first of 13 to 17; or where the last page ends, and the floats
-// that wait at the ends of leaves and the white of the pages, summed.
-#[derive(Clone, Copy)]
-pub enum Judged {
-    Broken { number: u32, page: u32 },
-    Kept { at: Counts, sums: Sums },
+// What pages come to that break no rule: where the last ends, and the floats that wait at the ends of leaves and the white of the pages,
+// summed.
+#[derive(Clone, Copy, PartialEq, Eq, Debug)]
+pub struct Kept {
+    pub at: Counts,
+    pub sums: Sums,
 }
 
-// The pages of a list judged, of which page number `last` counts as the last of its list: none does where that is 0.
-pub fn judge_pages(s: &[u8], g: Galley, list: &[u32], last: usize) -> Judged
+// The pages of a list judged, of which page number `last`, if there is one, counts as the last of its list. The first page that breaks a
+// rule refuses them, by the first of 13 to 17 that it breaks.
+pub fn judge_pages(s: &[u8], g: Galley, list: &[u32], last: Option<usize>) -> Result<Kept, Refusal>
     requires { WholePages s.now g list.now }
-    ensures { JudgedPages s.now g list.now last result }
+    ensures { JudgedPages s.now g list.now (unwrap_or last 0) result }
 {
     let words = blocks::page_words(g);
-    let pages = list.len() / words;
-    let mut done: usize = 0;
-    let mut at = Counts {
-        lines: 0,
-        figures: 0,
-        tables: 0,
-    };
-    let mut waiting = Waiting {
-        figures: 0,
-        tables: 0,
-    };
-    let mut sums = Sums { x: 0, white: 0 };
-    let judged = 'pages: loop {
-        if done == pages {
-            break 'pages Judged::Kept { at, sums };
-        }
-        let number = (done + 1) as u32;
+    let mut at = Counts::default();
+    let mut waiting = Waiting::default();
+    let mut sums = Sums::default();
+    for done in 0..list.len() / words {
+        let place = (done + 1) as u32;
         let v = page_at(g, list, words * done);
-        let start = judging::start_fault(s, g, at, v);
-        if 0 < start {
-            break 'pages Judged::Broken {
-                number: start,
-                page: number,
-            };
+        if let Some(number) = judging::start_fault(s, g, at, v) {
+            return Err(Refusal { number, place });
         }
+        // The heights are looked at before each block and after the last.
         let mut laid = laying::bare_page(g, at, v);
         loop {
             if g.spec.htmax < laid.heights.tight {
-                break 'pages Judged::Broken {
-                    number: 15,
-                    page: number,
-                };
+                return Err(Refusal { number: 15, place });
             }
             if laying::is_laid(laid.on, v) {
                 break;
             }
             laid = laying::with_next(s, g, at, v, laid);
         }
-        let closing = done + 1 == last;
-        let end = judging::end_fault(s, g, laid.heights.loose, Page(number), closing, v);
-        if 0 < end {
-            break 'pages Judged::Broken {
-                number: end,
-                page: number,
-            };
+        let loose = laid.heights.loose;
+        let closing = last == Some(done + 1);
+        if let Some(number) = judging::end_fault(s, g, loose, Page(place), closing, v) {
+            return Err(Refusal { number, place });
         }
         waiting = rules::waiting::waiting_on(s, g, at, v, waiting);
-        sums = counting::with_page(g, Page(number), closing, laid.heights.loose, waiting, sums);
-        done += 1;
+        sums = counting::with_page(g, Page(place), closing, loose, waiting, sums);
         at = v;
-    };
-    judged
+    }
+    Ok(Kept { at, sums })
 }
 
 // The answer for a list of so many pages, all but the last of which another follows: the first page that breaks a rule, then 18.
@@ -109,14 +82,8 @@ fn judge_list(s: &[u8], g: Galley, list: &[u32], pages: usize) -> Answer
     requires { CountedPages s.now g list.now pages }
     ensures { result ≡ marked (model_of s.now g) list.now }
 {
-    let judged = judge_pages(s, g, list, pages);
-    match judged {
-        Judged::Broken { number, page } => Answer::Refused {
-            number,
-            place: page,
-        },
-        Judged::Kept { at, sums } => counting::finish(g, pages as u32, at, sums),
-    }
+    let Kept { at, sums } = judge_pages(s, g, list, Some(pages))?;
+    counting::finish(g, pages as u32, at, sums)
 }
 
 // The answer for a galley that reads without refusal: 12 before any page, then the pages.
@@ -124,11 +91,11 @@ pub fn mark_read(s: &[u8], g: Galley, list: &[u32]) -> Answer
     requires { Sound s.now g }
     ensures { result ≡ marked (model_of s.now g) list.now }
 {
-    if judging::is_counted(g, list.len()) {
-        return judge_list(s, g, list, list.len() / blocks::page_words(g));
+    if !judging::is_counted(g, list.len()) {
+        return Err(Refusal {
+            number: 12,
+            place: 0,
+        });
     }
-    Answer::Refused {
-        number: 12,
-        place: 0,
-    }
+    judge_list(s, g, list, list.len() / blocks::page_words(g))
 }

@@ -1,20 +1,20 @@
 -- Reading answers what the bytes say: each refusal, 1 to 8, exactly where its sentence holds, and a galley exactly where the bytes are one.
-use Rattle.std.specs.Prelude.{ℕ, ◌≡◌, ◌↔◌, List}
+use Rattle.std.specs.Prelude.{ℕ, ◌≡◌, ◌↔◌, List, Ok}
 use Rattle.std.proofs.Common.{subst}
 use Rattle.galley.specs.Whole.{galley_of}
 use Rattle.galley.specs.declared.Galley.{Galley}
-use Rattle.galley.specs.declared.Reading.TheVariants as reads
 use Rattle.refusals.specs.Declared.{IsGalley}
 use Rattle.refusals.proofs.laws.Told.{Says, Told}
 use Rattle.refusals.proofs.laws.Exact.{says_exact, galley_exact}
 use Rattle.refusals.proofs.laws.Total.{told}
 use Rattle.refusals.specs.Theorem.{Declared}
+use Rattle.model.specs.Answers.{refused}
 
-refusal_says : (bytes : List ℕ) (number at : ℕ) → (galley_of bytes ≡ reads.Refused number at) ↔ Says number bytes at
+refusal_says : (bytes : List ℕ) (number at : ℕ) → (galley_of bytes ≡ refused number at) ↔ Says number bytes at
 unfolding Told
 refusal_says bytes number at = (λ e. subst (λ r. Told bytes r) e (told bytes), says_exact bytes number at)
 
-galley_says : (bytes : List ℕ) (g : Galley) → (galley_of bytes ≡ reads.Galley g) ↔ IsGalley bytes g
+galley_says : (bytes : List ℕ) (g : Galley) → (galley_of bytes ≡ Ok g) ↔ IsGalley bytes g
 unfolding Told
 galley_says bytes g = (λ e. subst (λ r. Told bytes r) e (told bytes), galley_exact bytes g)
 

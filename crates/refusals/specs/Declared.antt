@@ -1,6 +1,6 @@
 -- What each refusal of a galley says of its bytes, 1 to 8 (document 01, "Numbers that turn work away"), and what a galley is. A refusal is told
 -- by the records that stand whole and right before a place, and by what is there. Nothing here goes step by step.
-use Rattle.std.specs.Prelude.{ℕ, zero, suc, ◌+◌, ◌*◌, ◌≤◌, ◌<◌, ◌≡◌, ◌⊎◌, Bool, true, false, not, ◌&&◌, ◌||◌, List, length, eqb}
+use Rattle.std.specs.Prelude.{ℕ, zero, suc, ◌+◌, ◌*◌, ◌≤◌, ◌<◌, ◌≡◌, ◌⊎◌, Bool, true, false, not, ◌&&◌, ◌||◌, List, length, eqb, Ok}
 use Rattle.model.specs.Gather.{pick}
 use Rattle.galley.specs.Word.{mark_at}
 use Rattle.galley.specs.Place.{GS, G2, FO, TL, FG, FK, TB, ED, spec_size, kind_of}
@@ -51,11 +51,11 @@ pub record Floats (bytes : List ℕ) (floats : Stream) (m most : ℕ) (due : ℕ
 -- A folio that is stated stands there.
 abbrev pub FolioAt : List ℕ → ℕ → Stated → Type 0
 FolioAt bytes at unstated = Unit {0}
-FolioAt bytes at (stated f) = record_at bytes at ≡ found.Folio f
+FolioAt bytes at (stated f) = record_at bytes at ≡ Ok (found.Folio f)
 
 -- The bytes begin with these records, each whole, in range and rightly cited.
 pub record Begun (bytes : List ℕ) (s : Spec) (o : Stated) (m n k : ℕ) : Type 0 where
-  pub spec : record_at bytes 0 ≡ found.Spec s
+  pub spec : record_at bytes 0 ≡ Ok (found.Spec s)
   pub folio : FolioAt bytes (spec_size s.edition) o
   pub few : m ≤ 4000
   pub lines : Reads bytes (galley_in s o m n k).text (λ at. found.Line (line_of bytes at))
@@ -119,8 +119,8 @@ last_cited bytes floats = pick (eqb floats.count 0) 0 (field_of bytes floats cit
 -- A figure or a table at an offset, after those that stand there, and the line cited last in its stream.
 abbrev pub FloatAt : List ℕ → Start → ℕ → Float → ℕ → Type 0
 FloatAt bytes b at f last =
-    ((record_at bytes at ≡ found.Figure f) × (last ≡ last_cited bytes (figures_in b)))
-    ⊎ ((record_at bytes at ≡ found.Table f) × (last ≡ last_cited bytes (tables_in b)))
+    ((record_at bytes at ≡ Ok (found.Figure f)) × (last ≡ last_cited bytes (figures_in b)))
+    ⊎ ((record_at bytes at ≡ Ok (found.Table f)) × (last ≡ last_cited bytes (tables_in b)))
 
 -- These records stand before the place, and the next one is due there.
 pub record Upto (bytes : List ℕ) (at : ℕ) (b : Start) : Type 0 where
@@ -184,7 +184,7 @@ OutOfOrder bytes at =
 -- The end stands there, and fits.
 pub record Ended (bytes : List ℕ) (at : ℕ) (b : Start) : Type 0 where
   pub fitting : Fitting bytes at b
-  pub here : record_at bytes at ≡ found.End
+  pub here : record_at bytes at ≡ Ok found.End
 
 -- 8: the end stands 2 bytes before the place, and something follows.
 abbrev pub AfterEnd : List ℕ → ℕ → Type 0

@@ -1,11 +1,9 @@
 -- The parts of one page's test and of the counts, as the functions of this crate divide them.
-use Rattle.std.specs.Prelude.{ℕ, ◌+◌, ◌*◌, ◌-◌, ◌≤◌, Bool, ◌&&◌, List, eqb, ltb}
+use Rattle.std.specs.Prelude.{ℕ, ◌+◌, ◌*◌, ◌-◌, ◌≤◌, Bool, ◌&&◌, Option, None, Some, List, max, eqb, ltb}
 use Rattle.model.specs.Gather.{pick, one}
 use Rattle.model.specs.Galley as model
 use Rattle.model.specs.Rules.{forward, closes}
 use Rattle.model.specs.Leaf.{leaf}
-use Rattle.model.specs.declared.answer.Answer.{Answer}
-use Rattle.model.specs.declared.answer.Answer.TheVariants.{Counted, Refused}
 use Rattle.theorems.specs.turns.Rank.{rank}
 use Rattle.galley.specs.declared.Galley.{Galley}
 use Rattle.galley.specs.Range.{SpecRanged}
@@ -13,6 +11,7 @@ use Rattle.galley.specs.Model.{floats_of, sides_in}
 use Rattle.blocks.specs.declared.Counts.{Counts}
 use Rattle.rules.specs.declared.counts.Sums.{Sums}
 use Rattle.blocks.specs.Counts.{Within}
+use Rattle.model.specs.Answers.{Answer, counted_as, refused}
 
 -- The kinds on a page from u to v: how many streams it has a block of (document 02, S-4).
 abbrev pub kinds_on : Counts → Counts → ℕ
@@ -30,21 +29,17 @@ pub record Ahead (g : Galley) (u v : Counts) : Type 0 where
 unfoldable pub cite_of : model.Stream → ℕ → ℕ
 cite_of st j = pick (ltb 0 j) (st.cite j) 0
 
--- The later of two lines.
-unfoldable pub later : ℕ → ℕ → ℕ
-later a b = pick (ltb a b) b a
-
 -- The line from which on the last float placed of each stream is cited: from there on a page with these floats keeps rule 17, where
 -- that is asked.
 abbrev pub cited_from : List ℕ → Galley → Counts → ℕ
-cited_from bytes g v = later (cite_of (floats_of bytes g.figures) v.figures) (cite_of (floats_of bytes g.tables) v.tables)
+cited_from bytes g v = max (cite_of (floats_of bytes g.figures) v.figures) (cite_of (floats_of bytes g.tables) v.tables)
 
--- Of rule n and the rule after it, given what each says of the page, the number of the first that fails, or 0.
-unfoldable pub fault_from : ℕ → Bool → Bool → ℕ
-fault_from n this next = pick this (pick next 0 (n + 1)) n
+-- Of rule n and the rule after it, given what each says of the page, the number of the first that fails.
+unfoldable pub fault_from : ℕ → Bool → Bool → Option ℕ
+fault_from n this next = pick this (pick next None (Some (n + 1))) (Some n)
 
--- Rules 13 and 14, which ask for no height: the number of the first that fails, or 0.
-abbrev pub start_fault : model.Galley → model.Place → model.Place → ℕ
+-- Rules 13 and 14, which ask for no height: the number of the first that fails.
+abbrev pub start_fault : model.Galley → model.Place → model.Place → Option ℕ
 start_fault g u v = fault_from 13 (forward g u v) (closes g v)
 
 -- Y of p pages: the leaves turned from the first to the last (document 01, "Spreads and turns").
@@ -54,7 +49,7 @@ leaves_turned g p = leaf (sides_in g) p - leaf (sides_in g) 1
 -- The counts of p pages with X and W known.
 unfoldable pub counts : Galley → ℕ → Sums → Answer
 counts g p sums =
-    let y = leaves_turned g p in Counted p sums.x y (g.spec.alpha * sums.x + g.spec.beta * y) sums.white
+    let y = leaves_turned g p in counted_as p sums.x y (g.spec.alpha * sums.x + g.spec.beta * y) sums.white
 
 -- Every block is placed.
 abbrev pub all_placed : Galley → Counts → Bool
@@ -63,7 +58,7 @@ all_placed g at =
 
 -- The answer once p pages are judged: 18 where the last does not end at the full place, else the counts.
 unfoldable pub finished : Galley → ℕ → Counts → Sums → Answer
-finished g p at sums = pick (all_placed g at) (counts g p sums) (Refused 18 p)
+finished g p at sums = pick (all_placed g at) (counts g p sums) (refused 18 p)
 
 -- What p printed pages cost with their white, where so many floats waited at the ends of their leaves: there is a page after them, so
 -- that every leaf that one of them ends is turned (document 02, S-6 and S-10).

@@ -5,7 +5,7 @@ ghost use Rattle.rules.specs.Sums.{white_at};
 use galley::Galley;
 
 // X and W so far.
-#[derive(Clone, Copy)]
+#[derive(Clone, Copy, PartialEq, Eq, Default, Debug)]
 pub struct Sums {
     pub x: u32,
     pub white: u32,
@@ -15,8 +15,9 @@ pub struct Sums {
 pub fn white_at(g: Galley, last: bool, loose: u32) -> u32
     ensures { (result ≡ white_at g last loose) × (result ≤ g.spec.htmax) }
 {
-    if last | (g.spec.htmax <= loose) {
-        return 0;
+    if last {
+        0
+    } else {
+        g.spec.htmax.saturating_sub(loose)
     }
-    g.spec.htmax - loose
 }

@@ -38,10 +38,7 @@ pub fn cited_from(s: &[u8], g: Galley, v: Counts) -> usize
 {
     let figure = cite_of(s, g.figures, v.figures);
     let table = cite_of(s, g.tables, v.tables);
-    if figure < table {
-        return table;
-    }
-    figure
+    figure.max(table)
 }
 
 // What rule 16 holds the loosest height of a page to: htMin, and of the last page lastMin.

@@ -1,5 +1,5 @@
 // The floats of a stream that wait at a place: cited by a line that is placed, and not placed themselves.
-ghost use Rattle.std.specs.Prelude.{◌≡◌, ◌-◌, ◌≤◌};
+ghost use Rattle.std.specs.Prelude.{◌≡◌, ◌≤◌};
 ghost use Rattle.galley.specs.Model.{floats_of};
 ghost use Rattle.rules.specs.Waiting.{waits, waiting_of, Walked, Walking, WalkingOn, waiting_at};
 
@@ -13,18 +13,17 @@ pub fn waiting_floats(s: &[u8], floats: Stream, i: usize, j: usize, known: usize
     requires { Walked s.now floats i j known }
     ensures { result ≡ waits (floats_of s.now floats) i j }
 {
-    let mut found = known;
-    while j + found < floats.count {
+    let left = floats.count - j;
+    for found in known..left {
         if i < galley::word::size(blocks::field(s, floats, j + found + 1, galley::CITE)) {
             return found;
         }
-        found += 1;
     }
-    found
+    left
 }
 
 // The floats of each stream that wait.
-#[derive(Clone, Copy)]
+#[derive(Clone, Copy, PartialEq, Eq, Default, Debug)]
 pub struct Waiting {
     pub figures: usize,
     pub tables: usize,
@@ -41,24 +40,14 @@ pub fn waiting_after(s: &[u8], g: Galley, at: Counts, known: Waiting) -> Waiting
     }
 }
 
-// Of the floats that waited, how many still do once so many more are placed.
-fn still_waiting(waiting: usize, placed: usize) -> usize
-    ensures { result ≡ waiting - placed }
-{
-    if placed < waiting {
-        return waiting - placed;
-    }
-    0
-}
-
 // The same after a page from u to v, where so many wait at u: those of them that the page does not place need no walk.
 pub fn waiting_on(s: &[u8], g: Galley, u: Counts, v: Counts, known: Waiting) -> Waiting
     requires { WalkingOn s.now g u v known }
     ensures { result ≡ waiting_of s.now g v }
 {
     let still = Waiting {
-        figures: still_waiting(known.figures, v.figures - u.figures),
-        tables: still_waiting(known.tables, v.tables - u.tables),
+        figures: known.figures.saturating_sub(v.figures - u.figures),
+        tables: known.tables.saturating_sub(v.tables - u.tables),
     };
     waiting_after(s, g, v, still)
 }
@@ -69,7 +58,8 @@ pub fn waiting_at(g: Galley, page: Page, waiting: usize) -> u32
     ensures { result ≡ waiting_at g page.0 waiting }
 {
     if model::page::ends_spread(g.spec.sides, g.folio, page) {
-        return waiting as u32;
+        waiting as u32
+    } else {
+        0
     }
-    0
 }

@@ -15,21 +15,19 @@ weighted c =
     let parts = few_bounded c.args.g c.args.pages c.args.sums.x c.requires in
     rw c.leaves_turned-y.ensures (parts.waits, parts.leaves)
 
-pub returns-then-all_placed : goal.returns-then-all_placed
-unfolding finished counts
-returns-then-all_placed c =
-    let full = sym c.all_placed.ensures ∙ c.if-all_placed.true in
-    rw (full, c.leaves_turned-y.ensures)
+pub returns-then-not-all_placed : goal.returns-then-not-all_placed
+unfolding finished
+returns-then-not-all_placed c = rw (sym c.all_placed.ensures ∙ c.if-not-all_placed.true)
 
 pub returns : goal.returns
-unfolding finished
-returns c = rw (sym c.all_placed.ensures ∙ c.if-all_placed.false)
+unfolding finished counts
+returns c = rw (sym c.all_placed.ensures ∙ c.if-not-all_placed.false, c.leaves_turned-y.ensures)
 
 pub overflow_mul-result : goal.overflow_mul-result
 overflow_mul-result c = omega (arith, weighted (goal.at.overflow_mul-result c).After-leaves_turned-y)
 
-pub overflow_mul-result-then-all_placed : goal.overflow_mul-result-then-all_placed
-overflow_mul-result-then-all_placed c = omega (arith, weighted (goal.at.overflow_mul-result-then-all_placed c).After-leaves_turned-y)
+pub overflow_mul-result-2 : goal.overflow_mul-result-2
+overflow_mul-result-2 c = omega (arith, weighted (goal.at.overflow_mul-result-2 c).After-leaves_turned-y)
 
 pub overflow_add-result : goal.overflow_add-result
 overflow_add-result c = omega (arith, weighted (goal.at.overflow_add-result c).After-leaves_turned-y)

@@ -17,22 +17,13 @@ weighted c =
 
 pub returns : goal.returns
 unfolding printed_cost
-returns c = rw c.leaves_turned-y.ensures
-
-pub overflow_add-pages : goal.overflow_add-pages
-overflow_add-pages c = omega (arith, c.requires.numbered.few)
-
-pub overflow_mul-turns : goal.overflow_mul-turns
-overflow_mul-turns c = omega (arith, weighted (goal.at.overflow_mul-turns c).After-leaves_turned-y)
+returns c = rw (c.from.ensures, c.from-2.ensures, c.leaves_turned-y.ensures)
 
 pub overflow_mul-turns-2 : goal.overflow_mul-turns-2
 overflow_mul-turns-2 c = omega (arith, weighted (goal.at.overflow_mul-turns-2 c).After-leaves_turned-y)
 
 pub overflow_add-turns : goal.overflow_add-turns
 overflow_add-turns c = omega (arith, weighted (goal.at.overflow_add-turns c).After-leaves_turned-y)
-
-pub overflow_cast-result : goal.overflow_cast-result
-overflow_cast-result c = omega (arith, weighted (goal.at.overflow_cast-result c).After-leaves_turned-y)
 
 pub overflow_mul-result : goal.overflow_mul-result
 overflow_mul-result c = omega (arith, weighted (goal.at.overflow_mul-result c).After-leaves_turned-y)

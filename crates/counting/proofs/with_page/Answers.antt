@@ -4,20 +4,7 @@ use native.Mathlib.Omega.{arith}
 use Rattle.rules.specs.laws.Walked.{waiting_at_few}
 use Rattle.counting.proofs.with_page.Goals as goal
 
-pub overflow_add-waiting : goal.overflow_add-waiting
-overflow_add-waiting c = omega (arith, c.requires.waits)
-
-pub waiting_at-requires : goal.waiting_at-requires
-waiting_at-requires c = (c.requires.folio, c.requires.waits)
-
 pub overflow_add-result : goal.overflow_add-result
 overflow_add-result c =
     let added = waiting_at_few c.args.g c.args.page.0 (c.args.waiting.figures + c.args.waiting.tables) in
     omega (arith, added, c.waiting_at.ensures, c.requires.waits, c.requires.x)
-
-pub overflow_add-result-2 : goal.overflow_add-result-2
-overflow_add-result-2 c =
-    omega (arith, c.white_at.ensures.1, c.requires.highest, c.requires.white)
-
-pub returns : goal.returns
-returns c = rw (c.waiting_at.ensures, c.white_at.ensures.0)

@@ -1,15 +1,9 @@
 -- `leaf_cost` meets its contract: no more than 250 floats wait, and no weight is above 1,000.
-use Prim.Native.Nat.{◌+◌, ◌*◌, ◌≤◌}
-use native.Mathlib.Omega.{arith}
-use Rattle.rules.specs.laws.Walked.{walking_none, waiting_few}
+use Rattle.std.proofs.Common.{◌+◌, ◌*◌, ◌≤◌, arith}
+use Rattle.rules.specs.laws.Walked.{waiting_few}
 use Rattle.pricing.specs.laws.Price.{price_small}
 use Rattle.estimate.proofs.leaf_cost.Goals as goal
 use Rattle.estimate.proofs.leaf_cost.Goals.{After-waiting_after-waiting}
-
-pub waiting_after-waiting-requires : goal.waiting_after-waiting-requires
-waiting_after-waiting-requires c =
-    let pre = c.requires in
-    walking_none pre.sound _ (record { lines = pre.inside.lines; figures = pre.inside.figures; tables = pre.inside.tables })
 
 -- No more floats wait than there are.
 few : (c : After-waiting_after-waiting) → c.waiting_after-waiting.result.figures + c.waiting_after-waiting.result.tables ≤ 250

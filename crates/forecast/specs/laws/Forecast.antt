@@ -1,22 +1,21 @@
 -- What each way out of the forecast tells.
-use Rattle.std.specs.Prelude.{ℕ, ◌≡◌, refl, List}
+use Rattle.std.specs.Prelude.{ℕ, ◌≡◌, refl, List, Ok, Err}
+use Rattle.model.specs.declared.answer.Refusal.{Refusal}
 use Rattle.model.specs.Weighed.{ceiling}
 use Rattle.galley.specs.declared.Galley.{Galley}
-use Rattle.galley.specs.declared.Reading.TheVariants as reads
 use Rattle.galley.specs.Whole.{galley_of}
 use Rattle.galley.specs.Model.{model_of}
 use Rattle.needs.specs.Needs.{work_needed, list_needed}
 use Rattle.forecast.specs.Forecast.{forecast_read, forecast_of}
 
 -- A galley that reads.
-pub forecast_reads : (bytes : List ℕ) (g : Galley) → galley_of bytes ≡ reads.Galley g
+pub forecast_reads : (bytes : List ℕ) (g : Galley) → galley_of bytes ≡ Ok g
     → (work list top : ℕ) → work ≡ work_needed g → list ≡ list_needed g → top ≡ ceiling (model_of bytes g)
-    → record { number = 0; place = 0; work = work; list = list; ceiling = top } ≡ forecast_of bytes
+    → Ok (record { work = work; list = list; ceiling = top }) ≡ forecast_of bytes
 unfolding forecast_of forecast_read
 forecast_reads bytes g e work list top w l c = rw (e, w, l, c) refl
 
 -- A galley that is refused.
-pub forecast_refused : (bytes : List ℕ) (n at : ℕ) → galley_of bytes ≡ reads.Refused n at
-    → record { number = n; place = at; work = 0; list = 0; ceiling = 0 } ≡ forecast_of bytes
+pub forecast_refused : (bytes : List ℕ) (r : Refusal) → galley_of bytes ≡ Err r → Err r ≡ forecast_of bytes
 unfolding forecast_of forecast_read
-forecast_refused bytes n at e = rw e refl
+forecast_refused bytes r e = rw e refl

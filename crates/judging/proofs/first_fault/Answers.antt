@@ -2,14 +2,14 @@
 use Rattle.rules.specs.Parts.{fault_from}
 use Rattle.judging.proofs.first_fault.Goals as goal
 
-pub returns-then-next : goal.returns-then-next
+pub returns-then-not-kept : goal.returns-then-not-kept
 unfolding fault_from
-returns-then-next c = rw (c.if-kept.true, c.if-next.true)
+returns-then-not-kept c = rw c.if-not-kept.true
 
-pub returns-then-kept : goal.returns-then-kept
+pub returns-then-not-next : goal.returns-then-not-next
 unfolding fault_from
-returns-then-kept c = rw (c.if-kept.true, c.if-next.false)
+returns-then-not-next c = rw (c.if-not-kept.false, c.if-not-next.true)
 
 pub returns : goal.returns
 unfolding fault_from
-returns c = rw c.if-kept.false
+returns c = rw (c.if-not-kept.false, c.if-not-next.false)

@@ -6,15 +6,9 @@ use Rattle.laying.specs.Heights.{next_stream, with_next}
 use Rattle.laying.specs.laws.Next.{last_left, open_room}
 use Rattle.laying.proofs.with_next.Goals as goal
 
-pub with_block-more-requires : goal.with_block-more-requires
-with_block-more-requires c = open_room c.requires.sound 0 c.if-on-v.true c.requires
-
 pub returns-then-on-v : goal.returns-then-on-v
 unfolding with_next next_stream
 returns-then-on-v c = c.laid_on.ensures ∙ rw (lt-ltb _ _ c.if-on-v.true, c.with_block-more.ensures) refl
-
-pub with_block-more-requires-then-on-v-2 : goal.with_block-more-requires-then-on-v-2
-with_block-more-requires-then-on-v-2 c = open_room c.requires.sound 1 c.if-on-v-2.true c.requires
 
 pub returns-then-on-v-2 : goal.returns-then-on-v-2
 unfolding with_next next_stream
@@ -27,12 +21,6 @@ with_block-more-requires-2 c =
 pub returns : goal.returns
 unfolding with_next next_stream
 returns c = c.laid_on-2.ensures ∙ rw (le-ltb _ _ c.if-on-v.false, le-ltb _ _ c.if-on-v-2.false, c.with_block-more-2.ensures) refl
-
-pub overflow_add-on : goal.overflow_add-on
-overflow_add-on c = let pre = c.requires in omega (arith, c.if-on-v.true, pre.within.lines, pre.sound.few_lines)
-
-pub overflow_add-on-then-on-v-2 : goal.overflow_add-on-then-on-v-2
-overflow_add-on-then-on-v-2 c = let pre = c.requires in omega (arith, c.if-on-v-2.true, pre.within.figures, pre.sound.figures.few)
 
 pub overflow_add-on-2 : goal.overflow_add-on-2
 overflow_add-on-2 c = omega (

@@ -1,9 +1,8 @@
 -- One page of a run: what is known of it once 13 and 14 are tested, and how each way of leaving it goes on. `words` is what a page takes, as the code has it.
-use Rattle.std.specs.Prelude.{ℕ, ◌+◌, ◌*◌, ◌/◌, ◌≤◌, ◌<◌, ◌≡◌, true, false, List, length, eqb, leb}
-use Rattle.std.proofs.Common.{mul-le-mul, arith, sym, ◌∙◌}
+use Rattle.std.specs.Prelude.{ℕ, ◌+◌, ◌*◌, ◌/◌, ◌≤◌, ◌<◌, ◌≡◌, true, false, List, length, Option, None, Some, unwrap_or, eqb, leb}
+use Rattle.std.proofs.Common.{mul-le-mul, arith, sym, ap, ◌∙◌}
 use Rattle.std.proofs.Math.Option.{none, some}
-use Rattle.model.specs.declared.answer.Answer.TheVariants.{Refused}
-use Rattle.model.specs.Rules.{floor, cited, broken}
+use Rattle.model.specs.Rules.{floor, cited, forward, closes, broken}
 use Rattle.galley.specs.declared.Galley.{Galley}
 use Rattle.galley.specs.Model.{model_of}
 use Rattle.blocks.specs.declared.Counts.{Counts}
@@ -20,19 +19,19 @@ use Rattle.laying.specs.declared.Laid.{Laid}
 use Rattle.marking.specs.Parts.{pages_in, WholePages}
 use Rattle.marking.specs.Judged.{first_fault, KeptPages}
 use Rattle.laying.specs.Heights.{bare_page, is_laid, with_next, Open}
-use Rattle.marking.specs.laws.Faults.{broken_start, goes_forward, broken_over, broken_end}
+use Rattle.marking.specs.laws.Faults.{fault_some, broken_start, goes_forward, broken_over, broken_end}
 use Rattle.laying.specs.laws.Next.{left}
 use Rattle.laying.specs.laws.Heights.{SoFar, so_far_bare, so_far_open, so_far_next, so_far_less, page_over, page_fits, page_loose, page_fills}
 use Rattle.marking.specs.laws.Rest.{rest_long}
 use Rattle.marking.specs.laws.Run.{Run, page_at, broken_at, run_refused, run_next, run_kept}
+use Rattle.model.specs.Answers.{refused}
 
--- Page `done` + 1 goes from `at` to v, and `start` is the first of 13 and 14 that it breaks, or 0.
-pub record Begun (bytes : List ℕ) (g : Galley) (ws : List ℕ) (last done : ℕ) (at : Counts) (w : Waiting) (sums : Sums) (v : Counts) (start : ℕ) : Type 0 where
+-- Page `done` + 1 goes from `at` to v, and is looked at.
+pub record Begun (bytes : List ℕ) (g : Galley) (ws : List ℕ) (last done : ℕ) (at : Counts) (w : Waiting) (sums : Sums) (v : Counts) : Type 0 where
   pub listed : WholePages bytes g ws
   pub run : Run bytes g ws last done at w sums
   pub more : done < pages_in g ws
   pub here : v ≡ page_at g ws done
-  pub fault : start ≡ start_fault (model_of bytes g) (place_of g at) (place_of g v)
 
 -- Each page places a block, so that no more are judged than there are blocks.
 pub run_few : {bytes : List ℕ} {g : Galley} {ws : List ℕ} {last done : ℕ} {at : Counts} {w : Waiting} {sums : Sums}
@@ -44,10 +43,6 @@ run_few listed run =
 
 module _ (bytes : List ℕ) (g : Galley) (ws : List ℕ) (listed : WholePages bytes g ws) {words : ℕ} (is : words ≡ page_words g)
     {last done : ℕ} {at : Counts} {w : Waiting} {sums : Sums} (run : Run bytes g ws last done at w sums) where
-  -- A page is left where not all are done.
-  pub page_left : (done ≡ length ws / words → ⊥) → done < length ws / words
-  page_left left = let up : done ≤ length ws / words = rw is run.within in omega arith
-
   module _ (more : done < length ws / words) where
     -- The words of the page are there, and there are few pages.
     pub page_there : words * done + page_words g ≤ length ws
@@ -58,9 +53,8 @@ module _ (bytes : List ℕ) (g : Galley) (ws : List ℕ) (listed : WholePages by
         let few : words ≤ 3 = omega (arith, words_most g) in
         mul-le-mul few (run_few listed run)
 
-    pub begins : {v : Counts} {start : ℕ} → v ≡ counts_in g ws (words * done)
-        → start ≡ start_fault (model_of bytes g) (place_of g at) (place_of g v) → Begun bytes g ws last done at w sums v start
-    begins {v} {start} read found = record { listed = listed; run = run; more = rw is at more; here = rw is at read; fault = found }
+    pub begins : {v : Counts} → v ≡ counts_in g ws (words * done) → Begun bytes g ws last done at w sums v
+    begins {v} read = record { listed = listed; run = run; more = rw is at more; here = rw is at read }
 
   -- After the last page no rule is broken.
   pub run_over : done ≡ length ws / words → (none ≡ first_fault bytes g ws last) × KeptPages bytes g ws last at sums
@@ -71,8 +65,8 @@ pub begun_proper : {bytes : List ℕ} {g : Galley} {ws : List ℕ} {last done : 
     → {v : Counts} (from : ℕ) → v ≡ counts_in g ws from → (Proper g at) × (Proper g v)
 begun_proper {g = g} {ws = ws} run from e = (within_proper g run.placed, rw e (in_proper g ws from))
 
-module _ {bytes : List ℕ} {g : Galley} {ws : List ℕ} {last done : ℕ} {at : Counts} {w : Waiting} {sums : Sums} {v : Counts} {start : ℕ}
-    (p : Begun bytes g ws last done at w sums v start) where
+module _ {bytes : List ℕ} {g : Galley} {ws : List ℕ} {last done : ℕ} {at : Counts} {w : Waiting} {sums : Sums} {v : Counts}
+    (p : Begun bytes g ws last done at w sums v) where
   from_proper : Proper g at
   from_proper = within_proper g p.run.placed
 
@@ -80,44 +74,47 @@ module _ {bytes : List ℕ} {g : Galley} {ws : List ℕ} {last done : ℕ} {at :
   to_proper = rw p.here (in_proper g ws (page_words g * done))
 
   -- A rule that is broken on the page ends the run.
-  refused : (n : ℕ) → n ≡ broken (model_of bytes g) (done + 1) (eqb (done + 1) last) (place_of g at) (place_of g v) → 0 < n
-      → some (Refused n (done + 1)) ≡ first_fault bytes g ws last
-  refused n e h = run_refused bytes g p.listed.sound ws last p.listed.whole p.run p.more n (rw p.here at e) h
+  turned : (n : ℕ) → n ≡ broken (model_of bytes g) (done + 1) (eqb (done + 1) last) (place_of g at) (place_of g v) → 0 < n
+      → some (refused n (done + 1)) ≡ first_fault bytes g ws last
+  turned n e h = run_refused bytes g p.listed.sound ws last p.listed.whole p.run p.more n (rw p.here at e) h
 
   -- 13 or 14.
-  pub begun_refused : 0 < start → some (Refused start (done + 1)) ≡ first_fault bytes g ws last
-  begun_refused h =
-      refused start (broken_start (model_of bytes g) (done + 1) (eqb (done + 1) last) (place_of g at) (place_of g v) start p.fault h) h
+  pub begun_refused : (n : ℕ) → Some n ≡ start_fault (model_of bytes g) (place_of g at) (place_of g v)
+      → some (refused n (done + 1)) ≡ first_fault bytes g ws last
+  begun_refused n e =
+      turned n (broken_start (model_of bytes g) (done + 1) (eqb (done + 1) last) (place_of g at) (place_of g v) n e)
+      (omega (arith, fault_some 13 n (forward (model_of bytes g) (place_of g at) (place_of g v)) (closes (model_of bytes g) (place_of g v)) e))
 
   -- Otherwise the page goes forward.
-  pub begun_ahead : start ≤ 0 → Ahead g at v
+  pub begun_ahead : None ≡ start_fault (model_of bytes g) (place_of g at) (place_of g v) → Ahead g at v
   begun_ahead fine =
       ahead bytes g at v from_proper to_proper
-      (goes_forward (model_of bytes g) (done + 1) (eqb (done + 1) last) (place_of g at) (place_of g v) start p.fault fine)
+      (goes_forward (model_of bytes g) (done + 1) (eqb (done + 1) last) (place_of g at) (place_of g v) fine)
 
 -- The same page, which breaks neither 13 nor 14, with the blocks that it has so far.
-pub record Underway (bytes : List ℕ) (g : Galley) (ws : List ℕ) (last done : ℕ) (at : Counts) (w : Waiting) (sums : Sums) (v : Counts) (start : ℕ) (laid : Laid) : Type 0 where
-  pub begun : Begun bytes g ws last done at w sums v start
-  pub fine : start ≤ 0
+pub record Underway (bytes : List ℕ) (g : Galley) (ws : List ℕ) (last done : ℕ) (at : Counts) (w : Waiting) (sums : Sums) (v : Counts) (laid : Laid) : Type 0 where
+  pub begun : Begun bytes g ws last done at w sums v
+  pub fine : None ≡ start_fault (model_of bytes g) (place_of g at) (place_of g v)
   pub ahead : Ahead g at v
   pub so_far : SoFar bytes g at v laid
 
 -- At first it has none.
-pub underway_bare : {bytes : List ℕ} {g : Galley} {ws : List ℕ} {last done : ℕ} {at : Counts} {w : Waiting} {sums : Sums} {v : Counts} {start : ℕ}
-    → Begun bytes g ws last done at w sums v start → start ≤ 0 → Underway bytes g ws last done at w sums v start (bare_page g at v)
+pub underway_bare : {bytes : List ℕ} {g : Galley} {ws : List ℕ} {last done : ℕ} {at : Counts} {w : Waiting} {sums : Sums} {v : Counts}
+    → Begun bytes g ws last done at w sums v → None ≡ start_fault (model_of bytes g) (place_of g at) (place_of g v)
+    → Underway bytes g ws last done at w sums v (bare_page g at v)
 underway_bare {bytes} {g} {at = at} {v = v} p fine =
     let on = begun_ahead p fine in
     record { begun = p; fine = fine; ahead = on; so_far = so_far_bare bytes g at v p.listed.sound on }
 
-module _ {bytes : List ℕ} {g : Galley} {ws : List ℕ} {last done : ℕ} {at : Counts} {w : Waiting} {sums : Sums} {v : Counts} {start : ℕ} {laid : Laid}
-    (u : Underway bytes g ws last done at w sums v start laid) where
+module _ {bytes : List ℕ} {g : Galley} {ws : List ℕ} {last done : ℕ} {at : Counts} {w : Waiting} {sums : Sums} {v : Counts} {laid : Laid}
+    (u : Underway bytes g ws last done at w sums v laid) where
   module _ (more : is_laid laid.on v ≡ false) where
     -- There is room for the next block,
     pub underway_open : Open bytes g v laid
     underway_open = so_far_open bytes g at v u.so_far u.begun.listed.sound u.ahead.within more
 
     -- and with it fewer are left.
-    pub underway_more : Underway bytes g ws last done at w sums v start (with_next bytes g at v laid)
+    pub underway_more : Underway bytes g ws last done at w sums v (with_next bytes g at v laid)
     underway_more =
         record {
           begun = u.begun;
@@ -130,33 +127,35 @@ module _ {bytes : List ℕ} {g : Galley} {ws : List ℕ} {last done : ℕ} {at :
     underway_less = so_far_less bytes g at v u.so_far u.begun.listed.sound u.ahead.within more
 
   -- 15 ends the run as soon as the page is too high.
-  pub underway_over : g.spec.htmax < laid.heights.tight → some (Refused 15 (done + 1)) ≡ first_fault bytes g ws last
+  pub underway_over : g.spec.htmax < laid.heights.tight → some (refused 15 (done + 1)) ≡ first_fault bytes g ws last
   underway_over over =
-      refused u.begun 15
-      (broken_over (model_of bytes g) (done + 1) (eqb (done + 1) last) (place_of g at) (place_of g v) start u.begun.fault u.fine
+      turned u.begun 15
+      (broken_over (model_of bytes g) (done + 1) (eqb (done + 1) last) (place_of g at) (place_of g v) u.fine
       (page_over bytes g at v u.so_far (from_proper u.begun) (to_proper u.begun) over)) (omega arith)
 
-  module _ (low : laid.heights.tight ≤ g.spec.htmax) (whole : is_laid laid.on v ≡ true) (n : ℕ)
-      (e : n
+  module _ (low : laid.heights.tight ≤ g.spec.htmax) (whole : is_laid laid.on v ≡ true) (end : Option ℕ)
+      (e : end
       ≡ fault_from 16 (leb (floor (model_of bytes g) (eqb (done + 1) last)) laid.heights.loose)
       (cited (model_of bytes g) (done + 1) (eqb (done + 1) last) (place_of g v))) where
-    at_end_lem : n ≡ broken (model_of bytes g) (done + 1) (eqb (done + 1) last) (place_of g at) (place_of g v)
+    at_end_lem : unwrap_or end 0 ≡ broken (model_of bytes g) (done + 1) (eqb (done + 1) last) (place_of g at) (place_of g v)
     at_end_lem =
-        broken_end (model_of bytes g) (done + 1) (eqb (done + 1) last) (place_of g at) (place_of g v) start u.begun.fault u.fine
+        broken_end (model_of bytes g) (done + 1) (eqb (done + 1) last) (place_of g at) (place_of g v) u.fine
         (page_fits bytes g at v u.so_far (from_proper u.begun) (to_proper u.begun) whole low)
         (leb (floor (model_of bytes g) (eqb (done + 1) last)) laid.heights.loose)
-        (page_fills bytes g at v u.so_far (from_proper u.begun) (to_proper u.begun) whole (eqb (done + 1) last)) n e
+        (page_fills bytes g at v u.so_far (from_proper u.begun) (to_proper u.begun) whole (eqb (done + 1) last)) end e
 
     -- 16 or 17 ends the run.
-    pub underway_ended : 0 < n → some (Refused n (done + 1)) ≡ first_fault bytes g ws last
-    underway_ended over = refused u.begun n at_end_lem over
+    pub underway_ended : (n : ℕ) → end ≡ Some n → some (refused n (done + 1)) ≡ first_fault bytes g ws last
+    underway_ended n is =
+        turned u.begun n (ap (λ f. unwrap_or f 0) (sym is) ∙ at_end_lem)
+        (omega (arith, fault_some 16 n (leb (floor (model_of bytes g) (eqb (done + 1) last)) laid.heights.loose) (cited (model_of bytes g) (done + 1) (eqb (done + 1) last) (place_of g v)) (sym is ∙ e)))
 
     -- A page that breaks none goes on to the next.
-    pub underway_next : n ≤ 0 → (w' : Waiting) → w' ≡ waiting_of bytes g v
+    pub underway_next : end ≡ None → (w' : Waiting) → w' ≡ waiting_of bytes g v
         → Run bytes g ws last (done + 1) v w' (with_page g (done + 1) (eqb (done + 1) last) laid.heights.loose w' sums)
     underway_next fine w' found =
         let p = u.begun in
-        let zero : n ≡ 0 = omega arith in
+        let zero : unwrap_or end 0 ≡ 0 = ap (λ f. unwrap_or f 0) fine in
         let kept : broken_at bytes g ws last done at ≡ 0 = rw p.here at (sym at_end_lem ∙ zero) in
         let loose = page_loose bytes g at v u.so_far (from_proper p) (to_proper p) whole in
         rw p.here

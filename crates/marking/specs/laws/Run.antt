@@ -6,14 +6,12 @@ use Rattle.std.specs.Prelude.{◌≡◌, refl, List, [], length, eqb, ltb}
 use Rattle.std.proofs.Common.{sym, ◌∙◌, eq-eqb, le-ltb}
 use Rattle.std.proofs.Math.Path.{ap}
 use Rattle.std.proofs.Math.Option.{Option, none, some}
-use Rattle.model.specs.declared.answer.Answer.{Answer}
-use Rattle.model.specs.declared.answer.Answer.TheVariants.{Refused}
 use Rattle.model.specs.Gather.{one}
 use Rattle.model.specs.Galley.{Sane, zeros}
 use Rattle.model.specs.Height.{loosest}
 use Rattle.model.specs.Rules.{broken}
 use Rattle.model.specs.White.{white_on}
-use Rattle.model.specs.Answers.{pages_of}
+use Rattle.model.specs.Answers.{pages_of, Answer, refused}
 use Rattle.model.specs.Best.{allowed}
 use Rattle.model.specs.Opening.{end_of}
 use Rattle.model.proofs.laws.Rules.{kept}
@@ -65,7 +63,7 @@ abbrev pub broken_at : List ℕ → Galley → List ℕ → ℕ → ℕ → Coun
 broken_at bytes g ws last done at =
     broken (model_of bytes g) (done + 1) (eqb (done + 1) last) (place_of g at) (place_of g (page_at g ws done))
 
-refusal_some : (n q : ℕ) (after : Option Answer) → 0 < n → refusal n q after ≡ some (Refused n q)
+refusal_some : (n q : ℕ) (after : Option Answer) → 0 < n → refusal n q after ≡ some (refused n q)
 unfolding refusal
 refusal_some zero q after h = absurd (omega arith)
 refusal_some (suc n) q after h = refl
@@ -143,7 +141,7 @@ module _ (bytes : List ℕ) (g : Galley) (so : Sound bytes g) (ws : List ℕ) (l
 
       -- A page that breaks a rule ends the run.
       pub run_refused : (n : ℕ) → n ≡ broken_at bytes g ws last done at → 0 < n
-          → some (Refused n (done + 1)) ≡ first_fault bytes g ws last
+          → some (refused n (done + 1)) ≡ first_fault bytes g ws last
       run_refused n e h = sym (refusal_some n (done + 1) after h) ∙ ap (λ n. refusal n (done + 1) after) e ∙ step
 
       module _ (fine : broken_at bytes g ws last done at ≡ 0) where

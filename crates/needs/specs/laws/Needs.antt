@@ -1,8 +1,7 @@
 -- What a galley needs at most: the words of the work area and of the page list fit 32 bits.
-use Rattle.std.specs.Prelude.{ℕ, ◌+◌, ◌*◌, ◌≤◌, List, ◌≡◌, eqb}
+use Rattle.std.specs.Prelude.{ℕ, ◌+◌, ◌*◌, ◌≤◌, List, ◌≡◌, eqb, Ok}
 use Rattle.std.proofs.Common.{mul-le-mul, arith}
 use Rattle.galley.specs.declared.Galley.{Galley}
-use Rattle.galley.specs.declared.Reading.TheVariants as reads
 use Rattle.galley.specs.Whole.{galley_of}
 use Rattle.galley.proofs.laws.Pick.{pick_has}
 use Rattle.galley.proofs.laws.Sound.{sound}
@@ -12,7 +11,7 @@ use Rattle.places.proofs.laws.Address.{words_small}
 use Rattle.needs.specs.Needs.{work_needed, list_needed, Few}
 
 -- A galley that reads has few blocks.
-pub read_few : (bytes : List ℕ) (g : Galley) → galley_of bytes ≡ reads.Galley g → Few g
+pub read_few : (bytes : List ℕ) (g : Galley) → galley_of bytes ≡ Ok g → Few g
 read_few bytes g h =
     let s = sound bytes g h in
     record { lines = s.few_lines; figures = s.figures.few; tables = s.tables.few }

@@ -1,7 +1,5 @@
 -- `judge_opening` meets its contract: an incomplete page turns it away, then the first fault, then 21.
 use native.Mathlib.Omega.{arith}
-use mathlib.Core.Path.{◌≡◌}
-use Prim.Native.Nat.{ℕ}
 use Rattle.blocks.specs.laws.Counts.{words_least}
 use Rattle.openings.specs.laws.Judged.{opening_partial, opening_whole, opening_broken, opening_few, opening_kept}
 use Rattle.openings.proofs.judge_opening.Goals as goal
@@ -14,14 +12,14 @@ returns-then-opening-words-gt0 c =
     rw c.refused.ensures
     record {
       told = opening_partial c.args.s.now c.args.g c.requires c.args.opening.now c.page_words-words.ensures.1 c.if-opening-words-gt0.true;
-      kept = λ p at x e. let z : ◌≡◌ {A = ℕ} 0 1 = cc in absurd (omega arith);
+      kept = λ ends e. cc;
     }
 
 pub nonzero_div-pages : goal.nonzero_div-pages
 nonzero_div-pages c = omega (arith, c.page_words-words.ensures.1, words_least c.args.g)
 
-pub judge_pages-judged-requires : goal.judge_pages-judged-requires
-judge_pages-judged-requires c =
+pub judge_pages-requires : goal.judge_pages-requires
+judge_pages-requires c =
     opening_whole c.args.s.now c.args.g c.requires c.args.opening.now c.page_words-words.ensures.1 c.if-opening-words-gt0.false
 
 pub overflow_cast-pages : goal.overflow_cast-pages
@@ -29,21 +27,21 @@ overflow_cast-pages c =
     omega (
       arith,
       opening_few c.args.s.now c.args.g c.requires c.args.opening.now c.page_words-words.ensures.1
-          c.if-opening-words-gt0.false _ _ (rw c.in-Kept.is at c.judge_pages-judged.ensures),
+          c.if-opening-words-gt0.false _ c.in-Ok.ensures,
     )
 
-pub returns-in-Broken : goal.returns-in-Broken
-returns-in-Broken c =
-    rw c.refused-in-Broken.ensures
+pub returns-in-Err : goal.returns-in-Err
+returns-in-Err c =
+    rw c.refused-in-Err.ensures
     record {
       told =
           opening_broken c.args.s.now c.args.g c.requires c.args.opening.now c.page_words-words.ensures.1
-          c.if-opening-words-gt0.false _ _ (rw c.in-Broken.is at c.judge_pages-judged.ensures);
-      kept = λ p at x e. let z : ◌≡◌ {A = ℕ} 0 1 = cc in absurd (omega arith);
+          c.if-opening-words-gt0.false _ c.in-Err.ensures;
+      kept = λ ends e. cc;
     }
 
-pub returns-in-Kept : goal.returns-in-Kept
-returns-in-Kept c =
+pub returns-in-Ok : goal.returns-in-Ok
+returns-in-Ok c =
     opening_kept c.args.s.now c.args.g c.requires c.args.opening.now c.page_words-words.ensures.1
-    c.if-opening-words-gt0.false _ _ (rw c.in-Kept.is at c.judge_pages-judged.ensures) _
+    c.if-opening-words-gt0.false _ c.in-Ok.ensures _
     c.opening_end.ensures

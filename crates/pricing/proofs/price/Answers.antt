@@ -1,7 +1,6 @@
 -- `price` meets its contract: by the tests on the way each answer is the case of the price for them, and the limits on the
 -- weights keep it within a word.
-use native.Mathlib.Omega.{arith}
-use Rattle.pricing.specs.laws.Price.{price_of_lem, price_small}
+use Rattle.pricing.specs.laws.Price.{price_of_lem}
 use Rattle.pricing.proofs.price.Goals as goal
 
 pub returns-then-last : goal.returns-then-last
@@ -17,16 +16,6 @@ returns-then-not-turns c =
     let a = c.args in
     let law = price_of_lem bytes a.g at side proper sane a.waiting found a.last a.turns last turns in
     rw (law, c.if-last.false, c.if-not-turns.true)
-
-pub overflow_mul-result : goal.overflow_mul-result
-overflow_mul-result c =
-    let small = price_small c.args.g.spec.alpha c.args.waiting c.requires.alphas c.requires.few in
-    omega arith
-
-pub overflow_add-result : goal.overflow_add-result
-overflow_add-result c =
-    let small = price_small c.args.g.spec.alpha c.args.waiting c.requires.alphas c.requires.few in
-    omega (arith, c.requires.betas)
 
 pub returns : goal.returns
 returns c =

@@ -1,7 +1,7 @@
 -- Reading comes to where right records stand.
 use Prim.Native.Nat.{ℕ, zero, suc, ◌+◌, ◌-◌, ◌*◌, ◌≤◌, ◌<◌}
 use native.Mathlib.Omega.{arith}
-use Rattle.std.specs.Prelude.{◌≡◌, List}
+use Rattle.std.specs.Prelude.{◌≡◌, List, Ok}
 use Rattle.std.proofs.Math.Path.{refl, ap, subst}
 use Rattle.std.proofs.Common.{sym, ◌∙◌, ne_eqb}
 use Rattle.std.proofs.Math.Bool.{false}
@@ -27,7 +27,7 @@ module _ (bytes : List ℕ) where
   pub fits_state : (b : Start) (mark : ℕ) → Few b → turned b mark ≡ 0 → Fits (kind_of mark) (state_of bytes b)
   fits_state b mark few none = unfit_fits (kind_of mark) (state_of bytes b) (unfit_told bytes b few mark ∙ none)
 
-  module _ (s : Spec) (opens : record_at bytes 0 ≡ found.Spec s) where
+  module _ (s : Spec) (opens : record_at bytes 0 ≡ Ok (found.Spec s)) where
     -- The specification,
     reach_spec : Underway bytes (state_of bytes (begun s unstated 0 0 0))
     reach_spec = subst (λ so. Underway bytes so) (spec_more bytes s) (underway_on (underway_none bytes) (spec_first bytes s opens))
@@ -41,7 +41,7 @@ module _ (bytes : List ℕ) where
         let at : spec_size s.edition ≡ (state_of bytes b).at = let e = state_at bytes b in omega arith in
         subst (λ so. Underway bytes so) (folio_more bytes s f)
         (underway_on reach_spec
-        (folio_step bytes (state_of bytes b) f (subst (λ at. record_at bytes at ≡ found.Folio f) at h)
+        (folio_step bytes (state_of bytes b) f (subst (λ at. record_at bytes at ≡ Ok (found.Folio f)) at h)
         (fits_state b FO (omega arith, omega arith, omega arith) refl)))
 
     module _ (o : Stated) (folio : FolioAt bytes (spec_size s.edition) o) where
@@ -65,7 +65,7 @@ module _ (bytes : List ℕ) where
           subst (λ so. Underway bytes so) (line_more bytes s o m)
           (underway_on (reach_lines m (omega arith) (λ k one h. r k one (omega arith)))
           (line_step bytes (state_of bytes b) _
-          (subst (λ at. record_at bytes at ≡ found.Line (line_of bytes at)) at (r (suc m) (omega arith) (omega arith)))
+          (subst (λ at. record_at bytes at ≡ Ok (found.Line (line_of bytes at))) at (r (suc m) (omega arith) (omega arith)))
           (fits_state b TL (omega arith, omega arith, omega arith) (line_fit m (omega arith)))))
 
       -- The line cited last is none that the next float of the stream comes after.
@@ -110,7 +110,7 @@ module _ (bytes : List ℕ) where
           subst (λ so. Underway bytes so) (figure_more bytes s o m n (word_at bytes (so.at + cite_at)) cite)
           (underway_on u
           (figure_step bytes so (float_of (is_kept bytes so.at) bytes so.at)
-          (subst (λ at. record_at bytes at ≡ found.Figure (float_of (is_kept bytes at) bytes at)) at (r.read (suc n) (omega arith) (omega arith)))
+          (subst (λ at. record_at bytes at ≡ Ok (found.Figure (float_of (is_kept bytes at) bytes at))) at (r.read (suc n) (omega arith) (omega arith)))
           (fits_state b FG (omega arith, omega arith, omega arith) (figure_fit m n (omega arith)))
           (omega arith) (omega (arith, state_lines bytes b)) (omega (arith, figure_last bytes s o m n))))
 
@@ -133,7 +133,7 @@ module _ (bytes : List ℕ) where
           subst (λ so. Underway bytes so) (table_more bytes s o m n k (word_at bytes (so.at + cite_at)) cite)
           (underway_on u
           (table_step bytes so (float_of false bytes so.at)
-          (subst (λ at. record_at bytes at ≡ found.Table (float_of false bytes at)) at (r.read (suc k) (omega arith) (omega arith)))
+          (subst (λ at. record_at bytes at ≡ Ok (found.Table (float_of false bytes at))) at (r.read (suc k) (omega arith) (omega arith)))
           (fits_state b TB (omega arith, omega arith, omega arith) (table_fit m n k (omega arith)))
           (omega arith) (omega (arith, state_lines bytes b)) (omega (arith, table_last bytes s o m n k))))
 

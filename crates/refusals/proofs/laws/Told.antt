@@ -1,8 +1,7 @@
 -- What each answer says of the bytes, by its number.
-use Rattle.std.specs.Prelude.{ℕ, zero, suc, List}
-use Rattle.galley.specs.declared.Reading.{Reading}
-use Rattle.galley.specs.declared.Reading.TheVariants as reads
+use Rattle.std.specs.Prelude.{ℕ, zero, suc, List, Err, Ok}
 use Rattle.refusals.specs.Declared.{StopsShort, UnknownMark, BadField, TooMany, BeforeFirstLine, NoSuchLine, OutOfOrder, AfterEnd, IsGalley}
+use Rattle.galley.specs.Whole.{Reading}
 
 -- What a refusal with a number and a place says of the bytes.
 abbrev pub Says : ℕ → List ℕ → ℕ → Type 0
@@ -19,5 +18,5 @@ Says (suc (suc (suc (suc (suc (suc (suc (suc (suc n))))))))) bytes at = ⊥
 
 -- What reading says of them.
 unfoldable pub Told : List ℕ → Reading → Type 0
-Told bytes (reads.Galley g) = IsGalley bytes g
-Told bytes (reads.Refused number place) = Says number bytes place
+Told bytes (Ok g) = IsGalley bytes g
+Told bytes (Err r) = Says r.number bytes r.place

@@ -1,7 +1,7 @@
 -- Whatever reading answers, the bytes are as the answer says.
 use Prim.Native.Nat.{ℕ, zero, suc, ◌+◌, ◌-◌, ◌≤◌, ◌<◌}
 use native.Mathlib.Omega.{arith}
-use Rattle.std.specs.Prelude.{◌≡◌, ◌⊎◌, Bool, ◌||◌, List, eqb}
+use Rattle.std.specs.Prelude.{◌≡◌, ◌⊎◌, Bool, ◌||◌, List, eqb, Err, Ok}
 use Rattle.std.proofs.Math.Path.{refl, ap, subst}
 use Rattle.std.proofs.Common.{sym, ◌∙◌}
 use Rattle.std.proofs.Math.Logic.{inl, inr}
@@ -13,8 +13,8 @@ use Rattle.model.specs.Gather.{pick}
 use Rattle.model.proofs.laws.Gather.{or_cases}
 use Rattle.galley.specs.Word.{word_at, mark_at}
 use Rattle.galley.specs.Place.{spec_mark, spec_size, FO, TL, FG, TB, spec, kind_of, unfit}
-use Rattle.galley.specs.Record.{is_second, cite_at, spec_of, line_of, float_of, is_kept, fields_of, record_at}
-use Rattle.galley.specs.Whole.{moved, with_folio, with_line, with_figure, with_table, cited, closed, after, step_from, galley_so_far, galley_of}
+use Rattle.galley.specs.Record.{is_second, cite_at, spec_of, line_of, float_of, is_kept, Read, unread, fields_of, record_at}
+use Rattle.galley.specs.Whole.{moved, with_folio, with_line, with_figure, with_table, cited, closed, after, step_from, galley_so_far, galley_of, Step}
 use Rattle.galley.specs.Block.{field_of, offset}
 use Rattle.galley.specs.Sound.{Reads, SoundCitations, Opening}
 use Rattle.galley.specs.Write.{Stated, unstated, stated}
@@ -29,11 +29,8 @@ use Rattle.galley.specs.declared.Spec.{Spec}
 use Rattle.galley.specs.declared.Float.{Float}
 use Rattle.galley.specs.declared.Galley.{Galley}
 use Rattle.galley.specs.declared.Stream.{Stream}
-use Rattle.galley.specs.declared.Record.{Record}
 use Rattle.galley.specs.declared.Record.TheVariants as found
 use Rattle.galley.specs.declared.Sofar.{Sofar}
-use Rattle.galley.specs.declared.Step.{Step}
-use Rattle.galley.specs.declared.Step.TheVariants.{On, Done}
 use Rattle.refusals.specs.Declared.{Start, nothing, begun, head_of, galley_in, due_at, FolioAt, Begun, Begins, may_follow, early, crowded, fits, lines_in, figures_in, tables_in, last_cited, FloatAt, Upto, Marked, Fitting, Ended, in_range}
 use Rattle.refusals.proofs.laws.Told.{Says, Told}
 use Rattle.refusals.proofs.laws.State.{state_of, state_at, state_lines, state_galley, turned, unfit_told, spec_more, folio_more, line_more, figure_more, table_more}
@@ -41,6 +38,7 @@ use Rattle.refusals.proofs.laws.Fit.{turned_fits, spec_fits, folio_fits, line_fi
 use Rattle.refusals.proofs.laws.Fields.{number_of, fields_three}
 use Rattle.refusals.proofs.laws.Reach.{begins_few}
 use Rattle.refusals.proofs.laws.Exact.{figure_marked, table_marked}
+use Rattle.std.specs.declared.ops.ControlFlow.TheVariants.{Break, Continue}
 
 module _ (bytes : List ℕ) where
   -- A record whose mark fits is refused where it is cut off, by 1, or where a field is out of range.
@@ -56,7 +54,7 @@ module _ (bytes : List ℕ) where
       go (ltb (length bytes - at) (kind_of (mark_at bytes at)).size) refl (rw (le-ltb (length bytes - at) 2 (omega arith)) at e)
     where
       go : (short : Bool) → ltb (length bytes - at) (kind_of (mark_at bytes at)).size ≡ short
-          → number_of (pick short (found.Refused 1 at) (fields_of (mark_at bytes at) bytes at)) ≡ n → Cut at n
+          → number_of (pick short (unread 1 at) (fields_of (mark_at bytes at) bytes at)) ≡ n → Cut at n
       go true t e = inl (sym e, let h = ltb-true (length bytes - at) (kind_of (mark_at bytes at)).size t in omega arith)
       go false t e =
           let (three, bad) = fields_three b bytes at (mark_at bytes at) fit (omega arith) in
@@ -74,8 +72,8 @@ module _ (bytes : List ℕ) where
 
   -- One step more leads to one record more, or to an answer that the bytes bear out.
   abbrev Outcome : Step → Type 0
-  Outcome (On next) = (b : Start) × (next ≡ state_of bytes b) × Of b
-  Outcome (Done r) = Told bytes r
+  Outcome (Continue next) = (b : Start) × (next ≡ state_of bytes b) × Of b
+  Outcome (Break r) = Told bytes r
 
   module _ (b : Start) (begins : Begins bytes b) where
     abbrev so : Sofar
@@ -105,7 +103,7 @@ module _ (bytes : List ℕ) where
         fitting : Fitting bytes so.at b
         fitting = record { marked = marked; fit = fit }
 
-        refused_told : (n place : ℕ) → record_at bytes so.at ≡ found.Refused n place → Says n bytes so.at
+        refused_told : (n place : ℕ) → record_at bytes so.at ≡ unread n place → Says n bytes so.at
         unfolding Found
         refused_told n place e =
             let h = rw e at (found_at bytes so.at) in
@@ -119,7 +117,7 @@ module _ (bytes : List ℕ) where
         abbrev kind : Kind
         kind = kind_of mark
 
-        spec_told : (g : Spec) → record_at bytes so.at ≡ found.Spec g → Outcome (On (with_folio (moved so kind) 1))
+        spec_told : (g : Spec) → record_at bytes so.at ≡ Ok (found.Spec g) → Outcome (Continue (with_folio (moved so kind) 1))
         unfolding Found state_of due_at
         spec_told g e =
             let h = rw e at (found_at bytes so.at) in
@@ -129,7 +127,7 @@ module _ (bytes : List ℕ) where
             let more = ap (λ b. with_folio (moved (state_of bytes b) (kind_of (spec_mark g.edition))) 1) is ∙ spec_more bytes g in
             (begun g unstated 0 0 0, ap (λ k. with_folio (moved so (kind_of k)) 1) h.marked ∙ more, same)
 
-        folio_told : (f : ℕ) → record_at bytes so.at ≡ found.Folio f → Outcome (On (with_folio (moved so kind) f))
+        folio_told : (f : ℕ) → record_at bytes so.at ≡ Ok (found.Folio f) → Outcome (Continue (with_folio (moved so kind) f))
         unfolding Found
         folio_told f e =
             let h = rw e at (found_at bytes so.at) in
@@ -137,7 +135,7 @@ module _ (bytes : List ℕ) where
             let more = ap (λ b. with_folio (moved (state_of bytes b) (kind_of FO)) f) is ∙ folio_more bytes s f in
             (begun s (stated f) 0 0 0, ap (λ k. with_folio (moved so (kind_of k)) f) h.marked ∙ more, subst Of is (begins_of b begins))
 
-        line_told : (l : Line) → record_at bytes so.at ≡ found.Line l → Outcome (On (with_line (moved so kind)))
+        line_told : (l : Line) → record_at bytes so.at ≡ Ok (found.Line l) → Outcome (Continue (with_line (moved so kind)))
         unfolding Found
         line_told l e =
             let h = rw e at (found_at bytes so.at) in
@@ -146,7 +144,7 @@ module _ (bytes : List ℕ) where
             (begun s o (suc m) 0 0, ap (λ k. with_line (moved so (kind_of k))) h.marked ∙ more, subst Of is (begins_of b begins))
 
         -- A figure or a table more.
-        figure_next : (f : Float) → record_at bytes so.at ≡ found.Figure f → Outcome (On (with_figure (moved so kind) f.cite))
+        figure_next : (f : Float) → record_at bytes so.at ≡ Ok (found.Figure f) → Outcome (Continue (with_figure (moved so kind) f.cite))
         unfolding Found due_at
         figure_next f e =
             let h = rw e at (found_at bytes so.at) in
@@ -159,7 +157,7 @@ module _ (bytes : List ℕ) where
             let more = ap (λ b. with_figure (moved (state_of bytes b) (kind_of FG)) f.cite) is ∙ figure_more bytes s o m n f.cite cite in
             (begun s o (suc m) (suc n) 0, as_figure ∙ more, subst Of is (begins_of b begins))
 
-        table_next : (f : Float) → record_at bytes so.at ≡ found.Table f → Outcome (On (with_table (moved so kind) f.cite))
+        table_next : (f : Float) → record_at bytes so.at ≡ Ok (found.Table f) → Outcome (Continue (with_table (moved so kind) f.cite))
         unfolding Found due_at
         table_next f e =
             let h = rw e at (found_at bytes so.at) in
@@ -173,7 +171,7 @@ module _ (bytes : List ℕ) where
             (begun s o (suc m) n (suc k), as_table ∙ more, subst Of is (begins_of b begins))
 
         -- A float is rightly cited, or it is not.
-        cited_told : (f : Float) (last : ℕ) (next : Sofar) → FloatAt bytes b so.at f last → (moved so kind).last ≡ last → Outcome (On next)
+        cited_told : (f : Float) (last : ℕ) (next : Sofar) → FloatAt bytes b so.at f last → (moved so kind).last ≡ last → Outcome (Continue next)
             → Outcome (cited (moved so kind) f.cite next so.at)
         unfolding cited Told
         cited_told f last next here is on =
@@ -195,7 +193,7 @@ module _ (bytes : List ℕ) where
                 go (inr e) = inr (omega (arith, state_lines bytes b, ltb-true so.lines cite e))
 
         -- The end is the last, or it is not.
-        end_told : record_at bytes so.at ≡ found.End → Outcome (closed bytes (moved so kind))
+        end_told : record_at bytes so.at ≡ Ok found.End → Outcome (closed bytes (moved so kind))
         unfolding Found closed kind_of Told
         end_told e =
             let h = rw e at (found_at bytes so.at) in
@@ -217,17 +215,17 @@ module _ (bytes : List ℕ) where
               ap (λ s. galley_so_far s so) (sym same) ∙ ap (λ b. galley_so_far s (state_of bytes b)) is ∙ state_galley bytes s o (suc m) n k,
             )))
 
-        after_told : (r : Record) → record_at bytes so.at ≡ r → Outcome (after bytes (moved so kind) so.at r)
+        after_told : (r : Read) → record_at bytes so.at ≡ r → Outcome (after bytes (moved so kind) so.at r)
         unfolding after Told
-        after_told (found.Spec g) e = spec_told g e
-        after_told (found.Folio f) e = folio_told f e
-        after_told (found.Line l) e = line_told l e
-        after_told (found.Figure f) e =
+        after_told (Ok (found.Spec g)) e = spec_told g e
+        after_told (Ok (found.Folio f)) e = folio_told f e
+        after_told (Ok (found.Line l)) e = line_told l e
+        after_told (Ok (found.Figure f)) e =
             cited_told f (last_cited bytes (figures_in b)) _ (inl (e, refl)) (figure_marked bytes b begins f fit e) (figure_next f e)
-        after_told (found.Table f) e =
+        after_told (Ok (found.Table f)) e =
             cited_told f (last_cited bytes (tables_in b)) _ (inr (e, refl)) (table_marked bytes b begins f fit e) (table_next f e)
-        after_told found.End e = end_told e
-        after_told (found.Refused n place) e = refused_told n place e
+        after_told (Ok found.End) e = end_told e
+        after_told (Err r) e = refused_told r.number r.place e
 
     -- The next step.
     step_told : Outcome (step_from bytes so)
@@ -269,10 +267,10 @@ module _ (bytes : List ℕ) where
         is : galley_so_far s so ≡ galley_in s (stated f) m n k
         is = state_galley bytes s (stated f) m n k
 
-        go : Opening bytes (galley_so_far (spec_in bytes) so) → record_at bytes (spec_size s.edition) ≡ found.Folio f
+        go : Opening bytes (galley_so_far (spec_in bytes) so) → record_at bytes (spec_size s.edition) ≡ Ok (found.Folio f)
         go (inl (one, first)) = let e = ap (λ (g : Galley). g.text.first) is in absurd (omega (arith, size))
         go (inr (e, first)) =
-            ap (record_at bytes) (sym size) ∙ e ∙ ap found.Folio (ap (λ (g : Galley). g.folio) is)
+            ap (record_at bytes) (sym size) ∙ e ∙ ap (λ (g : Galley). Ok (found.Folio g.folio)) is
 
     stands_begun : (o : Stated) → Reached bytes (state_of bytes (begun s o m n k)) → Begun bytes s o m n k
     stands_begun o r =
@@ -282,7 +280,7 @@ module _ (bytes : List ℕ) where
         let figures = ap (λ (g : Galley). g.figures) is in
         let tables = ap (λ (g : Galley). g.tables) is in
         record {
-          spec = r.head.spec_read (state_stage s o m n k) ∙ ap found.Spec (sym same);
+          spec = r.head.spec_read (state_stage s o m n k) ∙ ap (λ s. Ok (found.Spec s)) (sym same);
           folio = folio_reached o r;
           few = omega (arith, lines, r.shape.few_lines);
           lines = subst (λ st. Reads bytes st (λ at. found.Line (line_of bytes at))) (ap (λ (g : Galley). g.text) is) r.text;
@@ -318,9 +316,9 @@ module _ (bytes : List ℕ) where
       go : (step : Step) → step_from bytes (state_of bytes b) ≡ step → Outcome step
           → ((b : Start) → Begins bytes b → Underway bytes (state_of bytes b) → length bytes - (state_of bytes b).at < most → Told bytes (galley_of bytes))
           → Told bytes (galley_of bytes)
-      go (Done r) e told on = subst (λ r. Told bytes r) (underway_done u e) told
-      go (On next) e (b', is, same) on =
-          let e' : step_from bytes (state_of bytes b) ≡ On (state_of bytes b') = e ∙ ap On is in
+      go (Break r) e told on = subst (λ r. Told bytes r) (underway_done u e) told
+      go (Continue next) e (b', is, same) on =
+          let e' : step_from bytes (state_of bytes b) ≡ Continue (state_of bytes b') = e ∙ ap Continue is in
           let u' = underway_on u e' in
           on b' (reached_begins b' same u'.reached) u' (omega (arith, underway_farther u e'))
 

@@ -1,10 +1,10 @@
 -- The model's tests of one page, said of lines, figures and tables.
 use Prim.Native.Nat.{ℕ, zero, suc, ◌+◌, ◌≤◌}
-use Rattle.std.proofs.Common.{arith, sym, ◌∙◌, lt-ltb, ltb-true, ltb-false, leb-true, le-leb}
-use Rattle.std.specs.Prelude.{◌≡◌, refl, false, ◌&&◌, ◌||◌, List, ltb}
+use Rattle.std.proofs.Common.{arith, sym, ◌∙◌, lt-ltb, ltb-true, leb-true, le-leb}
+use Rattle.std.specs.Prelude.{◌≡◌, refl, false, ◌&&◌, ◌||◌, List, max, ltb}
 use Rattle.std.proofs.Math.Bool.{Bool, true}
 use Rattle.std.proofs.Math.Dec.{leb}
-use Rattle.model.specs.Gather.{pick, implies, one, total, every}
+use Rattle.model.specs.Gather.{implies, one, total, every}
 use Rattle.model.specs.Galley.{Stream, count}
 use Rattle.model.specs.Height.{has, kinds}
 use Rattle.model.specs.Leaf.{ends}
@@ -15,7 +15,7 @@ use Rattle.galley.specs.declared.Galley.{Galley}
 use Rattle.galley.specs.Model.{text_of, floats_of, sides_in, model_of}
 use Rattle.blocks.specs.declared.Counts.{Counts}
 use Rattle.blocks.specs.Counts.{place_of, Proper}
-use Rattle.rules.specs.Parts.{kinds_on, Ahead, cite_of, later, cited_from, all_placed}
+use Rattle.rules.specs.Parts.{kinds_on, Ahead, cite_of, cited_from, all_placed}
 use Rattle.blocks.specs.laws.Counts.{each_floats, sum_floats, same_of, count_lines, count_figures, count_tables}
 
 some_kind : (a b c : Bool) → ltb 0 (one a + (one b + one c)) ≡ (a || (b || c))
@@ -43,22 +43,8 @@ cite_asked st true i (suc j) = rw (lt-ltb 0 (suc j) (omega arith))
 cite_asked st false i j = refl
 
 -- The later of two lines is reached where both are.
-later_both : (a b i : ℕ) → (leb a i && leb b i) ≡ leb (later a b) i
-unfolding later
-later_both a b i = go (ltb a b) refl
-  where
-    second : (x y : Bool) → (y ≡ true → x ≡ true) → (x && y) ≡ y
-    second true y h = refl
-    second false true h = h refl
-    second false false h = refl
-
-    first : (x y : Bool) → (x ≡ true → y ≡ true) → (x && y) ≡ x
-    first true y h = h refl
-    first false y h = refl
-
-    go : (t : Bool) → ltb a b ≡ t → (leb a i && leb b i) ≡ leb (pick t b a) i
-    go true e = second (leb a i) (leb b i) (λ h. le-leb a i (omega (arith, leb-true b i h, ltb-true a b e)))
-    go false e = first (leb a i) (leb b i) (λ h. le-leb b i (omega (arith, leb-true a i h, ltb-false a b e)))
+max_both : (a b i : ℕ) → (leb a i && leb b i) ≡ leb (max a b) i
+max_both a b i = grind arith
 
 module _ (bytes : List ℕ) (g : Galley) where
   -- The kinds on a page.
@@ -164,7 +150,7 @@ module _ (bytes : List ℕ) (g : Galley) where
         cited_of q last asked v pv e,
         cite_asked figures asked v.lines v.figures,
         cite_asked tables asked v.lines v.tables,
-        ← later_both (cite_of figures v.figures) (cite_of tables v.tables) v.lines,
+        ← max_both (cite_of figures v.figures) (cite_of tables v.tables) v.lines,
       )
       (implies_and asked (leb (cite_of figures v.figures) v.lines) (leb (cite_of tables v.tables) v.lines))
 

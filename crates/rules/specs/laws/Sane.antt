@@ -1,9 +1,8 @@
 -- A galley that reads without refusal is one that the page model's theorems hold of.
-use Rattle.std.specs.Prelude.{ℕ, zero, suc, ◌≤◌, ◌≡◌, List}
+use Rattle.std.specs.Prelude.{ℕ, zero, suc, ◌≤◌, ◌≡◌, List, Ok}
 use Rattle.std.proofs.Common.{arith}
 use Rattle.model.specs.Galley.{Sane, Block}
 use Rattle.galley.specs.declared.Galley.{Galley}
-use Rattle.galley.specs.declared.Reading.TheVariants as reads
 use Rattle.galley.specs.Whole.{galley_of}
 use Rattle.galley.specs.Model.{model_of}
 use Rattle.galley.specs.Sound.{Sound}
@@ -34,5 +33,5 @@ sound_sane bytes g so =
     grows (suc zero) k h b n = so.figures.citations.grow k (suc k) b.first (omega arith) n.last
     grows (suc (suc s)) k h b n = so.tables.citations.grow k (suc k) b.first (omega arith) n.last
 
-pub reads_sane : (bytes : List ℕ) (g : Galley) → galley_of bytes ≡ reads.Galley g → Sane (model_of bytes g)
+pub reads_sane : (bytes : List ℕ) (g : Galley) → galley_of bytes ≡ Ok g → Sane (model_of bytes g)
 reads_sane bytes g e = sound_sane bytes g (sound bytes g e)

@@ -4,11 +4,9 @@ use Rattle.std.specs.Prelude.{ℕ, ◌≤◌, ◌≡◌, true, List, []}
 use Rattle.std.proofs.Common.{subst}
 use mathlib.Core.List.Memᴰ
 use Rattle.std.proofs.Math.Option.{Option, none, some}
-use Rattle.model.specs.declared.answer.Answer.{Answer}
-use Rattle.model.specs.declared.answer.Answer.TheVariants.{Refused}
 use Rattle.model.specs.Galley.{Galley}
 use Rattle.model.specs.Order.{then_by, by}
-use Rattle.model.specs.Answers.{words_of}
+use Rattle.model.specs.Answers.{words_of, Answer, refused}
 use Rattle.model.specs.Book.{first_folio, Choice, gathered, choices, book_turns, book_white, book_before, best_book, book_counts, book_made, book_words}
 use Rattle.model.specs.laws.Lists.{◌∈◌}
 use Rattle.model.proofs.laws.Best.{Found, nothing, found, first_of_found}
@@ -17,7 +15,7 @@ use Rattle.theorems.specs.books.Through.{in_turn}
 
 -- What the possible answers say of the choices.
 pub data Binding (gs : List Galley) : Answer → List ℕ → Type 0 where
-  no_choice : ((cs : Choice) → cs ∈ choices (first_folio gs) gs → ⊥) → Binding gs (Refused 11 0) []
+  no_choice : ((cs : Choice) → cs ∈ choices (first_folio gs) gs → ⊥) → Binding gs (refused 11 0) []
   best_choice : (cs : Choice) → cs ∈ choices (first_folio gs) gs
       → ((ds : Choice) → ds ∈ choices (first_folio gs) gs → book_turns (first_folio gs) gs cs ≤ book_turns (first_folio gs) gs ds)
       → ((ds : Choice) → ds ∈ choices (first_folio gs) gs → book_turns (first_folio gs) gs ds ≤ book_turns (first_folio gs) gs cs
@@ -39,7 +37,7 @@ binding gs =
   where
     go : (r : Option Choice)
         → Found (book_before (first_folio gs) gs) (book_preference (first_folio gs) gs) (choices (first_folio gs) gs) r
-        → Binding gs (elim r [ none ↦ Refused 11 0 | some cs ↦ book_counts (first_folio gs) gs cs ])
+        → Binding gs (elim r [ none ↦ refused 11 0 | some cs ↦ book_counts (first_folio gs) gs cs ])
         (elim r [ none ↦ [] | some cs ↦ gathered words_of cs ])
     go none (nothing e) = no_choice (λ cs m. Memᴰ.not-nil (subst (λ l. cs ∈ l) e m))
     go (some cs) (found x) =

@@ -1,5 +1,5 @@
 -- A book of one chapter is that chapter.
-use Prim.Native.Nat.{ℕ, ◌+◌, ◌-◌, ◌≤◌}
+use Prim.Native.Nat.{ℕ, ◌+◌, ◌≤◌}
 use native.Mathlib.Omega.{arith}
 use Rattle.std.specs.Prelude.{◌≡◌, Bool, true, false, ◌&&◌}
 use Rattle.std.proofs.Math.Path.{refl, ap, subst}
@@ -9,14 +9,12 @@ use mathlib.Core.List.Memᴰ
 use mathlib.Core.List.{List, [], ◌∷◌, map, append-nil}
 use Rattle.std.proofs.Math.Option.{Option, none, some}
 use Rattle.std.proofs.Math.ListN.{length}
-use Rattle.model.specs.declared.answer.Answer.{Answer}
-use Rattle.model.specs.declared.answer.Answer.TheVariants.{Refused}
 use Rattle.model.specs.Gather.{implies}
 use Rattle.model.specs.Galley.{Sides, single, double, Galley, Place}
 use Rattle.model.specs.Turns.{x_of, y_of, turns}
 use Rattle.model.specs.White.{white}
 use Rattle.model.specs.Order.{then_by, by, lex, before}
-use Rattle.model.specs.Answers.{counts_of, words_of}
+use Rattle.model.specs.Answers.{counts_of, words_of, Answer, refused}
 use Rattle.model.specs.Best.{valid, best, made, made_words}
 use Rattle.model.specs.Book.{sides_on, open_on, folio_in, first_folio, Choice, gathered, choices, summed, book_pages, book_x, book_white, book_y, book_turns, tie_of, tie_order, ties_of, book_before, best_book, book_counts, book_made, book_words}
 use Rattle.model.specs.laws.Lists.{◌∈◌}
@@ -115,15 +113,15 @@ module _ (g : Galley) where
     pub one_made : book_made (g ∷ []) ≡ made g
     unfolding book_made made
     one_made =
-        let answer : Option Choice → Answer = λ r. elim r [ none ↦ Refused 11 0 | some cs ↦ book_counts f (g ∷ []) cs ] in
+        let answer : Option Choice → Answer = λ r. elim r [ none ↦ refused 11 0 | some cs ↦ book_counts f (g ∷ []) cs ] in
         ap answer one_best ∙ go (best g)
       where
         same : (ps : List Place) → book_counts f (g ∷ []) (ps ∷ []) ≡ counts_of g ps
         same ps = unfold book_counts in unfold counts_of in rw (one_y ps, one_pages ps, one_x ps, one_turns ps, one_white ps) refl
 
         go : (r : Option (List Place))
-            → ◌≡◌ {A = Answer} (elim (alone r) [ none ↦ Refused 11 0 | some cs ↦ book_counts f (g ∷ []) cs ])
-            (elim r [ none ↦ Refused 11 0 | some ps ↦ counts_of g ps ])
+            → ◌≡◌ {A = Answer} (elim (alone r) [ none ↦ refused 11 0 | some cs ↦ book_counts f (g ∷ []) cs ])
+            (elim r [ none ↦ refused 11 0 | some ps ↦ counts_of g ps ])
         go none = refl
         go (some ps) = same ps
 

@@ -9,13 +9,11 @@ use Rattle.std.proofs.Math.Bool.{true, false}
 use mathlib.Core.List.{List, [], ◌∷◌, ◌++◌, append_assoc}
 use Rattle.std.proofs.Math.Option.{Option, none, some}
 use Rattle.std.proofs.Math.ListN.{length}
-use Rattle.model.specs.declared.answer.Answer.{Answer}
-use Rattle.model.specs.declared.answer.Answer.TheVariants.{Counted, Refused}
 use Rattle.model.specs.Gather.{pick}
 use Rattle.model.specs.Galley.{Galley, Place, streams, zeros, sizes}
 use Rattle.model.specs.Turns.{turns}
 use Rattle.model.specs.White.{white}
-use Rattle.model.specs.Answers.{numbers_of, accepted, same, pages_of, words_of, counts_of, marked}
+use Rattle.model.specs.Answers.{numbers_of, accepted, same, pages_of, words_of, counts_of, marked, Answer, counted_as, refused}
 use Rattle.model.specs.Best.{allowed, valid}
 use Rattle.model.specs.Opening.{valid_after, best_after, pages_turned, opening_turned, made_after, made_words_after}
 use Rattle.model.proofs.laws.Gather.{and_both}
@@ -58,7 +56,7 @@ words_split k (v ∷ os) (w ∷ qs) vs pos sh th h =
 
 -- The refusals that turn an opening away.
 abbrev pub ByOpening : Answer → Type 0
-ByOpening a = (at : ℕ) × ((a ≡ Refused 20 at) ⊎ (a ≡ Refused 21 at))
+ByOpening a = (at : ℕ) × ((a ≡ refused 20 at) ⊎ (a ≡ refused 21 at))
 
 -- What the refusals of an opening's pages tell: one of the two, or that the pages pass and a block is left.
 pub turned_or : (g : Galley) (o : Origin) (os : List Place)
@@ -67,10 +65,11 @@ pub turned_or : (g : Galley) (o : Origin) (os : List Place)
 unfolding pages_turned passes onto full
 turned_or g o [] = go (same o.place (sizes g)) refl
   where
-    go : (b : Bool) → same o.place (sizes g) ≡ b
-        → ((a : Answer) × (pick b (some (Refused 21 o.pages)) none ≡ some a) × ByOpening a)
-        ⊎ ((pick b (some (Refused 21 o.pages)) none ≡ none) × (true ≡ true) × (same o.place (sizes g) ≡ false))
-    go true e = inl (Refused 21 o.pages, refl, (o.pages, inr refl))
+    Out : Option Answer → Type 0
+    Out r = ((a : Answer) × (r ≡ some a) × ByOpening a) ⊎ ((r ≡ none) × (true ≡ true) × (same o.place (sizes g) ≡ false))
+
+    go : (b : Bool) → same o.place (sizes g) ≡ b → Out (pick b (some (refused 21 o.pages)) none)
+    go true e = inl (refused 21 o.pages, refl, (o.pages, inr refl))
     go false e = inr (refl, refl, e)
 turned_or g o (v ∷ vs) = go (allowed g (suc o.pages) false o.place v) refl (turned_or g (printed g o v) vs)
   where
@@ -82,10 +81,10 @@ turned_or g o (v ∷ vs) = go (allowed g (suc o.pages) false o.place v) refl (tu
         ⊎ ((r ≡ none) × (b ≡ true) × (full g (onto g (printed g o v) vs).place ≡ false))
 
     go : (b : Bool) → allowed g (suc o.pages) false o.place v ≡ b → Out after (passes g (printed g o v) vs)
-        → Out (pick b after (some (Refused 20 (suc o.pages)))) (allowed g (suc o.pages) false o.place v && passes g (printed g o v) vs)
+        → Out (pick b after (some (refused 20 (suc o.pages)))) (allowed g (suc o.pages) false o.place v && passes g (printed g o v) vs)
     go true e (inl h) = inl h
     go true e (inr (a, b, c)) = inr (a, and_both e b, c)
-    go false e h = inl (Refused 20 (suc o.pages), refl, (suc o.pages, inl refl))
+    go false e h = inl (refused 20 (suc o.pages), refl, (suc o.pages, inl refl))
 
 module _ (g : Galley) (ows : List ℕ) where
   -- The pages of the opening.
@@ -107,8 +106,8 @@ module _ (g : Galley) (ows : List ℕ) where
       Out r = ((a : Answer) × (r ≡ some a) × ByOpening a) ⊎ ((r ≡ none) × Whole)
 
       go : (b : Bool) → eqb (length ows % suc g.floats) 0 ≡ b
-          → Out (pick b (pages_turned g 1 (zeros g) (pages_of g ows)) (some (Refused 20 0)))
-      go false e = inl (Refused 20 0, refl, (0, inl refl))
+          → Out (pick b (pages_turned g 1 (zeros g) (pages_of g ows)) (some (refused 20 0)))
+      go false e = inl (refused 20 0, refl, (0, inl refl))
       go true e =
           let zero_rest = eqb-true (length ows % suc g.floats) 0 e in
           let parts = div-add-mod' (length ows) (suc g.floats) in
@@ -134,13 +133,13 @@ module _ (g : Galley) (ows : List ℕ) where
   -- What the possible answers of making after an opening say of the lists that marking accepts and that begin with it.
   pub data MakingAfter : Answer → List ℕ → Type 0 where
     turned_away : {a : Answer} → opening_turned g ows ≡ some a → ByOpening a → MakingAfter a []
-    no_list : opening_turned g ows ≡ none → ((ws : List ℕ) → accepted (marked g (ows ++ ws)) ≡ false) → MakingAfter (Refused 11 0) []
-    best_list : {p x y t w : ℕ} (ws : List ℕ) → opening_turned g ows ≡ none → marked g (ows ++ ws) ≡ Counted p x y t w
+    no_list : opening_turned g ows ≡ none → ((ws : List ℕ) → accepted (marked g (ows ++ ws)) ≡ false) → MakingAfter (refused 11 0) []
+    best_list : {p x y t w : ℕ} (ws : List ℕ) → opening_turned g ows ≡ none → marked g (ows ++ ws) ≡ counted_as p x y t w
         → length (ows ++ ws) ≡ p * streams g
         → ((vs : List ℕ) → accepted (marked g (ows ++ vs)) ≡ true → t ≤ (numbers_of (marked g (ows ++ vs))).turns)
         → ((vs : List ℕ) → accepted (marked g (ows ++ vs)) ≡ true → (numbers_of (marked g (ows ++ vs))).turns ≤ t
         → w ≤ (numbers_of (marked g (ows ++ vs))).white)
-        → MakingAfter (Counted p x y t w) (ows ++ ws)
+        → MakingAfter (counted_as p x y t w) (ows ++ ws)
 
   module _ (stands : opening_turned g ows ≡ none) (w : Whole) where
     -- An accepted list of words that begins with the opening's is the words of a valid list that begins with it.
@@ -155,7 +154,7 @@ module _ (g : Galley) (ows : List ℕ) where
         (ps, rw is at m, ap words_of (sym is) ∙ e)
 
     answer : (r : Option (List Place)) → MakesOf g (valid_after g opening) r
-        → MakingAfter (elim r [ none ↦ Refused 11 0 | some ps ↦ counts_of g ps ]) (elim r [ none ↦ [] | some ps ↦ words_of ps ])
+        → MakingAfter (elim r [ none ↦ refused 11 0 | some ps ↦ counts_of g ps ]) (elim r [ none ↦ [] | some ps ↦ words_of ps ])
     unfolding counts_of
     answer none (impossible empty) = no_list stands (λ ws. no_one ws (accepted (marked g (ows ++ ws))) refl)
       where
@@ -189,7 +188,7 @@ module _ (g : Galley) (ows : List ℕ) where
   making_after = go opening_or
     where
       good : Answer
-      good = elim (best_after g opening) [ none ↦ Refused 11 0 | some ps ↦ counts_of g ps ]
+      good = elim (best_after g opening) [ none ↦ refused 11 0 | some ps ↦ counts_of g ps ]
 
       list : List ℕ
       list = elim (best_after g opening) [ none ↦ [] | some ps ↦ words_of ps ]

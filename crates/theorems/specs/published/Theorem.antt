@@ -2,12 +2,11 @@
 -- float streams. Asked of the galley is only what reading it makes sure of: there is a line, and citations grow and exist.
 use Rattle.std.specs.Prelude.{ℕ, ◌+◌, ◌-◌, ◌*◌, ◌≡◌, refl, ◌↔◌, true, List, length}
 use Rattle.std.proofs.Common.{arith, sym, ◌∙◌, ap, subst}
-use Rattle.model.specs.declared.answer.Answer.TheVariants.{Counted}
 use Rattle.model.specs.Gather.{sum}
 use Rattle.model.specs.Galley.{Galley, Place, Block, Sane}
 use Rattle.model.specs.Leaf.{leaf}
 use Rattle.model.specs.Turns.{page_of}
-use Rattle.model.specs.Answers.{accepted, marked, pages_of, words_of, counts_of}
+use Rattle.model.specs.Answers.{accepted, marked, pages_of, words_of, counts_of, counted_as}
 use Rattle.model.specs.Best.{valid}
 use Rattle.model.specs.Pagination.{Map, Pagination, list_on, x_on, turns_on, white_over}
 use Rattle.model.proofs.laws.Words.{pages_words}
@@ -65,13 +64,13 @@ module _ (g : Galley) (sane : Sane g) where
 
     -- The counts of its list are its page count, X and Y over its leaves, its turns, and its white.
     pub places_counts : counts_of g (list_on g P p 1)
-        ≡ Counted p (x_on g P) (leaf g.spec.sides p - leaf g.spec.sides 1) (turns_on g p P) (white_over g p P)
+        ≡ counted_as p (x_on g P) (leaf g.spec.sides p - leaf g.spec.sides 1) (turns_on g p P) (white_over g p P)
     unfolding counts_of
     places_counts = rw (length_list g P p 1, x_on_lem sane m, y_on sane m, turns_on_lem sane m, white_on_lem sane m)
 
     -- And so marking answers the words of its list.
     pub words_counts : marked g (words_of (list_on g P p 1))
-        ≡ Counted p (x_on g P) (leaf g.spec.sides p - leaf g.spec.sides 1) (turns_on g p P) (white_over g p P)
+        ≡ counted_as p (x_on g P) (leaf g.spec.sides p - leaf g.spec.sides 1) (turns_on g p P) (white_over g p P)
     words_counts =
         marked_counts g (words_of (list_on g P p 1)) ((words_published (words_of (list_on g P p 1))).1 (p, P, m, refl))
         ∙ ap (counts_of g) (pages_words g (list_on g P p 1) (list_shaped g P p 1))

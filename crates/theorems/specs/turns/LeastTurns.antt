@@ -6,12 +6,10 @@ use Rattle.std.proofs.Common.{◌∙◌, ap}
 use Rattle.std.proofs.Math.Bool.{true, false}
 use mathlib.Core.List.{List, []}
 use Rattle.std.proofs.Math.Option.{Option, none, some}
-use Rattle.model.specs.declared.answer.Answer.{Answer}
-use Rattle.model.specs.declared.answer.Answer.TheVariants.{Counted, Refused}
 use Rattle.model.specs.Galley.{Galley, Place, streams}
 use Rattle.model.specs.Turns.{turns}
 use Rattle.model.specs.White.{white}
-use Rattle.model.specs.Answers.{numbers_of, accepted, words_of, counts_of, marked}
+use Rattle.model.specs.Answers.{numbers_of, accepted, words_of, counts_of, marked, Answer, counted_as, refused}
 use Rattle.model.specs.Best.{valid, best, made, made_words}
 use Rattle.model.specs.laws.Lists.{◌∈◌}
 use Rattle.model.proofs.laws.Words.{pages_words, length_words}
@@ -27,11 +25,11 @@ module _ (g : Galley) where
 
   -- What the two possible answers of making say of the lists that marking accepts.
   pub data Making : Answer → List ℕ → Type 0 where
-    no_list : ((ws : List ℕ) → accepted (marked g ws) ≡ false) → Making (Refused 11 0) []
-    best_list : {p x y t w : ℕ} {ws : List ℕ} → marked g ws ≡ Counted p x y t w → length ws ≡ p * streams g
+    no_list : ((ws : List ℕ) → accepted (marked g ws) ≡ false) → Making (refused 11 0) []
+    best_list : {p x y t w : ℕ} {ws : List ℕ} → marked g ws ≡ counted_as p x y t w → length ws ≡ p * streams g
         → ((vs : List ℕ) → accepted (marked g vs) ≡ true → t ≤ (numbers_of (marked g vs)).turns)
         → ((vs : List ℕ) → accepted (marked g vs) ≡ true → (numbers_of (marked g vs)).turns ≤ t → w ≤ (numbers_of (marked g vs)).white)
-        → Making (Counted p x y t w) ws
+        → Making (counted_as p x y t w) ws
 
   -- Making answers one or the other.
   pub making : Making (made g) (made_words g)
@@ -63,7 +61,7 @@ module _ (g : Galley) where
           rw (← r.2, e) w
 
       go : (b : Option (List Place)) → Makes g b
-          → Making (elim b [ none ↦ Refused 11 0 | some ps ↦ counts_of g ps ]) (elim b [ none ↦ [] | some ps ↦ words_of ps ])
+          → Making (elim b [ none ↦ refused 11 0 | some ps ↦ counts_of g ps ]) (elim b [ none ↦ [] | some ps ↦ words_of ps ])
       go none (impossible empty) = no_list (none_accepted empty)
       go (some ps) (makes l) =
           best_list (valid_counts ps l.lawful) (length_words (streams g) ps ((valid_accepted g ps).0 l.lawful).shaped) (beats_none ps l) (whiter_none ps l)

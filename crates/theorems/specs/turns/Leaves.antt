@@ -1,5 +1,5 @@
 -- Leaves counted by the pages that end their leaf: one argument for single-sided and double-sided work.
-use Rattle.std.specs.Prelude.{ℕ, suc, ◌+◌, ◌-◌, ◌≤◌, ◌≡◌, refl, Bool, true, false, List, [], ◌∷◌, length, leb, ltb}
+use Rattle.std.specs.Prelude.{ℕ, suc, ◌+◌, ◌≤◌, ◌≡◌, refl, Bool, true, false, List, [], ◌∷◌, length, leb, ltb}
 use Rattle.std.proofs.Common.{add-zero, arith, leb-true, leb-false, lt-ltb, le-ltb}
 use Rattle.model.specs.Gather.{pick, one}
 use Rattle.model.specs.Galley.{Sides, Place, count}

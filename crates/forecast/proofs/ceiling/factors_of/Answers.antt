@@ -3,7 +3,7 @@ use Prim.Native.Nat.{◌+◌, ◌*◌, ◌≤◌}
 use native.Mathlib.Nat.{mul-le-mul}
 use native.Mathlib.Omega.{arith}
 use Rattle.galley.specs.Model.{stream_of}
-use Rattle.forecast.specs.laws.Ceiling.{factors_is, factors_few}
+use Rattle.forecast.specs.laws.Ceiling.{factors_is}
 use Rattle.forecast.proofs.ceiling.factors_of.Goals as goal
 use Rattle.forecast.proofs.ceiling.factors_of.Goals.{After-most_together-most}
 
@@ -20,12 +20,3 @@ returns c =
       λ g legal cite is. factors_is g (stream_of a.s.now a.stream legal cite) c.most_together-most.result (c.most_together-most.ensures.0 g legal cite is),
       low (goal.at.returns c).After-most_together-most,
     )
-
-pub overflow_add-result : goal.overflow_add-result
-overflow_add-result c = omega (arith, c.requires.1)
-
-pub overflow_add-result-2 : goal.overflow_add-result-2
-overflow_add-result-2 c = omega (arith, c.requires.1, c.most_together-most.ensures.1)
-
-pub overflow_mul-result : goal.overflow_mul-result
-overflow_mul-result c = let few = factors_few c.args.stream.count 4000 c.requires.1 (low (goal.at.overflow_mul-result c).After-most_together-most) in omega arith

@@ -1,14 +1,10 @@
 -- `forecast::together::tight_of` meets its contract. Each arm is `added` by its test, and the fields are in range.
 use Prim.Native.Nat.{◌≤◌}
-use borrow.Author.Rules.{rules}
 use native.Mathlib.Nat.{add-zero}
 use native.Mathlib.Omega.{arith}
 use Rattle.blocks.specs.Heights.{added}
 use Rattle.forecast.proofs.together.tight_of.Goals as goal
 use Rattle.forecast.proofs.together.tight_of.Goals.{After-field, After-field-height}
-
-pub field-requires : goal.field-requires
-field-requires c = let space = c.requires.space c.if-spaced.true in search rules
 
 height-low : (c : After-field-height) → c.field-height.result ≤ 100000
 height-low c =
@@ -19,9 +15,6 @@ space-low c =
     let space = c.requires.space c.if-spaced.true in
     let there = c.requires.sound.ranged c.args.gap space.0 space.1 in
     omega (arith, c.field.ensures, there.leasts, there.mosts)
-
-pub overflow_add-result : goal.overflow_add-result
-overflow_add-result c = omega (arith, height-low (goal.at.overflow_add-result c).After-field-height, space-low (goal.at.overflow_add-result c).After-field)
 
 pub returns-then-spaced : goal.returns-then-spaced
 unfolding added

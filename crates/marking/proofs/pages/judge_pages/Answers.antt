@@ -1,64 +1,67 @@
 -- `judge_pages` meets its contract. The outer invariant is the run over the pages so far (laws/Run), the inner one the page under
 -- way with the blocks that it has so far (laws/Page); each way of leaving a page is one law of laws/Page.
-use Prim.Native.Nat.{ℕ, ◌-◌, ◌/◌, ◌≤◌, ◌<◌}
-use lib.ListN.{length}
-use mathlib.Core.Path.{◌≡◌, sym, ◌∙◌}
-use mathlib.Core.List.{List}
-use mathlib.Core.Option.{some}
-use native.Mathlib.Omega.{arith}
-use Rattle.model.specs.declared.answer.Answer.TheVariants.{Refused}
+use Rattle.std.proofs.Common.{◌≡◌, ◌∙◌, ◌/◌, ℕ, List, length, ◌+◌, Option, None, Some, unwrap_or, eqb, ne_eqb, Ok, sym, arith}
+use Rattle.std.specs.Option.{option_eq}
+use Rattle.std.proofs.Math.Option.{none, some}
+use Rattle.model.specs.Answers.{refused}
 use Rattle.galley.specs.declared.Galley.{Galley}
-use Rattle.blocks.specs.laws.Counts.{words_least}
-use Rattle.marking.specs.declared.pages.Judged.TheVariants.{Broken}
-use Rattle.marking.specs.Judged.{first_fault, JudgedPages}
-use Rattle.marking.specs.laws.Page.{run_few, Begun, page_left, page_there, page_few, run_over, begins, begun_proper, begun_refused, begun_ahead, underway_bare, underway_open, underway_more, underway_less, underway_over, underway_ended, underway_next, underway_walking, underway_addable}
-use Rattle.marking.specs.laws.Run.{run_start}
+use Rattle.galley.specs.Model.{model_of}
+use Rattle.blocks.specs.Counts.{place_of}
+use Rattle.rules.specs.Parts.{start_fault}
+use Rattle.marking.specs.declared.pages.Kept.{Kept}
+use Rattle.marking.specs.Judged.{first_fault, JudgedPages, KeptPages}
+use Rattle.marking.specs.laws.Page.{Begun, page_there, page_few, run_over, begins, begun_proper, begun_refused, begun_ahead, underway_bare, underway_open, underway_more, underway_less, underway_over, underway_ended, underway_next, underway_walking, underway_addable}
+use Rattle.marking.specs.laws.Run.{Run, run_start}
 use Rattle.marking.proofs.pages.judge_pages.Goals as goal
-use Rattle.marking.proofs.pages.judge_pages.Goals.{After-start_fault-start, Else-done-pages}
+use Rattle.marking.proofs.pages.judge_pages.Goals.{After-page_at-v, In_default, After-eq-closing}
 
-pub pages-init : goal.pages-init
-pages-init c =
-    run_start c.args.s.now c.args.g c.requires.sound c.args.list.now c.args.last
+-- Counts, floats that wait and sums that are all 0 are those before the first page.
+from_none : {bytes : List ℕ} {g : Galley} {ws : List ℕ} {last l f t fw tw x white : ℕ}
+    → Run bytes g ws last 0 (record { lines = 0; figures = 0; tables = 0 }) (record { figures = 0; tables = 0 }) (record { x = 0; white = 0 })
+    → l ≡ 0 → f ≡ 0 → t ≡ 0 → fw ≡ 0 → tw ≡ 0 → x ≡ 0 → white ≡ 0
+    → Run bytes g ws last 0 (record { lines = l; figures = f; tables = t }) (record { figures = fw; tables = tw }) (record { x = x; white = white })
+from_none run a b c d e f h = rw (a, b, c, d, e, f, h) run
 
--- There are few pages, and one is left.
-low : (c : Else-done-pages) → c.pages.done ≤ 4250
-low c = run_few c.requires c.pages.invariant
-
-more : (c : Else-done-pages)
-    → c.pages.done < length c.args.list.now / c.page_words-words.result
-more c =
-    page_left c.args.s.now c.args.g c.args.list.now c.requires c.page_words-words.ensures.1 c.pages.invariant c.if-done-pages.false
+pub loop-done-init : goal.loop-done-init
+loop-done-init c =
+    let at = c.default-at.ensures in
+    let w = c.default-waiting.ensures in
+    let sums = c.default-sums.ensures in
+    from_none (run_start c.args.s.now c.args.g c.requires.sound c.args.list.now (unwrap_or c.args.last 0)) at.0 at.1.0 at.1.1 w.0 w.1 sums.0 sums.1
 
 pub overflow_mul-words : goal.overflow_mul-words
 overflow_mul-words c =
-    omega (
-      arith,
-      page_few c.args.s.now c.args.g c.args.list.now c.requires c.page_words-words.ensures.1 c.pages.invariant (more (goal.at.overflow_mul-words c).Else-done-pages),
-    )
+    omega (arith, page_few c.args.s.now c.args.g c.args.list.now c.requires c.page_words-words.ensures.1 c.loop-done.invariant c.loop-done-test.true)
 
 pub page_at-v-requires : goal.page_at-v-requires
 page_at-v-requires c =
-    page_there c.args.s.now c.args.g c.args.list.now c.requires c.page_words-words.ensures.1 c.pages.invariant (more (goal.at.page_at-v-requires c).Else-done-pages)
+    page_there c.args.s.now c.args.g c.args.list.now c.requires c.page_words-words.ensures.1 c.loop-done.invariant c.loop-done-test.true
 
-pub start_fault-start-requires : goal.start_fault-start-requires
-start_fault-start-requires c =
-    let both = begun_proper c.pages.invariant _ c.page_at-v.ensures in
+pub start_fault-requires : goal.start_fault-requires
+start_fault-requires c =
+    let both = begun_proper c.loop-done.invariant _ c.page_at-v.ensures in
     (c.requires.sound, both.0, both.1)
 
--- Once 13 and 14 are tested, this is what is known of the page.
-page : (c : After-start_fault-start)
-    → (let l = c.pages in
-    Begun c.args.s.now c.args.g c.args.list.now c.args.last l.done l.at l.waiting l.sums c.page_at-v.result
-    c.start_fault-start.result)
+-- The page that is looked at.
+page : (c : After-page_at-v)
+    → (let l = c.loop-done in
+    Begun c.args.s.now c.args.g c.args.list.now (unwrap_or c.args.last 0) l.done l.at l.waiting l.sums c.page_at-v.result)
 page c =
-    begins c.args.s.now c.args.g c.args.list.now c.requires c.page_words-words.ensures.1 c.pages.invariant (page_left c.args.s.now c.args.g c.args.list.now c.requires c.page_words-words.ensures.1 c.pages.invariant c.if-done-pages.false)
-    c.page_at-v.ensures c.start_fault-start.ensures
+    begins c.args.s.now c.args.g c.args.list.now c.requires c.page_words-words.ensures.1 c.loop-done.invariant c.loop-done-test.true
+    c.page_at-v.ensures
+
+-- It breaks neither 13 nor 14.
+fine : (c : In_default) → None ≡ start_fault (model_of c.args.s.now c.args.g) (place_of c.args.g c.loop-done.at) (place_of c.args.g c.page_at-v.result)
+fine c = sym c.in_default.is ∙ c.start_fault.ensures
 
 pub bare_page-laid-requires : goal.bare_page-laid-requires
-bare_page-laid-requires c = (c.requires.sound.spec_ranged, (begun_ahead (page (goal.at.bare_page-laid-requires c).After-start_fault-start) c.if-start-gt0.false).some)
+bare_page-laid-requires c =
+    (c.requires.sound.spec_ranged, (begun_ahead (page (goal.at.bare_page-laid-requires c).After-page_at-v) (fine (goal.at.bare_page-laid-requires c).In_default)).some)
 
 pub loop-laid-init : goal.loop-laid-init
-loop-laid-init c = rw c.bare_page-laid.ensures (underway_bare (page (goal.at.loop-laid-init c).After-start_fault-start) c.if-start-gt0.false)
+loop-laid-init c =
+    rw c.bare_page-laid.ensures
+    (underway_bare (page (goal.at.loop-laid-init c).After-page_at-v) (fine (goal.at.loop-laid-init c).In_default))
 
 pub with_next-laid-requires : goal.with_next-laid-requires
 with_next-laid-requires c = underway_open c.loop-laid.invariant (sym c.is_laid.ensures ∙ c.if-is_laid.false)
@@ -69,12 +72,6 @@ loop-laid-smaller c = rw c.with_next-laid.ensures (underway_less c.loop-laid.inv
 pub loop-laid-preserved : goal.loop-laid-preserved
 loop-laid-preserved c = rw c.with_next-laid.ensures (underway_more c.loop-laid.invariant (sym c.is_laid.ensures ∙ c.if-is_laid.false))
 
-pub overflow_add-closing : goal.overflow_add-closing
-overflow_add-closing c = omega (arith, low (goal.at.overflow_add-closing c).Else-done-pages)
-
-pub end_fault-end-requires : goal.end_fault-end-requires
-end_fault-end-requires c = (c.requires.sound, c.loop-laid.invariant.ahead.within)
-
 pub waiting_on-waiting-requires : goal.waiting_on-waiting-requires
 waiting_on-waiting-requires c = underway_walking c.loop-laid.invariant
 
@@ -82,47 +79,48 @@ pub with_page-sums-requires : goal.with_page-sums-requires
 with_page-sums-requires c =
     underway_addable c.loop-laid.invariant c.waiting_on-waiting.result c.waiting_on-waiting.ensures
 
-pub overflow_add-done : goal.overflow_add-done
-overflow_add-done c = omega (arith, low (goal.at.overflow_add-done c).Else-done-pages)
+-- The page that counts as the last is the one of that number, of which no page has 0.
+closing : (last : Option ℕ) (done : ℕ) → option_eq eqb last (Some (done + 1)) ≡ eqb (done + 1) (unwrap_or last 0)
+closing None done = sym (ne_eqb (done + 1) 0 (λ e. omega arith))
+closing (Some n) done = grind arith
 
-pub pages-smaller : goal.pages-smaller
-pages-smaller c = omega (arith, more (goal.at.pages-smaller c).Else-done-pages)
+-- So it is asked of the page that is looked at.
+is_last : (c : After-eq-closing) → c.eq-closing.result ≡ eqb (c.loop-done.done + 1) (unwrap_or c.args.last 0)
+is_last c = c.eq-closing.ensures ∙ closing c.args.last c.loop-done.done
 
-pub pages-preserved : goal.pages-preserved
-pages-preserved c =
-    let end = c.end_fault-end in
-    rw c.with_page-sums.ensures
-    (underway_next c.loop-laid.invariant c.if-g-laid.false (sym c.is_laid.ensures ∙ c.if-is_laid.true) end.result
-    end.ensures c.if-end-gt0.false c.waiting_on-waiting.result c.waiting_on-waiting.ensures)
-
-pub returns-then-done-pages : goal.returns-then-done-pages
-returns-then-done-pages c =
-    let over = run_over c.args.s.now c.args.g c.args.list.now c.requires c.page_words-words.ensures.1 c.pages.invariant c.if-done-pages.true in
-    record { fault = over.0; kept = λ at x e. let a : c.pages.at ≡ at = cc in let b : c.pages.sums ≡ x = cc in rw (← a, ← b) over.1 }
+pub loop-done-preserved : goal.loop-done-preserved
+loop-done-preserved c =
+    let last = is_last (goal.at.loop-done-preserved c).After-eq-closing in
+    rw (c.with_page-sums.ensures, last)
+    (underway_next c.loop-laid.invariant c.if-g-laid.false (sym c.is_laid.ensures ∙ c.if-is_laid.true) c.end_fault.result
+    (rw last at c.end_fault.ensures) c.in_default-end_fault.is c.waiting_on-waiting.result c.waiting_on-waiting.ensures)
 
 -- A rule that is broken is told with its page, and nothing is kept.
-broke : {bytes : List ℕ} {g : Galley} {ws : List ℕ} {last n q : ℕ} → some (Refused n q) ≡ first_fault bytes g ws last
-    → JudgedPages bytes g ws last (Broken n q)
-broke e = record { fault = e; kept = λ at x f. let z : ◌≡◌ {A = ℕ} 0 1 = cc in absurd (omega arith) }
+broke : {bytes : List ℕ} {g : Galley} {ws : List ℕ} {last n q : ℕ} → some (refused n q) ≡ first_fault bytes g ws last
+    → JudgedPages bytes g ws last (refused n q)
+broke e = record { fault = e; kept = λ k f. cc }
 
-pub returns-then-start-gt0 : goal.returns-then-start-gt0
-returns-then-start-gt0 c = broke (begun_refused (page (goal.at.returns-then-start-gt0 c).After-start_fault-start) c.if-start-gt0.true)
+pub returns-in-Some : goal.returns-in-Some
+returns-in-Some c =
+    broke (begun_refused (page (goal.at.returns-in-Some c).After-page_at-v) c.in-Some.number (sym c.in-Some.is ∙ c.start_fault.ensures))
 
 pub returns-then-g-laid : goal.returns-then-g-laid
 returns-then-g-laid c = broke (underway_over c.loop-laid.invariant c.if-g-laid.true)
 
-pub returns-then-end-gt0 : goal.returns-then-end-gt0
-returns-then-end-gt0 c =
-    let end = c.end_fault-end in
+pub returns-in-Some-end_fault : goal.returns-in-Some-end_fault
+returns-in-Some-end_fault c =
+    let last = is_last (goal.at.returns-in-Some-end_fault c).After-eq-closing in
     broke
-    (underway_ended c.loop-laid.invariant c.if-g-laid.false (sym c.is_laid.ensures ∙ c.if-is_laid.true) end.result
-    end.ensures c.if-end-gt0.true)
+    (underway_ended c.loop-laid.invariant c.if-g-laid.false (sym c.is_laid.ensures ∙ c.if-is_laid.true) c.end_fault.result
+    (rw last at c.end_fault.ensures) c.in-Some-end_fault.number c.in-Some-end_fault.is)
 
-pub nonzero_div-pages : goal.nonzero_div-pages
-nonzero_div-pages c = omega (arith, c.page_words-words.ensures.1, words_least c.args.g)
+-- No rule is broken, and what is kept is what the run has.
+through : {bytes : List ℕ} {g : Galley} {ws : List ℕ} {last : ℕ} {kept : Kept} → none ≡ first_fault bytes g ws last
+    → KeptPages bytes g ws last kept.at kept.sums → JudgedPages bytes g ws last (Ok kept)
+through {kept = kept} e pages = record { fault = e; kept = λ k f. let same : kept ≡ k = cc in rw (← same) pages }
 
-pub overflow_add-number : goal.overflow_add-number
-overflow_add-number c = omega (arith, low (goal.at.overflow_add-number c).Else-done-pages)
-
-pub overflow_cast-number : goal.overflow_cast-number
-overflow_cast-number c = omega (arith, low (goal.at.overflow_cast-number c).Else-done-pages)
+pub returns : goal.returns
+returns c =
+    let all : c.loop-done.done ≡ length c.args.list.now / c.page_words-words.result = omega (arith, c.loop-done.auto.done-end, c.loop-done-test.false) in
+    let over = run_over c.args.s.now c.args.g c.args.list.now c.requires c.page_words-words.ensures.1 c.loop-done.invariant all in
+    through over.0 over.1

@@ -1,13 +1,7 @@
 -- `cite_of` meets its contract: there is a float j where its test holds.
 use borrow.Author.Tests.{lt-ltb, le-ltb}
-use native.Mathlib.Omega.{arith}
 use Rattle.rules.specs.Parts.{cite_of}
 use Rattle.rules.proofs.rules.cite_of.Goals as goal
-
-pub field-requires : goal.field-requires
-field-requires c =
-    let so = c.requires in
-    record { within = so.0.within; low = omega (arith, c.if-j-gt0.true); high = so.1; field = omega arith }
 
 pub returns-then-j-gt0 : goal.returns-then-j-gt0
 unfolding cite_of

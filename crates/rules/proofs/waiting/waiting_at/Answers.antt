@@ -6,6 +6,6 @@ pub returns-then-ends_spread : goal.returns-then-ends_spread
 unfolding waiting_at
 returns-then-ends_spread c = rw (← c.ends_spread.ensures, c.if-ends_spread.true)
 
-pub returns : goal.returns
+pub returns-else-ends_spread : goal.returns-else-ends_spread
 unfolding waiting_at
-returns c = rw (← c.ends_spread.ensures, c.if-ends_spread.false)
+returns-else-ends_spread c = rw (← c.ends_spread.ensures, c.if-ends_spread.false)

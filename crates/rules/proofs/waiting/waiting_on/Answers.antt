@@ -4,8 +4,8 @@ use Rattle.rules.proofs.waiting.waiting_on.Goals as goal
 
 pub waiting_after-requires : goal.waiting_after-requires
 waiting_after-requires c =
-    walking_on c.requires _ c.still_waiting.ensures
-    c.still_waiting-2.ensures
+    walking_on c.requires _ c.saturating_sub.ensures
+    c.saturating_sub-2.ensures
 
 pub returns : goal.returns
 returns c = c.waiting_after.ensures

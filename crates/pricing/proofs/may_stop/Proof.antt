@@ -1,7 +1,0 @@
--- `may_stop` meets its contract: its tests are rules 14 and 17, by what the place says.
-use Rattle.pricing.specs.laws.Price.{stops_of_lem}
-use Rattle.pricing.proofs.may_stop.Statement.{statement}
-use Rattle.pricing.proofs.may_stop.Tie as tie
-
-pub may_stop_spec : {M : Type 1} → statement M
-may_stop_spec = tie.close (tie.spec (λ c. λ bytes g at side proper says turns. rw (stops_of_lem bytes g at side proper _ turns, says)))
