@@ -20,7 +20,7 @@ def copy_to(folder):
     library = model / 'specs/Lib.antt'
     library.write_text(library.read_text().replace('pub mod laws\n', ''))
     for source in (model / 'src').glob('*.rt'):
-        source.write_text(re.sub(r'^pub fn .*', '', source.read_text(), flags=re.DOTALL | re.MULTILINE))
+        source.write_text(re.sub(r'^(#\[tactic[^\n]*\n)?pub fn .*', '', source.read_text(), flags=re.DOTALL | re.MULTILINE))
 
 
 def with_theorems(folder):

@@ -19,7 +19,7 @@ pub struct Spec {
     pub sides: u32,
     pub alpha: u32,
     pub beta: u32,
-    pub edition: u32,
+    pub edition: u32, // 1 or 2: a number, since a theorem of promises.Editions states it
     pub lastmin: u32,
 }
 
@@ -31,7 +31,7 @@ pub struct Block {
     pub most: u32,
 }
 
-// A text line; `legal` is 1 where a page may end in the space after it.
+// A text line; `legal` is 1 where a page may end in the space after it. It is the field as read, which `LineRanged` holds to 0 and 1.
 #[derive(Clone, Copy, PartialEq, Eq, Debug)]
 pub struct Line {
     pub block: Block,

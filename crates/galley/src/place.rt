@@ -1,10 +1,10 @@
 // Which record a mark opens, and where it may come: a row for each.
 ghost use Rattle.std.specs.Prelude.{◌≡◌};
-ghost use Rattle.galley.specs.Place.{row_of, kind_of, misplaced, too_early, too_many, unfit, turning};
+ghost use Rattle.galley.specs.Place.{row_of, kind_of, unfit, turning};
 
 use crate::{Kind, Sofar};
 
-// The marks, two bytes each.
+// The marks, two bytes each. Each is matched by its name, and an enum would only be read from the two bytes by the same table.
 pub const GS: u32 = 0x4753;
 
 pub const G2: u32 = 0x4732;
@@ -21,7 +21,8 @@ pub const TB: u32 = 0x5442;
 
 pub const ED: u32 = 0x4544;
 
-// The stages of a galley, in the order in which its records come.
+// The stages of a galley, in the order in which its records come. Numbers: with a type of its own for them, whose model is the number, the
+// borrow checker did not cover a `Sofar` that is passed by value twice, as in `reading`.
 pub const NOTHING: u32 = 0;
 
 pub const SPEC: u32 = 1;
@@ -67,38 +68,17 @@ pub fn kind_of(mark: u32) -> Kind
     }
 }
 
-// Whether a record of this kind has no business here: number 2.
-fn is_misplaced(kind: Kind, so: Sofar) -> bool
-    ensures { result ≡ misplaced kind so }
-{
-    (so.stage < kind.earliest) | (kind.latest < so.stage)
-}
-
-// Whether a line had to come first: number 5.
-fn is_too_early(kind: Kind, so: Sofar) -> bool
-    ensures { result ≡ too_early kind so }
-{
-    (LINE < kind.stage) & (so.lines == 0)
-}
-
-// Whether there are as many of its stage as there may be: number 4.
-fn is_too_many(kind: Kind, so: Sofar) -> bool
-    ensures { result ≡ too_many kind so }
-{
-    (kind.stage == so.stage) & (kind.most <= so.count)
-}
-
-// The number that turns a record away from its place; none where it fits.
+// The number that turns a record away from its place: 2 too soon or too late, 5 before any line, 4 one too many; none where it fits.
 pub fn unfit_for(kind: Kind, so: Sofar) -> Option<u32>
     ensures { result ≡ turning (unfit kind so) }
 {
-    if is_misplaced(kind, so) {
+    if so.stage < kind.earliest || kind.latest < so.stage {
         return Some(2);
     }
-    if is_too_early(kind, so) {
+    if LINE < kind.stage && so.lines == 0 {
         return Some(5);
     }
-    if is_too_many(kind, so) {
+    if kind.stage == so.stage && kind.most <= so.count {
         return Some(4);
     }
     None

@@ -18,6 +18,7 @@ fn limited(origin: Origin, limit: u64) -> Origin
 }
 
 // The limit of so many turns, with any white; none where they are more than a guess should say.
+#[tactic(auto, unfolding(crate::specs::Sought::limit_of))]
 fn limit_of(turns: u32) -> u64
     ensures { result ≡ limit_of turns }
 {

@@ -104,7 +104,7 @@ fn cited(so: Sofar, cite: usize, next: Sofar, at: usize) -> Step
     requires { at ≤ 100000 }
     ensures { result ≡ cited so cite next at }
 {
-    let beyond = (cite == 0) | (so.lines < cite);
+    let beyond = cite == 0 || so.lines < cite;
     if beyond {
         return refused(6, at);
     }

@@ -60,7 +60,7 @@ fn folio_at(s: &[u8], at: usize) -> Result<Record, Unread>
     ensures { result ≡ folio_at s.now at }
 {
     let folio = galley::word::word_at(s, at + 2);
-    ranged((1 <= folio) & (folio <= 9999), Record::Folio(folio), at)
+    ranged(1 <= folio && folio <= 9999, Record::Folio(folio), at)
 }
 
 // The heights of a block.
@@ -82,7 +82,7 @@ fn line_at(s: &[u8], at: usize) -> Result<Record, Unread>
 {
     let block = block_fields(s, at);
     let legal = galley::word::word_at(s, at + galley::LEGAL);
-    let fine = galley::range::block_in_range(block) & (legal <= 1);
+    let fine = galley::range::block_in_range(block) && legal <= 1;
     ranged(fine, Record::Line(Line { block, legal }), at)
 }
 
@@ -127,7 +127,7 @@ fn fields_of(mark: u32, s: &[u8], at: usize) -> Result<Record, Unread>
     ensures { result ≡ fields_of mark s.now at }
 {
     let second = mark == G2;
-    if (mark == GS) | second {
+    if mark == GS || second {
         return spec_at(s, at, second);
     }
     match mark {

@@ -4,7 +4,7 @@
 ghost use Rattle.solving.specs.Solved.{Solved, Written};
 
 use galley::Galley;
-use model::answer::Answer;
+use model::answer::{Answer, Refusal};
 use places::Origin;
 
 pub mod opening; // opening.rt: where making begins after an opening
@@ -23,10 +23,10 @@ pub fn best_pages(
 {
     let last = walk::last_stop(g, work);
     if !walk::reached(g, work, last) {
-        return Answer::Refused {
+        return Err(Refusal {
             number: 11,
             place: 0,
-        };
+        });
     }
     let p = walk::count_pages(g, work, origin, last);
     let begun = opening.len();

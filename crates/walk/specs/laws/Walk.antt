@@ -1,5 +1,5 @@
 -- One page back on the walk: it stays within the galley, and is one step of the counting and of the writing.
-use Rattle.std.specs.Prelude.{ℕ, zero, suc, ◌+◌, ◌*◌, ◌-◌, ◌≤◌, ◌<◌, ◌≡◌, refl, true, false, List}
+use Rattle.std.specs.Prelude.{ℕ, zero, suc, ◌+◌, ◌*◌, ◌-◌, ◌≤◌, ◌<◌, ◌≡◌, refl, true, false, List, None, Some}
 use Rattle.std.proofs.Common.{le_refl, le_trans, mul-le-mul, sym, ◌∙◌}
 use native.Mathlib.Omega.{arith}
 use Rattle.std.proofs.lemmas.List.Edits.{sets}
@@ -11,8 +11,7 @@ use Rattle.blocks.specs.Counts.{page_words, place_of}
 use Rattle.blocks.specs.laws.Counts.{streams_of_lem}
 use Rattle.places.specs.declared.Place.{Place}
 use Rattle.places.specs.declared.Origin.{Origin}
-use Rattle.places.specs.declared.Entry.{Entry}
-use Rattle.places.specs.declared.Entry.TheVariants.{Unreached, Least}
+use Rattle.places.specs.Entry.{Entry}
 use Rattle.places.specs.Address.{Stands}
 use Rattle.candidates.specs.Search.{Table}
 use Rattle.candidates.specs.Read.{table_in, columns_in, counts_at}
@@ -62,9 +61,9 @@ unfolding start_of
 back_visits {g} {w} tr at v = go (entry_of (table_in g w) at) refl
   where
     go : (e : Entry) → entry_of (table_in g w) at ≡ e → Visits g (back (sides_in g) (table_in g w) at)
-    go Unreached h = rw h (record { line = v.line; column = v.column; side = side_before (sides_in g) at.side v.side })
-    go (Least x s) h =
-        let (line, column) = tr.starts at.place.line at.place.column at.side x s v.line v.column v.side h in
+    go None h = rw h (record { line = v.line; column = v.column; side = side_before (sides_in g) at.side v.side })
+    go (Some l) h =
+        let (line, column) = tr.starts at.place.line at.place.column at.side l.cost l.start v.line v.column v.side h in
         rw h (record {
           line = le_trans line v.line;
           column = omega (arith, v.column);
