@@ -64,7 +64,7 @@ fn float_fits(s: &[u8], g: Galley, floats: Stream, placed: usize, pages: Greedy)
 {
     if block_fits(s, g, floats, placed, pages) {
         let line = blocks::field(s, floats, placed + 1, galley::CITE);
-        return galley::word::size(line) <= pages.at.lines;
+        return line as usize <= pages.at.lines;
     }
     false
 }

@@ -54,7 +54,7 @@ pub fn is_cited(s: &[u8], floats: Stream, asked: bool, i: usize, j: usize) -> bo
     ensures { result ≡ implies (asked && ltb 0 j) (leb ((floats_of s.now floats).cite j) i) }
 {
     if asked & (0 < j) {
-        return galley::word::size(blocks::field(s, floats, j, galley::CITE)) <= i;
+        return blocks::field(s, floats, j, galley::CITE) as usize <= i;
     }
     true
 }

@@ -20,12 +20,12 @@ fn page_at(g: Galley, list: &[u32], from: usize) -> Counts
     ensures { result ≡ counts_in g list.now from }
 {
     Counts {
-        lines: galley::word::size(list[from]),
-        figures: galley::word::size(list[from + 1]),
+        lines: list[from] as usize,
+        figures: list[from + 1] as usize,
         tables: if g.tables.count == 0 {
             0
         } else {
-            galley::word::size(list[from + 2])
+            list[from + 2] as usize
         },
     }
 }

@@ -20,13 +20,13 @@ pub fn may_end(s: &[u8], stream: Stream, k: usize) -> bool
     true
 }
 
-// The line that cites float j of a stream, 0 where there is no float.
+// The line that cites float j of a stream; where there is no float 0, the line before the first, which every line has reached.
 fn cite_of(s: &[u8], floats: Stream, j: usize) -> usize
     requires { (SoundStream s.now floats) × (j ≤ floats.count) }
     ensures { result ≡ cite_of (floats_of s.now floats) j }
 {
     if 0 < j {
-        return galley::word::size(blocks::field(s, floats, j, galley::CITE));
+        return blocks::field(s, floats, j, galley::CITE) as usize;
     }
     0
 }

@@ -15,7 +15,7 @@ pub fn waiting_floats(s: &[u8], floats: Stream, i: usize, j: usize, known: usize
 {
     let left = floats.count - j;
     for found in known..left {
-        if i < galley::word::size(blocks::field(s, floats, j + found + 1, galley::CITE)) {
+        if i < blocks::field(s, floats, j + found + 1, galley::CITE) as usize {
             return found;
         }
     }

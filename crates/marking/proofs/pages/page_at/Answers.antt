@@ -5,8 +5,8 @@ use Rattle.marking.proofs.pages.page_at.Goals as goal
 
 pub returns-then-g-eq0 : goal.returns-then-g-eq0
 unfolding counts_in
-returns-then-g-eq0 c = rw (eq-eqb _ _ c.if-g-eq0.true, c.size-2.ensures, c.size.ensures)
+returns-then-g-eq0 c = rw (eq-eqb _ _ c.if-g-eq0.true)
 
 pub returns-else-g-eq0 : goal.returns-else-g-eq0
 unfolding counts_in
-returns-else-g-eq0 c = rw (ne_eqb _ _ c.if-g-eq0.false, c.size-else-g-eq0.ensures, c.size-2.ensures, c.size.ensures)
+returns-else-g-eq0 c = rw (ne_eqb _ _ c.if-g-eq0.false)

@@ -5,7 +5,7 @@ use Rattle.rules.proofs.rules.cite_of.Goals as goal
 
 pub returns-then-j-gt0 : goal.returns-then-j-gt0
 unfolding cite_of
-returns-then-j-gt0 c = rw (lt-ltb 0 _ c.if-j-gt0.true, ← c.field.ensures, c.size.ensures)
+returns-then-j-gt0 c = rw (lt-ltb 0 _ c.if-j-gt0.true, ← c.field.ensures)
 
 pub returns : goal.returns
 unfolding cite_of

@@ -4,7 +4,7 @@ use Rattle.std.proofs.Common.{◌≡◌, ◌+◌, ◌<◌, ◌≤◌, arith}
 use Rattle.galley.specs.Model.{floats_of}
 use Rattle.rules.specs.laws.Waiting.{waits_more, waits_stop, waits_end, waits_known}
 use Rattle.rules.proofs.waiting.waiting_floats.Goals as goal
-use Rattle.rules.proofs.waiting.waiting_floats.Goals.{After-size}
+use Rattle.rules.proofs.waiting.waiting_floats.Goals.{After-field}
 
 pub loop-found-init : goal.loop-found-init
 loop-found-init c =
@@ -13,23 +13,23 @@ loop-found-init c =
     waits_known (floats_of a.s.now a.floats) a.i a.j a.known known.within known.upto
 
 -- The walk looks at a float that there is.
-there : (c : After-size) → c.args.j + c.loop-found.found < c.args.floats.count
+there : (c : After-field) → c.args.j + c.loop-found.found < c.args.floats.count
 there c = omega (arith, c.loop-found-test.true)
 
-pub returns-then-i-size : goal.returns-then-i-size
-returns-then-i-size c =
+pub returns-then-i-field : goal.returns-then-i-field
+returns-then-i-field c =
     let a = c.args in
     let l = c.loop-found in
-    let none = waits_stop (floats_of a.s.now a.floats) a.i (a.j + l.found) (there (goal.at.returns-then-i-size c).After-size)
-    (omega (arith, c.if-i-size.true, c.size.ensures, c.field.ensures)) in
+    let none = waits_stop (floats_of a.s.now a.floats) a.i (a.j + l.found) (there (goal.at.returns-then-i-field c).After-field)
+    (omega (arith, c.if-i-field.true, c.field.ensures)) in
     omega (arith, l.invariant)
 
 pub loop-found-preserved : goal.loop-found-preserved
 loop-found-preserved c =
     let a = c.args in
     let l = c.loop-found in
-    let more = waits_more (floats_of a.s.now a.floats) a.i (a.j + l.found) (there (goal.at.loop-found-preserved c).After-size)
-    (omega (arith, c.if-i-size.false, c.size.ensures, c.field.ensures)) in
+    let more = waits_more (floats_of a.s.now a.floats) a.i (a.j + l.found) (there (goal.at.loop-found-preserved c).After-field)
+    (omega (arith, c.if-i-field.false, c.field.ensures)) in
     let e : a.j + (l.found + 1) ≡ a.j + l.found + 1 = omega arith in
     rw e (omega (arith, l.invariant))
 
