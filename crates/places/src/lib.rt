@@ -32,7 +32,7 @@ pub type Entry = Option<Least>;
 // A limit that no list passes: the dearest costs 1,066,499,000 turns and 424,900,000 of white.
 pub const BOUNDLESS: u64 = 4600000000000000000;
 
-// What the high word of a cost counts.
+// What the high word of a cost counts. std has no conversion of a number to its two words and back, hence the three functions below.
 const WORD: u64 = 4294967296;
 
 // Where a search begins: the place, the pages before it, and what they cost; and how far it goes: what the pages after it may cost in all
