@@ -12,11 +12,6 @@ pub returns-then-g-floats : goal.returns-then-g-floats
 unfolding pairs_between
 returns-then-g-floats c = (omega arith, (λ st rows. simp (lt-ltb _ _ c.if-g-floats.true)), c.requires.1)
 
-pub pairs_beside-requires : goal.pairs_beside-requires
-pairs_beside-requires c =
-    let pre = c.requires in
-    (pre.0.pairable _ (omega (arith, pre.0.low, pre.0.separation)), pre.1)
-
 -- No more lines are left than there are.
 few : {g : Galley} {sums : List ℕ} {first floats : ℕ} → Between g sums first floats → g.text.count - first ≤ 4000
 few between = omega (arith, (between.pairable 0 (omega arith)).few)
@@ -35,11 +30,6 @@ returns-then-some c =
       c.pairs_beside.ensures.1,
     )
 
-pub pairs_beside-requires-2 : goal.pairs_beside-requires-2
-pairs_beside-requires-2 c =
-    let pre = c.requires in
-    (pre.0.pairable 0 (omega arith), pre.1)
-
 pub returns : goal.returns
 unfolding pairs_between
 returns c =
@@ -50,12 +40,3 @@ returns c =
           (c.pairs_beside-2.ensures.0.counted st rows)),
       c.pairs_beside-2.ensures.1,
     )
-
-pub overflow_sub-alone : goal.overflow_sub-alone
-overflow_sub-alone c = omega (arith, (c.requires.0.pairable 0 (omega arith)).from)
-
-pub overflow_add-alone : goal.overflow_add-alone
-overflow_add-alone c = omega (arith, (c.requires.0.pairable 0 (omega arith)).few)
-
-pub overflow_add-result : goal.overflow_add-result
-overflow_add-result c = omega (arith, few c.requires.0, c.pairs_beside.ensures.0.few)

@@ -3,15 +3,12 @@
 -- between it and the next add nothing.
 use Rattle.std.proofs.Common.{◌-◌, arith}
 use Rattle.candidates.specs.Read.{counts_at}
-use Rattle.candidates.proofs.laws.Columns.{few_floats, within_at}
+use Rattle.candidates.proofs.laws.Columns.{within_at}
 use Rattle.weighing.specs.Count.{PartOf, ColumnStep}
 use Rattle.weighing.proofs.laws.From.{from_lays, from_between}
 use Rattle.weighing.proofs.laws.Count.{rows_first, rows_last, figure_room, row_first, row_last, table_room, row_tabled, row_few, row_counted, row_tall, row_all}
 use Rattle.weighing.proofs.columns.pairs_into.Goals as goal
 use Rattle.weighing.proofs.columns.pairs_into.Goals.{After-block_before-tables, After-pairs_between-pairs}
-
-pub counts_at-end-requires : goal.counts_at-end-requires
-counts_at-end-requires c = few_floats c.requires.0.ready.sound
 
 pub overflow_step-b : goal.overflow_step-b
 overflow_step-b c =
