@@ -31,11 +31,13 @@ list_needed-room-requires c = few (goal.at.list_needed-room-requires c).In_ok-g
 -- Both numbers of words fit 32 bits.
 pub overflow_cast-result : goal.overflow_cast-result
 overflow_cast-result c =
-    omega (arith, c.work_needed-needed.ensures, work_small c.in_ok-g.g (few (goal.at.overflow_cast-result c).In_ok-g))
+    let k = few (goal.at.overflow_cast-result c).In_ok-g in
+    omega (arith, c.work_needed-needed.ensures, c.list_needed-room.ensures, work_small c.in_ok-g.g k, list_small c.in_ok-g.g k)
 
 pub overflow_cast-result-then-pages-room : goal.overflow_cast-result-then-pages-room
 overflow_cast-result-then-pages-room c =
-    omega (arith, c.list_needed-room.ensures, list_small c.in_ok-g.g (few (goal.at.overflow_cast-result-then-pages-room c).In_ok-g))
+    let k = few (goal.at.overflow_cast-result-then-pages-room c).In_ok-g in
+    omega (arith, c.work_needed-needed.ensures, c.list_needed-room.ensures, work_small c.in_ok-g.g k, list_small c.in_ok-g.g k)
 
 pub returns-then-work-needed : goal.returns-then-work-needed
 returns-then-work-needed c =
