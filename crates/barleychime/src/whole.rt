@@ -1,6 +1,8 @@
 // A whole book from its chapters, for programs in other languages.
 ghost use Rattle.barleychime.specs.Book.{ExportedBook};
 
+use model::answer::Refusal;
+
 // The best pages of a book whose chapters are lent end to end: the answer in eight words of 64 bits, and what making the book leaves in the
 // lent memory.
 #[unsafe(no_mangle)]
@@ -22,15 +24,32 @@ pub extern "C" fn barleychime_book(
         answer.new }
 {
     let made = book::make_book(galleys, lengths, work, pages);
-    *answer = [
-        made.number as u64,
-        made.place as u64,
-        made.pages,
-        made.x,
-        made.y,
-        made.turns,
-        made.white,
-        made.weighed,
-    ];
-    made.number
+    match made.answer {
+        Ok(n) => {
+            *answer = [
+                0,
+                0,
+                n.pages,
+                n.x,
+                n.y,
+                n.turns,
+                n.white,
+                made.weighed,
+            ];
+            0
+        }
+        Err(Refusal { number, place }) => {
+            *answer = [
+                u64::from(number),
+                u64::from(place),
+                0,
+                0,
+                0,
+                0,
+                0,
+                made.weighed,
+            ];
+            number
+        }
+    }
 }

@@ -17,10 +17,10 @@ which bytes g h r is e f = is bytes ∙ ap (λ (k : Galley). streams (model_of b
     galley (Ok k) = k
     galley (Err r) = g
 
-pub returns-in-Galley : goal.returns-in-Galley
-returns-in-Galley c =
-    let g = c.in-Galley.g in (
+pub returns-in-Ok : goal.returns-in-Ok
+returns-in-Ok c =
+    let g = c.in-Ok.g in (
       omega (arith, c.page_words.ensures.1, words_least g),
       omega (arith, c.page_words.ensures.1, words_most g),
-      λ h e. which _ g h _ c.page_words.ensures.0 (sym c.read_galley-reading.ensures ∙ c.in-Galley.is) e,
+      λ h e. which _ g h _ c.page_words.ensures.0 (sym c.read_galley.ensures ∙ c.in-Ok.is) e,
     )
