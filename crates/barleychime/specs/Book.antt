@@ -1,22 +1,11 @@
 -- The answer for a book as eight words of 64 bits: number, place, p, X, Y, T, W and the count of what is weighed (document 02, S-9).
-use Rattle.std.specs.Prelude.{ℕ, ◌≡◌, List, [], ◌∷◌, length, Result, Ok, Err}
-use Rattle.model.specs.declared.answer.Refusal.{Refusal}
+use Rattle.std.specs.Prelude.{ℕ, ◌≡◌, List, length}
 use Rattle.chapters.specs.Book.{book_of}
-use Rattle.book.specs.declared.BookCounted.{BookCounted}
 use Rattle.book.specs.declared.BookMade.{BookMade}
-use Rattle.book.specs.Make.{book_read, work_read, list_read}
-
-abbrev pub told_words : Result BookCounted Refusal → ℕ → List ℕ
-told_words (Ok c) weighed = 0 ∷ 0 ∷ c.pages ∷ c.x ∷ c.y ∷ c.turns ∷ c.white ∷ weighed ∷ []
-told_words (Err r) weighed = r.number ∷ r.place ∷ 0 ∷ 0 ∷ 0 ∷ 0 ∷ 0 ∷ weighed ∷ []
+use Rattle.book.specs.Make.{eight_of, number_of, book_read, work_read, list_read}
 
 abbrev pub words_of : BookMade → List ℕ
-words_of b = told_words b.answer b.weighed
-
--- Its number: 0 where it is no refusal.
-abbrev pub number_of : Result BookCounted Refusal → ℕ
-number_of (Ok c) = 0
-number_of (Err r) = r.number
+words_of b = eight_of b.answer b.weighed
 
 -- What a call of making a book returns and leaves: the answer's number and its words, and the lent memory as making the book leaves it.
 pub record ExportedBook (bytes lengths work list : List ℕ) (number : ℕ) (work' list' words : List ℕ) : Type 0 where

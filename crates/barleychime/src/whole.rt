@@ -1,8 +1,6 @@
 // A whole book from its chapters, for programs in other languages.
 ghost use Rattle.barleychime.specs.Book.{ExportedBook};
 
-use model::answer::Refusal;
-
 // The best pages of a book whose chapters are lent end to end: the answer in eight words of 64 bits, and what making the book leaves in the
 // lent memory.
 #[unsafe(no_mangle)]
@@ -25,23 +23,23 @@ pub extern "C" fn barleychime_book(
 {
     let made = book::make_book(galleys, lengths, work, pages);
     match made.answer {
-        Ok(n) => {
+        Ok(counted) => {
             *answer = [
                 0,
                 0,
-                n.pages,
-                n.x,
-                n.y,
-                n.turns,
-                n.white,
+                counted.pages,
+                counted.x,
+                counted.y,
+                counted.turns,
+                counted.white,
                 made.weighed,
             ];
             0
         }
-        Err(Refusal { number, place }) => {
+        Err(refusal) => {
             *answer = [
-                u64::from(number),
-                u64::from(place),
+                u64::from(refusal.number),
+                u64::from(refusal.place),
                 0,
                 0,
                 0,
@@ -49,7 +47,7 @@ pub extern "C" fn barleychime_book(
                 0,
                 made.weighed,
             ];
-            number
+            refusal.number
         }
     }
 }

@@ -1,5 +1,5 @@
 -- What is known between the steps of making a book: the best route, and the chapters made along it.
-use Rattle.std.specs.Prelude.{ℕ, ◌+◌, ◌-◌, ◌*◌, ◌≤◌, ◌≡◌, List, ◌∷◌, ◌++◌, length, drop}
+use Rattle.std.specs.Prelude.{ℕ, ◌+◌, ◌-◌, ◌*◌, ◌≤◌, ◌≡◌, List, ◌∷◌, ◌++◌, length, drop, Ok}
 use Rattle.std.proofs.Math.Option.{some}
 use Rattle.model.specs.Leaf.{leaf}
 use Rattle.model.specs.Turns.{x_of}
@@ -60,13 +60,13 @@ abbrev pub counted_of : Galley → Sums → ℕ → BookMade
 counted_of g sums count =
     let y = leaf (sides_in g) sums.pages - leaf (sides_in g) 1 in
     record {
-      number = 0;
-      place = 0;
-      pages = sums.pages;
-      x = sums.x;
-      y = y;
-      turns = g.spec.alpha * sums.x + g.spec.beta * y;
-      white = sums.white;
+      answer = Ok (record {
+        pages = sums.pages;
+        x = sums.x;
+        y = y;
+        turns = g.spec.alpha * sums.x + g.spec.beta * y;
+        white = sums.white;
+      });
       weighed = count;
     }
 

@@ -4,42 +4,40 @@
 ghost use Rattle.std.specs.Prelude.{◌≡◌, ◌+◌, ◌-◌, ◌*◌, ◌≤◌};
 ghost use Rattle.model.specs.Leaf.{leaf, sides_of};
 ghost use Rattle.galley.specs.declared.Galley.{Galley};
-ghost use Rattle.galley.specs.declared.Reading.TheVariants as reads;
 ghost use Rattle.galley.specs.Whole.{galley_of};
 ghost use Rattle.chapters.specs.Book.{chapter_bytes};
 ghost use Rattle.chapters.specs.laws.Answer.{IsRead};
 ghost use Rattle.book.specs.Make.{Bound};
 ghost use Rattle.book.specs.Bind.{BookLent, RouteFound, AlongMade, Paged, Weighted, Countable, counted_of, Best};
 
-use chapters::{Book, BookReading};
+use chapters::Book;
 use course::Sums;
+use model::answer::Refusal;
 use model::page::Page;
 
-// What making a book returns: a refusal and its place, or 0 and 0 and the book's pages, X, Y, T and W; and how many pages are weighed.
-#[derive(Clone, Copy)]
-pub struct BookMade {
-    pub number: u32,
-    pub place: u32,
+// The counts of a book: its pages, X, Y, T and W.
+#[derive(Clone, Copy, PartialEq, Eq, Debug)]
+pub struct BookCounted {
     pub pages: u64,
     pub x: u64,
     pub y: u64,
     pub turns: u64,
     pub white: u64,
+}
+
+// What making a book returns: its counts or a refusal, and how many pages are weighed.
+#[derive(Clone, Copy, PartialEq, Eq, Debug)]
+pub struct BookMade {
+    pub answer: Result<BookCounted, Refusal>,
     pub weighed: u64,
 }
 
 // A refusal, with the count of what is weighed.
 fn refused(number: u32, place: u32, weighed: u64) -> BookMade
-    ensures { result ≡ record { number = number; place = place; pages = 0; x = 0; y = 0; turns = 0; white = 0; weighed = weighed } }
+    ensures { result ≡ record { answer = Err (record { number = number; place = place }); weighed = weighed } }
 {
     BookMade {
-        number,
-        place,
-        pages: 0,
-        x: 0,
-        y: 0,
-        turns: 0,
-        white: 0,
+        answer: Err(Refusal { number, place }),
         weighed,
     }
 }
@@ -69,7 +67,7 @@ fn leaves(sides: u32, folio: u32, pages: u64) -> u64
 {
     let first = model::page::spread_of(sides, folio, Page(1));
     let last = model::page::spread_of(sides, folio, Page(pages as u32));
-    (last.0 - first.0) as u64
+    u64::from(last.0 - first.0)
 }
 
 // X and Y by their weights.
@@ -77,27 +75,24 @@ fn turned(alpha: u32, x: u64, beta: u32, y: u64) -> u64
     requires { Weighted alpha x beta y }
     ensures { result ≡ alpha * x + beta * y }
 {
-    alpha as u64 * x + beta as u64 * y
+    u64::from(alpha) * x + u64::from(beta) * y
 }
 
 // The counts of the book: Y is that of its first and last page, and T follows.
 fn counted(galleys: &[u8], lengths: &[u32], sums: Sums, weighed: u64) -> BookMade
     requires { Countable galleys.now lengths.now sums }
-    ensures { (g : Galley) → galley_of (chapter_bytes galleys.now lengths.now 0) ≡ reads.Galley g → result ≡ counted_of g sums weighed }
+    ensures { (g : Galley) → galley_of (chapter_bytes galleys.now lengths.now 0) ≡ Ok g → result ≡ counted_of g sums weighed }
 {
-    let extent = chapters::extent::extent_of(lengths, 0);
-    let begins = extent.from;
-    let ends = extent.to;
-    let g = chapters::galley_in(&galleys[begins..ends]);
+    let g = chapters::galley_in(chapters::extent::chapter_bytes(galleys, lengths, 0));
     let y = leaves(g.spec.sides, g.folio, sums.pages);
     BookMade {
-        number: 0,
-        place: 0,
-        pages: sums.pages,
-        x: sums.x,
-        y,
-        turns: turned(g.spec.alpha, sums.x, g.spec.beta, y),
-        white: sums.white,
+        answer: Ok(BookCounted {
+            pages: sums.pages,
+            x: sums.x,
+            y,
+            turns: turned(g.spec.alpha, sums.x, g.spec.beta, y),
+            white: sums.white,
+        }),
         weighed,
     }
 }
@@ -116,10 +111,9 @@ fn bind(
     let weighed = course::weighed::all_weighed(galleys, lengths, book);
     let mut from = [0u32; 400];
     let ends = routes::all_routes(galleys, lengths, book, work, &mut from);
-    let last = routes::best_end(ends);
-    if last == 0 {
+    let Some(last) = routes::best_end(ends) else {
         return refused(11, 0, weighed);
-    }
+    };
     let sums = along(galleys, lengths, book, &from, last, work, pages);
     counted(galleys, lengths, sums, weighed)
 }
@@ -151,9 +145,11 @@ fn make_read(
 pub fn make_book(galleys: &[u8], lengths: &[u32], work: &mut [u32], pages: &mut [u32]) -> BookMade
     ensures { Bound galleys.now lengths.now work.old pages.old result work.new pages.new }
 {
-    let reading = chapters::read_book(galleys, lengths);
-    match reading {
-        BookReading::Book(book) => make_read(galleys, lengths, book, work, pages),
-        BookReading::Refused { number, place } => refused(number, place, 0),
+    match chapters::read_book(galleys, lengths) {
+        Ok(book) => make_read(galleys, lengths, book, work, pages),
+        Err(refusal) => BookMade {
+            answer: Err(refusal),
+            weighed: 0,
+        },
     }
 }

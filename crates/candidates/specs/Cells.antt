@@ -1,10 +1,8 @@
 -- The places of a column in the work area: numbered, stored in and empty.
-use Rattle.std.specs.Prelude.{ℕ, ◌+◌, ◌*◌, ◌≤◌, ◌<◌, ◌≡◌, List, length}
+use Rattle.std.specs.Prelude.{ℕ, ◌+◌, ◌*◌, ◌≤◌, ◌<◌, ◌≡◌, List, length, None}
 use Rattle.galley.specs.declared.Galley.{Galley}
-use Rattle.places.specs.declared.Entry.{Entry}
-use Rattle.places.specs.declared.Entry.TheVariants.{Unreached}
 use Rattle.places.specs.Address.{words_needed, address}
-use Rattle.places.specs.Entry.{stored}
+use Rattle.places.specs.Entry.{Entry, stored}
 use Rattle.candidates.specs.Read.{table_in, columns_in, FewFloats}
 
 -- The places of a column come side by side and line by line: the number of line k on side c.
@@ -39,7 +37,7 @@ pub record ColumnRoom (g : Galley) (w : List ℕ) (j : ℕ) : Type 0 where
 
 -- Place (k, j) has the words of an unreached place on side c: to store that once more changes nothing.
 abbrev pub Empty : Galley → List ℕ → ℕ → ℕ → ℕ → Type 0
-Empty g w k j c = stored w (address (g.text.count + 1) k j c) Unreached ≡ w
+Empty g w k j c = stored w (address (g.text.count + 1) k j c) None ≡ w
 
 -- Every place of column j is empty.
 abbrev pub Blank : Galley → List ℕ → ℕ → Type 0
@@ -47,4 +45,4 @@ Blank g w j = (k c : ℕ) → k ≤ g.text.count → c < g.spec.sides → Empty 
 
 -- Every unreached place of column j is empty.
 abbrev pub Clean : Galley → List ℕ → ℕ → Type 0
-Clean g w j = (k c : ℕ) → k ≤ g.text.count → c < g.spec.sides → table_in g w k j c ≡ Unreached → Empty g w k j c
+Clean g w j = (k c : ℕ) → k ≤ g.text.count → c < g.spec.sides → table_in g w k j c ≡ None → Empty g w k j c

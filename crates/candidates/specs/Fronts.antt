@@ -1,6 +1,6 @@
 -- The best start that the queues of a window's two parts hold.
 use Rattle.std.specs.Prelude.{ℕ, List}
-use Rattle.places.specs.declared.Entry.{Entry}
+use Rattle.places.specs.Entry.{Entry}
 use Rattle.window.specs.declared.slide.Load.{Load}
 use Rattle.queues.specs.declared.parts.Parts.{Parts}
 use Rattle.window.specs.Slide.{reached_of, Readable}

@@ -2,7 +2,7 @@
 use Rattle.std.specs.Prelude.{ℕ, ◌+◌, ◌≤◌, List}
 use Rattle.model.specs.Galley.{Stream}
 use Rattle.galley.specs.declared.Galley.{Galley}
-use Rattle.places.specs.declared.Entry.{Entry}
+use Rattle.places.specs.Entry.{Entry}
 use Rattle.places.specs.Address.{Stands}
 use Rattle.places.specs.Best.{Best}
 use Rattle.window.specs.declared.slide.Load.{Load}

@@ -1,5 +1,5 @@
 -- The best start of a place by line and column, for any number of float streams, and the entry that the place gets.
-use Rattle.std.specs.Prelude.{ℕ, zero, suc, ◌+◌, ◌-◌, Bool, ◌&&◌, eqb, ltb}
+use Rattle.std.specs.Prelude.{ℕ, zero, suc, ◌+◌, ◌-◌, Bool, ◌&&◌, eqb, ltb, None, Some}
 use Rattle.model.specs.Gather.{pick}
 use Rattle.model.specs.Galley.{Sides, single, double, Galley}
 use Rattle.theorems.specs.pages.Graph.{side, full}
@@ -8,8 +8,7 @@ use Rattle.model.specs.laws.White.{page_white}
 use Rattle.theorems.specs.turns.Waiting.{page_cost}
 use Rattle.theorems.specs.turns.Rank.{rank}
 use Rattle.places.specs.declared.Origin.{Origin}
-use Rattle.places.specs.declared.Entry.{Entry}
-use Rattle.places.specs.declared.Entry.TheVariants.{Unreached, Least}
+use Rattle.places.specs.Entry.{Entry, least}
 use Rattle.places.specs.Columns.{place_at}
 use Rattle.candidates.specs.Better.{chosen, start_at}
 
@@ -47,16 +46,16 @@ white_from s a b =
 
 -- The start (a, b), where a page goes from it, with the page's white in its cost.
 unfoldable pub start_from : Search → ℕ → ℕ → Entry
-start_from s a b = pick (goes s a b) (start_at (s.table a b s.side) (white_from s a b) a b) Unreached
+start_from s a b = pick (goes s a b) (start_at (s.table a b s.side) (white_from s a b) a b) None
 
 -- The best of the first a lines of column b.
 unfoldable pub on_lines : Search → ℕ → ℕ → Entry
-on_lines s b zero = Unreached
+on_lines s b zero = None
 on_lines s b (suc a) = chosen (on_lines s b a) (start_from s a b)
 
 -- The best of the first b columns.
 unfoldable pub in_columns : Search → ℕ → Entry
-in_columns s zero = Unreached
+in_columns s zero = None
 in_columns s (suc b) = chosen (in_columns s b) (on_lines s b (suc s.line))
 
 -- The best of all starts.
@@ -69,8 +68,8 @@ most_from from = from.cost + from.limit
 
 -- An entry with the rest of the page's price added; unreached where that is more than `most`.
 unfoldable pub priced : ℕ → ℕ → Entry → Entry
-priced most p Unreached = Unreached
-priced most p (Least x s) = pick (ltb most (x + p)) Unreached (Least (x + p) s)
+priced most p None = None
+priced most p (Some l) = pick (ltb most (l.cost + p)) None (least (l.cost + p) l.start)
 
 -- A page may end at a place on side c: rules 14 and 17, which do not depend on where it starts.
 unfoldable pub may_stop : Galley → ℕ → ℕ → ℕ → Bool
@@ -84,8 +83,8 @@ begins sides from i q c = eqb i from.place.line && (eqb q from.place.column && e
 -- else the best start, which has the page's white, with its turns, if that is no more than the search looks for.
 unfoldable pub new_entry : Galley → Origin → Table → ℕ → ℕ → ℕ → Entry
 new_entry g from t i q c =
-    pick (begins g.spec.sides from i q c) (Least from.cost from.place)
+    pick (begins g.spec.sides from i q c) (least from.cost from.place)
     (pick (may_stop g i q c)
     (priced (most_from from) (rank (page_cost g c (full g (place_at g i q)) (place_at g i q)) 0)
     (best_start (record { galley = g; table = t; line = i; column = q; side = before g.spec.sides c })))
-    Unreached)
+    None)

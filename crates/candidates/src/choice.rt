@@ -4,7 +4,7 @@ ghost use Rattle.places.specs.Address.{address, Stands};
 ghost use Rattle.places.specs.Best.{Affordable};
 ghost use Rattle.candidates.specs.Better.{no_later, beats, wins, chosen, Later, start_at, taken};
 
-use places::{Entry, Place};
+use places::{Entry, Least, Place};
 
 // Whether the start s is no later than r.
 fn no_later(r: Place, s: Place) -> bool
@@ -25,8 +25,8 @@ fn wins(y: u64, r: Place, held: Entry) -> bool
     ensures { result ≡ wins y r held }
 {
     match held {
-        Entry::Unreached => true,
-        Entry::Least(x, s) => beats(y, r, x, s),
+        None => true,
+        Some(x) => beats(y, r, x.cost, x.start),
     }
 }
 
@@ -34,11 +34,11 @@ fn wins(y: u64, r: Place, held: Entry) -> bool
 pub fn choose(held: Entry, other: Entry) -> Entry
     ensures { result ≡ chosen held other }
 {
-    let Entry::Least(y, r) = other else {
+    let Some(y) = other else {
         return held;
     };
-    if wins(y, r, held) {
-        return Entry::Least(y, r);
+    if wins(y.cost, y.start, held) {
+        return other;
     }
     held
 }
@@ -48,16 +48,16 @@ pub fn choose_later(held: Entry, other: Entry) -> Entry
     requires { Later held other }
     ensures { result ≡ chosen held other }
 {
-    let Entry::Least(y, r) = other else {
+    let Some(y) = other else {
         return held;
     };
-    let Entry::Least(x, s) = held else {
-        return Entry::Least(y, r);
+    let Some(x) = held else {
+        return other;
     };
-    if places::less(x, y) {
-        return Entry::Least(x, s);
+    if places::less(x.cost, y.cost) {
+        return held;
     }
-    Entry::Least(y, r)
+    other
 }
 
 // The entry of a place as a start there, with the white of the page in its cost. A place that was never reached offers no start for
@@ -66,10 +66,11 @@ pub fn start_at(entry: Entry, place: Place, white: u32) -> Entry
     requires { Affordable entry }
     ensures { result ≡ start_at entry white place.line place.column }
 {
-    let Entry::Least(x, _start) = entry else {
-        return Entry::Unreached;
-    };
-    Entry::Least(x + white as u64, place)
+    let x = entry?;
+    Some(Least {
+        cost: x.cost + white as u64,
+        start: place,
+    })
 }
 
 // An entry of the work area replaced where another is better.
@@ -77,11 +78,11 @@ pub fn offer(work: &mut [u32], tall: usize, place: Place, side: usize, other: En
     requires { Stands work.old tall place side }
     ensures { work.new ≡ taken work.old (address tall place.line place.column side) other }
 {
-    let Entry::Least(y, r) = other else {
+    let Some(y) = other else {
         return;
     };
     let held = places::entry_of(work, tall, place, side);
-    if wins(y, r, held) {
-        places::store(work, tall, place, side, Entry::Least(y, r));
+    if wins(y.cost, y.start, held) {
+        places::store(work, tall, place, side, other);
     }
 }

@@ -15,7 +15,7 @@ fn best_line(work: &[u32], tall: usize, column: usize, side: usize, window: Wind
     requires { ((a : ℕ) → a < window.high → Stands work.now tall (record { line = a; column = column }) side) × Payable (lines_of work.now tall column side) window.high }
     ensures { Best (Lines (lines_of work.now tall column side) (λ a. 0) window.low window.high column) result }
 {
-    let mut best = Entry::Unreached;
+    let mut best: Entry = None;
     let mut a = window.low;
     while a < window.high {
         let place = places::place_of(a, column);

@@ -1,2 +1,3 @@
 -- Theorems.
+pub mod ReadAs
 pub mod Underway

@@ -1,20 +1,17 @@
--- A book read from its chapters, lent end to end with a list of their lengths (document 02, S-9). The types `Book` and
--- `BookReading` are those of src/lib.rt.
-use Rattle.std.specs.Prelude.{ℕ, ◌+◌, ◌*◌, max, Bool, not, ◌&&◌, List, [], ◌∷◌, map, length, get_or, take, ltb, eqb}
+-- A book read from its chapters, lent end to end with a list of their lengths (document 02, S-9). The type `Book`
+-- is that of src/lib.rt.
+use Rattle.std.specs.Prelude.{ℕ, ◌+◌, ◌*◌, max, Bool, not, ◌&&◌, List, [], ◌∷◌, map, length, get_or, take, ltb, eqb, Result, Err, Ok}
 use Rattle.std.proofs.Math.Seq.{slice}
 use Rattle.model.specs.Gather.{pick}
 use Rattle.model.specs.Galley as model
 use Rattle.galley.specs.declared.Spec.{Spec}
 use Rattle.galley.specs.declared.Galley.{Galley}
-use Rattle.galley.specs.declared.Reading.{Reading}
-use Rattle.galley.specs.declared.Reading.TheVariants as reads
 use Rattle.galley.specs.Place.{spec_size}
-use Rattle.galley.specs.Whole.{galley_of}
+use Rattle.galley.specs.Whole.{galley_of, Reading}
 use Rattle.galley.specs.Model.{model_of}
 use Rattle.needs.specs.Needs.{work_needed, list_needed}
-use Rattle.chapters.specs.declared.BookReading.{BookReading}
-use Rattle.chapters.specs.declared.BookReading.TheVariants as answers
-use Rattle.chapters.specs.declared.extent.Extent.{Extent}
+use Rattle.model.specs.declared.answer.Refusal.{Refusal}
+use Rattle.chapters.specs.declared.Book.{Book}
 
 -- A chapter: its bytes, and the galley that they hold (document 02, S-9).
 pub record Chapter : Type 0 where
@@ -45,14 +42,14 @@ adds_up bytes lengths =
 unfoldable pub alike : Spec → Spec → Bool
 alike g h =
     eqb g.htmin h.htmin
-    && eqb g.htmax h.htmax
-    && eqb g.smin h.smin
-    && eqb g.smax h.smax
-    && eqb g.sides h.sides
-    && eqb g.alpha h.alpha
-    && eqb g.beta h.beta
-    && eqb g.edition h.edition
-    && eqb g.lastmin h.lastmin
+    && (eqb g.htmax h.htmax
+    && (eqb g.smin h.smin
+    && (eqb g.smax h.smax
+    && (eqb g.sides h.sides
+    && (eqb g.alpha h.alpha
+    && (eqb g.beta h.beta
+    && (eqb g.edition h.edition
+    && (eqb g.lastmin h.lastmin))))))))
 
 -- The galley has an `FO`: something stands between its specification and line 1 (document 02, S-9, number 30).
 unfoldable pub has_folio : Galley → Bool
@@ -65,8 +62,8 @@ before c (refused number place) = refused number place
 
 -- Chapter k by what reading it gives, before those after it: its own refusal 1 to 8, then 29, then 30 (document 02, S-9).
 unfoldable pub later : Spec → ℕ → List ℕ → Reading → Outcome → Outcome
-later first k bytes (reads.Refused number place) rest = refused number k
-later first k bytes (reads.Galley g) rest =
+later first k bytes (Err r) rest = refused r.number k
+later first k bytes (Ok g) rest =
     pick (alike first g.spec)
     (pick (has_folio g) (refused 30 k) (before (record { bytes = bytes; galley = g }) rest))
     (refused 29 k)
@@ -79,8 +76,8 @@ later_from bytes first k at (n ∷ ns) =
 
 -- The first chapter, of n bytes, by what reading it gives, and those after it, of these lengths (document 02, S-9).
 unfoldable pub first_of : List ℕ → ℕ → List ℕ → Reading → Outcome
-first_of bytes n ns (reads.Refused number place) = refused number 1
-first_of bytes n ns (reads.Galley g) =
+first_of bytes n ns (Err r) = refused r.number 1
+first_of bytes n ns (Ok g) =
     before (record { bytes = slice 0 n bytes; galley = g }) (later_from bytes g.spec 1 n ns)
 
 -- All chapters (document 02, S-9).
@@ -109,17 +106,18 @@ unfoldable pub book_list : List Chapter → ℕ
 book_list [] = 0
 book_list (c ∷ cs) = list_needed c.galley + book_list cs
 
+-- What reading a book gives.
+abbrev pub BookReading : Type 0
+BookReading = Result Book Refusal
+
 -- What reading a book answers: how many chapters there are and what they need, or the refusal.
 unfoldable pub reading_of : Outcome → BookReading
-reading_of (read cs) = answers.Book (record { chapters = length cs; largest = largest cs; list = book_list cs })
-reading_of (refused number place) = answers.Refused number place
+reading_of (read cs) = Ok (record { chapters = length cs; largest = largest cs; list = book_list cs })
+reading_of (refused number place) = Err (record { number = number; place = place })
 
 -- Where chapter k, from 0, begins and ends in the bytes (document 02, S-9: the chapters are lent end to end).
 abbrev pub chapter_start : List ℕ → ℕ → ℕ
 chapter_start lengths k = all_bytes (take k lengths)
-
-abbrev pub extent_of : List ℕ → ℕ → Extent
-extent_of lengths k = record { from = chapter_start lengths k; to = chapter_start lengths k + get_or lengths k 0 }
 
 -- The bytes of chapter k.
 abbrev pub chapter_bytes : List ℕ → List ℕ → ℕ → List ℕ

@@ -1,57 +1,35 @@
 // Where each chapter of a book stands in its bytes: the chapters are lent end to end.
-ghost use Rattle.std.specs.Prelude.{◌≡◌, ◌+◌, ◌*◌, ◌≤◌, ◌<◌};
-ghost use Rattle.chapters.specs.Book.{adds_up, chapter_start, extent_of};
-ghost use Rattle.chapters.specs.Steps.{Numbered};
+ghost use Rattle.std.specs.Prelude.{◌≡◌, ◌≤◌, length};
+ghost use Rattle.chapters.specs.Book.{all_bytes, adds_up, chapter_bytes};
+ghost use Rattle.chapters.specs.Steps.{Stands};
 
-// Where a chapter begins and ends in the bytes.
-#[derive(Clone, Copy)]
-pub struct Extent {
-    pub from: usize,
-    pub to: usize,
+// What lengths come to. So few of 32 bits do not pass 64 bits.
+fn all_bytes(lengths: &[u32]) -> usize
+    requires { length lengths.now ≤ 200 }
+    ensures { result ≡ all_bytes lengths.now }
+{
+    lengths.iter().map(|n| *n as usize).sum()
 }
 
-// A length as a number that sums can hold.
-pub fn wide(length: u32) -> usize
-    ensures { (result ≡ length) × (result < 4294967296) }
+// The bytes of chapter k, from 0.
+pub fn chapter_bytes<'a>(galleys: &'a [u8], lengths: &[u32], k: usize) -> &'a [u8]
+    requires { Stands galleys.now lengths.now k }
+    ensures { result.now ≡ chapter_bytes galleys.now lengths.now k }
 {
-    length as usize
-}
-
-// Where chapter k, from 0, begins: what the lengths of those before it come to. So few lengths of 32 bits do not pass 64 bits.
-fn chapter_start(lengths: &[u32], k: usize) -> usize
-    requires { Numbered lengths.now k }
-    ensures { (result ≡ chapter_start lengths.now k) × (result ≤ k * 4294967295) }
-{
-    let mut sum = 0;
-    let mut i = 0;
-    while i < k {
-        sum += wide(lengths[i]);
-        i += 1;
-    }
-    sum
-}
-
-// Where chapter k, from 0, begins and ends.
-pub fn extent_of(lengths: &[u32], k: usize) -> Extent
-    requires { Numbered lengths.now (k + 1) }
-    ensures { result ≡ extent_of lengths.now k }
-{
-    let from = chapter_start(lengths, k);
-    Extent {
-        from,
-        to: from + wide(lengths[k]),
-    }
+    let from = all_bytes(&lengths[..k]);
+    let to = from + lengths[k] as usize;
+    &galleys[from..to]
 }
 
 // Whether there are 1 to 200 chapters, whose lengths add up to the bytes.
 pub fn add_up(galleys: &[u8], lengths: &[u32]) -> bool
     ensures { result ≡ adds_up galleys.now lengths.now }
 {
-    if lengths.len() == 0 {
+    if lengths.is_empty() {
         return false;
     }
     if 200 < lengths.len() {
         return false;
     }
-    chapter_start(lengths, lengths.len()) == galleys.len()
+    all_bytes(lengths) == galleys.len()
 }

@@ -3,3 +3,4 @@ pub mod Opened
 pub mod Chapter
 pub mod Later
 pub mod Parting
+pub mod Pairs

@@ -19,31 +19,23 @@ use walk::Stop;
 pub fn on_folio(g: Galley, folio: u32) -> Galley
     ensures { result ≡ on_folio folio g }
 {
-    let spec = g.spec;
-    let text = g.text;
-    let figures = g.figures;
-    let tables = g.tables;
-    Galley {
-        spec,
-        folio,
-        text,
-        figures,
-        tables,
-    }
+    Galley { folio, ..g }
 }
+
+// Where a chapter begins: nothing is placed, and every list is looked for.
+pub const NOTHING_YET: Origin = Origin {
+    place: Place { line: 0, column: 0 },
+    pages: 0,
+    cost: 0,
+    limit: BOUNDLESS,
+};
 
 // The chapter's table, from the beginning on, whatever the work area held before.
 pub fn fill_chapter(s: &[u8], g: Galley, work: &mut [u32])
     requires { ChapterRoom s.now g work.old }
     ensures { work.new ≡ filled (model_of s.now g) nothing_yet work.old }
 {
-    let origin = Origin {
-        place: Place { line: 0, column: 0 },
-        pages: 0,
-        cost: 0,
-        limit: BOUNDLESS,
-    };
-    filling::fill::fill(s, g, origin, work);
+    filling::fill::fill(s, g, NOTHING_YET, work);
 }
 
 // The side on which a list closes that leads from one folio to another.
@@ -77,18 +69,14 @@ pub fn later_starts(g: Galley, one: &[u32], two: &[u32], first: Stop, second: St
     requires { BothWalk g one.now two.now first second }
     ensures { result ≡ later_starts g one.now two.now first second }
 {
-    let mut left = g.text.count + g.figures.count + g.tables.count;
+    let most = g.text.count + g.figures.count + g.tables.count;
     let mut a = first;
     let mut b = second;
-    while 0 < left {
-        left -= 1;
+    for _ in 0..most {
         a = walk::page_before(g, one, a);
         b = walk::page_before(g, two, b);
-        if a.place.line != b.place.line {
-            return b.place.line < a.place.line;
-        }
-        if a.place.column != b.place.column {
-            return b.place.column < a.place.column;
+        if a.place != b.place {
+            return b.place < a.place;
         }
     }
     false

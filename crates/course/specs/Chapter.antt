@@ -1,9 +1,8 @@
 -- One chapter of a book made: the best list that closes on a side, its words and its counts.
 use Rattle.std.specs.Prelude.{ℕ, ◌≤◌, ◌≡◌, List, [], ◌++◌, length, drop}
 use Rattle.std.proofs.Math.Option.{Option, none, some}
-use Rattle.model.specs.declared.answer.Answer.{Answer}
 use Rattle.model.specs.Galley.{Place}
-use Rattle.model.specs.Answers.{words_of, counts_of}
+use Rattle.model.specs.Answers.{words_of, counts_of, Answer}
 use Rattle.theorems.specs.books.Closing.{best_closing}
 use Rattle.galley.specs.declared.Galley.{Galley}
 use Rattle.galley.specs.Model.{sides_in, model_of}

@@ -1,19 +1,16 @@
 -- The chapters made along the folios on which they open: each by the best list from its folio to the next, and what all come to
 -- (document 02, S-9). The type `Sums` is that of src/lib.rt.
-use Rattle.std.specs.Prelude.{ℕ, ◌+◌, ◌*◌, ◌≤◌, ◌<◌, ◌≡◌, List, [], ◌∷◌, ◌++◌, length, get_or, take, drop}
+use Rattle.std.specs.Prelude.{ℕ, ◌+◌, ◌*◌, ◌≤◌, ◌<◌, ◌≡◌, List, [], ◌∷◌, ◌++◌, length, get_or, take, drop, Err, Ok}
 use Rattle.std.proofs.Math.Option.{some}
-use Rattle.model.specs.declared.answer.Answer.{Answer}
-use Rattle.model.specs.declared.answer.Answer.TheVariants.{Counted, Refused}
 use Rattle.model.specs.Galley as model
 use Rattle.model.specs.Galley.{Place}
 use Rattle.model.specs.Turns.{x_of}
 use Rattle.model.specs.White.{white}
-use Rattle.model.specs.Answers.{words_of}
+use Rattle.model.specs.Answers.{words_of, Answer}
 use Rattle.model.specs.Book.{Choice}
 use Rattle.theorems.specs.pages.Graph.{side}
 use Rattle.theorems.specs.books.Closing.{best_closing}
 use Rattle.galley.specs.declared.Galley.{Galley}
-use Rattle.galley.specs.declared.Reading.TheVariants as reads
 use Rattle.galley.specs.Whole.{galley_of}
 use Rattle.galley.specs.Model.{sides_in, model_of}
 use Rattle.needs.specs.Needs.{work_needed, list_needed}
@@ -58,9 +55,9 @@ with_list sums g ps =
 
 -- The same by what marking the list answers, of which each page has so many words.
 abbrev pub with_answer : Sums → ℕ → Answer → Sums
-with_answer sums words (Counted p x y t w) =
-    record { at = sums.at + words * p; pages = sums.pages + p; x = sums.x + x; white = sums.white + w }
-with_answer sums words (Refused n at) = sums
+with_answer sums words (Ok c) =
+    record { at = sums.at + words * c.pages; pages = sums.pages + c.pages; x = sums.x + c.x; white = sums.white + c.white }
+with_answer sums words (Err r) = sums
 
 -- It adds no more than a word holds.
 pub record WithAnswer (sums : Sums) (words : ℕ) (answer : Answer) (sums' : Sums) : Type 0 where
@@ -111,7 +108,7 @@ pub record SmallAfter (k : ℕ) (sums : Sums) : Type 0 where
 -- The next chapter has a list from its folio to the one after it, and the lent memory is long enough.
 pub record NextChapter (bytes : List ℕ) (o next : ℕ) (sums : Sums) (work list : List ℕ) : Type 0 where
   pub galley : Galley
-  pub reads : galley_of bytes ≡ reads.Galley galley
+  pub reads : galley_of bytes ≡ Ok galley
   pub leads : LeadsTo bytes galley o next
   pub enough : work_needed galley ≤ length work
   pub room : sums.at + list_needed galley ≤ length list
@@ -119,8 +116,8 @@ pub record NextChapter (bytes : List ℕ) (o next : ℕ) (sums : Sums) (work lis
 
 -- It is made: the sums are with its list, whose words stand where those before it end.
 pub record NextMade (bytes : List ℕ) (o next : ℕ) (sums : Sums) (work list : List ℕ) (sums' : Sums) (work' list' : List ℕ) : Type 0 where
-  pub adds : (g : Galley) → galley_of bytes ≡ reads.Galley g → sums' ≡ with_list sums (model_on bytes g o) (list_to bytes g o next)
-  pub listed : (g : Galley) → galley_of bytes ≡ reads.Galley g → list' ≡ over sums.at (words_of (list_to bytes g o next)) list
+  pub adds : (g : Galley) → galley_of bytes ≡ Ok g → sums' ≡ with_list sums (model_on bytes g o) (list_to bytes g o next)
+  pub listed : (g : Galley) → galley_of bytes ≡ Ok g → list' ≡ over sums.at (words_of (list_to bytes g o next)) list
   pub lent : length work' ≡ length work
   pub small : (k : ℕ) → SmallAfter k sums → SmallAfter (k + 1) sums'
 

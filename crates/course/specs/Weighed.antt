@@ -1,8 +1,7 @@
 -- What is weighed of all chapters of a book that was read.
-use Rattle.std.specs.Prelude.{ℕ, ◌+◌, ◌*◌, ◌≤◌, ◌≡◌, List, [], ◌∷◌, length, drop}
+use Rattle.std.specs.Prelude.{ℕ, ◌+◌, ◌*◌, ◌≤◌, ◌≡◌, List, [], ◌∷◌, length, drop, Ok}
 use Rattle.model.specs.Weighed.{weighed}
 use Rattle.galley.specs.declared.Galley.{Galley}
-use Rattle.galley.specs.declared.Reading.TheVariants as reads
 use Rattle.galley.specs.Whole.{galley_of}
 use Rattle.galley.specs.Model.{model_of}
 use Rattle.chapters.specs.declared.Book.{Book}
@@ -22,7 +21,7 @@ pub record BookRead (bytes lengths : List ℕ) (book : Book) : Type 0 where
 
 -- What is weighed of one: at most 4,001 · 10,251 starts and as many ends are paired.
 pub record ChapterWeighed (bytes : List ℕ) (count : ℕ) : Type 0 where
-  pub counts : (g : Galley) → galley_of bytes ≡ reads.Galley g → count ≡ weighed (model_of bytes g)
+  pub counts : (g : Galley) → galley_of bytes ≡ Ok g → count ≡ weighed (model_of bytes g)
   pub few : count ≤ 1682168785091001
 
 -- The first k chapters are counted, and with the others they are all.

@@ -3,7 +3,6 @@ ghost use Rattle.course.specs.Chapter.{Makeable, Written, Made};
 
 use galley::Galley;
 use model::answer::Answer;
-use places::{BOUNDLESS, Origin, Place};
 
 // The pages of that list written over the first words of the page list, and how many words they take.
 fn write_chapter(s: &[u8], g: Galley, side: usize, work: &mut [u32], pages: &mut [u32]) -> usize
@@ -12,13 +11,7 @@ fn write_chapter(s: &[u8], g: Galley, side: usize, work: &mut [u32], pages: &mut
 {
     closings::fill_chapter(s, g, work);
     let last = closings::closing_stop(g, side);
-    let origin = Origin {
-        place: Place { line: 0, column: 0 },
-        pages: 0,
-        cost: 0,
-        limit: BOUNDLESS,
-    };
-    let p = walk::count_pages(g, work, origin, last);
+    let p = walk::count_pages(g, work, closings::NOTHING_YET, last);
     walk::write_pages(g, work, last, p, pages);
     blocks::page_words(g) * p
 }

@@ -1,7 +1,7 @@
 // The chapters of a book made along the best route, each from its folio to the next. Document 02, S-9.
 #![tactic(auto)]
 
-ghost use Rattle.std.specs.Prelude.{◌≡◌, ◌≤◌, ◌<◌};
+ghost use Rattle.std.specs.Prelude.{◌≤◌};
 ghost use Rattle.course.specs.Course.{Small, WithAnswer, NextChapter, NextMade, CourseRoom, CourseMade};
 
 use chapters::Book;
@@ -20,35 +20,19 @@ pub struct Sums {
     pub white: u64,
 }
 
-// A chapter's count as a number that sums can hold.
-fn long(count: u32) -> u64
-    ensures { (result ≡ count) × (result < 4294967296) }
-{
-    count as u64
-}
-
 // The sums with a chapter's counts, whose pages have so many words each.
 fn with_chapter(sums: Sums, words: usize, answer: Answer) -> Sums
     requires { (Small sums) × (words ≤ 3) }
     ensures { WithAnswer sums words answer result }
 {
-    match answer {
-        Answer::Counted {
-            pages,
-            x,
-            y: _y,
-            turns: _t,
-            white,
-        } => Sums {
-            at: sums.at + words * chapters::extent::wide(pages),
-            pages: sums.pages + long(pages),
-            x: sums.x + long(x),
-            white: sums.white + long(white),
-        },
-        Answer::Refused {
-            number: _n,
-            place: _p,
-        } => sums,
+    let Ok(counted) = answer else {
+        return sums;
+    };
+    Sums {
+        at: sums.at + words * counted.pages as usize,
+        pages: sums.pages + u64::from(counted.pages),
+        x: sums.x + u64::from(counted.x),
+        white: sums.white + u64::from(counted.white),
     }
 }
 
@@ -89,20 +73,9 @@ pub fn make_chapters(
         x: 0,
         white: 0,
     };
-    let mut k = 0;
-    while k < book.chapters {
-        let extent = chapters::extent::extent_of(lengths, k);
-        let from = extent.from;
-        let to = extent.to;
-        sums = next_chapter(
-            &galleys[from..to],
-            folios[k],
-            folios[k + 1],
-            sums,
-            work,
-            pages,
-        );
-        k += 1;
+    for k in 0..book.chapters {
+        let chapter = chapters::extent::chapter_bytes(galleys, lengths, k);
+        sums = next_chapter(chapter, folios[k], folios[k + 1], sums, work, pages);
     }
     sums
 }

@@ -8,10 +8,8 @@ pub fn trace(from: &[u32], chapters: usize, last: u32, folios: &mut [u32])
     ensures { folios.new ≡ followed from.now chapters last (drop (chapters + 1) folios.old) }
 {
     folios[chapters] = last;
-    let mut k = chapters;
-    while 0 < k {
-        let next = galley::word::size(folios[k]);
-        k -= 1;
+    for k in (0..chapters).rev() {
+        let next = folios[k + 1] as usize;
         folios[k] = from[2 * k + next - 1];
     }
 }

@@ -27,13 +27,8 @@ pub fn all_weighed(galleys: &[u8], lengths: &[u32], book: Book) -> u64
     ensures { result ≡ all_weighed (chapters_in (book_of galleys.now lengths.now)) }
 {
     let mut sum = 0;
-    let mut k = 0;
-    while k < book.chapters {
-        let extent = chapters::extent::extent_of(lengths, k);
-        let from = extent.from;
-        let to = extent.to;
-        sum += chapter_weighed(&galleys[from..to]);
-        k += 1;
+    for k in 0..book.chapters {
+        sum += chapter_weighed(chapters::extent::chapter_bytes(galleys, lengths, k));
     }
     sum
 }

@@ -7,7 +7,7 @@ use Rattle.model.specs.laws.Rules.{placed}
 use Rattle.model.specs.laws.Lists.{Inside}
 use Rattle.places.specs.declared.Place.{Place}
 use Rattle.places.specs.declared.Origin.{Origin}
-use Rattle.places.specs.declared.Entry.TheVariants.{Least}
+use Rattle.places.specs.Entry.{least}
 use Rattle.places.specs.Order.{Earlier}
 use Rattle.places.specs.Columns.{place_at}
 use Rattle.candidates.specs.Search.{Table}
@@ -41,5 +41,5 @@ pub record Entered (g : Galley) (from : Origin) (a b x : ℕ) (s : Place) : Type
 
 -- Every entry filled before place (i, q), column by column, is such a one.
 pub record Filled (g : Galley) (from : Origin) (t : Table) (i q : ℕ) : Type 0 where
-  pub entered : (a b c x : ℕ) (s : Place) → Earlier a b i q → a ≤ (g.stream 0).size → Side g.spec.sides c → t a b c ≡ Least x s
+  pub entered : (a b c x : ℕ) (s : Place) → Earlier a b i q → a ≤ (g.stream 0).size → Side g.spec.sides c → t a b c ≡ least x s
       → Entered g from a b x s

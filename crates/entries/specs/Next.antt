@@ -1,9 +1,8 @@
 -- What the functions that fill a place ask for: what is filled, and what comes next; and what they leave.
-use Rattle.std.specs.Prelude.{ℕ, ◌+◌, ◌*◌, ◌≤◌, ◌<◌, ◌≡◌, false, List, length}
+use Rattle.std.specs.Prelude.{ℕ, ◌+◌, ◌*◌, ◌≤◌, ◌<◌, ◌≡◌, false, List, length, None}
 use Rattle.galley.specs.declared.Galley.{Galley}
 use Rattle.galley.specs.Model.{text_of, model_of}
 use Rattle.blocks.specs.Heights.{no_heights}
-use Rattle.places.specs.declared.Entry.TheVariants.{Unreached}
 use Rattle.places.specs.Best.{Best}
 use Rattle.places.specs.Entry.{boundless}
 use Rattle.window.specs.declared.slide.Load.{Load}
@@ -53,7 +52,7 @@ plain task = bare task task.galley.spec.htmin
 
 -- No line of column b before the origin's is reached on a side, of those above line i.
 abbrev pub Before : Task → List ℕ → ℕ → ℕ → ℕ → Type 0
-Before task w b side i = (a : ℕ) → a < task.origin.place.line → a < i → lines_of w (task.galley.text.count + 1) b side a ≡ Unreached
+Before task w b side i = (a : ℕ) → a < task.origin.place.line → a < i → lines_of w (task.galley.text.count + 1) b side a ≡ None
 
 -- What is known of the starts of a page that ends at a place, on a side.
 abbrev pub StartsFor : List ℕ → Galley → List ℕ → End → (ℕ → ℕ → Type 0) → ℕ → ℕ → ℕ → Type 0

@@ -10,7 +10,7 @@ ghost use Rattle.entries.specs.Next.{LinesAbove, EntryNext, SideNext, SideFilled
 use blocks::Counts;
 use blocks::heights::Heights;
 use galley::Galley;
-use places::{Entry, Origin};
+use places::{Entry, Least, Origin};
 use pricing::Stop;
 use queues::parts::Parts;
 use queues::queue::Source;
@@ -83,26 +83,22 @@ fn new_entry(
 {
     let g = task.galley;
     if candidates::read::is_origin(g, task.origin, end.at.lines, end.column, end.side) {
-        let origin = task.origin;
-        let place = origin.place;
-        return Entry::Least(origin.cost, place);
+        let Origin { place, cost, .. } = task.origin;
+        return Some(Least { cost, start: place });
     }
     if !pricing::may_stop(end.stop, end.turns) {
-        return Entry::Unreached;
+        return None;
     }
     let place = places::place_of(end.at.lines, end.column);
     let held = places::entry_of(work, g.text.count + 1, place, end.side);
     let lines = lines_above(s, task, work, sums, words, parts, end);
-    let start = candidates::choice::choose(held, lines);
-    let Entry::Least(x, from) = start else {
-        return Entry::Unreached;
-    };
+    let best = candidates::choice::choose(held, lines)?;
     let price = pricing::price(g, end.stop.full, end.turns, end.waiting);
-    let cost = x + places::joined(0, price);
+    let cost = best.cost + places::joined(0, price);
     if task.origin.cost + task.origin.limit < cost {
-        return Entry::Unreached;
+        return None;
     }
-    Entry::Least(cost, from)
+    Some(Least { cost, ..best })
 }
 
 // One side of a place: the queues moved on to the window of its line, and the entry stored.
@@ -149,22 +145,14 @@ pub fn fill_place(
     ensures { PlaceFilled s.now task work.old work.new sums.now words.new ends.new windows end }
 {
     let ending = pricing::ending_side(task.galley);
-    let mut c = 0;
-    while c < task.galley.spec.sides as usize {
-        let at = end.at;
-        let stop = end.stop;
+    for c in 0..task.galley.spec.sides as usize {
         let here = End {
-            at,
-            column: end.column,
             side: c,
             turns: c == ending,
-            waiting: end.waiting,
-            stop,
+            ..end
         };
         let parts = queues::parts::parts_of(ends, c);
-        let moved = fill_side(s, task, work, sums, words, parts, windows, here);
-        let full = moved.full;
-        let rest = moved.rest;
+        let Parts { full, rest } = fill_side(s, task, work, sums, words, parts, windows, here);
         queues::parts::put_row(
             ends,
             c,
@@ -173,6 +161,5 @@ pub fn fill_place(
             rest.head as u32,
             rest.tail as u32,
         );
-        c += 1;
     }
 }

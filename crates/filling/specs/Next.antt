@@ -1,5 +1,5 @@
 -- What the functions of the filling ask for: what is filled, and what comes next; and what they leave.
-use Rattle.std.specs.Prelude.{ℕ, suc, ◌+◌, ◌*◌, ◌≤◌, ◌<◌, ◌≡◌, false, List, length}
+use Rattle.std.specs.Prelude.{ℕ, suc, ◌+◌, ◌*◌, ◌≤◌, ◌<◌, ◌≡◌, false, List, length, Option, Some, None}
 use Rattle.galley.specs.declared.Galley.{Galley}
 use Rattle.galley.specs.Sound.{Sound}
 use Rattle.blocks.specs.declared.Counts.{Counts}
@@ -64,6 +64,11 @@ pub record Still (bytes : List ℕ) (task : Task) (w : List ℕ) (j from to : �
   pub later : (i : ℕ) → from ≤ i → i < to → (i ≡ task.origin.place.line) × (j ≡ task.origin.place.column) → ⊥
   pub above : (i a c x : ℕ) → from ≤ i → i < to → a < from → c < task.galley.spec.sides
       → Candidate (search_of bytes task.galley w i j (side_of task.galley c)) a j x → ⊥
+
+-- The line, or one past the last line where there is none.
+abbrev pub line_or : Galley → Option ℕ → ℕ
+line_or g (Some r) = r
+line_or g None = g.text.count + 1
 
 -- r is no earlier than `last`; where it is past the last line, `last` is before line `low`, and no line from that on is reached.
 pub record Onward (g : Galley) (w : List ℕ) (j low last r : ℕ) : Type 0 where

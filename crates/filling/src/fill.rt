@@ -1,11 +1,11 @@
 // The work area filled with the entry of every place, column by column: document 01, "Making".
-ghost use Rattle.std.specs.Prelude.{◌≡◌, false, suc, ◌+◌, ◌≤◌};
+ghost use Rattle.std.specs.Prelude.{◌≡◌, false, suc, ◌+◌, ◌≤◌, IfSome};
 ghost use Rattle.galley.specs.Model.{model_of};
 ghost use Rattle.galley.specs.Sound.{SoundStream};
 ghost use Rattle.candidates.specs.Cells.{ColumnRoom, Blank};
 ghost use Rattle.candidates.specs.Read.{columns_in};
 ghost use Rattle.filling.specs.Fill.{fill_column, fill_columns, filled};
-ghost use Rattle.filling.specs.Next.{end_from, Begun, Onward, LastNext, TableNext, Fillable};
+ghost use Rattle.filling.specs.Next.{end_from, line_or, Begun, Onward, LastNext, TableNext, Fillable};
 ghost use Rattle.filling.specs.Recall.{ColumnTurn, ColumnFilled};
 
 use blocks::Counts;
@@ -35,14 +35,15 @@ fn end_at(s: &[u8], g: Galley, at: Counts, column: usize, floats: Floats, waitin
 }
 
 // The line that a column is filled to at least: `last`, until that is above `low`, from which on pages are not too tall, and then the
-// first from there on that is reached or has a start in an earlier column; one past the last line where there is none. A line is looked
-// at only once, since `low` never falls.
-fn next_start(g: Galley, work: &[u32], j: usize, low: usize, last: usize) -> usize
+// first from there on that is reached or has a start in an earlier column, where there is one. A line is looked at only once, since `low`
+// never falls.
+fn next_start(g: Galley, work: &[u32], j: usize, low: usize, last: usize) -> Option<usize>
     requires { ColumnRoom g work.now j × (low ≤ g.text.count) × (last ≤ g.text.count) }
-    ensures { Onward g work.now j low last result }
+    ensures onward { Onward g work.now j low last (line_or g result) }
+    ensures within { IfSome result (λ r. r ≤ g.text.count) }
 {
     if low <= last {
-        return last;
+        return Some(last);
     }
     reached::look::first_line(g, work, j, low)
 }
@@ -77,39 +78,34 @@ fn last_sweep(
     let mut span = window::slide::slide(sums, load, shut, first);
     let mut ends = [0, 0, 4000, 4000, 8000, 8000, 12000, 12000];
     let mut last = first;
-    let mut i = first;
-    while i <= g.text.count {
+    for i in first..g.text.count + 1 {
         let from = span;
         span = window::slide::slide(sums, load, from, i);
-        last = next_start(g, work, j, span.low, last);
-        if g.text.count < last {
+        let Some(onto) = next_start(g, work, j, span.low, last) else {
             return;
-        }
-        let at = Counts {
-            lines: i,
-            figures: top.figures,
-            tables: top.tables,
         };
+        last = onto;
+        let at = Counts { lines: i, ..top };
         waiting = rules::waiting::waiting_after(s, g, at, waiting);
         let windows = Windows { from, to: span };
         let end = end_at(s, g, at, j, floats, waiting);
         entries::side::fill_place(s, task, work, sums, words, &mut ends, windows, end);
-        i += 1;
     }
 }
 
 // The first line of column j that a page may reach: in the origin's column that of the origin, else the first from there on that has a
-// start in an earlier column; one past the last line where none has. Where no such column is reached there is nothing to look for.
-fn first_start(task: Task, work: &[u32], j: usize, any: bool) -> usize
+// start in an earlier column, where one has. Where no such column is reached there is nothing to look for.
+fn first_start(task: Task, work: &[u32], j: usize, any: bool) -> Option<usize>
     requires { ColumnRoom task.galley work.now j × (task.origin.place.line ≤ task.galley.text.count) × (any ≡ false → Blank task.galley work.now j) }
-    ensures { Begun task work.now j result }
+    ensures begun { Begun task work.now j (line_or task.galley result) }
+    ensures within { IfSome result (λ r. r ≤ task.galley.text.count) }
 {
     let line = task.origin.place.line as usize;
     if j == task.origin.place.column as usize {
-        return line;
+        return Some(line);
     }
     if !any {
-        return task.galley.text.count + 1;
+        return None;
     }
     reached::look::first_line(task.galley, work, j, line)
 }
@@ -136,10 +132,9 @@ fn fill_column(
         since: recall.since,
     };
     let any = starts::sweep::sweep_column(s, task.galley, work, sums, words, seen, j, begin);
-    let first = first_start(task, work, j, any);
-    if task.galley.text.count < first {
+    let Some(first) = first_start(task, work, j, any) else {
         return recall;
-    }
+    };
     last_sweep(s, task, work, sums, words, j, first);
     reached::recall::note(task.galley, work, seen, recall, j, first)
 }
@@ -152,11 +147,13 @@ fn fill_columns(s: &[u8], task: Task, work: &mut [u32], sums: &[u32], words: &mu
     let columns = candidates::read::columns_of(task.galley);
     // The last columns that are reached. Where more are, those before them are looked at each time.
     let mut seen = [0u32; 68];
-    let mut j = task.origin.place.column as usize;
-    let mut recall = Recall { since: j, head: 0 };
-    while j < columns {
+    let begin = task.origin.place.column as usize;
+    let mut recall = Recall {
+        since: begin,
+        head: 0,
+    };
+    for j in begin..columns {
         recall = fill_column(s, task, work, sums, words, j, &mut seen, recall);
-        j += 1;
     }
 }
 

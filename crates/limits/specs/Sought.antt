@@ -1,10 +1,9 @@
 -- A table filled within a limit, or without one: what is known of it in the end.
-use Rattle.std.specs.Prelude.{ℕ, ◌≤◌, ◌≡◌, Bool, List, length, ltb}
+use Rattle.std.specs.Prelude.{ℕ, ◌≤◌, ◌≡◌, Bool, List, length, ltb, None}
 use Rattle.model.specs.Gather.{pick}
 use Rattle.galley.specs.declared.Galley.{Galley}
 use Rattle.galley.specs.Model.{model_of}
 use Rattle.places.specs.declared.Origin.{Origin}
-use Rattle.places.specs.declared.Entry.TheVariants.{Unreached}
 use Rattle.places.specs.Entry.{joined, boundless, cleared}
 use Rattle.candidates.specs.Read.{table_in}
 use Rattle.filling.specs.Fill.{filled}
@@ -33,5 +32,5 @@ pub record Sought (bytes : List ℕ) (g : Galley) (from : Origin) (work work' : 
   pub before : List ℕ
   pub long : length before ≡ length work
   pub is : work' ≡ filled (model_of bytes g) r before
-  pub sought : entry_of (table_in g work') (last_stop g work') ≡ Unreached → r.limit ≡ boundless
+  pub sought : entry_of (table_in g work') (last_stop g work') ≡ None → r.limit ≡ boundless
   pub clean : cleared (work_needed g) work' ≡ cleared (work_needed g) work

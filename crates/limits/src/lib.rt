@@ -14,16 +14,11 @@ use places::{BOUNDLESS, Origin};
 fn limited(origin: Origin, limit: u64) -> Origin
     ensures { result ≡ within limit origin }
 {
-    let place = origin.place;
-    Origin {
-        place,
-        pages: origin.pages,
-        cost: origin.cost,
-        limit,
-    }
+    Origin { limit, ..origin }
 }
 
 // The limit of so many turns, with any white; none where they are more than a guess should say.
+#[tactic(auto, unfolding(crate::specs::Sought::limit_of))]
 fn limit_of(turns: u32) -> u64
     ensures { result ≡ limit_of turns }
 {

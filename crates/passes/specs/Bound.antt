@@ -1,10 +1,7 @@
 -- Bounds of what starts cost, kept behind the queues and the windows, and what they spare.
-use Rattle.std.specs.Prelude.{ℕ, ◌+◌, ◌≤◌, ◌<◌, ◌≡◌, Bool, true, List, length}
-use Rattle.model.specs.Gather.{pick}
+use Rattle.std.specs.Prelude.{ℕ, ◌+◌, ◌≤◌, ◌<◌, ◌≡◌, Bool, true, List, length, min, None, Some}
 use Rattle.places.specs.declared.Place.{Place}
-use Rattle.places.specs.declared.Entry.{Entry}
-use Rattle.places.specs.declared.Entry.TheVariants.{Unreached, Least}
-use Rattle.places.specs.Entry.{less}
+use Rattle.places.specs.Entry.{Entry, least, less}
 use Rattle.places.specs.Address.{Stands}
 use Rattle.places.specs.Table.{table_of}
 use Rattle.queues.specs.declared.queue.Source.{Source}
@@ -12,15 +9,15 @@ use Rattle.window.specs.Rows.{Beside}
 use Rattle.queues.specs.Queue.{cost_at, lines_in}
 
 -- The lesser of a cost and that of an entry.
-unfoldable pub lesser_of : ℕ → Entry → ℕ
-lesser_of least Unreached = least
-lesser_of least (Least x s) = pick (less x least) x least
+abbrev pub lesser_of : ℕ → Entry → ℕ
+lesser_of below None = below
+lesser_of below (Some l) = min below l.cost
 
 -- The second entry costs more, or one of them is not reached.
-unfoldable pub grows_of : Entry → Entry → Bool
-grows_of Unreached far = true
-grows_of (Least x s) Unreached = true
-grows_of (Least x s) (Least y r) = less x y
+abbrev pub grows_of : Entry → Entry → Bool
+grows_of None far = true
+grows_of (Some l) None = true
+grows_of (Some l) (Some k) = less l.cost k.cost
 
 -- The bound of line a.
 abbrev pub bound_at : List ℕ → ℕ → ℕ
@@ -28,7 +25,7 @@ bound_at words a = cost_at words (a + 12000)
 
 -- No line of a column from k on, up to the last, costs less than the bound of line k, for the lines after `since` and before the last.
 pub record Bounded (col : ℕ → Entry) (words : List ℕ) (lines since : ℕ) : Type 0 where
-  pub low : (k a x : ℕ) (r : Place) → since < k → k < lines → k ≤ a → a ≤ lines → col a ≡ Least x r → bound_at words k ≤ x
+  pub low : (k a x : ℕ) (r : Place) → since < k → k < lines → k ≤ a → a ≤ lines → col a ≡ least x r → bound_at words k ≤ x
 
 -- The lines of a source stand in the work area, and there is room for their bounds.
 pub record Standing (work words : List ℕ) (source : Source) (lines : ℕ) : Type 0 where
@@ -47,13 +44,13 @@ pub record BoundFound (work old : List ℕ) (source : Source) (lines since : ℕ
   pub bounded : Bounded (lines_in work source) new lines since
   pub beside : Beside old new 12001 16000
 
--- The lines from a on are bounded, and none of them costs less than `least`.
-pub record BoundRun (work words₀ words : List ℕ) (source : Source) (lines : ℕ) (least a : ℕ) : Type 0 where
+-- The lines from a on are bounded, and none of them costs less than `below`.
+pub record BoundRun (work words₀ words : List ℕ) (source : Source) (lines : ℕ) (below a : ℕ) : Type 0 where
   pub within : a ≤ lines
   pub sized : length words ≡ length words₀
   pub some : 0 < a
-  pub lowest : (b x : ℕ) (r : Place) → a ≤ b → b ≤ lines → lines_in work source b ≡ Least x r → least ≤ x
-  pub bounded : (k b x : ℕ) (r : Place) → a ≤ k → k < lines → k ≤ b → b ≤ lines → lines_in work source b ≡ Least x r → bound_at words k ≤ x
+  pub lowest : (b x : ℕ) (r : Place) → a ≤ b → b ≤ lines → lines_in work source b ≡ least x r → below ≤ x
+  pub bounded : (k b x : ℕ) (r : Place) → a ≤ k → k < lines → k ≤ b → b ≤ lines → lines_in work source b ≡ least x r → bound_at words k ≤ x
   pub beside : Beside words₀ words 12001 16000
 
 -- A place stands in the work area, and the bounds before line `last` in the words.
@@ -66,7 +63,7 @@ pub record Comparable (work words : List ℕ) (tall : ℕ) (place : Place) (side
 pub record Beaten (work words : List ℕ) (tall : ℕ) (place : Place) (side since low last : ℕ) : Type 0 where
   pub cost : ℕ
   pub start : Place
-  pub held : table_of tall work place.line place.column side ≡ Least cost start
+  pub held : table_of tall work place.line place.column side ≡ least cost start
   pub after : since < low
   pub before : low < last
   pub less : cost < bound_at words low

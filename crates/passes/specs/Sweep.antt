@@ -1,5 +1,5 @@
 -- The best starts of a column's places, gathered from the columns before it: what is lent, what is computed, and what is known.
-use Rattle.std.specs.Prelude.{ℕ, suc, ◌+◌, ◌*◌, ◌≤◌, ◌<◌, ◌≡◌, List, length, ltb}
+use Rattle.std.specs.Prelude.{ℕ, suc, ◌+◌, ◌*◌, ◌≤◌, ◌<◌, ◌≡◌, List, length, ltb, None}
 use Rattle.model.specs.Gather.{pick}
 use Rattle.model.specs.Galley.{Stream}
 use Rattle.galley.specs.declared.Galley.{Galley}
@@ -7,8 +7,7 @@ use Rattle.galley.specs.Model.{text_of, model_of}
 use Rattle.galley.specs.Sound.{Sound}
 use Rattle.blocks.specs.Heights.{Separable}
 use Rattle.blocks.specs.laws.Heights.{Low}
-use Rattle.places.specs.declared.Entry.{Entry}
-use Rattle.places.specs.declared.Entry.TheVariants.{Unreached}
+use Rattle.places.specs.Entry.{Entry}
 use Rattle.places.specs.Address.{words_needed, address, Stands}
 use Rattle.places.specs.Best.{Affordable, Best}
 use Rattle.window.specs.declared.slide.Load.{Load}
@@ -44,7 +43,7 @@ pub record Summed (bytes : List ℕ) (g : Galley) (sums : List ℕ) : Type 0 whe
 
 -- What a page of the pass has beside its lines.
 abbrev pub pass_load : Galley → Pass → Load
-pass_load g pass = load_of g 1 pass.heights pass.least pass.first
+pass_load g pass = load_of g 1 pass.heights pass.least pass.reach.first
 
 -- A pass leads to a later column from one that has no more of any stream, and the floats between, with these heights alone, are not
 -- too tall.
@@ -59,7 +58,7 @@ pub record Passing (bytes : List ℕ) (g : Galley) (pass : Pass) : Type 0 where
 -- The page of floats alone that starts after line i.
 abbrev pub alone_of : Galley → List ℕ → ℕ → ℕ → Pass → Entry
 alone_of g w i side pass =
-    pick (ltb pass.heights.loose pass.least) Unreached (start_at (table_in g w i pass.from side) pass.white i pass.from)
+    pick (ltb pass.heights.loose pass.least) None (start_at (table_in g w i pass.from side) pass.white i pass.from)
 
 -- The work area with the starts of a pass weighed at line i on side c: the best of the lines before it, and floats alone.
 abbrev pub weighed : Galley → List ℕ → Entry → ℕ → ℕ → Pass → List ℕ
@@ -94,14 +93,14 @@ sweep_end g pass = pick (last_column g pass.to) g.text.count (g.text.count + 1)
 pub record Stoppable (g : Galley) (sums : List ℕ) (pass : Pass) : Type 0 where
   pub wide : Wide g pass.to
   pub separable : Separable g.spec 1 pass.heights
-  pub order : pass.first ≤ pass.last
-  pub line : pass.last ≤ g.text.count
-  pub reaches : Reachable sums 0 (pass_load g pass).tight (g.spec.htmax + 1) pass.last g.text.count
+  pub order : pass.reach.first ≤ pass.reach.last
+  pub line : pass.reach.last ≤ g.text.count
+  pub reaches : Reachable sums 0 (pass_load g pass).tight (g.spec.htmax + 1) pass.reach.last g.text.count
 
 -- Of the lines that a sweep may take, those from `stop` on are after the last of the pass, and pages from there to them are too tall.
 pub record Stopped (g : Galley) (sums : List ℕ) (pass : Pass) (stop : ℕ) : Type 0 where
-  pub from : pass.first ≤ stop
+  pub from : pass.reach.first ≤ stop
   pub within : stop ≤ sweep_end g pass
-  pub after : stop < sweep_end g pass → pass.last < stop
+  pub after : stop < sweep_end g pass → pass.reach.last < stop
   pub tall : (st : Stream) → Sums st g.text.count sums → (e : ℕ) → stop ≤ e → e < sweep_end g pass
-      → Tall st (pass_load g pass) pass.last e
+      → Tall st (pass_load g pass) pass.reach.last e

@@ -20,11 +20,11 @@ use Rattle.candidates.specs.Cells.{number, Scratched}
 
 -- No line of the pass before its first is reached.
 abbrev pub Early : Galley → List ℕ → Pass → Type 0
-Early g w pass = Quiet g w pass.from g.spec.sides 0 pass.first
+Early g w pass = Quiet g w pass.from g.spec.sides 0 pass.reach.first
 
 -- None after its last is, which is no earlier.
 abbrev pub Late : Galley → List ℕ → Pass → Type 0
-Late g w pass = LastFound g w pass.from pass.first pass.last
+Late g w pass = LastFound g w pass.from pass.reach.first pass.reach.last
 
 -- A pass whose starts are to be known, those in later columns being known.
 pub record Sweep (bytes : List ℕ) (g : Galley) (w sums words : List ℕ) (pass : Pass) : Type 0 where
@@ -44,7 +44,7 @@ Windowed bytes g words pass P = Kept (text_of bytes g.text) (pass_load g pass) w
 
 -- Line k is one of those that the sweep takes.
 abbrev pub Taken : Pass → ℕ → ℕ → Type 0
-Taken pass stop k = (pass.first ≤ k) × (k < stop)
+Taken pass stop k = (pass.reach.first ≤ k) × (k < stop)
 
 -- The sides before c are swept, and the windows are kept if there is one.
 pub record SweepRun (bytes : List ℕ) (g : Galley) (w₀ w words₀ words : List ℕ) (pass : Pass) (stop c : ℕ) : Type 0 where
@@ -58,7 +58,7 @@ pub record SweepRun (bytes : List ℕ) (g : Galley) (w₀ w words₀ words : Lis
 -- The starts of the pass are known; where there is none nothing is stored.
 pub record SweepDone (bytes : List ℕ) (g : Galley) (w v : List ℕ) (pass : Pass) : Type 0 where
   pub known : Known bytes g v pass.to pass.from
-  pub still : g.text.count < pass.first → v ≡ w
+  pub still : g.text.count < pass.reach.first → v ≡ w
   pub kept : Scratched g pass.to w v
 
 -- Side c of a pass, the sides before it being swept.
@@ -67,7 +67,7 @@ pub record SideSweep (bytes : List ℕ) (g : Galley) (w sums words : List ℕ) (
   pub early : Early g w pass
   pub late : Late g w pass
   pub stopped : Stopped g sums pass stop
-  pub first : pass.first ≤ g.text.count
+  pub first : pass.reach.first ≤ g.text.count
   pub summed : Summed bytes g sums
   pub scratch : Scratch words
   pub passing : Passing bytes g pass
@@ -80,7 +80,7 @@ pub record SideSweep (bytes : List ℕ) (g : Galley) (w sums words : List ℕ) (
 -- Side c has come to line i: its lines after `since` are bounded, and its queues hold the window `fed`, from which the line's has risen.
 pub record SideRun (bytes : List ℕ) (g : Galley) (w₀ w sums words₀ words : List ℕ) (c : ℕ) (pass : Pass) (stop since : ℕ) (parts : Parts)
     (fed window : Window) (i : ℕ) : Type 0 where
-  pub from : pass.first ≤ i
+  pub from : pass.reach.first ≤ i
   pub within : i ≤ stop
   pub sized : length w ≡ length w₀
   pub words_sized : length words ≡ length words₀
@@ -88,7 +88,7 @@ pub record SideRun (bytes : List ℕ) (g : Galley) (w₀ w sums words₀ words :
   pub ends : Ends (text_of bytes g.text) (pass_load g pass) window i
   pub windows : Windowed bytes g words pass (λ k. Taken pass stop k × ((0 < c) ⊎ (k < i)))
   pub rises : Rises fed window
-  pub bounded : Bounded (lines_of w (g.text.count + 1) pass.from (side_of g c)) words pass.last since
+  pub bounded : Bounded (lines_of w (g.text.count + 1) pass.from (side_of g c)) words pass.reach.last since
   pub held : Both (lines_of w (g.text.count + 1) pass.from (side_of g c)) sums words 0 parts fed
   pub swept : Swept bytes g w pass.to pass.from (number c i)
   pub kept : Scratched g pass.to w₀ w
@@ -103,7 +103,7 @@ pub record SideDone (bytes : List ℕ) (g : Galley) (w v words : List ℕ) (c : 
 pub record LastLine (bytes : List ℕ) (g : Galley) (w sums : List ℕ) (c : ℕ) (pass : Pass) : Type 0 where
   pub lent : Lent bytes g w pass.to
   pub early : Early g w pass
-  pub first : pass.first ≤ g.text.count
+  pub first : pass.reach.first ≤ g.text.count
   pub summed : Summed bytes g sums
   pub passing : Passing bytes g pass
   pub occurs : c < g.spec.sides

@@ -10,26 +10,20 @@ use queues::queue::Source;
 fn lesser(least: u64, entry: Entry) -> u64
     ensures { result ≡ lesser_of least entry }
 {
-    let Entry::Least(x, _start) = entry else {
-        return least;
-    };
-    if places::less(x, least) {
-        return x;
+    match entry {
+        None => least,
+        Some(x) => least.min(x.cost),
     }
-    least
 }
 
 // Whether what is reached costs more at the far end of a column, or is not reached at one of its ends.
 fn grows(near: Entry, far: Entry) -> bool
     ensures { result ≡ grows_of near far }
 {
-    let Entry::Least(x, _start) = near else {
+    let (Some(x), Some(y)) = (near, far) else {
         return true;
     };
-    let Entry::Least(y, _start) = far else {
-        return true;
-    };
-    places::less(x, y)
+    x.cost < y.cost
 }
 
 // The lines of a source after `since` bounded, back from the last, which needs no bound: that of line a is kept as entry 12,000 + a,
@@ -40,10 +34,8 @@ fn bound_lines(work: &[u32], words: &mut [u32], source: Source, since: usize, li
 {
     let end = places::place_of(lines, source.column);
     let far = places::entry_of(work, source.tall, end, source.side);
-    let mut least = lesser(18446744073709551615, far);
-    let mut a = lines;
-    while since + 1 < a {
-        a -= 1;
+    let mut least = lesser(u64::MAX, far);
+    for a in (since + 1..lines).rev() {
         let place = places::place_of(a, source.column);
         let entry = places::entry_of(work, source.tall, place, source.side);
         least = lesser(least, entry);
@@ -58,7 +50,7 @@ fn bound_lines(work: &[u32], words: &mut [u32], source: Source, since: usize, li
 }
 
 // The line of a source after which there are bounds, for pages that end in column `to`: the first one that is reached, or the last, where
-// bounds are of no use. That is where all lines from the one to the other are no more than a page, where all cost as much, and where no
+// bounds are of no use: none is after that one, so that no line needs a test more. That is where all lines from the one to the other are no more than a page, where all cost as much, and where no
 // other column was weighed before.
 pub fn bound_side(
     work: &[u32],
@@ -72,13 +64,7 @@ pub fn bound_side(
     requires { Standing work.now words.old source lines }
     ensures { BoundFound work.now words.old source lines result words.new }
 {
-    if !several {
-        return lines;
-    }
-    if lines <= first {
-        return lines;
-    }
-    if to <= source.column + 1 {
+    if !several || lines <= first || to <= source.column + 1 {
         return lines;
     }
     let top = places::place_of(first, source.column);
@@ -106,15 +92,12 @@ pub fn beaten(
     requires { Comparable work.now words.now tall place side last }
     ensures { result ≡ true → Beaten work.now words.now tall place side since low last }
 {
-    if low <= since {
+    if low <= since || last <= low {
         return false;
     }
-    if last <= low {
-        return false;
-    }
-    let Entry::Least(x, _start) = places::entry_of(work, tall, place, side) else {
+    let Some(x) = places::entry_of(work, tall, place, side) else {
         return false;
     };
     let at = 3 * (low + 12000);
-    places::less(x, places::joined(words[at + 1], words[at + 2]))
+    x.cost < places::joined(words[at + 1], words[at + 2])
 }

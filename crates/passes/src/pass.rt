@@ -2,10 +2,11 @@
 // queues of starting lines, and line by line for the last page, which may be short. The best start so far of a place stands in the
 // place's own words.
 ghost use Rattle.std.specs.Prelude.{◌≡◌, ◌+◌};
+ghost use Rattle.blocks.specs.Heights.{Separable};
 ghost use Rattle.places.specs.Address.{Stands};
 ghost use Rattle.places.specs.Best.{Affordable};
 ghost use Rattle.candidates.specs.Read.{table_in};
-ghost use Rattle.passes.specs.Sweep.{alone_of, weighed, Ended, sweep_end, Stoppable, Stopped};
+ghost use Rattle.passes.specs.Sweep.{pass_load, alone_of, weighed, Ended, sweep_end, Stoppable, Stopped};
 ghost use Rattle.candidates.specs.Cells.{Wide};
 ghost use Rattle.passes.specs.Swept.{Sweep, SweepDone, SideSweep, SideDone, LastLine, LineDone};
 
@@ -13,10 +14,12 @@ use blocks::heights::Heights;
 use galley::Galley;
 use places::Entry;
 use queues::queue::Source;
+use reached::look::Reach;
+use window::slide::Load;
 
 // One sweep: starts in column `from`, for pages that end in column `to` and are no lower than `least`. A page of the floats between
 // alone has these heights, the separation of figures and tables with them, and this white; beside lines they have one separation more.
-// No line of column `from` before `first` or after `last` is reached.
+// No line of column `from` before the first of `reach` or after its last is reached.
 #[derive(Clone, Copy)]
 pub struct Pass {
     pub from: usize,
@@ -24,8 +27,17 @@ pub struct Pass {
     pub heights: Heights,
     pub least: u32,
     pub white: u32,
-    pub first: usize,
-    pub last: usize,
+    pub reach: Reach,
+}
+
+impl Pass {
+    // What a page of the pass has beside its lines.
+    fn load(self, g: Galley) -> Load
+        requires { Separable g.spec 1 self.heights }
+        ensures { result ≡ pass_load g self }
+    {
+        candidates::read::load_of(g, 1, self.heights, self.least, self.reach.first)
+    }
 }
 
 // The page of floats alone that starts after line i.
@@ -34,7 +46,7 @@ fn alone(g: Galley, work: &[u32], i: usize, side: usize, pass: Pass) -> Entry
     ensures { result ≡ alone_of g work.now i side pass }
 {
     if pass.heights.loose < pass.least {
-        return Entry::Unreached;
+        return None;
     }
     let place = places::place_of(i, pass.from);
     let entry = places::entry_of(work, g.text.count + 1, place, side);
@@ -59,9 +71,10 @@ fn sweep_end(g: Galley, pass: Pass) -> usize
     ensures { result ≡ sweep_end g pass }
 {
     if pass.to + 1 == candidates::read::columns_of(g) {
-        return g.text.count;
+        g.text.count
+    } else {
+        g.text.count + 1
     }
-    g.text.count + 1
 }
 
 // The line that a sweep stops at: the first one to which a page from the last reached line of the column is too tall. From there on so is
@@ -70,14 +83,12 @@ fn sweep_stop(g: Galley, sums: &[u32], pass: Pass) -> usize
     requires { Stoppable g sums.now pass }
     ensures { Stopped g sums.now pass result }
 {
-    let load = candidates::read::load_of(g, 1, pass.heights, pass.least, pass.first);
+    let load = pass.load(g);
     let end = sweep_end(g, pass);
-    let mut i = pass.last + 1;
-    while i < end {
-        if window::slide::too_tall(sums, load, pass.last, i) {
+    for i in pass.reach.last + 1..end {
+        if window::slide::too_tall(sums, load, pass.reach.last, i) {
             return i;
         }
-        i += 1;
     }
     end
 }
@@ -98,22 +109,27 @@ fn sweep_side(
     requires { SideSweep s.now g work.old sums.now words.old c pass stop }
     ensures { SideDone s.now g work.old work.new words.new c pass stop }
 {
-    let load = candidates::read::load_of(g, 1, pass.heights, pass.least, pass.first);
+    let load = pass.load(g);
     let side = candidates::read::side_before(g, c);
     let source = Source {
         tall: g.text.count + 1,
         column: pass.from,
         side,
     };
-    let several = window::slide::too_tall(sums, load, pass.first, pass.last);
+    let several = window::slide::too_tall(sums, load, pass.reach.first, pass.reach.last);
     let since = crate::bound::bound_side(
-        work, words, source, pass.to, pass.first, pass.last, several,
+        work,
+        words,
+        source,
+        pass.to,
+        pass.reach.first,
+        pass.reach.last,
+        several,
     );
     let mut parts = queues::parts::no_parts();
     let mut starts = window::slide::shut(load);
     let mut fed = window::slide::shut(load);
-    let mut i = pass.first;
-    while i < stop {
+    for i in pass.reach.first..stop {
         let before = starts;
         starts = window::windows::window_of(sums, load, words, before, i, c);
         let place = places::place_of(i, pass.to);
@@ -125,9 +141,8 @@ fn sweep_side(
             c,
             since,
             starts.low,
-            pass.last,
+            pass.reach.last,
         ) {
-            i += 1;
             continue;
         }
         let last = fed;
@@ -135,7 +150,6 @@ fn sweep_side(
         fed = starts;
         let lines = candidates::fronts::best_front(sums, words, parts, pass.from, load, i);
         improve(g, work, lines, i, c, pass);
-        i += 1;
     }
 }
 
@@ -147,17 +161,12 @@ fn last_line(s: &[u8], g: Galley, work: &mut [u32], sums: &[u32], c: usize, pass
     if pass.to + 1 < candidates::read::columns_of(g) {
         return;
     }
-    let heights = pass.heights;
     let last = Pass {
-        from: pass.from,
-        to: pass.to,
-        heights,
         least: rules::rules::floor_of(g, true),
         white: 0,
-        first: pass.first,
-        last: pass.last,
+        ..pass
     };
-    let load = candidates::read::load_of(g, 1, heights, last.least, pass.first);
+    let load = last.load(g);
     let side = candidates::read::side_before(g, c);
     let lines = candidates::last::last_lines(g, work, sums, load, pass.from, side);
     improve(g, work, lines, g.text.count, c, last);
@@ -169,14 +178,12 @@ pub fn sweep(s: &[u8], g: Galley, work: &mut [u32], sums: &[u32], words: &mut [u
     requires { Sweep s.now g work.old sums.now words.old pass }
     ensures { SweepDone s.now g work.old work.new pass }
 {
-    if g.text.count < pass.first {
+    if g.text.count < pass.reach.first {
         return;
     }
     let stop = sweep_stop(g, sums, pass);
-    let mut c = 0;
-    while c < g.spec.sides as usize {
+    for c in 0..g.spec.sides as usize {
         sweep_side(s, g, work, sums, words, c, pass, stop);
         last_line(s, g, work, sums, c, pass);
-        c += 1;
     }
 }

@@ -1,9 +1,16 @@
 -- What the words of the work area mean: an entry read, stored and cleared (document 01, "Making").
-use Rattle.std.specs.Prelude.{ℕ, ◌+◌, ◌*◌, ◌/◌, ◌%◌, Bool, true, false, List, [], ◌∷◌, ◌++◌, get_or, drop, replicate, eqb, ltb}
+use Rattle.std.specs.Prelude.{ℕ, ◌+◌, ◌*◌, ◌/◌, ◌%◌, Bool, true, false, List, [], ◌∷◌, ◌++◌, Option, Some, None, get_or, drop, replicate, eqb, ltb}
 use Rattle.std.proofs.lemmas.List.Edits.{sets}
 use Rattle.places.specs.declared.Place.{Place}
-use Rattle.places.specs.declared.Entry.{Entry}
-use Rattle.places.specs.declared.Entry.TheVariants.{Unreached, Least}
+use Rattle.places.specs.declared.Least.{Least}
+
+-- A place is either unreached or has a least cost, that of the page ending there, and with it the page's start (document 01, "Making").
+abbrev pub Entry : Type 0
+Entry = Option Least
+
+-- The entry of a place that is reached.
+abbrev pub least : ℕ → Place → Entry
+least cost start = Some (record { cost = cost; start = start })
 
 -- The cost x is less than y (document 01, "Making": least T; document 02, S-10: then least W).
 abbrev pub less : ℕ → ℕ → Bool
@@ -27,8 +34,8 @@ boundless = 4600000000000000000
 
 -- A place is either unreached or has a least cost, by its tag (document 01, "Making").
 abbrev pub tagged : Bool → ℕ → Place → Entry
-tagged true cost start = Least cost start
-tagged false cost start = Unreached
+tagged true cost start = least cost start
+tagged false cost start = None
 
 -- The entry whose five words start at an offset; only the tag 1 says that the place is reached (document 01, "Making").
 unfoldable pub entry_at : List ℕ → ℕ → Entry
@@ -39,8 +46,8 @@ entry_at w at =
 -- The five words of an entry: tag, the two of the cost, line and column; an unreached place is five zeros (document 01, "Making";
 -- document 02, S-10).
 abbrev pub words_of : Entry → List ℕ
-words_of Unreached = 0 ∷ 0 ∷ 0 ∷ 0 ∷ 0 ∷ []
-words_of (Least cost start) = 1 ∷ low_of cost ∷ high_of cost ∷ start.line ∷ start.column ∷ []
+words_of None = 0 ∷ 0 ∷ 0 ∷ 0 ∷ 0 ∷ []
+words_of (Some l) = 1 ∷ low_of l.cost ∷ high_of l.cost ∷ l.start.line ∷ l.start.column ∷ []
 
 -- The list after storing an entry from an offset on (document 01, "Making").
 unfoldable pub stored : List ℕ → ℕ → Entry → List ℕ

@@ -1,7 +1,6 @@
 -- The work area as a table of entries by place and side (document 01, "Making").
 use Rattle.std.specs.Prelude.{ℕ, List}
-use Rattle.places.specs.declared.Entry.{Entry}
-use Rattle.places.specs.Entry.{entry_at}
+use Rattle.places.specs.Entry.{Entry, entry_at}
 use Rattle.places.specs.Address.{address}
 
 -- The entry of place (i, j) on a side, in columns of `tall` places (document 01, "Making").

@@ -12,19 +12,22 @@ ghost use Rattle.places.specs.Table.{table_of};
 
 // Where a page starts, and where it ends: the lines placed so far, and the column, which is the number of the figures and tables
 // placed so far.
-#[derive(Clone, Copy)]
+#[derive(Clone, Copy, PartialEq, Eq, PartialOrd, Ord)]
 pub struct Place {
     pub line: u32,
     pub column: u32,
 }
 
-// A place, with the side of the page ending there, is either unreached or has a least cost; with the cost goes the start of
-// that page. A cost is one number: turns by 2³², and white, so that turns decide and then white.
+// The least cost of a place, with the side of the page ending there; with the cost goes the start of that page. A cost is one
+// number: turns by 2³², and white, so that turns decide and then white.
 #[derive(Clone, Copy)]
-pub enum Entry {
-    Unreached,
-    Least(u64, Place),
+pub struct Least {
+    pub cost: u64,
+    pub start: Place,
 }
+
+// A place is either unreached or has a least cost.
+pub type Entry = Option<Least>;
 
 // A limit that no list passes: the dearest costs 1,066,499,000 turns and 424,900,000 of white.
 pub const BOUNDLESS: u64 = 4600000000000000000;
@@ -92,13 +95,14 @@ fn entry_at(work: &[u32], at: usize) -> Entry
     ensures { result ≡ entry_at work.now at }
 {
     if work[at] == 1 {
+        let cost = joined(work[at + 1], work[at + 2]);
         let start = Place {
             line: work[at + 3],
             column: work[at + 4],
         };
-        Entry::Least(joined(work[at + 1], work[at + 2]), start)
+        Some(Least { cost, start })
     } else {
-        Entry::Unreached
+        None
     }
 }
 
@@ -129,8 +133,8 @@ pub fn store(work: &mut [u32], tall: usize, place: Place, side: usize, entry: En
 {
     let at = address_of(tall, place, side);
     match entry {
-        Entry::Unreached => put(work, at, 0, 0, Place { line: 0, column: 0 }),
-        Entry::Least(cost, start) => put(work, at, 1, cost, start),
+        None => put(work, at, 0, 0, Place { line: 0, column: 0 }),
+        Some(least) => put(work, at, 1, least.cost, least.start),
     }
 }
 

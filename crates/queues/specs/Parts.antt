@@ -1,11 +1,10 @@
 -- The two parts of a window, each with its queue: the starts of full pages, which have no white, and those of the others, whose white is
 -- what they lack of htMax (document 02, S-10).
-use Rattle.std.specs.Prelude.{ℕ, ◌+◌, ◌-◌, ◌*◌, ◌≤◌, ◌<◌, ◌≡◌, true, false, List, [], ◌∷◌, length, get_or, ltb}
+use Rattle.std.specs.Prelude.{ℕ, ◌+◌, ◌-◌, ◌*◌, ◌≤◌, ◌<◌, ◌≡◌, true, false, List, [], ◌∷◌, length, get_or, ltb, None, Some}
 use Rattle.std.proofs.lemmas.List.Edits.{sets}
 use Rattle.model.specs.Gather.{pick}
 use Rattle.places.specs.declared.Place.{Place}
-use Rattle.places.specs.declared.Entry.{Entry}
-use Rattle.places.specs.declared.Entry.TheVariants.{Unreached, Least}
+use Rattle.places.specs.Entry.{Entry, least}
 use Rattle.places.specs.Address.{Stands}
 use Rattle.window.specs.declared.slide.Window.{Window}
 use Rattle.queues.specs.declared.queue.Source.{Source}
@@ -79,10 +78,10 @@ pub record Moved (work sums old : List ℕ) (source : Source) (parts : Parts) (t
 -- A start whose cost has the height up to its line, with the page's white in its place: what the page, which reaches so far from the
 -- first line on, lacks of `top`.
 unfoldable pub whitened_of : Entry → ℕ → ℕ → Entry
-whitened_of Unreached top reached = Unreached
-whitened_of (Least x r) top reached = Least ((x + top) - reached) r
+whitened_of None top reached = None
+whitened_of (Some l) top reached = least ((l.cost + top) - reached) l.start
 
 -- The cost is small, and the page lacks something.
 pub record Whitenable (e : Entry) (top reached : ℕ) : Type 0 where
-  pub small : (x : ℕ) (r : Place) → e ≡ Least x r → x ≤ 11000000000000000000
-  pub enough : (x : ℕ) (r : Place) → e ≡ Least x r → reached ≤ x + top
+  pub small : (x : ℕ) (r : Place) → e ≡ least x r → x ≤ 11000000000000000000
+  pub enough : (x : ℕ) (r : Place) → e ≡ least x r → reached ≤ x + top

@@ -1,9 +1,7 @@
 -- The queue of a part of a window: the lines that may still be the best start, and what is known of them.
-use Rattle.std.specs.Prelude.{ℕ, suc, ◌+◌, ◌*◌, ◌≤◌, ◌<◌, ◌≡◌, Bool, List, length, get_or, ltb}
+use Rattle.std.specs.Prelude.{ℕ, suc, ◌+◌, ◌*◌, ◌≤◌, ◌<◌, ◌≡◌, Bool, List, length, get_or, ltb, None}
 use Rattle.model.specs.Gather.{pick}
-use Rattle.places.specs.declared.Entry.{Entry}
-use Rattle.places.specs.declared.Entry.TheVariants.{Unreached, Least}
-use Rattle.places.specs.Entry.{low_of, high_of, joined}
+use Rattle.places.specs.Entry.{Entry, least, low_of, high_of, joined}
 use Rattle.places.specs.Best.{Paid, Affordable}
 use Rattle.places.specs.Address.{Stands}
 use Rattle.places.specs.Table.{table_of}
@@ -29,8 +27,8 @@ queued words at line cost = pushed words at line (low_of cost) (high_of cost)
 unfoldable pub front_of : List ℕ → Queue → ℕ → Entry
 front_of words queue b =
     pick (ltb queue.head queue.tail)
-    (Least (cost_at words queue.head) (record { line = line_at words queue.head; column = b }))
-    Unreached
+    (least (cost_at words queue.head) (record { line = line_at words queue.head; column = b }))
+    None
 
 -- What line a adds to its cost: where pages lack something, the height up to it at its loosest.
 unfoldable pub added_of : List ℕ → Bool → ℕ → ℕ

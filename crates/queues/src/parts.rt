@@ -4,7 +4,7 @@ ghost use Rattle.std.specs.Prelude.{◌≡◌, ◌+◌, ◌*◌, ◌≤◌, leng
 ghost use Rattle.queues.specs.Parts.{parts_of, row_put, no_parts, later, Movable, Moved, whitened_of, Whitenable};
 
 use crate::queue::{Queue, Source};
-use places::Entry;
+use places::{Entry, Least};
 use window::slide::Window;
 
 // The queue of the full pages, and that of the others.
@@ -105,8 +105,9 @@ pub fn whitened(found: Entry, top: u32, reached: u32) -> Entry
     requires { Whitenable found top reached }
     ensures { result ≡ whitened_of found top reached }
 {
-    let Entry::Least(x, start) = found else {
-        return Entry::Unreached;
-    };
-    Entry::Least(x + top as u64 - reached as u64, start)
+    let x = found?;
+    Some(Least {
+        cost: x.cost + top as u64 - reached as u64,
+        start: x.start,
+    })
 }

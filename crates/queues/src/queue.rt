@@ -4,7 +4,7 @@
 ghost use Rattle.std.specs.Prelude.{◌≡◌, ◌+◌, ◌*◌, ◌≤◌, length};
 ghost use Rattle.queues.specs.Queue.{added_of, front_of, Entries, Dropped, Passed, Feedable, Fed, Advanceable, Advanced, QueueStands};
 
-use places::{Entry, Place};
+use places::{Entry, Least, Place};
 use window::sums::LOOSE;
 
 // The starts that a queue takes: the lines of a column of `tall` places, on a side.
@@ -87,10 +87,10 @@ fn feed(
         let entry = places::entry_of(work, source.tall, place, source.side);
         let more = added(sums, queue.lacks, a);
         a += 1;
-        let Entry::Least(x, _start) = entry else {
+        let Some(found) = entry else {
             continue;
         };
-        let cost = x + more as u64;
+        let cost = found.cost + more as u64;
         tail = drop_dearer(words, queue.head, tail, cost);
         window::rows::push(
             words,
@@ -139,7 +139,8 @@ pub fn front(words: &[u32], queue: Queue, column: usize) -> Entry
             line: words[at],
             column: column as u32,
         };
-        return Entry::Least(places::joined(words[at + 1], words[at + 2]), start);
+        let cost = places::joined(words[at + 1], words[at + 2]);
+        return Some(Least { cost, start });
     }
-    Entry::Unreached
+    None
 }

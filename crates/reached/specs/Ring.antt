@@ -1,5 +1,5 @@
 -- The ring of the columns that were found to be reached: what its words say.
-use Rattle.std.specs.Prelude.{ℕ, ◌+◌, ◌*◌, ◌/◌, ◌%◌, ◌≤◌, ◌<◌, ◌≡◌, ◌⊎◌, List, length, get_or}
+use Rattle.std.specs.Prelude.{ℕ, ◌+◌, ◌*◌, ◌/◌, ◌%◌, ◌≤◌, ◌<◌, ◌≡◌, ◌⊎◌, Option, Some, None, List, length, get_or}
 
 -- The word of column j, whose first and last reached lines are these: its number and one, then both lines in eights, the last rounded up.
 abbrev pub hint_of : ℕ → ℕ → ℕ → ℕ
@@ -28,19 +28,19 @@ pub record Present (seen : List ℕ) (j x : ℕ) : Type 0 where
 abbrev pub Absent : List ℕ → ℕ → Type 0
 Absent seen j = (x : ℕ) → Present seen j x → ⊥
 
--- r is such a word, or 0 where there is none.
-pub record HintIn (seen : List ℕ) (j r : ℕ) : Type 0 where
-  pub none : r ≡ 0 → Absent seen j
-  pub some : (r ≡ 0 → ⊥) → Present seen j r
+-- Such a word, or none where there is none.
+abbrev pub HintIn : List ℕ → ℕ → Option ℕ → Type 0
+HintIn seen j None = Absent seen j
+HintIn seen j (Some x) = Present seen j x
 
 -- A word that names no column, and leaves every line to look at: from the first to the last that can be written.
 abbrev pub every_line : ℕ
 every_line = 511
 
--- r is that, or what the ring has for a column that it covers.
-pub record HintFor (seen : List ℕ) (since j r : ℕ) : Type 0 where
-  pub none : r ≡ 0 → (since ≤ j) × Absent seen j
-  pub some : (r ≡ 0 → ⊥) → (r ≡ every_line) ⊎ ((since ≤ j) × Present seen j r)
+-- That, or what the ring has for a column that it covers.
+abbrev pub HintFor : List ℕ → ℕ → ℕ → Option ℕ → Type 0
+HintFor seen since j None = (since ≤ j) × Absent seen j
+HintFor seen since j (Some x) = (x ≡ every_line) ⊎ ((since ≤ j) × Present seen j x)
 
 -- Every column that is named comes before j.
 abbrev pub Named : List ℕ → ℕ → Type 0

@@ -15,17 +15,6 @@ pub struct Recall {
     pub head: usize,
 }
 
-// The word of a ring that comes after another: after the last the first.
-fn turned(head: usize, count: usize) -> usize
-    requires { head < count }
-    ensures { result < count }
-{
-    if head + 1 < count {
-        return head + 1;
-    }
-    0
-}
-
 // Column j put in the ring, with its first and its last reached line. It takes the place of the one that has stood there longest, and up to
 // that one nothing is known from now on.
 fn remember(seen: &mut [u32], recall: Recall, j: usize, reach: Reach) -> Recall
@@ -36,8 +25,8 @@ fn remember(seen: &mut [u32], recall: Recall, j: usize, reach: Reach) -> Recall
     let dropped = crate::ring::name_of(seen[at]);
     seen[at] = crate::ring::hint_of(j, reach.first, reach.last);
     Recall {
-        since: queues::parts::later(recall.since, dropped),
-        head: turned(at, seen.len()),
+        since: recall.since.max(dropped),
+        head: (at + 1) % seen.len(),
     }
 }
 
@@ -53,9 +42,8 @@ pub fn note(
     requires { ColumnRoom g work.now j × (recall.head < length seen.old) × Named seen.old j }
     ensures { Noted g work.now seen.old seen.new recall j from result }
 {
-    let reach = crate::look::reach_of(g, work, j, from, g.text.count + 1);
-    if g.text.count < reach.first {
+    let Some(reach) = crate::look::reach_of(g, work, j, from, g.text.count + 1) else {
         return recall;
-    }
+    };
     remember(seen, recall, j, reach)
 }

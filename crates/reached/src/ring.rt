@@ -32,34 +32,26 @@ pub fn last_of(hint: u32) -> usize
     (hint % 512 * 8) as usize
 }
 
-// The first word of the ring that names a column, 0 where none does.
-fn hint_in(seen: &[u32], column: usize) -> u32
+// The first word of the ring that names a column.
+fn hint_in(seen: &[u32], column: usize) -> Option<u32>
     requires { column ≤ 10250 }
     ensures { HintIn seen.now column result }
 {
     let name = column + 1;
-    let mut at = 0;
-    while at < seen.len() {
-        let hint = seen[at];
-        if name_of(hint) == name {
-            return hint;
-        }
-        at += 1;
-    }
-    0
+    seen.iter().copied().find(|hint| name_of(*hint) == name)
 }
 
 // A word that names no column, and leaves every line to look at: from the first to the last that can be written.
 const EVERY_LINE: u32 = 511;
 
-// What is known of a column where those from `since` on stand in the ring: its word, 0 where it is not reached, and before `since` the
+// What is known of a column where those from `since` on stand in the ring: its word, none where it is not reached, and before `since` the
 // word that leaves every line to look at.
-pub fn hint_for(seen: &[u32], column: usize, since: usize) -> u32
+pub fn hint_for(seen: &[u32], column: usize, since: usize) -> Option<u32>
     requires { column ≤ 10250 }
     ensures { HintFor seen.now since column result }
 {
     if column < since {
-        return EVERY_LINE;
+        return Some(EVERY_LINE);
     }
     hint_in(seen, column)
 }

@@ -1,5 +1,5 @@
 -- One chapter more: the routes after it, and the words that say where they come from.
-use Rattle.std.specs.Prelude.{ℕ, suc, ◌+◌, ◌*◌, ◌≤◌, ◌<◌, ◌≡◌, List, ◌∷◌, length, get_or, set, eqb}
+use Rattle.std.specs.Prelude.{ℕ, suc, ◌+◌, ◌*◌, ◌≤◌, ◌<◌, ◌≡◌, List, ◌∷◌, length, get_or, set, eqb, Ok}
 use Rattle.std.proofs.Math.Option.{some}
 use Rattle.model.specs.Galley as model
 use Rattle.model.specs.Book.{first_folio}
@@ -8,7 +8,6 @@ use Rattle.theorems.specs.books.Routes as theorems
 use Rattle.theorems.specs.books.Routes.{route}
 use Rattle.theorems.specs.books.Engine.{comes_from}
 use Rattle.galley.specs.declared.Galley.{Galley}
-use Rattle.galley.specs.declared.Reading.TheVariants as reads
 use Rattle.galley.specs.Whole.{galley_of}
 use Rattle.galley.specs.Model.{model_of}
 use Rattle.places.specs.Address.{words_needed}
@@ -24,7 +23,7 @@ use Rattle.routes.specs.Offer.{Cheap}
 -- The bytes of chapter k, from 0, of a book, the routes before it, and memory that is long enough.
 pub record NextRoom (bytes : List ℕ) (k : ℕ) (routes : Routes) (half : ℕ) (w from : List ℕ) : Type 0 where
   pub holds : Reads bytes
-  pub room : (g : Galley) → galley_of bytes ≡ reads.Galley g → words_needed g.text.count (columns_in g) ≤ half
+  pub room : (g : Galley) → galley_of bytes ≡ Ok g → words_needed g.text.count (columns_in g) ≤ half
   pub long : 2 * half ≤ length w
   pub few : k < 200
   pub one : Cheap k routes.one
@@ -45,7 +44,7 @@ pub record Onward (bytes : List ℕ) (k : ℕ) (routes : Routes) (from : List �
   pub kept : from' ≡ set (set from (2 * k) first.from) (2 * k + 1) second.from
   pub cheap_one : Cheap (suc k) r.one
   pub cheap_two : Cheap (suc k) r.two
-  pub right : (h : model.Galley) (f : ℕ) (rs : List model.Galley) (g : Galley) → galley_of bytes ≡ reads.Galley g → Alike h (model_of bytes g)
+  pub right : (h : model.Galley) (f : ℕ) (rs : List model.Galley) (g : Galley) → galley_of bytes ≡ Ok g → Alike h (model_of bytes g)
       → no_chapter rs ≡ eqb k 0 → routes.one ≡ kept_of (route h f rs 1) → routes.two ≡ kept_of (route h f rs 2)
       → Arrives h f (model_of bytes g) rs 1 first × Arrives h f (model_of bytes g) rs 2 second
 
@@ -58,7 +57,7 @@ pub record Lies (bytes lengths : List ℕ) (k : ℕ) : Type 0 where
 -- The routes are those before the first chapter.
 abbrev pub Opens : List ℕ → List ℕ → Routes → Type 0
 Opens bytes lengths r =
-    (g : Galley) → galley_of (chapter_bytes bytes lengths 0) ≡ reads.Galley g → r ≡ first_routes g.spec.sides g.folio
+    (g : Galley) → galley_of (chapter_bytes bytes lengths 0) ≡ Ok g → r ≡ first_routes g.spec.sides g.folio
 
 -- Before chapter k of a book that was read.
 pub record Routing (bytes lengths : List ℕ) (book : Book) (w₀ w : List ℕ) (k : ℕ) (routes : Routes) (from : List ℕ) : Type 0 where

@@ -5,17 +5,15 @@ use Rattle.model.specs.Leaf.{ends, sides_of}
 use Rattle.theorems.specs.pages.Graph.{side}
 use Rattle.galley.specs.declared.Galley.{Galley}
 use Rattle.galley.specs.Model.{sides_in}
-use Rattle.places.specs.declared.Entry as places
-use Rattle.places.specs.declared.Entry.TheVariants as entry
-use Rattle.places.specs.Entry.{low_of, high_of}
+use Rattle.places.specs.Entry.{Entry, low_of, high_of}
 use Rattle.candidates.specs.Read.{table_in}
 use Rattle.walk.specs.declared.Stop.{Stop}
 use Rattle.walk.specs.Trace.{entry_of}
 use Rattle.walk.specs.Traceable.{WorkArea, Traceable}
 use Rattle.closings.specs.Chapter.{closing_stop, later_starts, Counted, BothWalk}
 use Rattle.routes.specs.declared.Cost.{Cost}
-use Rattle.routes.specs.declared.Route.{Route}
-use Rattle.routes.specs.declared.Route.TheVariants.{Unreached, Least}
+use Rattle.routes.specs.Routes.{Route}
+use Rattle.std.specs.Prelude.{None, Some}
 use Rattle.routes.specs.declared.Routes.{Routes}
 use Rattle.routes.specs.declared.Step.{Step}
 use Rattle.routes.specs.Routes.{less}
@@ -25,15 +23,15 @@ abbrev pub turn_to : Galley → Bool → ℕ → ℕ
 turn_to g first folio = pick first 0 (pick (ends (sides_of g.spec.sides folio) 0) g.spec.beta 0)
 
 -- A route that goes on by the best list which closes where an entry is.
-abbrev pub passed : Route → ℕ → places.Entry → Route
-passed Unreached turn e = Unreached
-passed (Least c) turn entry.Unreached = Unreached
-passed (Least c) turn (entry.Least x s) =
-    Least (record { turns = c.turns + turn + high_of x; white = c.white + low_of x })
+abbrev pub passed : Route → ℕ → Entry → Route
+passed None turn e = None
+passed (Some c) turn None = None
+passed (Some c) turn (Some l) =
+    Some (record { turns = c.turns + turn + high_of l.cost; white = c.white + low_of l.cost })
 
 -- After k chapters a route costs at most k · 2³³: each chapter adds at most 2³² and a turn.
 abbrev pub Cheap : ℕ → Route → Type 0
-Cheap k route = (c : Cost) → route ≡ Least c → (c.turns ≤ k * 8589934592) × (c.white ≤ k * 8589934592)
+Cheap k route = (c : Cost) → route ≡ Some c → (c.turns ≤ k * 8589934592) × (c.white ≤ k * 8589934592)
 
 -- The route is one after so few chapters that its costs do not pass 64 bits with one chapter more.
 pub record Affordable (route : Route) : Type 0 where
@@ -46,7 +44,7 @@ pub record Payable (route : Route) (turn : ℕ) : Type 0 where
   pub small : turn < 4294967296
 
 -- It went on so, and its costs kept to their limit.
-pub record Passed (route : Route) (turn : ℕ) (e : places.Entry) (r : Route) : Type 0 where
+pub record Passed (route : Route) (turn : ℕ) (e : Entry) (r : Route) : Type 0 where
   pub is : r ≡ passed route turn e
   pub cheap : (k : ℕ) → Cheap k route → Cheap (suc k) r
 
@@ -71,16 +69,16 @@ later_from g w v next = later_starts g w v (closing_from g 1 next) (closing_from
 pub record Comparing (g : Galley) (w v : List ℕ) (next : ℕ) (a b : Route) : Type 0 where
   pub counted : Counted g
   pub low : next ≤ 2
-  pub walks : (x y : Cost) → a ≡ Least x → b ≡ Least y → BothWalk g w v (closing_from g 1 next) (closing_from g 2 next)
+  pub walks : (x y : Cost) → a ≡ Some x → b ≡ Some y → BothWalk g w v (closing_from g 1 next) (closing_from g 2 next)
 
 -- The preferred of two offers: the less dear, and at equal cost that with the later starts.
 abbrev pub decided : Bool → Route → Route → Step
-decided later Unreached b = record { route = b; from = 2 }
-decided later (Least x) Unreached = record { route = Least x; from = 1 }
-decided later (Least x) (Least y) =
-    pick (less x y) (record { route = Least x; from = 1 })
-    (pick (less y x) (record { route = Least y; from = 2 })
-    (pick later (record { route = Least x; from = 1 }) (record { route = Least y; from = 2 })))
+decided later None b = record { route = b; from = 2 }
+decided later (Some x) None = record { route = Some x; from = 1 }
+decided later (Some x) (Some y) =
+    pick (less x y) (record { route = Some x; from = 1 })
+    (pick (less y x) (record { route = Some y; from = 2 })
+    (pick later (record { route = Some x; from = 1 }) (record { route = Some y; from = 2 })))
 
 -- What folio o offers the next.
 abbrev pub offer_of : Galley → Route → Bool → ℕ → ℕ → List ℕ → Route
@@ -89,7 +87,7 @@ offer_of g route first o next w = passed route (turn_to g first o) (entry_of (ta
 -- The best route to the next folio: none where that does not occur, since work is single-sided.
 abbrev pub route_to : Galley → Routes → Bool → ℕ → List ℕ → List ℕ → Step
 route_to g routes first next w v =
-    pick (ltb g.spec.sides next) (record { route = Unreached; from = 1 })
+    pick (ltb g.spec.sides next) (record { route = None; from = 1 })
     (decided (later_from g w v next) (offer_of g routes.one first 1 next w) (offer_of g routes.two first 2 next v))
 
 -- Both work areas are long enough, and where a route leads to a folio its table can be walked.
@@ -100,8 +98,8 @@ pub record Arriving (g : Galley) (routes : Routes) (next : ℕ) (w v : List ℕ)
   pub two : Affordable routes.two
   pub low : next ≤ 2
   pub light : g.spec.beta ≤ 1000
-  pub first_walks : (x : Cost) → routes.one ≡ Least x → Traceable g w
-  pub second_walks : (x : Cost) → routes.two ≡ Least x → Traceable g v
+  pub first_walks : (x : Cost) → routes.one ≡ Some x → Traceable g w
+  pub second_walks : (x : Cost) → routes.two ≡ Some x → Traceable g v
 
 -- The best route is found, and its costs keep to their limit.
 pub record Arrived (g : Galley) (routes : Routes) (first : Bool) (next : ℕ) (w v : List ℕ) (r : Step) : Type 0 where

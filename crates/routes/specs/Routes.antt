@@ -8,14 +8,18 @@ use Rattle.theorems.specs.books.Routes as theorems
 use Rattle.theorems.specs.books.Routes.{route}
 use Rattle.theorems.specs.books.Engine.{comes_from}
 use Rattle.routes.specs.declared.Cost.{Cost}
-use Rattle.routes.specs.declared.Route.{Route}
-use Rattle.routes.specs.declared.Route.TheVariants.{Unreached, Least}
+use Rattle.std.specs.Prelude.{None, Some}
+use Rattle.std.specs.Prelude as std
 use Rattle.routes.specs.declared.Routes.{Routes}
+
+-- What is known of the choices that lead to a folio: none, or what the best of them costs.
+abbrev pub Route : Type 0
+Route = std.Option Cost
 
 -- What the code keeps of a route.
 abbrev pub kept_of : Option theorems.Route → Route
-kept_of none = Unreached
-kept_of (some r) = Least (record { turns = r.turns; white = r.white })
+kept_of none = None
+kept_of (some r) = Some (record { turns = r.turns; white = r.white })
 
 -- The first cost is the less: by turns, then by white.
 abbrev pub less : Cost → Cost → Bool
@@ -23,22 +27,23 @@ less a b = pick (eqb a.turns b.turns) (ltb a.white b.white) (ltb a.turns b.turns
 
 -- Some choice leads there.
 abbrev pub is_reached : Route → Bool
-is_reached Unreached = false
-is_reached (Least c) = true
+is_reached None = false
+is_reached (Some c) = true
 
--- The folio after the best of all choices, 0 where there is none: at equal cost 1, before which the last folio is even.
-unfoldable pub best_end : Route → Route → ℕ
-best_end Unreached b = pick (is_reached b) 2 0
-best_end (Least x) Unreached = 1
-best_end (Least x) (Least y) = pick (less y x) 2 1
+-- The folio after the best of all choices, where there is one: at equal cost 1, before which the last folio is even.
+unfoldable pub best_end : Route → Route → std.Option ℕ
+best_end None None = None
+best_end None (Some y) = Some 2
+best_end (Some x) None = Some 1
+best_end (Some x) (Some y) = Some (pick (less y x) 2 1)
 
 -- Before the first chapter one route leads to its folio, at no cost.
 abbrev pub first_routes : ℕ → ℕ → Routes
 first_routes sides folio =
-    let none = Least (record { turns = 0; white = 0 }) in
+    let none : Route = Some (record { turns = 0; white = 0 }) in
     pick (eqb sides 2)
-    (pick (eqb (folio % 2) 0) (record { one = Unreached; two = none }) (record { one = none; two = Unreached }))
-    (record { one = none; two = Unreached })
+    (pick (eqb (folio % 2) 0) (record { one = None; two = none }) (record { one = none; two = None }))
+    (record { one = none; two = None })
 
 -- The chapters before number k, the last first.
 abbrev pub before : List model.Galley → ℕ → List model.Galley

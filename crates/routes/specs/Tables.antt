@@ -5,9 +5,9 @@ use Rattle.galley.specs.Sound.{Sound}
 use Rattle.places.specs.Address.{words_needed}
 use Rattle.candidates.specs.Read.{columns_in}
 use Rattle.closings.specs.Chapter.{on_folio, Tabled}
-use Rattle.routes.specs.declared.Route.{Route}
+use Rattle.routes.specs.Routes.{Route}
 use Rattle.routes.specs.declared.Routes.{Routes}
-use Rattle.routes.specs.declared.tables.Steps.{Steps}
+use Rattle.routes.specs.declared.Step.{Step}
 use Rattle.routes.specs.Routes.{is_reached}
 use Rattle.routes.specs.Offer.{Arriving, Arrived}
 
@@ -35,6 +35,6 @@ pub record Halved (g : Galley) (routes : Routes) (half : ℕ) (w : List ℕ) : T
   pub two : Arriving g routes 2 (take half w) (drop half w)
 
 -- They are read.
-pub record Stepped (g : Galley) (routes : Routes) (first : Bool) (half : ℕ) (w : List ℕ) (r : Steps) : Type 0 where
-  pub one : Arrived g routes first 1 (take half w) (drop half w) r.one
-  pub two : Arrived g routes first 2 (take half w) (drop half w) r.two
+pub record Stepped (g : Galley) (routes : Routes) (first : Bool) (half : ℕ) (w : List ℕ) (r : Step × Step) : Type 0 where
+  pub one : Arrived g routes first 1 (take half w) (drop half w) r.0
+  pub two : Arrived g routes first 2 (take half w) (drop half w) r.1

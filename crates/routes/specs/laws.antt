@@ -9,4 +9,3 @@ pub mod Arrive
 pub mod Next
 pub mod Routing
 pub mod Book
-pub mod Extent

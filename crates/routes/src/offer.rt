@@ -1,5 +1,5 @@
 // What each folio offers the next: its route through the chapter, by the best list that closes so; and which of two offers is taken.
-ghost use Rattle.std.specs.Prelude.{◌≡◌, ◌≤◌, ◌<◌};
+ghost use Rattle.std.specs.Prelude.{◌≡◌, ◌≤◌};
 ghost use Rattle.candidates.specs.Read.{table_in};
 ghost use Rattle.walk.specs.Trace.{entry_of};
 ghost use Rattle.routes.specs.Offer.{turn_to, Payable, Passed, Offering, closing_from, Comparing, decided, later_from, Arriving, Arrived};
@@ -13,20 +13,11 @@ fn crossing(g: Galley, first: bool, folio: u32) -> u64
     requires { 1 ≤ folio }
     ensures { result ≡ turn_to g first folio }
 {
-    if first {
-        return 0;
+    if !first && model::page::side_ends(g.spec.sides, folio, 0) {
+        u64::from(g.spec.beta)
+    } else {
+        0
     }
-    if model::page::side_ends(g.spec.sides, folio, 0) {
-        return g.spec.beta as u64;
-    }
-    0
-}
-
-// Half of a cost as a number that sums can hold.
-fn word(half: u32) -> u64
-    ensures { (result ≡ half) × (result < 4294967296) }
-{
-    half as u64
 }
 
 // A route that goes on by the best list which closes where this entry is.
@@ -34,15 +25,11 @@ fn through(route: Route, turn: u64, entry: Entry) -> Route
     requires { Payable route turn }
     ensures { Passed route turn entry result }
 {
-    let Route::Least(cost) = route else {
-        return Route::Unreached;
-    };
-    let Entry::Least(x, _start) = entry else {
-        return Route::Unreached;
-    };
-    Route::Least(Cost {
-        turns: cost.turns + turn + word(places::high_of(x)),
-        white: cost.white + word(places::low_of(x)),
+    let cost = route?;
+    let least = entry?;
+    Some(Cost {
+        turns: cost.turns + turn + u64::from(places::high_of(least.cost)),
+        white: cost.white + u64::from(places::low_of(least.cost)),
     })
 }
 
@@ -62,16 +49,16 @@ fn preferred(g: Galley, one: &[u32], two: &[u32], next: u32, a: Route, b: Route)
     requires { Comparing g one.now two.now next a b }
     ensures { result ≡ decided (later_from g one.now two.now next) a b }
 {
-    let Route::Least(x) = a else {
+    let Some(x) = a else {
         return Step { route: b, from: 2 };
     };
-    let Route::Least(y) = b else {
+    let Some(y) = b else {
         return Step { route: a, from: 1 };
     };
-    if crate::less(x, y) {
+    if x < y {
         return Step { route: a, from: 1 };
     }
-    if crate::less(y, x) {
+    if y < x {
         return Step { route: b, from: 2 };
     }
     let first = closings::closing_stop(g, closings::closing_side(g, 1, next));
@@ -89,13 +76,11 @@ pub fn route_to(g: Galley, routes: Routes, first: bool, next: u32, one: &[u32], 
 {
     if g.spec.sides < next {
         return Step {
-            route: Route::Unreached,
+            route: None,
             from: 1,
         };
     }
-    let to_one = routes.one;
-    let to_two = routes.two;
-    let a = offered(g, to_one, first, 1, next, one);
-    let b = offered(g, to_two, first, 2, next, two);
+    let a = offered(g, routes.one, first, 1, next, one);
+    let b = offered(g, routes.two, first, 2, next, two);
     preferred(g, one, two, next, a, b)
 }

@@ -1,9 +1,8 @@
 -- Where making begins after an opening: the place where it ends, its pages and what they cost (document 02, S-6).
-use Rattle.std.specs.Prelude.{ℕ, ◌+◌, ◌*◌, ◌≤◌, ◌≡◌, List}
+use Rattle.std.specs.Prelude.{ℕ, ◌+◌, ◌*◌, ◌≤◌, ◌≡◌, List, Result, Ok, Err}
 use Rattle.std.proofs.Math.Option.{Option, none, some}
-use Rattle.model.specs.declared.answer.Answer.{Answer}
-use Rattle.model.specs.declared.answer.Answer.TheVariants.{Refused}
-use Rattle.model.specs.Answers.{pages_of}
+use Rattle.model.specs.declared.answer.Refusal.{Refusal}
+use Rattle.model.specs.Answers.{pages_of, Answer}
 use Rattle.model.specs.Opening.{opening_turned}
 use Rattle.theorems.specs.pages.Opening.{after}
 use Rattle.theorems.specs.pages.LeastAfter.{Whole}
@@ -16,8 +15,6 @@ use Rattle.rules.specs.Parts.{CountLimits, printed_cost}
 use Rattle.places.specs.declared.Origin.{Origin}
 use Rattle.places.specs.Entry.{boundless}
 use Rattle.candidates.specs.Read.{FewFloats}
-use Rattle.solving.specs.declared.opening.Begun.{Begun}
-use Rattle.solving.specs.declared.opening.Begun.TheVariants as begun
 use Rattle.solving.specs.Shown.{origin_of, Proper}
 
 -- The origin after so many pages, which end with these counts, where so many floats waited at the ends of leaves and so much white was
@@ -48,11 +45,11 @@ pub record Opened (bytes : List ℕ) (g : Galley) (ws : List ℕ) (from : Origin
   pub limited : from.limit ≤ boundless
 
 -- What turns the opening away.
-abbrev pub told : Begun → Option Answer
-told (begun.Refused n at) = some (Refused n at)
-told (begun.From from) = none
+abbrev pub told : Result Origin Refusal → Option Answer
+told (Err r) = some (Err r)
+told (Ok from) = none
 
 -- Where making begins after the opening that words name, or what turns it away.
-pub record BegunAfter (bytes : List ℕ) (g : Galley) (ws : List ℕ) (r : Begun) : Type 0 where
+pub record BegunAfter (bytes : List ℕ) (g : Galley) (ws : List ℕ) (r : Result Origin Refusal) : Type 0 where
   pub turned : told r ≡ opening_turned (model_of bytes g) ws
-  pub opened : (from : Origin) → r ≡ begun.From from → Opened bytes g ws from
+  pub opened : (from : Origin) → r ≡ Ok from → Opened bytes g ws from

@@ -1,5 +1,5 @@
 -- The table of entries as the graph of pages has it: each start with the side of the page that ends there, and the end.
-use Rattle.std.specs.Prelude.{ℕ, ◌-◌, ◌≤◌, ◌<◌}
+use Rattle.std.specs.Prelude.{ℕ, ◌-◌, ◌≤◌, ◌<◌, None, Some}
 use Rattle.model.specs.Galley as model
 use Rattle.model.specs.Galley.{Galley, count}
 use Rattle.theorems.specs.optimality.Graph as graph
@@ -8,8 +8,7 @@ use Rattle.theorems.specs.pages.Graph as pages
 use Rattle.theorems.specs.pages.Graph.{State, stop, end, Within, page_graph}
 use Rattle.places.specs.declared.Place.{Place}
 use Rattle.places.specs.declared.Origin.{Origin}
-use Rattle.places.specs.declared.Entry.{Entry}
-use Rattle.places.specs.declared.Entry.TheVariants.{Unreached, Least}
+use Rattle.places.specs.Entry.{Entry}
 use Rattle.places.specs.Columns.{columns, float_sizes, place_at, column_in}
 use Rattle.candidates.specs.Search.{Table, before, most_from}
 use Rattle.walk.specs.Trace.{last_side}
@@ -28,13 +27,13 @@ graph_of g from = page_graph g (origin_of g from)
 
 -- An entry of side c: its start is on the side of the page before.
 unfoldable pub shown : Galley → ℕ → Entry → graph.Entry ℕ State
-shown g c Unreached = graph.unreached
-shown g c (Least x s) = graph.least x (stop (at g s) (before g.spec.sides c))
+shown g c None = graph.unreached
+shown g c (Some l) = graph.least l.cost (stop (at g l.start) (before g.spec.sides c))
 
 -- The entry of the end, from that of a full place: the same cost, with the full place as its start.
 unfoldable pub finished : State → Entry → graph.Entry ℕ State
-finished u Unreached = graph.unreached
-finished u (Least x s) = graph.least x u
+finished u None = graph.unreached
+finished u (Some l) = graph.least l.cost u
 
 -- The last line and the last column: every block is placed.
 abbrev pub last_place : Galley → Place

@@ -1,14 +1,11 @@
 -- What is known between the steps of making: a galley that was read, a work area that was filled, a page list that was written.
-use Rattle.std.specs.Prelude.{ℕ, ◌≤◌, ◌≡◌, List, ◌++◌, length, drop}
-use Rattle.model.specs.declared.answer.Answer.{Answer}
+use Rattle.std.specs.Prelude.{ℕ, ◌≤◌, ◌≡◌, List, ◌++◌, length, drop, None, Ok}
 use Rattle.model.specs.Opening.{made_after, made_words_after}
 use Rattle.galley.specs.declared.Galley.{Galley}
-use Rattle.galley.specs.declared.Reading.TheVariants as reads
 use Rattle.galley.specs.Whole.{galley_of}
 use Rattle.galley.specs.Model.{model_of}
 use Rattle.galley.specs.Sound.{Sound}
 use Rattle.places.specs.declared.Origin.{Origin}
-use Rattle.places.specs.declared.Entry.TheVariants.{Unreached}
 use Rattle.places.specs.Entry.{boundless}
 use Rattle.places.specs.Address.{words_needed}
 use Rattle.candidates.specs.Read.{table_in, columns_in}
@@ -17,14 +14,15 @@ use Rattle.walk.specs.Trace.{entry_of}
 use Rattle.walk.specs.Traceable.{last_stop}
 use Rattle.needs.specs.Needs.{work_needed, list_needed}
 use Rattle.solving.specs.Begun.{Opened}
+use Rattle.model.specs.Answers.{Answer}
 
 -- The bytes hold the galley.
 pub record Readable (bytes : List ℕ) (g : Galley) : Type 0 where
-  pub reads : galley_of bytes ≡ reads.Galley g
+  pub reads : galley_of bytes ≡ Ok g
 
 -- Making begins where the opening ends, and so many words of the work area and the page list are long enough.
 pub record Soluble (bytes : List ℕ) (g : Galley) (opening : List ℕ) (from : Origin) (needed : ℕ) (work list : List ℕ) : Type 0 where
-  pub reads : galley_of bytes ≡ reads.Galley g
+  pub reads : galley_of bytes ≡ Ok g
   pub opened : Opened bytes g opening from
   pub is : needed ≡ work_needed g
   pub enough : work_needed g ≤ length work
@@ -39,12 +37,12 @@ pub record TabledFrom (bytes : List ℕ) (g : Galley) (from : Origin) (work : Li
 
 -- The work area was so filled, without a limit if the full place is not reached, and the page list is long enough.
 pub record Solved (bytes : List ℕ) (g : Galley) (opening : List ℕ) (from : Origin) (work list : List ℕ) : Type 0 where
-  pub reads : galley_of bytes ≡ reads.Galley g
+  pub reads : galley_of bytes ≡ Ok g
   pub opened : Opened bytes g opening from
   pub before : List ℕ
   pub enough : work_needed g ≤ length before
   pub is : work ≡ filled (model_of bytes g) from before
-  pub sought : entry_of (table_in g work) (last_stop g work) ≡ Unreached → from.limit ≡ boundless
+  pub sought : entry_of (table_in g work) (last_stop g work) ≡ None → from.limit ≡ boundless
   pub room : list_needed g ≤ length list
 
 -- The answer is that of the best list that begins with the opening, or 11, and its words stand before the rest of the page list.

@@ -4,7 +4,7 @@
 ghost use Rattle.solving.specs.Solved.{Solved, Written};
 
 use galley::Galley;
-use model::answer::Answer;
+use model::answer::{Answer, Refusal};
 use places::Origin;
 
 pub mod opening; // opening.rt: where making begins after an opening
@@ -23,14 +23,14 @@ pub fn best_pages(
 {
     let last = walk::last_stop(g, work);
     if !walk::reached(g, work, last) {
-        return Answer::Refused {
+        return Err(Refusal {
             number: 11,
             place: 0,
-        };
+        });
     }
     let p = walk::count_pages(g, work, origin, last);
     let begun = opening.len();
-    crate::opening::copy_words(opening, pages);
+    pages[..begun].copy_from_slice(opening);
     walk::write_pages(g, work, last, p, &mut pages[begun..]);
     let words = begun + blocks::page_words(g) * p;
     // The opening is part of the list, and what it costs part of the answer.

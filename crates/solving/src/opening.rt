@@ -1,27 +1,20 @@
 // Where making begins after an opening. Document 02, S-6.
-ghost use Rattle.std.specs.Prelude.{◌≡◌, ◌++◌, ◌≤◌, length, drop};
+ghost use Rattle.std.specs.Prelude.{◌≡◌};
 ghost use Rattle.galley.specs.Sound.{Sound};
 ghost use Rattle.solving.specs.Begun.{Ending, origin_after, BegunAfter};
 
-use blocks::Counts;
 use galley::Galley;
-use openings::Opening;
+use model::answer::Refusal;
+use openings::Ends;
 use places::{BOUNDLESS, Origin};
-use rules::counts::Sums;
 
-// Where making begins, or what turns the opening away.
-#[derive(Clone, Copy)]
-pub enum Begun {
-    Refused { number: u32, place: u32 },
-    From(Origin),
-}
-
-// The origin after so many pages, which end with these counts, where so many floats waited at the ends of leaves and so much white was
+// The origin after the pages of an opening, from where they end, how many floats waited at the ends of their leaves and how much white was
 // left.
-fn origin_after(g: Galley, pages: u32, at: Counts, sums: Sums) -> Origin
-    requires { Ending g pages at sums }
-    ensures { result ≡ origin_after g pages at sums }
+fn origin_after(g: Galley, ends: Ends) -> Origin
+    requires { Ending g ends.pages ends.at ends.sums }
+    ensures { result ≡ origin_after g ends.pages ends.at ends.sums }
 {
+    let Ends { pages, at, sums } = ends;
     let column = at.figures * (g.tables.count + 1) + at.tables;
     Origin {
         place: places::place_of(at.lines, column),
@@ -31,26 +24,11 @@ fn origin_after(g: Galley, pages: u32, at: Counts, sums: Sums) -> Origin
     }
 }
 
-// Where making begins after the opening that words name.
-pub fn begin_after(s: &[u8], g: Galley, opening: &[u32]) -> Begun
+// Where making begins after the opening that words name, or what turns it away.
+pub fn begin_after(s: &[u8], g: Galley, opening: &[u32]) -> Result<Origin, Refusal>
     requires { Sound s.now g }
     ensures { BegunAfter s.now g opening.now result }
 {
-    let judged = openings::judge_opening(s, g, opening);
-    match judged {
-        Opening::Refused { number, place } => Begun::Refused { number, place },
-        Opening::Ends { pages, at, sums } => Begun::From(origin_after(g, pages, at, sums)),
-    }
-}
-
-// The words of the opening over the first of the page list.
-pub fn copy_words(opening: &[u32], pages: &mut [u32])
-    requires { length opening.now ≤ length pages.old }
-    ensures { pages.new ≡ opening.now ++ drop (length opening.now) pages.old }
-{
-    let mut i = 0;
-    while i < opening.len() {
-        pages[i] = opening[i];
-        i += 1;
-    }
+    let ends = openings::judge_opening(s, g, opening)?;
+    Ok(origin_after(g, ends))
 }

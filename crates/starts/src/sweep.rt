@@ -39,9 +39,10 @@ pub fn floats_alone(g: Galley, figures: Heights, tables: Heights, both: bool) ->
         loose: figures.loose + tables.loose,
     };
     if both {
-        return blocks::heights::separated(g, 1, floats);
+        blocks::heights::separated(g, 1, floats)
+    } else {
+        floats
     }
-    floats
 }
 
 // The tables of the columns that a row has to offer are fewer than this: no more than the end's, and in its own row fewer.
@@ -50,9 +51,10 @@ fn row_top(row: Row) -> usize
     ensures { result ≡ row_top row }
 {
     if row.figures < row.end.figures {
-        return row.end.tables + 1;
+        row.end.tables + 1
+    } else {
+        row.end.tables
     }
-    row.end.tables
 }
 
 // The best starts in the columns of a row, for every place of the column where the pages end: back to the first whose floats to that
@@ -72,10 +74,8 @@ fn sweep_row(
 {
     let row_from = row.figures * (g.tables.count + 1);
     let mut tables = Heights { tight: 0, loose: 0 };
-    let mut t = row_top(row);
     let mut any = false;
-    while row.begin.origin.tables < t {
-        t -= 1;
+    for t in (row.begin.origin.tables..row_top(row)).rev() {
         tables = blocks::heights::block_before(s, g.tables, tables, t, row.end.tables);
         let both = (row.figures < row.end.figures) & (t < row.end.tables);
         let floats = floats_alone(g, row.heights, tables, both);
@@ -85,17 +85,19 @@ fn sweep_row(
         let from = row_from + t;
         let line = row.begin.origin.lines;
         let reach = reached::look::reach_in(g, work, seen, from, row.begin.since, line);
+        let Some(reach) = reach else {
+            continue;
+        };
         let pass = Pass {
             from,
             to: row.to,
             heights: floats,
             least: row.least,
             white: rules::counts::white_at(g, false, floats.loose),
-            first: reach.first,
-            last: reach.last,
+            reach,
         };
         passes::pass::sweep(s, g, work, sums, words, pass);
-        any = any | (reach.first <= g.text.count);
+        any = true;
     }
     any
 }
@@ -119,10 +121,8 @@ pub fn sweep_column(
     let end = candidates::read::counts_at(g, 0, j);
     let least = rules::rules::floor_of(g, false);
     let mut heights = Heights { tight: 0, loose: 0 };
-    let mut b = end.figures + 1;
     let mut any = false;
-    while begin.origin.figures < b {
-        b -= 1;
+    for b in (begin.origin.figures..end.figures + 1).rev() {
         heights = blocks::heights::block_before(s, g.figures, heights, b, end.figures);
         if g.spec.htmax < heights.tight {
             return any;
@@ -136,7 +136,7 @@ pub fn sweep_column(
             least,
         };
         let some = sweep_row(s, g, work, sums, words, seen, row);
-        any = any | some;
+        any |= some;
     }
     any
 }

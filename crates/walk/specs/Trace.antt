@@ -1,27 +1,25 @@
 -- From the last page back to the first, by the start that each entry holds.
-use Rattle.std.specs.Prelude.{ℕ, zero, suc, ◌+◌, ◌-◌, ◌*◌, ◌%◌, Bool, true, false, List}
+use Rattle.std.specs.Prelude.{ℕ, zero, suc, ◌+◌, ◌-◌, ◌*◌, ◌%◌, Bool, true, false, List, None, Some}
 use Rattle.std.proofs.lemmas.List.Edits.{sets}
 use Rattle.model.specs.Gather.{pick}
 use Rattle.model.specs.Galley.{Sides, single, double, Galley, streams}
 use Rattle.places.specs.declared.Place.{Place}
 use Rattle.places.specs.declared.Origin.{Origin}
-use Rattle.places.specs.declared.Entry.{Entry}
-use Rattle.places.specs.declared.Entry.TheVariants.{Unreached, Least}
-use Rattle.places.specs.Entry.{less}
+use Rattle.places.specs.Entry.{Entry, less}
 use Rattle.places.specs.Columns.{place_at}
 use Rattle.candidates.specs.Search.{Table, before, begins}
 use Rattle.walk.specs.declared.Stop.{Stop}
 
 -- The start that the entry of a place holds; from a place that was never reached the walk goes nowhere.
 unfoldable pub start_of : Entry → Place → Place
-start_of Unreached at = at
-start_of (Least x s) at = s
+start_of None at = at
+start_of (Some l) at = l.start
 
 -- The first entry is strictly less dear than the second; an unreached one is not.
 unfoldable pub cheaper : Entry → Entry → Bool
-cheaper Unreached e = false
-cheaper (Least x s) Unreached = true
-cheaper (Least x s) (Least y r) = less x y
+cheaper None e = false
+cheaper (Some l) None = true
+cheaper (Some l) (Some k) = less l.cost k.cost
 
 -- The side of the pages with an even folio, from a first folio on.
 abbrev pub even_side : ℕ → ℕ

@@ -1,12 +1,11 @@
 -- What is asked of a galley and its work area before the walk back, and what holds while it goes on.
-use Rattle.std.specs.Prelude.{ℕ, ◌+◌, ◌*◌, ◌-◌, ◌≤◌, ◌<◌, ◌≡◌, Bool, true, false, List, length}
+use Rattle.std.specs.Prelude.{ℕ, ◌+◌, ◌*◌, ◌-◌, ◌≤◌, ◌<◌, ◌≡◌, Bool, true, false, List, length, None, Some}
 use Rattle.galley.specs.declared.Galley.{Galley}
 use Rattle.galley.specs.Model.{sides_in, model_of}
 use Rattle.blocks.specs.Counts.{page_words}
 use Rattle.places.specs.declared.Place.{Place}
 use Rattle.places.specs.declared.Origin.{Origin}
-use Rattle.places.specs.declared.Entry.{Entry}
-use Rattle.places.specs.declared.Entry.TheVariants.{Unreached, Least}
+use Rattle.places.specs.Entry.{Entry, least}
 use Rattle.places.specs.Address.{words_needed}
 use Rattle.candidates.specs.Read.{table_in, columns_in, FewFloats}
 use Rattle.entries.specs.Filled.{Side}
@@ -15,8 +14,8 @@ use Rattle.walk.specs.Trace.{last_side, count_back, write_back}
 
 -- An entry says that its place is reached.
 abbrev pub is_reached : Entry → Bool
-is_reached Unreached = false
-is_reached (Least x s) = true
+is_reached None = false
+is_reached (Some l) = true
 
 -- How many blocks there are: no list has more pages.
 abbrev pub blocks_in : Galley → ℕ
@@ -46,7 +45,7 @@ pub record Visits (g : Galley) (at : Stop) : Type 0 where
 pub record Traceable (g : Galley) (w : List ℕ) : Type 0 where
   pub lent : WorkArea g w
   pub starts : (a b c x : ℕ) (s : Place) → a ≤ g.text.count → b < columns_in g → Side (sides_in g) c
-      → table_in g w a b c ≡ Least x s → (s.line ≤ a) × (s.column ≤ b)
+      → table_in g w a b c ≡ least x s → (s.line ≤ a) × (s.column ≤ b)
 
 -- A walk over such a table may begin at a stop.
 pub record Walkable (g : Galley) (w : List ℕ) (first : Stop) : Type 0 where

@@ -20,26 +20,23 @@ pub struct Stop {
 }
 
 // The start of the page that ends at an entry's place; a place that was never reached has none, and the walk stays there.
+#[tactic(auto, unfolding(crate::specs::Trace::start_of))]
 fn start_of(entry: Entry, place: Place) -> Place
     ensures { result ≡ start_of entry place }
 {
-    match entry {
-        Entry::Unreached => place,
-        Entry::Least(_cost, start) => start,
-    }
+    entry.map_or(place, |least| least.start)
 }
 
 // Whether an entry is strictly less dear than another: one that was never reached is not.
+#[tactic(auto, unfolding(crate::specs::Trace::cheaper))]
 fn cheaper(entry: Entry, other: Entry) -> bool
     ensures { result ≡ cheaper entry other }
 {
-    let Entry::Least(x, _s) = entry else {
-        return false;
-    };
-    let Entry::Least(y, _r) = other else {
-        return true;
-    };
-    places::less(x, y)
+    match (entry, other) {
+        (None, _) => false,
+        (Some(_), None) => true,
+        (Some(x), Some(y)) => x.cost < y.cost,
+    }
 }
 
 // The side of the last page of the best list: that of an even last folio, unless the other is strictly less dear.
@@ -75,11 +72,7 @@ pub fn reached(g: Galley, work: &[u32], at: Stop) -> bool
     requires { WorkArea g work.now × Visits g at }
     ensures { result ≡ is_reached (entry_of (table_in g work.now) at) }
 {
-    let entry = places::entry_of(work, g.text.count + 1, at.place, at.side);
-    match entry {
-        Entry::Unreached => false,
-        Entry::Least(_cost, _start) => true,
-    }
+    places::entry_of(work, g.text.count + 1, at.place, at.side).is_some()
 }
 
 // Where the page before stops.
@@ -114,15 +107,13 @@ pub fn count_pages(g: Galley, work: &[u32], origin: Origin, last: Stop) -> usize
 {
     let most = g.text.count + g.figures.count + g.tables.count;
     let mut at = last;
-    let mut p = 0;
-    while p < most {
+    for p in 0..most {
         if at_origin(g, origin, at) {
             return p;
         }
         at = page_before(g, work, at);
-        p += 1;
     }
-    p
+    most
 }
 
 // The words of the page that stops at a place, from word k on: the lines, the figures and, where there are any, the tables placed so
@@ -146,9 +137,7 @@ pub fn write_pages(g: Galley, work: &[u32], last: Stop, p: usize, pages: &mut [u
 {
     let wide = blocks::page_words(g);
     let mut at = last;
-    let mut r = p;
-    while 0 < r {
-        r -= 1;
+    for r in (0..p).rev() {
         write_page(g, at.place, wide * r, pages);
         at = page_before(g, work, at);
     }

@@ -113,10 +113,8 @@ pub fn all_pairs(s: &[u8], g: Galley, sums: &[u32], known: &mut [u32], first: Co
 {
     let columns = candidates::read::columns_of(g);
     let mut pairs: u64 = 0;
-    let mut q = 0;
-    while q < columns {
+    for q in 0..columns {
         pairs += pairs_into(s, g, sums, known, first, q);
-        q += 1;
     }
     pairs
 }

@@ -13,87 +13,36 @@ pub struct Tally {
     pub end: u32,
 }
 
-// How far a is above b; nothing where it is not.
-pub fn above(a: u32, b: u32) -> u32
-    ensures { result ≡ a - b }
-{
-    if b < a {
-        return a - b;
-    }
-    0
-}
-
 // The least beside the lines of a page from line a to line i that makes it higher than `limit`.
 fn too_much(sums: &[u32], limit: u32, a: usize, i: usize) -> u32
     requires { Comparable sums.now limit a i }
     ensures { result ≡ too_much sums.now limit a i }
 {
     let far = window::sums::bare(sums, TIGHT, i);
-    above(limit + 1 + window::sums::spaced(sums, TIGHT, a), far)
+    (limit + 1 + window::sums::spaced(sums, TIGHT, a)).saturating_sub(far)
 }
 
-// From so much beside the lines on, a page from the line before `low` to line i is too high, if that is one to start from; else from
-// nothing on.
-fn least_beside(sums: &[u32], first: usize, limit: u32, low: usize, i: usize) -> u32
-    requires { Compared sums.now limit low i }
-    ensures { first < low → result ≡ too_much sums.now limit (low - 1) i }
-{
-    if low <= first {
-        return 0;
-    }
-    too_much(sums, limit, low - 1, i)
-}
-
-// Before so much, one from line `low` is not, if it has a line; else before anything.
-fn most_beside(sums: &[u32], limit: u32, low: usize, i: usize) -> u32
-    requires { Compared sums.now limit low i }
-    ensures { low < i → result ≡ too_much sums.now limit low i }
-{
-    if i <= low {
-        return 4294967295;
-    }
-    too_much(sums, limit, low, i)
-}
-
-// The greater of two heights.
-fn greater(a: u32, b: u32) -> u32
-    ensures { (a ≤ result) × (b ≤ result) }
-{
-    if a < b {
-        return b;
-    }
-    a
-}
-
-// The lesser.
-fn lesser(a: u32, b: u32) -> u32
-    ensures { (result ≤ a) × (result ≤ b) }
-{
-    if a < b {
-        return a;
-    }
-    b
-}
-
-// The tally with the pairs that end with line i, which start from line `low` on, for what leaves them as they are; what is left of no
+// The tally with the pairs that end with line i, which start from line `low` on, for what leaves them as they are: beside which a page from
+// the line before `low`, if that is one to start from, is too high, and one from line `low`, if it has a line, is not. What is left of no
 // tally is not narrowed further.
 fn with_line(sums: &[u32], tally: Tally, first: usize, limit: u32, low: usize, i: usize) -> Tally
     requires { Compared sums.now limit low i × (tally.pairs ≤ 16004000) }
     ensures { WithLine sums.now tally first limit low i result }
 {
-    let pairs = tally.pairs + (i - low) as u32;
+    let mut next = Tally {
+        pairs: tally.pairs + (i - low) as u32,
+        ..tally
+    };
     if tally.end <= tally.from {
-        return Tally {
-            pairs,
-            from: tally.from,
-            end: tally.end,
-        };
+        return next;
     }
-    Tally {
-        pairs,
-        from: greater(tally.from, least_beside(sums, first, limit, low, i)),
-        end: lesser(tally.end, most_beside(sums, limit, low, i)),
+    if first < low {
+        next.from = next.from.max(too_much(sums, limit, low - 1, i));
     }
+    if low < i {
+        next.end = next.end.min(too_much(sums, limit, low, i));
+    }
+    next
 }
 
 // The pairs a before i of lines, a no earlier than `first`, whose page, with so much beside its lines, is at most `limit` high at its
@@ -115,11 +64,9 @@ pub fn line_pairs(
         end,
     };
     let mut low = first;
-    let mut i = first;
-    while i <= lines {
+    for i in first..lines + 1 {
         low = window::slide::first_below(sums, TIGHT, beside, limit + 1, low, i);
         tally = with_line(sums, tally, first, limit, low, i);
-        i += 1;
     }
     tally
 }

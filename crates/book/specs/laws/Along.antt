@@ -11,7 +11,7 @@ use Rattle.theorems.specs.books.Course.{Course, coursed}
 use Rattle.theorems.specs.books.Choosing.{AllAlike}
 use Rattle.galley.specs.Model.{model_of}
 use Rattle.chapters.specs.declared.Book.{Book}
-use Rattle.chapters.specs.Book.{Chapter, models_of, largest}
+use Rattle.chapters.specs.Book.{Chapter, models_of}
 use Rattle.chapters.specs.laws.Chapters.{chapter_at}
 use Rattle.chapters.specs.laws.Later.{chapters_read, read_same}
 use Rattle.chapters.specs.laws.Alike.{all_alike}

@@ -1,10 +1,8 @@
 -- The best choice, or 11: what binding a book rests on.
-use Rattle.std.specs.Prelude.{ℕ, ◌≡◌, List, [], ◌∷◌, ◌++◌, length, drop}
+use Rattle.std.specs.Prelude.{ℕ, ◌≡◌, List, [], ◌∷◌, ◌++◌, length, drop, Ok}
 use Rattle.std.proofs.Common.{arith, sym, ◌∙◌, ap}
-use Rattle.model.specs.declared.answer.Answer.TheVariants.{Refused}
 use Rattle.model.specs.Book.{book_made}
 use Rattle.galley.specs.declared.Galley.{Galley}
-use Rattle.galley.specs.declared.Reading.TheVariants as reads
 use Rattle.galley.specs.Whole.{galley_of}
 use Rattle.chapters.specs.declared.Book.{Book}
 use Rattle.chapters.specs.Book.{Chapter, chapters_in, book_of, models_of, chapter_bytes}
@@ -18,8 +16,10 @@ use Rattle.course.specs.Weighed.{all_weighed, BookRead}
 use Rattle.book.specs.declared.BookMade.{BookMade}
 use Rattle.book.specs.Make.{told_of}
 use Rattle.book.specs.Bind.{BookLent, RouteFound, AlongMade, Countable, counted_of, Best}
+use Rattle.book.specs.laws.Ending.{folio_after}
 use Rattle.book.specs.laws.Route.{no_choice, on_route}
 use Rattle.book.specs.laws.Count.{none_made, counts_made}
+use Rattle.model.specs.Answers as answers
 
 module _ {bytes lengths : List ℕ} {book : Book} {work list : List ℕ} (p : BookLent bytes lengths book work list) where
   abbrev first : Chapter
@@ -36,9 +36,9 @@ module _ {bytes lengths : List ℕ} {book : Book} {work list : List ℕ} (p : Bo
   all_weighed_lem count is = is ∙ ap all_weighed (chapters_read p.room.is)
 
   module _ (count : ℕ) (weighed : count ≡ all_weighed (chapters_in (book_of bytes lengths))) {work₁ from : List ℕ} {routes : Routes}
-      (routed : AllRouted bytes lengths work work₁ routes from) (last : ℕ) (told : last ≡ best_end routes.one routes.two) where
+      (routed : AllRouted bytes lengths work work₁ routes from) (last : ℕ) (told : last ≡ folio_after (best_end routes.one routes.two)) where
     -- There is no choice.
-    pub bind_none : last ≡ 0 → (answer : BookMade) → answer ≡ told_of (Refused 11 0) count → Best bytes lengths work list answer work₁ list
+    pub bind_none : last ≡ 0 → (answer : BookMade) → answer ≡ told_of (answers.refused 11 0) count → Best bytes lengths work list answer work₁ list
     bind_none z answer is =
         let (made, words) = none_made (models_of (first ∷ rest)) (no_choice bytes lengths first rest p.room.is (routed.right first rest p.room.is) last told z) in
         let all = all_weighed_lem count weighed in
@@ -69,7 +69,7 @@ module _ {bytes lengths : List ℕ} {book : Book} {work list : List ℕ} (p : Bo
       bind_countable = record { first = first; rest = rest; is = p.room.is; small = made.small; pages = made.pages }
 
       pub bind_best : (answer : BookMade)
-          → ((g : Galley) → galley_of (chapter_bytes bytes lengths 0) ≡ reads.Galley g → answer ≡ counted_of g sums count)
+          → ((g : Galley) → galley_of (chapter_bytes bytes lengths 0) ≡ Ok g → answer ≡ counted_of g sums count)
           → Best bytes lengths work list answer work₂ list₂
       bind_best answer is =
           let at = chapter_at bytes lengths first rest p.room.is 0 (omega arith) in

@@ -1,5 +1,5 @@
 -- What making a book does, refusal by refusal.
-use Rattle.std.specs.Prelude.{ℕ, suc, ◌+◌, ◌*◌, ◌≤◌, ◌<◌, ◌≡◌, List, [], ◌∷◌, ◌++◌, take}
+use Rattle.std.specs.Prelude.{ℕ, suc, ◌*◌, ◌≤◌, ◌<◌, ◌≡◌, List, [], ◌∷◌, ◌++◌, take}
 use Rattle.std.proofs.Common.{arith, sym, ◌∙◌, subst, drop_at}
 use Rattle.std.proofs.Math.Path.{refl, ap}
 use Rattle.std.proofs.Math.Bool.{true, false}
@@ -7,7 +7,6 @@ use Rattle.std.proofs.Math.ListN.{length, drop}
 use Rattle.std.proofs.Math.Seq.{length-take-le}
 use Rattle.std.proofs.Math.Dec.{ltb}
 use borrow.Author.Tests.{lt-ltb, le-ltb}
-use Rattle.model.specs.declared.answer.Answer.TheVariants.{Refused}
 use Rattle.needs.specs.Needs.{Few}
 use Rattle.needs.specs.laws.Needs.{read_few, work_small, list_small}
 use Rattle.places.specs.Entry.{cleared}
@@ -20,10 +19,11 @@ use Rattle.galley.specs.declared.Galley.{Galley}
 use Rattle.book.specs.declared.BookMade.{BookMade}
 use Rattle.book.specs.Make.{told_of, book_read, work_read, list_read, Bound}
 use Rattle.book.specs.Bind.{BookLent, Best}
+use Rattle.model.specs.Answers as answers
 
 -- A refusal of the book's own.
 pub bound_refused : (bytes lengths work list : List ℕ) (number place : ℕ) → book_of bytes lengths ≡ refused number place
-    → (answer : BookMade) → answer ≡ told_of (Refused number place) 0 → Bound bytes lengths work list answer work list
+    → (answer : BookMade) → answer ≡ told_of (answers.refused number place) 0 → Bound bytes lengths work list answer work list
 unfolding book_read work_read list_read
 bound_refused bytes lengths work list number place e answer is =
     record {
@@ -69,12 +69,12 @@ module _ {bytes lengths : List ℕ} {book : Book} (p : IsRead bytes lengths book
 
   module _ (work list : List ℕ) where
     -- The work area is too short,
-    pub bound_work : length work < 2 * book.largest → (answer : BookMade) → answer ≡ told_of (Refused 9 (2 * book.largest)) 0
+    pub bound_work : length work < 2 * book.largest → (answer : BookMade) → answer ≡ told_of (answers.refused 9 (2 * book.largest)) 0
         → Bound bytes lengths work list answer work list
     unfolding book_read work_read list_read book_work
     bound_work short answer is =
         let t : ltb (length work) (2 * largest chapters) ≡ true = lt-ltb (length work) (2 * largest chapters) (omega (arith, largest_is)) in
-        let is' : answer ≡ told_of (Refused 9 (2 * largest chapters)) 0 = is ∙ ap (λ n. told_of (Refused 9 (2 * n)) 0) largest_is in
+        let is' : answer ≡ told_of (answers.refused 9 (2 * largest chapters)) 0 = is ∙ ap (λ n. told_of (answers.refused 9 (2 * n)) 0) largest_is in
         record { answers = rw (p.is, t) is'; clean = rw (p.is, t) refl; listed = rw (p.is, t) refl }
 
     module _ (enough : 2 * book.largest ≤ length work) where
@@ -82,13 +82,13 @@ module _ {bytes lengths : List ℕ} {book : Book} (p : IsRead bytes lengths book
       wide = le-ltb (length work) (2 * largest chapters) (omega (arith, largest_is))
 
       -- the page list is,
-      pub bound_list : length list < book.list → (answer : BookMade) → answer ≡ told_of (Refused 10 book.list) 0
+      pub bound_list : length list < book.list → (answer : BookMade) → answer ≡ told_of (answers.refused 10 book.list) 0
           → Bound bytes lengths work list answer work list
       unfolding book_read work_read list_read book_work
       bound_list short answer is =
           let t : ltb (length list) (book_list chapters) ≡ true = lt-ltb (length list) (book_list chapters) (omega (arith, list_is)) in
           let w = wide in
-          let is' : answer ≡ told_of (Refused 10 (book_list chapters)) 0 = is ∙ ap (λ n. told_of (Refused 10 n) 0) list_is in
+          let is' : answer ≡ told_of (answers.refused 10 (book_list chapters)) 0 = is ∙ ap (λ n. told_of (answers.refused 10 n) 0) list_is in
           record { answers = rw (p.is, w, t) is'; clean = rw (p.is, w, t) refl; listed = rw (p.is, w, t) refl }
 
       module _ (room : book.list ≤ length list) where

@@ -11,7 +11,6 @@ use Rattle.model.specs.Galley as model
 use Rattle.model.specs.Book.{first_folio, best_book}
 use Rattle.theorems.specs.books.Routes as theorems
 use Rattle.theorems.specs.books.Routes.{route, finish, ending}
-use Rattle.theorems.specs.books.Best as best
 use Rattle.theorems.specs.books.Best.{Binds, no_book, book, book_right}
 use Rattle.theorems.specs.books.Engine.{ending_is, book_ordered}
 use Rattle.galley.specs.Model.{model_of}
@@ -20,7 +19,7 @@ use Rattle.chapters.specs.laws.Alike.{all_alike, some_folio_lem, models_many}
 use Rattle.routes.specs.declared.Routes.{Routes}
 use Rattle.routes.specs.Routes.{before, best_end, Routed}
 use Rattle.book.specs.Bind.{OnRoute}
-use Rattle.book.specs.laws.Ending.{best_ending, ending_none}
+use Rattle.book.specs.laws.Ending.{folio_after, best_ending, ending_none}
 use Rattle.book.specs.laws.Follow.{follow_route}
 
 -- What is turned twice stands as it was.
@@ -36,7 +35,7 @@ unfolding models_of
 first_opens bytes lengths c cs is = some_folio_lem bytes lengths c cs is
 
 module _ (bytes lengths : List ℕ) (c : Chapter) (cs : List Chapter) (is : book_of bytes lengths ≡ read (c ∷ cs)) {routes : Routes} {from : List ℕ} where
-  module _ (routed : Routed (head_of c) (first_folio (models_of (c ∷ cs))) (models_of (c ∷ cs)) (length (models_of (c ∷ cs))) routes from) (last : ℕ) (told : last ≡ best_end routes.one routes.two) where
+  module _ (routed : Routed (head_of c) (first_folio (models_of (c ∷ cs))) (models_of (c ∷ cs)) (length (models_of (c ∷ cs))) routes from) (last : ℕ) (told : last ≡ folio_after (best_end routes.one routes.two)) where
     abbrev one : Option theorems.Route
     one = route (head_of c) (first_folio (models_of (c ∷ cs))) (before (models_of (c ∷ cs)) (length (models_of (c ∷ cs)))) 1
 

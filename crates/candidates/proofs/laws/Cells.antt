@@ -1,12 +1,10 @@
 -- Stores in one column: what they leave.
-use Rattle.std.specs.Prelude.{ℕ, ◌+◌, ◌≤◌, ◌<◌, ◌≡◌, refl, Bool, List, length}
+use Rattle.std.specs.Prelude.{ℕ, ◌+◌, ◌≤◌, ◌<◌, ◌≡◌, refl, Bool, List, length, None, Some}
 use Rattle.std.proofs.Common.{arith, ap, ◌∙◌}
 use Rattle.std.proofs.Math.Bool.{true, false}
 use Rattle.model.specs.Gather.{pick}
 use Rattle.galley.specs.declared.Galley.{Galley}
-use Rattle.places.specs.declared.Entry.{Entry}
-use Rattle.places.specs.declared.Entry.TheVariants.{Unreached, Least}
-use Rattle.places.specs.Entry.{entry_at, stored}
+use Rattle.places.specs.Entry.{Entry, entry_at, stored}
 use Rattle.places.specs.Address.{address, words_needed}
 use Rattle.places.specs.Table.{table_of}
 use Rattle.places.proofs.laws.Address.{address_in, area_needed}
@@ -60,10 +58,10 @@ module _ (g : Galley) (w : List ℕ) (i j c : ℕ) (line : i ≤ g.text.count) (
   pub taken_changes : (e : Entry) (v : List ℕ) → v ≡ taken w (address (g.text.count + 1) i j c) e
       → Changed g w v i j c (chosen (table_in g w i j c) e)
   unfolding taken chosen table_of
-  taken_changes Unreached v p = unchanged v p
-  taken_changes (Least y r) v p = go (wins y r (entry_at w (address (g.text.count + 1) i j c))) p
+  taken_changes None v p = unchanged v p
+  taken_changes (Some l) v p = go (wins l.cost l.start (entry_at w (address (g.text.count + 1) i j c))) p
     where
-      go : (t : Bool) → v ≡ pick t (stored w (address (g.text.count + 1) i j c) (Least y r)) w
-          → Changed g w v i j c (pick t (Least y r) (table_in g w i j c))
-      go true q = stored_changes (Least y r) v q
+      go : (t : Bool) → v ≡ pick t (stored w (address (g.text.count + 1) i j c) (Some l)) w
+          → Changed g w v i j c (pick t (Some l) (table_in g w i j c))
+      go true q = stored_changes (Some l) v q
       go false q = unchanged v q

@@ -1,12 +1,10 @@
 -- Places whose words are those of an unreached place, and what stores in a column leave of them.
-use Rattle.std.specs.Prelude.{ℕ, ◌+◌, ◌≤◌, ◌<◌, ◌≡◌, refl, List, length}
+use Rattle.std.specs.Prelude.{ℕ, ◌+◌, ◌≤◌, ◌<◌, ◌≡◌, refl, List, length, None, Some}
 use Rattle.std.proofs.Math.Decide.{ℕ_discrete}
 use Rattle.std.proofs.Common.{arith, sym, ap, ◌∙◌}
 use Rattle.galley.specs.declared.Galley.{Galley}
-use Rattle.places.specs.declared.Entry.{Entry}
-use Rattle.places.specs.declared.Entry.TheVariants.{Unreached, Least}
 use Rattle.places.specs.Address.{address, words_needed}
-use Rattle.places.specs.Entry.{stored}
+use Rattle.places.specs.Entry.{Entry, stored}
 use Rattle.places.proofs.laws.Address.{address_in, address_apart, area_needed}
 use Rattle.places.proofs.laws.Best.{no_reach}
 use Rattle.places.proofs.laws.Stored.{stored_twice, stored_swap}
@@ -31,9 +29,9 @@ module _ (g : Galley) (j : ℕ) (column : j < columns_in g) (two : g.spec.sides 
 
   -- An empty place is unreached.
   pub empty_unreached : (w : List ℕ) (k c : ℕ) → Roomy w → k ≤ g.text.count → c < g.spec.sides → Empty g w k j c
-      → table_in g w k j c ≡ Unreached
+      → table_in g w k j c ≡ None
   empty_unreached w k c room l m e =
-      ap (λ v. table_in g v k j c) (sym e) ∙ table_same (g.text.count + 1) k j c w Unreached (stand w k j c room l column m)
+      ap (λ v. table_in g v k j c) (sym e) ∙ table_same (g.text.count + 1) k j c w None (stand w k j c room l column m)
 
   module _ (w : List ℕ) (i c : ℕ) (e : Entry) (room : Roomy w) (line : i ≤ g.text.count) (occurs : c < g.spec.sides) where
     abbrev put : List ℕ
@@ -43,14 +41,14 @@ module _ (g : Galley) (j : ℕ) (column : j < columns_in g) (two : g.spec.sides 
     empty_other : (k b d : ℕ) → k ≤ g.text.count → b < columns_in g → d < g.spec.sides → ((i ≡ k) × (j ≡ b) × (c ≡ d) → ⊥) → Empty g w k b d
         → Empty g put k b d
     empty_other k b d l n m differ empty =
-        stored_swap w (address (g.text.count + 1) i j c) (address (g.text.count + 1) k b d) e Unreached
+        stored_swap w (address (g.text.count + 1) i j c) (address (g.text.count + 1) k b d) e None
         (address_apart (g.text.count + 1) i j c k b d (omega arith) (omega arith) (omega arith) (omega arith) differ)
         (stand w i j c room line column occurs) (stand w k b d room l n m)
         ∙ ap (λ v. stored v (address (g.text.count + 1) i j c) e) empty
 
     -- and its own if it is unreached.
-    empty_own : e ≡ Unreached → Empty g put i j c
-    empty_own none = rw none (stored_twice w (address (g.text.count + 1) i j c) Unreached Unreached (stand w i j c room line column occurs))
+    empty_own : e ≡ None → Empty g put i j c
+    empty_own none = rw none (stored_twice w (address (g.text.count + 1) i j c) None None (stand w i j c room line column occurs))
 
     put_clean : Clean g w j → Clean g put j
     put_clean clean k d l m unreached = go (ℕ_discrete i k) (ℕ_discrete c d)
@@ -62,9 +60,9 @@ module _ (g : Galley) (j : ℕ) (column : j < columns_in g) (two : g.spec.sides 
             (sym (table_other (g.text.count + 1) i j c k j d w e (omega arith) (omega arith) (omega arith) (omega arith) (λ r. differ (r.0, r.2)))
             ∙ unreached))
 
-        own : (f : Entry) → e ≡ f → table_in g put i j c ≡ Unreached → Empty g put i j c
-        own Unreached p q = empty_own p
-        own (Least x s) p q =
+        own : (f : Entry) → e ≡ f → table_in g put i j c ≡ None → Empty g put i j c
+        own None p q = empty_own p
+        own (Some l) p q =
             absurd (no_reach (sym q ∙ table_same (g.text.count + 1) i j c w e (stand w i j c room line column occurs) ∙ p))
 
         go : Dec (i ≡ k) → Dec (c ≡ d) → Empty g put k j d

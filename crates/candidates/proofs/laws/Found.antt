@@ -2,14 +2,13 @@
 use Prim.Native.Nat.{ℕ, zero, suc, ◌+◌, ◌≤◌, ◌<◌}
 use Rattle.std.proofs.Common.{le_refl, arith, sym, ◌∙◌}
 use Rattle.std.proofs.Math.Decide.{dec_lt}
-use Rattle.std.specs.Prelude.{◌≡◌, ◌⊎◌, Bool, true, false}
+use Rattle.std.specs.Prelude.{◌≡◌, ◌⊎◌, Bool, true, false, None, Some}
 use Rattle.std.proofs.Math.Path.{refl}
 use Rattle.std.proofs.Math.Logic.{inl, inr}
 use Rattle.model.specs.Gather.{pick}
-use Rattle.places.specs.declared.Entry.{Entry}
-use Rattle.places.specs.declared.Entry.TheVariants.{Unreached, Least}
+use Rattle.places.specs.Entry.{Entry, least}
 use Rattle.places.specs.Best.{Leads, Best}
-use Rattle.places.proofs.laws.Best.{no_reach, best_none, best_least, best_as}
+use Rattle.places.proofs.laws.Best.{least_same, no_reach, best_none, best_least, best_as}
 use Rattle.candidates.specs.Better.{start_at}
 use Rattle.candidates.specs.Search.{Search, goes, white_from, start_from, on_lines, in_columns, best_start}
 use Rattle.candidates.specs.Choice.{Candidate, Starts, Any, Above, Level}
@@ -29,20 +28,19 @@ module _ (s : Search) where
       here a' b' x ((p, q), c) = rw (p, q) at c
 
       go : (t : Bool) → goes s a b ≡ t → (e : Entry) → s.table a b s.side ≡ e
-          → Best (Starts s (Level b a)) (pick t (start_at e (white_from s a b) a b) Unreached)
+          → Best (Starts s (Level b a)) (pick t (start_at e (white_from s a b) a b) None)
       go false t e f =
           best_none (λ a' b' x c. let u = (here a' b' x c).page in let z : ◌≡◌ {A = ℕ} 0 1 = cc in omega arith)
-      go true t Unreached f = best_none (λ a' b' x c. no_reach (sym f ∙ (here a' b' x c).reached.entry))
-      go true t (Least x r) f =
-          best_least (x + white_from s a b) (record { line = a; column = b })
-          ((refl, refl), record { line = h; column = k; page = t; reached = record { own = x; start = r; entry = f; whole = refl } }) leads
+      go true t None f = best_none (λ a' b' x c. no_reach (sym f ∙ (here a' b' x c).reached.entry))
+      go true t (Some l) f =
+          best_least (l.cost + white_from s a b) (record { line = a; column = b })
+          ((refl, refl), record { line = h; column = k; page = t; reached = record { own = l.cost; start = l.start; entry = f; whole = refl } }) leads
         where
           leads : (a' b' y : ℕ) → Starts s (Level b a) a' b' y
-              → Leads (Least (x + white_from s a b) (record { line = a; column = b })) a' b' y
+              → Leads (least (l.cost + white_from s a b) (record { line = a; column = b })) a' b' y
           leads a' b' y c =
               let q = (here a' b' y c).reached in
-              let same : Least x r ≡ Least q.own q.start = sym f ∙ q.entry in
-              let cost : x ≡ q.own = cc in
+              let (cost, start) = least_same (sym f ∙ q.entry) in
               (omega (arith, q.whole), λ _. inr (c.0.1, omega (arith, c.0.0)))
 
   lines_best : (b : ℕ) → b ≤ s.column → (a : ℕ) → a ≤ suc s.line → Best (Starts s (Above b a)) (on_lines s b a)

@@ -1,13 +1,12 @@
 -- The lines of a column weighed one by one.
-use Rattle.std.specs.Prelude.{ℕ, ◌+◌, ◌≤◌, ◌<◌, ◌≡◌, ◌⊎◌}
+use Rattle.std.specs.Prelude.{ℕ, ◌+◌, ◌≤◌, ◌<◌, ◌≡◌, ◌⊎◌, None, Some}
 use Rattle.std.proofs.Math.Decide.{dec_lt}
 use Rattle.std.proofs.Common.{arith, ◌∙◌, inl}
 use Rattle.std.proofs.Math.Path.{refl, sym}
 use Rattle.std.proofs.Math.Logic.{inr}
-use Rattle.places.specs.declared.Entry.{Entry}
-use Rattle.places.specs.declared.Entry.TheVariants.{Unreached, Least}
+use Rattle.places.specs.Entry.{Entry}
 use Rattle.places.specs.Best.{Paid, Leads, Best}
-use Rattle.places.proofs.laws.Best.{no_reach, best_none, best_least, best_as}
+use Rattle.places.proofs.laws.Best.{least_same, no_reach, best_none, best_least, best_as}
 use Rattle.queues.specs.Queue.{Lines}
 use Rattle.candidates.specs.Better.{chosen, start_at}
 use Rattle.candidates.proofs.laws.Choice.{best_chosen}
@@ -19,16 +18,15 @@ module _ (col : ℕ → Entry) (add : ℕ → ℕ) (b : ℕ) where
 
   only_best : (a : ℕ) (e : Entry) → col a ≡ e → Best (Only a) (start_at e (add a) a b)
   unfolding start_at Leads
-  only_best a Unreached f = best_none (λ a' b' x c. no_reach (sym f ∙ c.2.entry))
-  only_best a (Least x r) f =
-      best_least (x + add a) (record { line = a; column = b }) (refl, refl, record { own = x; start = r; entry = f; whole = refl })
+  only_best a None f = best_none (λ a' b' x c. no_reach (sym f ∙ c.2.entry))
+  only_best a (Some l) f =
+      best_least (l.cost + add a) (record { line = a; column = b }) (refl, refl, record { own = l.cost; start = l.start; entry = f; whole = refl })
       (λ a' b' y c.
-      let same : Least x r ≡ Least c.2.own c.2.start = sym f ∙ c.2.entry in
-      let cost : x ≡ c.2.own = cc in
+      let (cost, start) = least_same (sym f ∙ c.2.entry) in
       (omega (arith, c.2.whole), λ _. inr (c.0, omega (arith, c.1))))
 
   -- Before the first line there is no start,
-  pub lines_none : (low : ℕ) → Best (Lines col add low low b) Unreached
+  pub lines_none : (low : ℕ) → Best (Lines col add low low b) None
   lines_none low = best_none (λ a b' x c. omega (arith, c.0, c.1))
 
   -- each line is weighed against the best so far,

@@ -1,21 +1,19 @@
 -- Reading a book under way: each chapter that is taken, and each that is turned away, leaves what the whole reading gives.
 use Prim.Native.Nat.{ℕ, suc, ◌+◌, ◌≤◌, ◌<◌, max}
 use native.Mathlib.Omega.{arith}
-use Rattle.std.specs.Prelude.{Bool, true, false, List, [], ◌∷◌, ◌≡◌, refl, length, get_or, ltb}
+use Rattle.std.specs.Prelude.{Bool, true, false, List, [], ◌∷◌, ◌≡◌, refl, length, get_or, Option, None, Some, Ok, Err}
 use Rattle.std.proofs.Math.Path.{sym, ap}
 use Rattle.std.proofs.Common.{◌∙◌, drop_of_length-le}
 use Rattle.std.proofs.Math.ListN.{drop}
 use Rattle.std.proofs.Math.Seq.{slice, drop-cons}
-use borrow.Author.Tests.{lt-ltb, le-ltb}
 use Rattle.model.specs.Gather.{pick}
 use Rattle.galley.specs.declared.Spec.{Spec}
 use Rattle.galley.specs.declared.Galley.{Galley}
-use Rattle.galley.specs.declared.Reading.TheVariants as reads
 use Rattle.galley.specs.Whole.{galley_of}
 use Rattle.needs.specs.laws.Needs.{read_few, list_small}
 use Rattle.chapters.specs.declared.Book.{Book}
-use Rattle.chapters.specs.declared.BookReading.TheVariants as answers
-use Rattle.chapters.specs.Book.{Outcome, read, refused, all_bytes, alike, has_folio, before, later, later_from, first_of, chapters_of, reading_of, largest, book_list}
+use Rattle.model.specs.declared.answer.Refusal.{Refusal}
+use Rattle.chapters.specs.Book.{Outcome, read, refused, all_bytes, alike, has_folio, before, later, later_from, first_of, chapters_of, BookReading, reading_of, largest, book_list}
 use Rattle.chapters.specs.Steps.{Opened, Roomy, unfit_after, with_chapter, summed, Underway}
 use Rattle.chapters.specs.laws.Lengths.{Adding, adding, left_next}
 
@@ -23,12 +21,16 @@ use Rattle.chapters.specs.laws.Lengths.{Adding, adding, left_next}
 abbrev pub no_chapters : Book
 no_chapters = record { chapters = 0; largest = 0; list = 0 }
 
+-- The answer of a book.
+abbrev book_is : Book → BookReading
+book_is book = Ok book
+
 -- Equal numbers make equal answers.
-answers_alike : {a b : Book} → a.chapters ≡ b.chapters → a.largest ≡ b.largest → a.list ≡ b.list → answers.Book a ≡ answers.Book b
+answers_alike : {a b : Book} → a.chapters ≡ b.chapters → a.largest ≡ b.largest → a.list ≡ b.list → book_is a ≡ book_is b
 answers_alike {a} {b} e f g =
-    ap (λ (k : ℕ). answers.Book (record { chapters = k; largest = a.largest; list = a.list })) e
-    ∙ ap (λ (k : ℕ). answers.Book (record { chapters = b.chapters; largest = k; list = a.list })) f
-    ∙ ap (λ (k : ℕ). answers.Book (record { chapters = b.chapters; largest = b.largest; list = k })) g
+    ap (λ (k : ℕ). book_is (record { chapters = k; largest = a.largest; list = a.list })) e
+    ∙ ap (λ (k : ℕ). book_is (record { chapters = b.chapters; largest = k; list = a.list })) f
+    ∙ ap (λ (k : ℕ). book_is (record { chapters = b.chapters; largest = b.largest; list = k })) g
 
 -- A chapter counts as well before the rest is read as with it.
 summed_before : (book : Book) (bytes : List ℕ) (g : Galley) (rest : Outcome)
@@ -43,16 +45,20 @@ unfolding summed reading_of
 summed_none (read cs) = answers_alike (omega arith) (omega arith) (omega arith)
 summed_none (refused number place) = refl
 
+-- The outcome of what makes a galley unfit, else another.
+abbrev unfit_or : Option ℕ → ℕ → Outcome → Outcome
+unfit_or None k o = o
+unfit_or (Some number) k o = refused number k
+
 -- What an unfit galley comes to, and a fit one.
 later_unfit : (first : Spec) (k : ℕ) (bytes : List ℕ) (g : Galley) (rest : Outcome)
-    → later first k bytes (reads.Galley g) rest
-    ≡ pick (ltb 0 (unfit_after first g)) (refused (unfit_after first g) k) (before (record { bytes = bytes; galley = g }) rest)
+    → later first k bytes (Ok g) rest ≡ unfit_or (unfit_after first g) k (before (record { bytes = bytes; galley = g }) rest)
 unfolding later unfit_after
 later_unfit first k bytes g rest = go (alike first g.spec) (has_folio g)
   where
     go : (a b : Bool)
         → pick a (pick b (refused 30 k) (before (record { bytes = bytes; galley = g }) rest)) (refused 29 k)
-        ≡ pick (ltb 0 (pick a (pick b 30 0) 29)) (refused (pick a (pick b 30 0) 29) k) (before (record { bytes = bytes; galley = g }) rest)
+        ≡ unfit_or (pick a (pick b (Some 30) None) (Some 29)) k (before (record { bytes = bytes; galley = g }) rest)
     go true true = refl
     go true false = refl
     go false b = refl
@@ -63,7 +69,7 @@ pub underway_first : {bytes lengths : List ℕ} {g : Galley} → Opened bytes le
 unfolding all_bytes chapters_of first_of
 underway_first {bytes} {lengths} {g} opened = go lengths (adding bytes lengths opened.adds) opened.reads
   where
-    go : (ls : List ℕ) → Adding bytes ls → galley_of (slice 0 (get_or ls 0 0) bytes) ≡ reads.Galley g
+    go : (ls : List ℕ) → Adding bytes ls → galley_of (slice 0 (get_or ls 0 0) bytes) ≡ Ok g
         → Underway bytes ls g.spec (with_chapter no_chapters g) (get_or ls 0 0)
     go [] adds e = absurd (omega (arith, adds.some))
     go (n ∷ ns) adds e =
@@ -88,7 +94,7 @@ module _ {bytes lengths : List ℕ} {first : Spec} {book : Book} {at : ℕ} (u :
   underway_within h = omega (arith, u.left, left_next lengths book.chapters h)
 
   -- All is read.
-  pub underway_done : length lengths ≤ book.chapters → answers.Book book ≡ reading_of (chapters_of bytes lengths)
+  pub underway_done : length lengths ≤ book.chapters → Ok book ≡ reading_of (chapters_of bytes lengths)
   unfolding summed later_from largest book_list
   underway_done h =
       answers_alike {b = record { chapters = book.chapters + 0; largest = max book.largest 0; list = book.list + 0 }} (omega arith) (omega arith) (omega arith)
@@ -111,34 +117,31 @@ module _ {bytes lengths : List ℕ} {first : Spec} {book : Book} {at : ℕ} (u :
         sym (ap (λ ls. summed book (later_from bytes first book.chapters at ls)) d) ∙ u.goes
 
     -- It is turned away by its own refusal.
-    pub underway_refused : (number place : ℕ) → galley_of chapter ≡ reads.Refused number place
-        → answers.Refused number (book.chapters + 1) ≡ reading_of (chapters_of bytes lengths)
+    pub underway_refused : (r : Refusal) → galley_of chapter ≡ Err r
+        → Err (record { number = r.number; place = book.chapters + 1 }) ≡ reading_of (chapters_of bytes lengths)
     unfolding later summed
-    underway_refused number place e = rw e at next
+    underway_refused r e = rw e at next
 
-    module _ (g : Galley) (e : galley_of chapter ≡ reads.Galley g) where
+    module _ (g : Galley) (e : galley_of chapter ≡ Ok g) where
       abbrev taken : Outcome
       taken = before (record { bytes = chapter; galley = g }) rest
 
-      judged : summed book (pick (ltb 0 (unfit_after first g)) (refused (unfit_after first g) (book.chapters + 1)) taken) ≡ reading_of (chapters_of bytes lengths)
+      judged : summed book (unfit_or (unfit_after first g) (book.chapters + 1) taken) ≡ reading_of (chapters_of bytes lengths)
       judged =
           sym (ap (summed book) (later_unfit first (book.chapters + 1) chapter g rest))
           ∙ sym (ap (λ r. summed book (later first (book.chapters + 1) chapter r rest)) e)
           ∙ next
 
       -- It is unlike the first, or has a folio.
-      pub underway_unfit : (number : ℕ) → number ≡ unfit_after first g → 0 < number
-          → answers.Refused number (book.chapters + 1) ≡ reading_of (chapters_of bytes lengths)
+      pub underway_unfit : (number : ℕ) → unfit_after first g ≡ Some number
+          → Err (record { number = number; place = book.chapters + 1 }) ≡ reading_of (chapters_of bytes lengths)
       unfolding summed
-      underway_unfit number same some =
-          let t = lt-ltb 0 (unfit_after first g) (omega arith) in
-          rw same (rw t at judged)
+      underway_unfit number same = rw same at judged
 
       -- It is taken.
-      pub underway_next : unfit_after first g ≤ 0 → Underway bytes lengths first (with_chapter book g) (at + n)
+      pub underway_next : unfit_after first g ≡ None → Underway bytes lengths first (with_chapter book g) (at + n)
       underway_next fit =
           let small = list_small g (read_few _ g e) in
-          let t = le-ltb 0 (unfit_after first g) fit in
           let l = left_next lengths book.chapters h in
           record {
             some = omega (arith, u.some);
@@ -146,5 +149,5 @@ module _ {bytes lengths : List ℕ} {first : Spec} {book : Book} {at : ℕ} (u :
             few = u.few;
             left = omega (arith, u.left);
             list = omega (arith, u.list);
-            goes = sym (summed_before book chapter g rest) ∙ (rw t at judged);
+            goes = sym (summed_before book chapter g rest) ∙ (rw fit at judged);
           }

@@ -1,26 +1,16 @@
 -- What is known of each chapter of a book that was read.
-use Rattle.std.specs.Prelude.{ℕ, zero, suc, ◌+◌, ◌≤◌, ◌<◌, Bool, true, false, List, [], ◌∷◌, ◌≡◌, refl, length, get_or, take, drop}
+use Rattle.std.specs.Prelude.{ℕ, zero, suc, ◌+◌, ◌≤◌, ◌<◌, Bool, true, false, List, [], ◌∷◌, ◌≡◌, refl, length, get_or, take, drop, Err, Ok}
 use Rattle.std.proofs.Common.{arith, sym, ◌∙◌, ap}
 use Rattle.std.proofs.Math.Seq.{slice}
 use Rattle.model.specs.Gather.{pick}
 use Rattle.galley.specs.declared.Galley.{Galley}
-use Rattle.galley.specs.declared.Reading.{Reading}
-use Rattle.galley.specs.declared.Reading.TheVariants as reads
-use Rattle.galley.specs.Whole.{galley_of}
+use Rattle.galley.specs.Whole.{galley_of, Reading}
 use Rattle.needs.specs.Needs.{work_needed, list_needed}
 use Rattle.chapters.specs.Book.{Chapter, read, refused, all_bytes, adds_up, later_from, first_of, chapters_of, book_of, largest, book_list, chapter_start, chapter_bytes}
-use Rattle.chapters.specs.Steps.{Reads, Numbered}
+use Rattle.chapters.specs.Steps.{Numbered}
 use Rattle.chapters.specs.laws.Lengths.{adding}
 use Rattle.chapters.specs.laws.Opening.{added, extent_within}
 use Rattle.chapters.specs.laws.Later.{unread, before_read, AllLater, later_at}
-
--- Bytes that hold a galley are not refused.
-pub unrefused : {A : Type 0} (bytes : List ℕ) (number place : ℕ) → Reads bytes → galley_of bytes ≡ reads.Refused number place → A
-unrefused bytes number place r e = let z : ◌≡◌ {A = ℕ} 0 1 = ap kind (sym r.1 ∙ e) in absurd (omega arith)
-  where
-    kind : Reading → ℕ
-    kind (reads.Galley g) = 0
-    kind (reads.Refused number place) = 1
 
 -- The lengths of a book that was read add up.
 pub book_adds : (bytes lengths : List ℕ) (cs : List Chapter) → book_of bytes lengths ≡ read cs → adds_up bytes lengths ≡ true
@@ -51,7 +41,7 @@ list_split (c ∷ cs) (suc k) = let h = list_split cs k in omega arith
 -- A book that was read: its first chapter, of n bytes, and those after it.
 record Opens (bytes : List ℕ) (n : ℕ) (ns : List ℕ) (first : Chapter) (rest : List Chapter) : Type 0 where
   is : first.bytes ≡ slice 0 n bytes
-  reads : galley_of (slice 0 n bytes) ≡ reads.Galley first.galley
+  reads : galley_of (slice 0 n bytes) ≡ Ok first.galley
   others : AllLater bytes first.galley.spec n ns rest
 
 first_opens : (bytes : List ℕ) (n : ℕ) (ns : List ℕ) (first : Chapter) (rest : List Chapter)
@@ -64,8 +54,8 @@ first_opens bytes n ns first rest = go (galley_of (slice 0 n bytes)) refl
     head (c ∷ cs) = c
 
     go : (r : Reading) → galley_of (slice 0 n bytes) ≡ r → first_of bytes n ns r ≡ read (first ∷ rest) → Opens bytes n ns first rest
-    go (reads.Refused number place) e h = unread h
-    go (reads.Galley g) e h =
+    go (Err r) e h = unread h
+    go (Ok g) e h =
         let c : Chapter = record { bytes = slice 0 n bytes; galley = g } in
         let t = before_read c (later_from bytes g.spec 1 n ns) (first ∷ rest) h in
         let same : first ≡ c = ap head t.2 in
@@ -75,7 +65,7 @@ first_opens bytes n ns first rest = go (galley_of (slice 0 n bytes)) refl
 -- What is known of chapter k, from 0, of a book that was read.
 pub record ChapterAt (bytes lengths : List ℕ) (first : Chapter) (rest : List Chapter) (k : ℕ) : Type 0 where
   pub galley : Galley
-  pub reads : galley_of (chapter_bytes bytes lengths k) ≡ reads.Galley galley
+  pub reads : galley_of (chapter_bytes bytes lengths k) ≡ Ok galley
   pub there : drop k (first ∷ rest) ≡ record { bytes = chapter_bytes bytes lengths k; galley = galley } ∷ drop (suc k) (first ∷ rest)
   pub within : chapter_start lengths k + get_or lengths k 0 ≤ length bytes
   pub numbered : Numbered lengths (k + 1)
@@ -89,7 +79,7 @@ record Stands (bytes lengths : List ℕ) (first : Chapter) (rest : List Chapter)
   chapter : Chapter
   there : drop k (first ∷ rest) ≡ chapter ∷ drop (suc k) (first ∷ rest)
   is : chapter.bytes ≡ chapter_bytes bytes lengths k
-  reads : galley_of (chapter_bytes bytes lengths k) ≡ reads.Galley chapter.galley
+  reads : galley_of (chapter_bytes bytes lengths k) ≡ Ok chapter.galley
   spec : chapter.galley.spec ≡ first.galley.spec
   folio : 1 ≤ k → chapter.galley.folio ≡ 1
 

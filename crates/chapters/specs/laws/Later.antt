@@ -1,16 +1,14 @@
 -- What is known of a later chapter that was taken: it reads, its specification is the first chapter's, and it names no folio.
-use Rattle.std.specs.Prelude.{ℕ, zero, suc, ◌+◌, ◌<◌, Bool, true, false, ◌&&◌, List, [], ◌∷◌, ◌≡◌, refl, length, get_or, drop, eqb}
+use Rattle.std.specs.Prelude.{ℕ, zero, suc, ◌+◌, ◌<◌, Bool, true, false, ◌&&◌, List, [], ◌∷◌, ◌≡◌, refl, length, get_or, drop, eqb, Err, Ok}
 use Rattle.std.proofs.Common.{arith, sym, ap, subst, inl, inr, eqb-true, ltb-false}
 use Rattle.std.proofs.Math.Seq.{slice}
 use Rattle.model.specs.Gather.{pick}
 use Rattle.model.proofs.laws.Gather.{and_left, and_right}
 use Rattle.galley.specs.declared.Spec.{Spec}
 use Rattle.galley.specs.declared.Galley.{Galley}
-use Rattle.galley.specs.declared.Reading.{Reading}
-use Rattle.galley.specs.declared.Reading.TheVariants as reads
 use Rattle.galley.specs.Place.{spec_size}
 use Rattle.galley.specs.Sound.{Opening}
-use Rattle.galley.specs.Whole.{galley_of}
+use Rattle.galley.specs.Whole.{galley_of, Reading}
 use Rattle.galley.proofs.laws.Sound.{opening}
 use Rattle.chapters.specs.Book.{Chapter, Outcome, read, refused, chapters_in, all_bytes, alike, has_folio, before, later, later_from, chapter_start}
 
@@ -41,35 +39,35 @@ before_read c (refused number place) cs e = unread e
 pub spec_same : (g h : Spec) → alike g h ≡ true → h ≡ g
 unfolding alike
 spec_same g h all =
-    let a = eqb g.htmin h.htmin in
-    let b = a && eqb g.htmax h.htmax in
-    let c = b && eqb g.smin h.smin in
-    let d = c && eqb g.smax h.smax in
-    let e = d && eqb g.sides h.sides in
-    let f = e && eqb g.alpha h.alpha in
-    let i = f && eqb g.beta h.beta in
-    let j = i && eqb g.edition h.edition in
-    let j! = and_left j (eqb g.lastmin h.lastmin) all in
-    let i! = and_left i (eqb g.edition h.edition) j! in
-    let f! = and_left f (eqb g.beta h.beta) i! in
-    let e! = and_left e (eqb g.alpha h.alpha) f! in
-    let d! = and_left d (eqb g.sides h.sides) e! in
-    let c! = and_left c (eqb g.smax h.smax) d! in
-    let b! = and_left b (eqb g.smin h.smin) c! in
-    let a! = and_left a (eqb g.htmax h.htmax) b! in
-    let p = eqb-true g.htmin h.htmin a! in
-    let q = eqb-true g.htmax h.htmax (and_right a (eqb g.htmax h.htmax) b!) in
-    let r = eqb-true g.smin h.smin (and_right b (eqb g.smin h.smin) c!) in
-    let s = eqb-true g.smax h.smax (and_right c (eqb g.smax h.smax) d!) in
-    let t = eqb-true g.sides h.sides (and_right d (eqb g.sides h.sides) e!) in
-    let u = eqb-true g.alpha h.alpha (and_right e (eqb g.alpha h.alpha) f!) in
-    let v = eqb-true g.beta h.beta (and_right f (eqb g.beta h.beta) i!) in
-    let w = eqb-true g.edition h.edition (and_right i (eqb g.edition h.edition) j!) in
-    let x = eqb-true g.lastmin h.lastmin (and_right j (eqb g.lastmin h.lastmin) all) in
+    let j = eqb g.lastmin h.lastmin in
+    let i = eqb g.edition h.edition && j in
+    let f = eqb g.beta h.beta && i in
+    let e = eqb g.alpha h.alpha && f in
+    let d = eqb g.sides h.sides && e in
+    let c = eqb g.smax h.smax && d in
+    let b = eqb g.smin h.smin && c in
+    let a = eqb g.htmax h.htmax && b in
+    let p = eqb-true g.htmin h.htmin (and_left (eqb g.htmin h.htmin) a all) in
+    let a! = and_right (eqb g.htmin h.htmin) a all in
+    let q = eqb-true g.htmax h.htmax (and_left (eqb g.htmax h.htmax) b a!) in
+    let b! = and_right (eqb g.htmax h.htmax) b a! in
+    let r = eqb-true g.smin h.smin (and_left (eqb g.smin h.smin) c b!) in
+    let c! = and_right (eqb g.smin h.smin) c b! in
+    let s = eqb-true g.smax h.smax (and_left (eqb g.smax h.smax) d c!) in
+    let d! = and_right (eqb g.smax h.smax) d c! in
+    let t = eqb-true g.sides h.sides (and_left (eqb g.sides h.sides) e d!) in
+    let e! = and_right (eqb g.sides h.sides) e d! in
+    let u = eqb-true g.alpha h.alpha (and_left (eqb g.alpha h.alpha) f e!) in
+    let f! = and_right (eqb g.alpha h.alpha) f e! in
+    let v = eqb-true g.beta h.beta (and_left (eqb g.beta h.beta) i f!) in
+    let i! = and_right (eqb g.beta h.beta) i f! in
+    let w = eqb-true g.edition h.edition (and_left (eqb g.edition h.edition) j i!) in
+    let j! = and_right (eqb g.edition h.edition) j i! in
+    let x = eqb-true g.lastmin h.lastmin j! in
     rw (p, q, r, s, t, u, v, w, x) refl
 
 -- A galley that has no `FO` opens on folio 1.
-pub unnumbered : (bytes : List ℕ) (g : Galley) → galley_of bytes ≡ reads.Galley g → has_folio g ≡ false → g.folio ≡ 1
+pub unnumbered : (bytes : List ℕ) (g : Galley) → galley_of bytes ≡ Ok g → has_folio g ≡ false → g.folio ≡ 1
 unfolding has_folio
 unnumbered bytes g e none = go (opening bytes g e)
   where
@@ -80,7 +78,7 @@ unnumbered bytes g e none = go (opening bytes g e)
 -- What is known of a later chapter of these bytes, in a book whose first chapter has this specification.
 pub record Later (bytes : List ℕ) (first : Spec) (c : Chapter) : Type 0 where
   pub is : c.bytes ≡ bytes
-  pub reads : galley_of bytes ≡ reads.Galley c.galley
+  pub reads : galley_of bytes ≡ Ok c.galley
   pub spec : c.galley.spec ≡ first
   pub folio : c.galley.folio ≡ 1
 
@@ -98,7 +96,7 @@ later_read : (bytes : List ℕ) (first : Spec) (k : ℕ) (rest : Outcome) (cs : 
 unfolding later
 later_read bytes first k rest cs = go (galley_of bytes) refl
   where
-    fit : (g : Galley) → galley_of bytes ≡ reads.Galley g → (a b : Bool) → alike first g.spec ≡ a → has_folio g ≡ b
+    fit : (g : Galley) → galley_of bytes ≡ Ok g → (a b : Bool) → alike first g.spec ≡ a → has_folio g ≡ b
         → pick a (pick b (refused 30 k) (before (record { bytes = bytes; galley = g }) rest)) (refused 29 k) ≡ read cs
         → Taken bytes first rest cs
     fit g e true true a b h = unread h
@@ -114,8 +112,8 @@ later_read bytes first k rest cs = go (galley_of bytes) refl
         }
 
     go : (r : Reading) → galley_of bytes ≡ r → later first k bytes r rest ≡ read cs → Taken bytes first rest cs
-    go (reads.Refused number place) e h = unread h
-    go (reads.Galley g) e h = fit g e (alike first g.spec) (has_folio g) refl refl h
+    go (Err r) e h = unread h
+    go (Ok g) e h = fit g e (alike first g.spec) (has_folio g) refl refl h
 
 -- Chapter j, from 0, of some that were taken, whose bytes begin at an offset.
 pub record LaterAt (bytes : List ℕ) (first : Spec) (at : ℕ) (lengths : List ℕ) (cs : List Chapter) (j : ℕ) : Type 0 where

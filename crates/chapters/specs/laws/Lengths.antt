@@ -1,11 +1,10 @@
 -- The lengths of a book's chapters: what the first of them and the rest come to.
 use Rattle.std.specs.Prelude.{ℕ, zero, suc, ◌+◌, ◌-◌, ◌≤◌, ◌<◌, true, not, ◌&&◌, List, [], ◌∷◌, ◌≡◌, refl, length, get_or, take, drop, ltb, eqb}
 use Rattle.std.proofs.Common.{arith, sym, ◌∙◌, ap, drop-cons, ltb-false, eqb-true}
-use Rattle.std.proofs.Math.Seq.{slice, take-length, take-nil}
+use Rattle.std.proofs.Math.Seq.{slice, take-nil}
 use Rattle.std.proofs.lemmas.Bool.{eqb-false, not-true}
 use Rattle.model.proofs.laws.Gather.{and_left, and_right}
-use Rattle.chapters.specs.declared.extent.Extent.{Extent}
-use Rattle.chapters.specs.Book.{all_bytes, adds_up, chapter_start, extent_of, chapter_bytes}
+use Rattle.chapters.specs.Book.{all_bytes, adds_up, chapter_start}
 
 start_suc : (lengths : List ℕ) (i : ℕ) → i < length lengths → chapter_start lengths (suc i) ≡ chapter_start lengths i + get_or lengths i 0
 unfolding all_bytes
@@ -18,10 +17,6 @@ pub start_next : (lengths : List ℕ) (i : ℕ) → i < length lengths → chapt
 start_next lengths i h =
     let e : i + 1 ≡ suc i = omega arith in
     ap (chapter_start lengths) e ∙ start_suc lengths i h
-
--- After all chapters stands what all lengths come to.
-pub start_all : (lengths : List ℕ) → chapter_start lengths (length lengths) ≡ all_bytes lengths
-start_all lengths = ap all_bytes (take-length lengths)
 
 -- No chapter begins past the end of all.
 pub start_within : (lengths : List ℕ) (i : ℕ) → chapter_start lengths i ≤ all_bytes lengths
@@ -69,11 +64,3 @@ part_from (suc from) k (x ∷ l) = let e : suc from + k ≡ suc (from + k) = ome
 -- The bytes of a chapter as they are lent: so many after its start.
 pub part_slice : (from k : ℕ) (l : List ℕ) → take (from + k - from) (drop from l) ≡ slice from (from + k) l
 part_slice from k l = let e : from + k - from ≡ k = omega arith in ap (λ j. take j (drop from l)) e ∙ part_from from k l
-
--- The bytes from one offset to another, as they are lent,
-abbrev pub lent : Extent → List ℕ → List ℕ
-lent e bytes = take (e.to - e.from) (drop e.from bytes)
-
--- are those of the chapter that begins and ends there.
-pub lent_is : (bytes lengths : List ℕ) (k : ℕ) (e : Extent) → e ≡ extent_of lengths k → lent e bytes ≡ chapter_bytes bytes lengths k
-lent_is bytes lengths k e is = rw is (part_slice (chapter_start lengths k) (get_or lengths k 0) bytes)

@@ -1,20 +1,19 @@
 -- How reading a book begins: the lengths do not add up, or the first chapter is turned away, or all is as the chapters have it.
-use Rattle.std.specs.Prelude.{ℕ, ◌+◌, ◌≤◌, ◌<◌, true, false, ◌≡◌, length, get_or}
+use Rattle.std.specs.Prelude.{ℕ, ◌+◌, ◌≤◌, ◌<◌, true, false, ◌≡◌, length, get_or, Err}
 use native.Mathlib.Omega.{arith}
 use mathlib.Core.List.{List, [], ◌∷◌}
 use Rattle.std.proofs.Math.Path.{sym, ap}
 use Rattle.std.proofs.Common.{◌∙◌}
 use Rattle.std.proofs.Math.Seq.{slice}
 use Rattle.model.specs.Gather.{pick}
-use Rattle.galley.specs.declared.Reading.TheVariants as reads
 use Rattle.galley.specs.Whole.{galley_of}
-use Rattle.chapters.specs.declared.BookReading.TheVariants as answers
+use Rattle.model.specs.declared.answer.Refusal.{Refusal}
 use Rattle.chapters.specs.Book.{refused, all_bytes, adds_up, first_of, chapters_of, book_of, reading_of, chapter_start}
 use Rattle.chapters.specs.laws.Lengths.{Adding, adding, start_next, start_within}
 
 module _ (bytes lengths : List ℕ) where
   -- The lengths do not add up.
-  pub unadded : adds_up bytes lengths ≡ false → answers.Refused 28 0 ≡ reading_of (book_of bytes lengths)
+  pub unadded : adds_up bytes lengths ≡ false → Err (record { number = 28; place = 0 }) ≡ reading_of (book_of bytes lengths)
   unfolding book_of reading_of
   unadded e = sym (ap (λ b. reading_of (pick b (chapters_of bytes lengths) (refused 28 0))) e)
 
@@ -35,14 +34,13 @@ module _ (bytes lengths : List ℕ) where
       omega arith
 
   -- The first chapter is turned away.
-  pub first_refused : (number place : ℕ) → adds_up bytes lengths ≡ true → galley_of (slice 0 (get_or lengths 0 0) bytes) ≡ reads.Refused number place
-      → answers.Refused number (0 + 1) ≡ reading_of (book_of bytes lengths)
+  pub first_refused : (r : Refusal) → adds_up bytes lengths ≡ true → galley_of (slice 0 (get_or lengths 0 0) bytes) ≡ Err r
+      → Err (record { number = r.number; place = 1 }) ≡ reading_of (book_of bytes lengths)
   unfolding chapters_of first_of reading_of
-  first_refused number place e f = go lengths (adding bytes lengths e) f ∙ sym (ap reading_of (added e))
+  first_refused r e f = go lengths (adding bytes lengths e) f ∙ sym (ap reading_of (added e))
     where
-      go : (ls : List ℕ) → Adding bytes ls → galley_of (slice 0 (get_or ls 0 0) bytes) ≡ reads.Refused number place
-          → answers.Refused number (0 + 1) ≡ reading_of (chapters_of bytes ls)
+      go : (ls : List ℕ) → Adding bytes ls → galley_of (slice 0 (get_or ls 0 0) bytes) ≡ Err r
+          → Err (record { number = r.number; place = 1 }) ≡ reading_of (chapters_of bytes ls)
       go [] adds f = absurd (omega (arith, adds.some))
       go (n ∷ ns) adds f =
-          let one : 0 + 1 ≡ 1 = omega arith in
-          ap (answers.Refused number) one ∙ sym (ap (λ r. reading_of (first_of bytes n ns r)) f)
+          sym (ap (λ r. reading_of (first_of bytes n ns r)) f)

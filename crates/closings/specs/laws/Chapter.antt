@@ -1,6 +1,6 @@
 -- A filled table of a chapter tells the best list that closes on each side: its turns and its white, its starts, and by the walk back
 -- its pages.
-use Rattle.std.specs.Prelude.{ℕ, ◌-◌, ◌*◌, ◌≤◌, ◌<◌, ◌≡◌, refl, drop}
+use Rattle.std.specs.Prelude.{ℕ, ◌-◌, ◌*◌, ◌≤◌, ◌<◌, ◌≡◌, refl, drop, None}
 use Rattle.std.proofs.Math.Nat.{le_refl}
 use Rattle.std.proofs.Common.{arith, sym, ◌∙◌}
 use Rattle.std.proofs.Math.Path.{ap, subst}
@@ -29,8 +29,7 @@ use Rattle.galley.specs.Model.{sides_in, model_of}
 use Rattle.blocks.specs.laws.Counts.{blocks_of}
 use Rattle.rules.specs.laws.Sane.{sound_sane}
 use Rattle.places.specs.declared.Place.{Place as Start}
-use Rattle.places.specs.declared.Entry.TheVariants.{Unreached, Least}
-use Rattle.places.specs.Entry.{low_of, high_of}
+use Rattle.places.specs.Entry.{least, low_of, high_of}
 use Rattle.places.specs.Columns.{columns, float_sizes}
 use Rattle.places.proofs.laws.Columns.{columns_some}
 use Rattle.candidates.specs.Search.{most_from}
@@ -92,7 +91,7 @@ module _ {bytes : List ℕ} {g : Galley} {work : List ℕ} (tabled : Tabled byte
         ∙ shown_at chapter (table_in g work) g.text.count (columns_in g - 1) c wide
 
     -- Where the full place is unreached on that side, no list closes on it.
-    pub closed_none : entry_of (table_in g work) (closing_stop g c) ≡ Unreached → best_closing chapter c ≡ none
+    pub closed_none : entry_of (table_in g work) (closing_stop g c) ≡ None → best_closing chapter c ≡ none
     unfolding shown
     closed_none e =
         closing_empty chapter (sound_sane bytes g tabled.sound) narrow c occurs (most_from nothing_yet) (table_at chapter (table_in g work)) right_from
@@ -109,7 +108,7 @@ module _ {bytes : List ℕ} {g : Galley} {work : List ℕ} (tabled : Tabled byte
       pub few : length stops ≤ blocks_in g
       pub is : pages ≡ pages_to stops (state_of chapter (closing_stop g c)) []
 
-    pub closed_best : (x : ℕ) (s : Start) → entry_of (table_in g work) (closing_stop g c) ≡ Least x s → Closes x
+    pub closed_best : (x : ℕ) (s : Start) → entry_of (table_in g work) (closing_stop g c) ≡ least x s → Closes x
     unfolding shown pages_to blocks_at
     closed_best x s e =
         let (us, trace, best, cost, starts) =

@@ -1,8 +1,10 @@
 -- Walks back through two tables of a chapter as the loop goes, page by page: where their starts part, which is the later is told.
 use Prim.Native.Nat.{ℕ, zero, suc, ◌-◌, ◌≤◌, ◌<◌}
 use native.Mathlib.Omega.{arith}
-use Rattle.std.specs.Prelude.{◌≡◌, refl, false, List, eqb, ltb}
-use Rattle.std.proofs.Common.{eq-eqb, ne_eqb}
+use Rattle.std.specs.Prelude.{◌≡◌, refl, true, false, ◌&&◌, List, eqb, ltb}
+use Rattle.std.proofs.Math.Decide.{ℕ_discrete}
+use Rattle.std.proofs.Common.{eq-eqb, ne_eqb, eqb-true, sym}
+use Rattle.model.proofs.laws.Gather.{and_left, and_right}
 use Rattle.model.specs.Gather.{pick}
 use Rattle.galley.specs.declared.Galley.{Galley}
 use Rattle.galley.specs.Model.{sides_in}
@@ -60,3 +62,23 @@ module _ {g : Galley} {w v : List ℕ} {first second a b : Stop} {left : ℕ} (r
           other = rw ey (back_visits u b run.other);
           same = rw (eq-eqb _ _ e, eq-eqb _ _ f) at step;
         }
+
+    -- They part at a place, whose order says which start is the later;
+    pub parted : eqb x.place.line y.place.line && eqb x.place.column y.place.column ≡ false
+        → pick (eqb y.place.line x.place.line) (ltb y.place.column x.place.column) (ltb y.place.line x.place.line) ≡ later_starts g w v first second
+    parted h = go (ℕ_discrete x.place.line y.place.line)
+      where
+        go : Dec (x.place.line ≡ y.place.line)
+            → pick (eqb y.place.line x.place.line) (ltb y.place.column x.place.column) (ltb y.place.line x.place.line) ≡ later_starts g w v first second
+        go (no n) = rw (ne_eqb y.place.line x.place.line (λ e. n (sym e))) (parted_line n)
+        go (yes e) =
+            rw (eq-eqb y.place.line x.place.line (sym e))
+            (parted_column e (λ f. let z : true ≡ false = (rw (eq-eqb _ _ e, eq-eqb _ _ f) at h) in cc))
+
+    -- where they do not, line and column are the same.
+    pub parted_same : eqb x.place.line y.place.line && eqb x.place.column y.place.column ≡ true
+        → (x.place.line ≡ y.place.line) × (x.place.column ≡ y.place.column)
+    parted_same h = (
+      eqb-true _ _ (and_left (eqb x.place.line y.place.line) (eqb x.place.column y.place.column) h),
+      eqb-true _ _ (and_right (eqb x.place.line y.place.line) (eqb x.place.column y.place.column) h),
+    )

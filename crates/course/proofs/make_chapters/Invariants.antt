@@ -1,5 +1,4 @@
 -- `make_chapters` meets its contract: each turn makes one chapter more, and with the chapters left they come to what all do.
-use Prim.Native.Nat.{◌-◌}
 use mathlib.Core.Path.{◌≡◌}
 use lib.ListN.{length}
 use Rattle.chapters.specs.Book.{chapters_in, book_of}
@@ -9,6 +8,3 @@ use Rattle.course.proofs.make_chapters.Given as goal
 abbrev pub invariant-loop-k : goal.invariant-loop-k
 invariant-loop-k l =
     Making (chapters_in (book_of l.galleys l.lengths)) l.folios l.initial.pages l.k l.sums l.pages × (length l.work ≡ length l.initial.work)
-
-abbrev pub decreases-loop-k : goal.decreases-loop-k
-decreases-loop-k l = l.book.chapters - l.k

@@ -1,13 +1,12 @@
 -- A filled table of a chapter tells the words of the best list that closes on a side, and marking them its counts.
-use Rattle.std.specs.Prelude.{ℕ, ◌+◌, ◌*◌, ◌≤◌, ◌≡◌, refl, List, ◌++◌, take, drop}
+use Rattle.std.specs.Prelude.{ℕ, ◌+◌, ◌*◌, ◌≤◌, ◌≡◌, refl, List, ◌++◌, take, drop, None, Some}
 use Rattle.std.proofs.Common.{mul_comm, mul-le-mul, mul-le-mul_right, arith, sym, ◌∙◌, take_at}
 use Rattle.std.proofs.Math.Path.{ap}
 use Rattle.std.proofs.Math.Option.{Option, none, some}
 use Rattle.std.proofs.Math.ListN.{length}
-use Rattle.model.specs.declared.answer.Answer.{Answer}
 use Rattle.model.specs.Galley as model
 use Rattle.model.specs.Galley.{Place, streams}
-use Rattle.model.specs.Answers.{words_of, marked}
+use Rattle.model.specs.Answers.{words_of, marked, Answer}
 use Rattle.model.specs.Best.{valid}
 use Rattle.model.specs.laws.Lists.{◌∈◌}
 use Rattle.model.proofs.laws.Best.{MakesOf, makes, impossible}
@@ -21,8 +20,7 @@ use Rattle.galley.specs.Sound.{Sound}
 use Rattle.blocks.specs.Counts.{page_words}
 use Rattle.blocks.specs.laws.Counts.{streams_of_lem, blocks_of}
 use Rattle.needs.specs.Needs.{list_needed}
-use Rattle.places.specs.declared.Entry.{Entry}
-use Rattle.places.specs.declared.Entry.TheVariants.{Unreached, Least}
+use Rattle.places.specs.Entry.{Entry}
 use Rattle.candidates.specs.Read.{table_in, columns_in}
 use Rattle.filling.specs.Fill.{filled}
 use Rattle.filling.specs.laws.Fill.{length_filled}
@@ -107,14 +105,14 @@ module _ {bytes : List ℕ} {g : Galley} {c : ℕ} {work list : List ℕ} (p : M
     found = go (entry_of (table_in g work₁) (closing_stop g c)) refl
       where
         go : (e : Entry) → entry_of (table_in g work₁) (closing_stop g c) ≡ e → (x : ℕ) × (k : Closes tabled c p.occurs x) × (k.pages ≡ made)
-        go Unreached e =
+        go None e =
             let no = closed_none tabled c p.occurs e in
             let z : ◌≡◌ {A = Option (List Place)} none (some made) = sym no ∙ p.best in
             let z' : ◌≡◌ {A = ℕ} 0 1 = cc in absurd (omega arith)
-        go (Least x s) e =
-            let k = closed_best tabled c p.occurs x s e in
+        go (Some l) e =
+            let k = closed_best tabled c p.occurs l.cost l.start e in
             let z : some k.pages ≡ some made = sym k.best ∙ p.best in
-            let same : k.pages ≡ made = cc in (x, k, same)
+            let same : k.pages ≡ made = cc in (l.cost, k, same)
 
     module _ (n : ℕ) (counted : n ≡ pages_back g work₁ nothing_yet (closing_stop g c)) where
       -- The walk back counts its pages,

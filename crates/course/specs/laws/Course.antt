@@ -1,17 +1,14 @@
 -- One chapter after another: each that is made leaves what all come to.
-use Rattle.std.specs.Prelude.{ℕ, ◌+◌, ◌-◌, ◌≤◌, ◌≡◌, List, [], ◌++◌, length, take, drop}
+use Rattle.std.specs.Prelude.{ℕ, ◌+◌, ◌-◌, ◌≤◌, ◌≡◌, List, [], ◌++◌, length, take, drop, Err, Ok}
 use Rattle.std.proofs.Common.{arith, sym, ◌∙◌, subst, append-nil, append_assoc, length-drop, length-take-le, take_all, drop-drop}
 use Rattle.std.proofs.Math.Path.{ap}
 use Rattle.std.proofs.Math.Seq.{drop-length}
-use Rattle.model.specs.declared.answer.Answer.{Answer}
-use Rattle.model.specs.Answers.{words_of, counts_of}
+use Rattle.model.specs.Answers.{words_of, counts_of, Answer}
 use Rattle.model.specs.Best.{valid}
 use Rattle.model.specs.laws.Lists.{◌∈◌}
 use Rattle.theorems.specs.pages.Sides.{side_side}
 use Rattle.galley.specs.declared.Galley.{Galley}
-use Rattle.galley.specs.declared.Reading.{Reading}
-use Rattle.galley.specs.declared.Reading.TheVariants as reads
-use Rattle.galley.specs.Whole.{galley_of}
+use Rattle.galley.specs.Whole.{galley_of, Reading}
 use Rattle.galley.specs.Model.{sides_in}
 use Rattle.galley.specs.Sound.{Sound}
 use Rattle.galley.proofs.laws.Sound.{sound}
@@ -45,15 +42,15 @@ sound_on s o low few =
     }
 
 -- Bytes hold one galley.
-pub one_galley : (bytes : List ℕ) (g h : Galley) → galley_of bytes ≡ reads.Galley g → galley_of bytes ≡ reads.Galley h → g ≡ h
+pub one_galley : (bytes : List ℕ) (g h : Galley) → galley_of bytes ≡ Ok g → galley_of bytes ≡ Ok h → g ≡ h
 one_galley bytes g h e f = ap held (sym e ∙ f)
   where
     held : Reading → Galley
-    held (reads.Galley x) = x
-    held (reads.Refused number place) = g
+    held (Ok x) = x
+    held (Err r) = g
 
 -- The list of a chapter from folio to folio is valid, and as short as any.
-module _ {bytes : List ℕ} {g : Galley} {o next : ℕ} (e : galley_of bytes ≡ reads.Galley g) (l : LeadsTo bytes g o next) where
+module _ {bytes : List ℕ} {g : Galley} {o next : ℕ} (e : galley_of bytes ≡ Ok g) (l : LeadsTo bytes g o next) where
   lead_sound : Sound bytes (on_folio o g)
   lead_sound = sound_on (sound bytes g e) o l.low (omega (arith, l.folio))
 
@@ -64,7 +61,7 @@ module _ {bytes : List ℕ} {g : Galley} {o next : ℕ} (e : galley_of bytes ≡
   lead_fits = list_fits lead_sound (list_to bytes g o next) lead_valid
 
 module _ {bytes : List ℕ} {o next : ℕ} {sums : Sums} {work list : List ℕ} (p : NextChapter bytes o next sums work list)
-    (g : Galley) (e : galley_of bytes ≡ reads.Galley g) where
+    (g : Galley) (e : galley_of bytes ≡ Ok g) where
   same : p.galley ≡ g
   same = one_galley bytes p.galley g p.reads e
 

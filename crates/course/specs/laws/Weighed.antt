@@ -2,7 +2,7 @@
 use Prim.Native.Nat.{ℕ, zero, suc, ◌+◌, ◌*◌, ◌≤◌, ◌<◌}
 use Rattle.std.proofs.Common.{suc-mul, mul-le-mul, sym, ◌∙◌, drop_of_length-le}
 use native.Mathlib.Omega.{arith}
-use Rattle.std.specs.Prelude.{◌≡◌, Bool, true, false, ◌&&◌, List, ◌∷◌, drop}
+use Rattle.std.specs.Prelude.{◌≡◌, Bool, true, false, ◌&&◌, List, ◌∷◌, drop, Ok}
 use Rattle.std.proofs.Math.Path.{ap}
 use Rattle.std.proofs.Math.ListN.{length}
 use Rattle.model.specs.Gather.{one, sum, total}
@@ -12,7 +12,6 @@ use Rattle.model.specs.Weighed.{weighs, past, weighed_from}
 use Rattle.model.specs.laws.Boxes.{below}
 use Rattle.model.proofs.laws.Weighed.{weighed_from_nothing}
 use Rattle.galley.specs.declared.Galley.{Galley}
-use Rattle.galley.specs.declared.Reading.TheVariants as reads
 use Rattle.galley.specs.Whole.{galley_of}
 use Rattle.galley.specs.Model.{model_of}
 use Rattle.galley.specs.Sound.{Sound}
@@ -78,7 +77,7 @@ weighed_few bytes g s w =
 pub none_within : (g : Galley) → Within g no_counts
 none_within g = record { lines = omega arith; figures = omega arith; tables = omega arith }
 
-pub chapter_weighed : (bytes : List ℕ) (g : Galley) (count : ℕ) → galley_of bytes ≡ reads.Galley g
+pub chapter_weighed : (bytes : List ℕ) (g : Galley) (count : ℕ) → galley_of bytes ≡ Ok g
     → count ≡ weighed_from (model_of bytes g) (place_of g no_counts) → ChapterWeighed bytes count
 chapter_weighed bytes g count e is =
     record {
@@ -94,9 +93,6 @@ module _ {bytes lengths : List ℕ} {book : Book} (p : BookRead bytes lengths bo
 
   is_read : chapters_in (book_of bytes lengths) ≡ chapters
   is_read = chapters_read p.is
-
-  pub weighing_first : Weighing (chapters_in (book_of bytes lengths)) 0 0
-  weighing_first = record { within = omega arith; few = omega arith; goes = omega arith }
 
   pub weighing_at : {k : ℕ} → k < book.chapters → ChapterAt bytes lengths p.first p.rest k
   weighing_at {k} h = chapter_at bytes lengths p.first p.rest p.is k (omega (arith, p.many))

@@ -1,11 +1,10 @@
 -- What is filled before a place is past the origin: the starts in earlier columns, and the lines above in its own.
-use Rattle.std.specs.Prelude.{ℕ, ◌≤◌, ◌<◌, ◌≡◌, refl, List}
+use Rattle.std.specs.Prelude.{ℕ, ◌≤◌, ◌<◌, ◌≡◌, refl, List, None, Some}
 use Rattle.std.proofs.Common.{arith, inl, inr}
 use Rattle.galley.specs.declared.Galley.{Galley}
 use Rattle.galley.specs.Model.{sides_in}
 use Rattle.places.specs.declared.Place.{Place}
-use Rattle.places.specs.declared.Entry.{Entry}
-use Rattle.places.specs.declared.Entry.TheVariants.{Unreached, Least}
+use Rattle.places.specs.Entry.{Entry, least}
 use Rattle.places.specs.Order.{Earlier}
 use Rattle.places.specs.Columns.{place_at}
 use Rattle.places.proofs.laws.Columns.{inside_head, inside_tail}
@@ -25,7 +24,7 @@ module _ {bytes : List ℕ} {task : Task} {w : List ℕ} {i j : ℕ} (next : Nex
   pub sides : side_count (sides_in g) ≡ g.spec.sides
   sides = sides_count g.spec.sides g.folio next.lent.sound.spec_ranged.sides_some next.lent.sound.spec_ranged.sides_two
 
-  filled_past : (a b c x : ℕ) (s : Place) → Earlier a b i j → a ≤ g.text.count → c < g.spec.sides → table_in g w a b c ≡ Least x s
+  filled_past : (a b c x : ℕ) (s : Place) → Earlier a b i j → a ≤ g.text.count → c < g.spec.sides → table_in g w a b c ≡ least x s
       → (task.origin.place.line ≤ a)
       × ((counts_at g 0 task.origin.place.column).figures ≤ (counts_at g 0 b).figures)
       × ((counts_at g 0 task.origin.place.column).tables ≤ (counts_at g 0 b).tables)
@@ -44,7 +43,7 @@ module _ {bytes : List ℕ} {task : Task} {w : List ℕ} {i j : ℕ} (next : Nex
   pub lines_before : i ≤ task.galley.text.count → (c : ℕ) → c < task.galley.spec.sides → Before task w j (side_of task.galley c) i
   lines_before high c occurs a early l = go (table_in g w a j (side_of g c)) refl
     where
-      go : (e : Entry) → table_in g w a j (side_of g c) ≡ e → table_in g w a j (side_of g c) ≡ Unreached
-      go Unreached e = e
-      go (Least x s) e =
-          absurd (omega (arith, (filled_past a j (side_of g c) x s (inr (refl, l)) (omega arith) (side_occurs next.lent.sound c occurs) e).0))
+      go : (e : Entry) → table_in g w a j (side_of g c) ≡ e → table_in g w a j (side_of g c) ≡ None
+      go None e = e
+      go (Some k) e =
+          absurd (omega (arith, (filled_past a j (side_of g c) k.cost k.start (inr (refl, l)) (omega arith) (side_occurs next.lent.sound c occurs) e).0))

@@ -1,5 +1,5 @@
 -- Starts lie before their ends and costs stay small: what every entry keeps, whatever the work area held before.
-use Rattle.std.specs.Prelude.{ℕ, zero, suc, ◌+◌, ◌*◌, ◌≤◌, ◌<◌, ◌≡◌, Bool, false, ◌&&◌}
+use Rattle.std.specs.Prelude.{ℕ, zero, suc, ◌+◌, ◌*◌, ◌≤◌, ◌<◌, ◌≡◌, Bool, false, ◌&&◌, None}
 use Rattle.std.proofs.Common.{le_refl, le_trans, arith, ◌∙◌}
 use Rattle.std.proofs.Math.Nat.{mul-le-mul_right, suc-mul}
 use Rattle.std.proofs.Math.Path.{refl}
@@ -20,10 +20,9 @@ use Rattle.theorems.specs.turns.Bounds.{cost_le}
 use Rattle.theorems.specs.pages.Graph.{side, full}
 use Rattle.places.specs.declared.Place.{Place}
 use Rattle.places.specs.declared.Origin.{Origin}
-use Rattle.places.specs.declared.Entry.{Entry}
-use Rattle.places.specs.declared.Entry.TheVariants.{Unreached, Least}
+use Rattle.places.specs.Entry.{Entry, least}
 use Rattle.places.specs.Columns.{columns, float_sizes, place_at}
-use Rattle.places.proofs.laws.Best.{no_reach}
+use Rattle.places.proofs.laws.Best.{least_same, no_reach}
 use Rattle.places.proofs.laws.Places.{place_inside, forward_inside}
 use Rattle.candidates.specs.Search.{Table, before, Search, white_from, best_start, most_from, priced, may_stop, begins, new_entry}
 use Rattle.candidates.proofs.laws.Priced.{priced_least}
@@ -92,7 +91,7 @@ white_low s a b = page_white_le s.galley _ _ _
 
 -- So is the best start, if there is one.
 pub best_entered : (s : Search) (from : Origin) → Sought s → Filled s.galley from s.table s.line s.column
-    → Side s.galley.spec.sides s.side → (x : ℕ) (r : Place) → best_start s ≡ Least x r
+    → Side s.galley.spec.sides s.side → (x : ℕ) (r : Place) → best_start s ≡ least x r
     → Found s.galley from s.line s.column x r
 best_entered s from sought fill side x r e =
     let c = ((best_start_lem s).may x r e).1 in
@@ -123,7 +122,7 @@ module _ (g : Galley) (light : Light g) (from : Origin) (t : Table) (i q c : ℕ
   search = record { galley = g; table = t; line = i; column = q; side = before g.spec.sides c }
 
   priced_entered : (e : Entry) → best_start search ≡ e → (x : ℕ) (r : Place)
-      → priced (most_from from) (rank (page_cost g c (full g (place_at g i q)) (place_at g i q)) 0) e ≡ Least x r → Entered g from i q x r
+      → priced (most_from from) (rank (page_cost g c (full g (place_at g i q)) (place_at g i q)) 0) e ≡ least x r → Entered g from i q x r
   unfolding search
   priced_entered e b x r p =
       let paid = priced_least _ _ e x r p in
@@ -141,7 +140,7 @@ module _ (g : Galley) (light : Light g) (from : Origin) (t : Table) (i q c : ℕ
       }
 
   -- The entry that a place gets keeps what entries keep, if those before it do.
-  pub entry_entered : (x : ℕ) (r : Place) → new_entry g from t i q c ≡ Least x r → Entered g from i q x r
+  pub entry_entered : (x : ℕ) (r : Place) → new_entry g from t i q c ≡ least x r → Entered g from i q x r
   unfolding new_entry search begins
   entry_entered x r e = go (begins g.spec.sides from i q c) refl (may_stop g i q c) e
     where
@@ -152,11 +151,10 @@ module _ (g : Galley) (light : Light g) (from : Origin) (t : Table) (i q c : ℕ
             eqb-true q from.place.column (and_left (eqb q from.place.column) _ (and_right (eqb i from.place.line) rest t)),
           )
 
-      first : (i ≡ from.place.line) × (q ≡ from.place.column) → (x : ℕ) (r : Place) → Least from.cost from.place ≡ Least x r
+      first : (i ≡ from.place.line) × (q ≡ from.place.column) → (x : ℕ) (r : Place) → least from.cost from.place ≡ least x r
           → Entered g from i q x r
       first (l, k) x r e =
-          let paid : from.cost ≡ x = cc in
-          let at : from.place ≡ r = cc in
+          let (paid, at) = least_same e in
           rw (← at, ← paid)
           (record {
             line = omega arith;
@@ -167,9 +165,9 @@ module _ (g : Galley) (light : Light g) (from : Origin) (t : Table) (i q c : ℕ
           })
 
       go : (a : Bool) → begins g.spec.sides from i q c ≡ a → (b : Bool)
-          → pick a (Least from.cost from.place)
-          (pick b (priced (most_from from) (rank (page_cost g c (full g (place_at g i q)) (place_at g i q)) 0) (best_start search)) Unreached)
-          ≡ Least x r → Entered g from i q x r
+          → pick a (least from.cost from.place)
+          (pick b (priced (most_from from) (rank (page_cost g c (full g (place_at g i q)) (place_at g i q)) 0) (best_start search)) None)
+          ≡ least x r → Entered g from i q x r
       go true a b e = first (here a) x r e
       go false a true e = priced_entered (best_start search) refl x r e
       go false a false e = absurd (no_reach e)

@@ -6,7 +6,7 @@ use Rattle.std.specs.Prelude.{◌≡◌, refl, ◌⊎◌, length}
 use Rattle.model.specs.Galley.{Galley}
 use Rattle.places.specs.declared.Place.{Place}
 use Rattle.places.specs.declared.Origin.{Origin}
-use Rattle.places.specs.declared.Entry.TheVariants.{Least}
+use Rattle.places.specs.Entry.{least}
 use Rattle.places.specs.Address.{address}
 use Rattle.places.specs.Order.{Earlier}
 use Rattle.places.specs.Columns.{columns, float_sizes}
@@ -86,7 +86,7 @@ module _ (g : Galley) (light : Light g) (from : Origin) where
     -- So many sides filled: the earlier entries are as they were, and those of these sides are such too.
     record Sides (w : Words) (n : ℕ) : Type 0 where
       earlier : Filled g from (held g (fill_sides g from i q n w)) i q
-      own : (c x : ℕ) (s : Place) → c < n → held g (fill_sides g from i q n w) i q c ≡ Least x s → Entered g from i q x s
+      own : (c x : ℕ) (s : Place) → c < n → held g (fill_sides g from i q n w) i q c ≡ least x s → Entered g from i q x s
 
     sides_next : (w : Words) (n : ℕ) → Roomy g (fill_sides g from i q n w) → n < side_count g.spec.sides → Sides w n → Sides w (suc n)
     unfolding fill_sides
@@ -99,7 +99,7 @@ module _ (g : Galley) (light : Light g) (from : Origin) where
         low : n ≤ 1
         low = omega (arith, count_low g.spec.sides)
 
-        go : (c x : ℕ) (s : Place) → Dec (c < n) → c < suc n → held g (fill_side g from i q n before) i q c ≡ Least x s
+        go : (c x : ℕ) (s : Place) → Dec (c < n) → c < suc n → held g (fill_side g from i q n before) i q c ≡ least x s
             → Entered g from i q x s
         go c x s (yes k) l e =
             sofar.own c x s k
@@ -124,7 +124,7 @@ module _ (g : Galley) (light : Light g) (from : Origin) where
       where
         go : Sides w (side_count g.spec.sides) → (a b c x : ℕ) (s : Place) → Earlier a b i q ⊎ ((a ≡ i) × (b ≡ q))
             → a ≤ (g.stream 0).size → Side g.spec.sides c
-            → held g (fill_sides g from i q (side_count g.spec.sides) w) a b c ≡ Least x s → Entered g from a b x s
+            → held g (fill_sides g from i q (side_count g.spec.sides) w) a b c ≡ least x s → Entered g from a b x s
         go sofar a b c x s (inl l) h k e = sofar.earlier.entered a b c x s l h k e
         go sofar a b c x s (inr (p, r)) h k e =
             rw (p, r) (sofar.own c x s (side_below g.spec.sides c k) (rw (p, r) at e))

@@ -1,5 +1,5 @@
 -- The entry that a place gets, by what the code has tested: where the search begins, where no page may end, and from its best start.
-use Rattle.std.specs.Prelude.{ℕ, ◌+◌, ◌≤◌, ◌≡◌, true, false, List, eqb}
+use Rattle.std.specs.Prelude.{ℕ, ◌+◌, ◌≤◌, ◌≡◌, true, false, List, eqb, None}
 use Rattle.std.proofs.Common.{le_refl, arith, sym, ◌∙◌, eqb-true}
 use Rattle.model.specs.Galley as model
 use Rattle.model.proofs.laws.Gather.{and_left}
@@ -14,8 +14,7 @@ use Rattle.blocks.specs.Counts.{Proper}
 use Rattle.blocks.specs.laws.Counts.{within_proper}
 use Rattle.places.specs.declared.Place.{Place}
 use Rattle.places.specs.declared.Origin.{Origin}
-use Rattle.places.specs.declared.Entry.{Entry}
-use Rattle.places.specs.declared.Entry.TheVariants.{Unreached, Least}
+use Rattle.places.specs.Entry.{Entry, least}
 use Rattle.places.specs.Columns.{place_at}
 use Rattle.places.specs.Best.{Best}
 use Rattle.queues.specs.declared.parts.Parts.{Parts}
@@ -42,13 +41,13 @@ use Rattle.entries.specs.laws.Own.{under_own, lines_slide, end_within, end_full,
 
 module _ (g : model.Galley) (from : Origin) (t : Table) (i q c : ℕ) where
   -- Where the search begins, the entry is what was paid there.
-  pub entry_origin : begins g.spec.sides from i q c ≡ true → new_entry g from t i q c ≡ Least from.cost from.place
+  pub entry_origin : begins g.spec.sides from i q c ≡ true → new_entry g from t i q c ≡ least from.cost from.place
   unfolding new_entry
   entry_origin b = rw b
 
   module _ (later : begins g.spec.sides from i q c ≡ false) where
     -- Where no page may end, the place is unreached.
-    pub entry_forbidden : may_stop g i q c ≡ false → new_entry g from t i q c ≡ Unreached
+    pub entry_forbidden : may_stop g i q c ≡ false → new_entry g from t i q c ≡ None
     unfolding new_entry
     entry_forbidden m = rw (later, m)
 
@@ -135,7 +134,7 @@ module _ {bytes : List ℕ} {task : Task} {w sums words : List ℕ} {parts : Par
       entry_priced (model_of bytes g) task.origin (table_in g w) end.at.lines end.column end.side later may e start_told
 
   -- and their sum is a number of 64 bits.
-  pub cost_low : (x : ℕ) (r : Place) → e ≡ Least x r
+  pub cost_low : (x : ℕ) (r : Place) → e ≡ least x r
       → x + rank (page_cost (model_of bytes task.galley) end.side (full (model_of bytes task.galley) v) v) 0 ≤ 10000000000000000000
   cost_low x r is =
       let m = model_of bytes g in

@@ -1,9 +1,8 @@
 -- The queues of the sides: empty at first, moved on one by one, and left as they are by what does not concern them.
-use Rattle.std.specs.Prelude.{ℕ, zero, suc, ◌+◌, ◌*◌, ◌≤◌, ◌<◌, ◌≡◌, refl, ◌⊎◌, List, [], ◌∷◌, length, get_or}
+use Rattle.std.specs.Prelude.{ℕ, zero, suc, ◌+◌, ◌*◌, ◌≤◌, ◌<◌, ◌≡◌, refl, ◌⊎◌, List, [], ◌∷◌, length, get_or, None}
 use Rattle.std.proofs.Math.Decide.{dec_lt, ℕ_discrete}
 use Rattle.std.proofs.Common.{arith, sym, ◌∙◌, inl, inr}
 use Rattle.galley.specs.declared.Galley.{Galley}
-use Rattle.places.specs.declared.Entry.TheVariants.{Unreached}
 use Rattle.window.specs.declared.slide.Window.{Window}
 use Rattle.queues.specs.declared.parts.Parts.{Parts}
 use Rattle.queues.specs.Queue.{lines_of}
@@ -18,7 +17,7 @@ no_ends = 0 ∷ 0 ∷ 4000 ∷ 4000 ∷ 8000 ∷ 8000 ∷ 12000 ∷ 12000 ∷ []
 
 -- Before the first line that is reached all queues are empty.
 pub queues_none : (g : Galley) (w sums words : List ℕ) (b : ℕ) (window : Window) → g.spec.sides ≤ 2
-    → ((a c : ℕ) → c < g.spec.sides → (a < window.split) ⊎ (a < window.high) → lines_of w (g.text.count + 1) b (side_of g c) a ≡ Unreached)
+    → ((a c : ℕ) → c < g.spec.sides → (a < window.split) ⊎ (a < window.high) → lines_of w (g.text.count + 1) b (side_of g c) a ≡ None)
     → Queues g w sums words no_ends b window window 0
 queues_none g w sums words b window two none =
     record { rows = refl; moved = λ c l m. absurd (omega arith); still = λ c l m. still c m }

@@ -3,7 +3,7 @@ use Prim.Native.Nat.{ℕ, zero, suc, ◌+◌, ◌-◌, ◌*◌, ◌≤◌, ◌<�
 use Rattle.std.proofs.Math.Decide.{dec_lt}
 use Rattle.std.proofs.Math.Numerals.{add-one}
 use native.Mathlib.Omega.{arith}
-use Rattle.std.specs.Prelude.{◌≡◌, refl, ◌⊎◌, Bool, false, List}
+use Rattle.std.specs.Prelude.{◌≡◌, refl, ◌⊎◌, Bool, false, List, None}
 use Rattle.std.proofs.Math.Path.{sym, ap}
 use Rattle.std.proofs.Common.{◌∙◌, inl, inr}
 use Rattle.std.proofs.Math.ListN.{length}
@@ -12,7 +12,6 @@ use Rattle.galley.specs.Model.{text_of, model_of, sides_in}
 use Rattle.rules.specs.declared.waiting.Waiting.{Waiting}
 use Rattle.rules.specs.Waiting.{waiting_of}
 use Rattle.rules.specs.laws.Walked.{walking_none, walking_here}
-use Rattle.places.specs.declared.Entry.TheVariants.{Unreached}
 use Rattle.places.specs.Order.{Earlier}
 use Rattle.places.proofs.laws.Best.{no_reach}
 use Rattle.window.specs.declared.slide.Window.{Window}
@@ -21,7 +20,7 @@ use Rattle.window.specs.laws.Slide.{ends_first, ends_next}
 use Rattle.candidates.specs.Choice.{Candidate}
 use Rattle.candidates.specs.Read.{table_in, side_of, search_of, counts_at}
 use Rattle.passes.specs.Sweep.{Lent}
-use Rattle.candidates.specs.Cells.{Scratched, fresh, more, ColumnRoom}
+use Rattle.candidates.specs.Cells.{Scratched, fresh, more}
 use Rattle.starts.specs.Swept.{ColumnSwept}
 use Rattle.candidates.proofs.laws.Columns.{within_at}
 use Rattle.passes.proofs.laws.Pass.{least_low}
@@ -29,11 +28,10 @@ use Rattle.candidates.proofs.laws.Read.{side_occurs}
 use Rattle.candidates.proofs.laws.Cells.{scratched_length, scratched_others}
 use Rattle.candidates.proofs.laws.Clean.{clean_kept}
 use Rattle.passes.proofs.laws.Cells.{lent_kept}
-use Rattle.passes.proofs.laws.Lending.{lent_room}
 use Rattle.pricing.specs.declared.Floats.{Floats}
 use Rattle.entries.specs.declared.side.Task.{Task}
 use Rattle.entries.specs.Fill.{tall, fill_side, fill_sides, side_count, fill_place}
-use Rattle.filling.specs.Fill.{fill_column, filled}
+use Rattle.filling.specs.Fill.{fill_column}
 use Rattle.pricing.specs.Stop.{floats_say, stop_from}
 use Rattle.entries.specs.Next.{Next, plain, PlaceNext, PlaceFilled}
 use Rattle.filling.specs.Next.{end_from, ColumnNext, Gathered, LastNext, Still, Onward}
@@ -150,7 +148,7 @@ module _ {bytes : List ℕ} {task : Task} {w₀ sums words₀ : List ℕ} {j fir
       }
     where
       none : (a c : ℕ) → c < task.galley.spec.sides → (a < new.split) ⊎ (a < new.high)
-          → table_in task.galley w₀ a j (side_of task.galley c) ≡ Unreached
+          → table_in task.galley w₀ a j (side_of task.galley c) ≡ None
       none a c occurs (inl l) =
           (lines_quiet last.gathered last.begun).none a (side_of task.galley c) (omega arith) (omega (arith, slid.between))
           (side_occurs lent_first.sound c occurs)
@@ -185,7 +183,7 @@ module _ {bytes : List ℕ} {task : Task} {w₀ sums words₀ : List ℕ} {j fir
     lent : Lent bytes task.galley w j
     lent = next.lent
 
-    -- The window can be moved on to line i,
+    -- The window can be moved on to line i.
     pub last_slides : Slidable sums (plain task) window i
     last_slides =
         lines_slide lent column.summed (floor (model_of bytes task.galley) false) task.origin.place.line
@@ -196,12 +194,8 @@ module _ {bytes : List ℕ} {task : Task} {w₀ sums words₀ : List ℕ} {j fir
       opened : Open (text_of bytes task.galley.text) (plain task) new i
       opened = slid.opens (text_of bytes task.galley.text) task.galley.text.count column.summed.rows at run.slid
 
-      -- the next line that may be a start looked for from there on,
-      pub last_looks : ColumnRoom task.galley w j × (new.low ≤ task.galley.text.count) × (to ≤ task.galley.text.count)
-      last_looks = (lent_room lent, omega (arith, slid.within), run.inside)
-
       module _ (onto : ℕ) (onward : Onward task.galley w j new.low to onto) (over : task.galley.text.count < onto) where
-        -- and where there is none no line from i on is reached: what starts above the window is too tall for it, and stays so.
+        -- Where no later line may be a start, no line from i on is reached: what starts above the window is too tall for it, and stays so.
         last_still : Still bytes task w j i (suc task.galley.text.count)
         last_still =
             record {

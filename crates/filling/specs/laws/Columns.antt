@@ -1,14 +1,13 @@
 -- The columns one after another, in words that are cleared: what is left makes of the words what the whole makes of those at the start.
 use Prim.Native.Nat.{ℕ, zero, suc, ◌+◌, ◌-◌, ◌≤◌, ◌<◌}
 use native.Mathlib.Omega.{arith}
-use Rattle.std.specs.Prelude.{◌≡◌, refl, List}
+use Rattle.std.specs.Prelude.{◌≡◌, refl, List, None}
 use Rattle.std.proofs.Math.Path.{sym, ap}
 use Rattle.std.proofs.Common.{◌∙◌}
 use Rattle.std.proofs.Math.ListN.{length}
 use Rattle.galley.specs.declared.Galley.{Galley}
 use Rattle.galley.specs.Model.{model_of, sides_in}
 use Rattle.places.specs.declared.Origin.{Origin}
-use Rattle.places.specs.declared.Entry.TheVariants.{Unreached}
 use Rattle.places.specs.Address.{address, words_needed}
 use Rattle.places.specs.Entry.{boundless, stored, cleared}
 use Rattle.places.proofs.laws.Address.{address_in, area_needed}
@@ -103,7 +102,7 @@ module _ {bytes : List ℕ} {task : Task} {w₀ sums words₀ : List ℕ} (table
       let room = needed_roomy bytes g table.fillable.room in
       let sides = sides_count g.spec.sides g.folio spec.sides_some spec.sides_two in
       let empty : (a b c : ℕ) → a ≤ g.text.count → b < columns (float_sizes m) → c < side_count (sides_in g)
-      → stored w₀ (address (g.text.count + 1) a b c) Unreached ≡ w₀ =
+      → stored w₀ (address (g.text.count + 1) a b c) None ≡ w₀ =
       λ a b c h l k. table.blank b (omega (arith, columns_in_lem bytes g)) a c h (omega (arith, sides)) in
       let rest : from.place.column + (columns_in g - from.place.column) ≡ columns_in g = omega (arith, table.fillable.origin) in
       record {

@@ -7,7 +7,7 @@ use Rattle.std.specs.Prelude.{◌≡◌, List}
 use Rattle.galley.specs.declared.Galley.{Galley}
 use Rattle.galley.specs.Model.{model_of, sides_in}
 use Rattle.places.specs.declared.Place.{Place}
-use Rattle.places.specs.declared.Entry.TheVariants.{Least}
+use Rattle.places.specs.Entry.{least}
 use Rattle.places.specs.Order.{Earlier}
 use Rattle.places.proofs.laws.Best.{no_reach}
 use Rattle.candidates.specs.Cells.{ColumnRoom, Blank}
@@ -53,7 +53,7 @@ module _ {bytes : List ℕ} {task : Task} {w sums words : List ℕ} {j first : �
   pub first_filled : Filled (model_of bytes task.galley) task.origin (table_in task.galley w) first j
   first_filled = record { entered = λ a b c x s l h k e. next.filled.entered a b c x s (before a b c x s k e l) h k e }
     where
-      before : (a b c x : ℕ) (s : Place) → Side (sides_in task.galley) c → table_in task.galley w a b c ≡ Least x s → Earlier a b first j → Earlier a b 0 j
+      before : (a b c x : ℕ) (s : Place) → Side (sides_in task.galley) c → table_in task.galley w a b c ≡ least x s → Earlier a b first j → Earlier a b 0 j
       before a b c x s k e (inl l) = inl l
       before a b c x s k e (inr (p, l)) =
           absurd

@@ -1,16 +1,14 @@
 -- What every store keeps, filling keeps: the words beyond the table, and those of the columns before the origin's, which stay zeros.
 use Prim.Native.Nat.{ℕ, zero, suc, ◌+◌, ◌-◌, ◌≤◌, ◌<◌}
 use native.Mathlib.Omega.{arith}
-use Rattle.std.specs.Prelude.{◌≡◌}
+use Rattle.std.specs.Prelude.{◌≡◌, None}
 use Rattle.std.proofs.Common.{◌∙◌}
 use Rattle.std.proofs.Math.Path.{ap}
 use Rattle.std.proofs.Math.ListN.{take, drop, replicate}
 use Rattle.model.specs.Galley.{Galley}
 use Rattle.places.specs.declared.Origin.{Origin}
-use Rattle.places.specs.declared.Entry.{Entry}
-use Rattle.places.specs.declared.Entry.TheVariants.{Unreached}
 use Rattle.places.specs.Address.{address, area}
-use Rattle.places.specs.Entry.{stored, cleared}
+use Rattle.places.specs.Entry.{Entry, stored, cleared}
 use Rattle.places.specs.Columns.{columns, float_sizes}
 use Rattle.places.proofs.laws.Address.{area_grows, address_in, address_past}
 use Rattle.places.proofs.laws.Cleared.{cleared_length, cleared_beyond, cleared_first, cleared_empty}
@@ -63,7 +61,7 @@ module _ (g : Galley) (from : Origin) (w : Words) where
     blank = cleared (table_words g) w
 
     empty : (a b c : ℕ) → a ≤ (g.stream 0).size → b < columns (float_sizes g) → c < side_count g.spec.sides
-        → stored blank (address (tall g) a b c) Unreached ≡ blank
+        → stored blank (address (tall g) a b c) None ≡ blank
     unfolding tall
     empty a b c h wide occurs =
         cleared_empty (table_words g) (address (tall g) a b c) w

@@ -8,8 +8,7 @@ use Rattle.std.proofs.Math.Path.{refl, ap}
 use Rattle.std.proofs.Common.{◌∙◌, inl, inr}
 use Rattle.model.specs.Galley.{Galley}
 use Rattle.places.specs.declared.Origin.{Origin}
-use Rattle.places.specs.declared.Entry.{Entry}
-use Rattle.places.specs.Entry.{stored}
+use Rattle.places.specs.Entry.{Entry, stored}
 use Rattle.places.specs.Address.{address}
 use Rattle.places.specs.Order.{Earlier}
 use Rattle.places.specs.Columns.{columns, float_sizes}

@@ -1,15 +1,13 @@
 -- The columns before that of the origin: nothing in them is past it, so that filling leaves them empty where they are.
 use Prim.Native.Nat.{ℕ, zero, suc, ◌+◌, ◌≤◌, ◌<◌}
 use native.Mathlib.Omega.{arith}
-use Rattle.std.specs.Prelude.{◌≡◌}
+use Rattle.std.specs.Prelude.{◌≡◌, None, Some}
 use Rattle.std.proofs.Math.Path.{refl, ap}
 use Rattle.std.proofs.Common.{sym, ◌∙◌, inl, inr}
 use Rattle.model.specs.Galley.{Galley}
 use Rattle.places.specs.declared.Origin.{Origin}
-use Rattle.places.specs.declared.Entry.{Entry}
-use Rattle.places.specs.declared.Entry.TheVariants.{Unreached, Least}
 use Rattle.places.specs.Address.{address}
-use Rattle.places.specs.Entry.{stored}
+use Rattle.places.specs.Entry.{Entry, stored}
 use Rattle.places.specs.Order.{Earlier}
 use Rattle.places.specs.Columns.{columns, float_sizes, place_at}
 use Rattle.places.proofs.laws.Best.{no_reach}
@@ -24,12 +22,12 @@ use Rattle.entries.specs.laws.Fill.{in_room}
 
 module _ (g : Galley) (light : Light g) (from : Origin) (origin : from.place.column < columns (float_sizes g)) (w : Words) (room : Roomy g w)
     (empty : (a b c : ℕ) → a ≤ (g.stream 0).size → b < columns (float_sizes g) → c < side_count g.spec.sides
-    → stored w (address (tall g) a b c) Unreached ≡ w) where
+    → stored w (address (tall g) a b c) None ≡ w) where
   -- In an empty table nothing is reached,
-  none : (a b c : ℕ) → a ≤ (g.stream 0).size → b < columns (float_sizes g) → Side g.spec.sides c → held g w a b c ≡ Unreached
+  none : (a b c : ℕ) → a ≤ (g.stream 0).size → b < columns (float_sizes g) → Side g.spec.sides c → held g w a b c ≡ None
   none a b c h wide occurs =
       ap (λ v. held g v a b c) (sym (empty a b c h wide (side_below g.spec.sides c occurs)))
-      ∙ table_same (tall g) a b c w Unreached (in_room room a b c h wide (side_low g.spec.sides c occurs))
+      ∙ table_same (tall g) a b c w None (in_room room a b c h wide (side_low g.spec.sides c occurs))
 
   earlier_wide : (a b i q : ℕ) → q < columns (float_sizes g) → Earlier a b i q → b < columns (float_sizes g)
   earlier_wide a b i q wide (inl l) = omega arith
@@ -45,13 +43,13 @@ module _ (g : Galley) (light : Light g) (from : Origin) (origin : from.place.col
     wide = omega (arith, origin)
 
     -- no page reaches a place before the origin's column,
-    unreached : (i c : ℕ) → i ≤ (g.stream 0).size → Side g.spec.sides c → new_entry g from (held g w) i q c ≡ Unreached
+    unreached : (i c : ℕ) → i ≤ (g.stream 0).size → Side g.spec.sides c → new_entry g from (held g w) i q c ≡ None
     unreached i c high occurs = go (new_entry g from (held g w) i q c) refl
       where
-        go : (e : Entry) → new_entry g from (held g w) i q c ≡ e → new_entry g from (held g w) i q c ≡ Unreached
-        go Unreached e = e
-        go (Least x r) e =
-            let entered = entry_entered g light from (held g w) i q c high wide (filled_none i q wide) occurs x r e in
+        go : (e : Entry) → new_entry g from (held g w) i q c ≡ e → new_entry g from (held g w) i q c ≡ None
+        go None e = e
+        go (Some l) e =
+            let entered = entry_entered g light from (held g w) i q c high wide (filled_none i q wide) occurs l.cost l.start e in
             let low = inside_columns g (place_at g from.place.line from.place.column) (place_at g i q) entered.past in
             absurd (omega (arith, column_at g from.place.line from.place.column origin, column_at g i q wide))
 

@@ -2,14 +2,13 @@
 use Prim.Native.Nat.{ℕ, zero, suc, ◌+◌, ◌-◌, ◌≤◌, ◌<◌}
 use Rattle.std.proofs.Math.Decide.{dec_lt}
 use native.Mathlib.Omega.{arith}
-use Rattle.std.specs.Prelude.{◌≡◌, Bool, List, eqb}
+use Rattle.std.specs.Prelude.{◌≡◌, Bool, List, eqb, None}
 use Rattle.std.proofs.Math.Path.{refl, ap}
 use Rattle.std.proofs.Common.{sym, ◌∙◌, inl, inr}
 use Rattle.std.proofs.Math.Bool.{true, false}
 use borrow.Author.Tests.{eqb-true}
 use Rattle.model.proofs.laws.Gather.{and_left, and_right}
 use Rattle.galley.specs.Model.{model_of, sides_in}
-use Rattle.places.specs.declared.Entry.TheVariants.{Unreached}
 use Rattle.places.specs.Address.{address}
 use Rattle.places.specs.Entry.{stored}
 use Rattle.places.specs.Order.{Earlier}
@@ -33,11 +32,11 @@ use Rattle.entries.specs.laws.NewEntry.{entry_forbidden, entry_priced}
 module _ {bytes : List ℕ} {task : Task} {w : List ℕ} {j from to : ℕ} (still : Still bytes task w j from to) where
   -- None has a start,
   start_none : (i c : ℕ) → from ≤ i → i < to → c < task.galley.spec.sides
-      → best_start (search_of bytes task.galley w i j (side_of task.galley c)) ≡ Unreached
+      → best_start (search_of bytes task.galley w i j (side_of task.galley c)) ≡ None
   unfolding Leads
   start_none i c f l occurs =
       let s = search_of bytes task.galley w i j (side_of task.galley c) in
-      best_unique (best_start s) Unreached (best_start_lem s) (best_none none)
+      best_unique (best_start s) None (best_start_lem s) (best_none none)
     where
       line : i ≤ task.galley.text.count
       line = omega (arith, still.within)
@@ -58,12 +57,12 @@ module _ {bytes : List ℕ} {task : Task} {w : List ℕ} {j from to : ℕ} (stil
 
   -- and each is filled as unreached,
   entry_none : (i c : ℕ) → from ≤ i → i < to → c < task.galley.spec.sides
-      → new_entry (model_of bytes task.galley) task.origin (table_in task.galley w) i j c ≡ Unreached
+      → new_entry (model_of bytes task.galley) task.origin (table_in task.galley w) i j c ≡ None
   unfolding begins priced
   entry_none i c f l occurs = go (begins (sides_in task.galley) task.origin i j c) refl
     where
       go : (b : Bool) → begins (sides_in task.galley) task.origin i j c ≡ b
-          → new_entry (model_of bytes task.galley) task.origin (table_in task.galley w) i j c ≡ Unreached
+          → new_entry (model_of bytes task.galley) task.origin (table_in task.galley w) i j c ≡ None
       go true e =
           absurd
           (still.later i f l (
@@ -73,9 +72,9 @@ module _ {bytes : List ℕ} {task : Task} {w : List ℕ} {j from to : ℕ} (stil
       go false e = stop (may_stop (model_of bytes task.galley) i j c) refl
         where
           stop : (b : Bool) → may_stop (model_of bytes task.galley) i j c ≡ b
-              → new_entry (model_of bytes task.galley) task.origin (table_in task.galley w) i j c ≡ Unreached
+              → new_entry (model_of bytes task.galley) task.origin (table_in task.galley w) i j c ≡ None
           stop true s =
-              entry_priced (model_of bytes task.galley) task.origin (table_in task.galley w) i j c e s Unreached (start_none i c f l occurs)
+              entry_priced (model_of bytes task.galley) task.origin (table_in task.galley w) i j c e s None (start_none i c f l occurs)
           stop false s = entry_forbidden (model_of bytes task.galley) task.origin (table_in task.galley w) i j c e s
 
   -- which it is.

@@ -1,14 +1,12 @@
 -- Tables filled one after another in the same words: each is as if it were the first.
-use Rattle.std.specs.Prelude.{ℕ, ◌+◌, ◌≤◌, ◌<◌, ◌≡◌, refl, Bool, true, false, List, length}
+use Rattle.std.specs.Prelude.{ℕ, ◌+◌, ◌≤◌, ◌<◌, ◌≡◌, refl, Bool, true, false, List, length, None}
 use Rattle.std.proofs.Math.Decide.{dec_lt}
 use Rattle.std.proofs.Common.{le_refl, arith, ◌∙◌, ap, lt-ltb, le-ltb}
 use Rattle.galley.specs.declared.Galley.{Galley}
 use Rattle.galley.specs.Model.{sides_in, model_of}
 use Rattle.places.specs.declared.Origin.{Origin}
-use Rattle.places.specs.declared.Entry.{Entry}
-use Rattle.places.specs.declared.Entry.TheVariants.{Unreached}
 use Rattle.places.specs.Address.{area}
-use Rattle.places.specs.Entry.{boundless, cleared}
+use Rattle.places.specs.Entry.{Entry, boundless, cleared}
 use Rattle.places.proofs.laws.Address.{area_needed}
 use Rattle.places.proofs.laws.Cleared.{cleared_forgets}
 use Rattle.candidates.specs.Read.{table_in, columns_in}
@@ -55,7 +53,7 @@ last_visits g w =
     record { line = le_refl _; column = omega (arith, columns_in_some g); side = last_side_lem (sides_in g) (table_in g w) (full_place g) }
 
 -- What is unreached is not told to be reached.
-unreached_told : {r : Bool} {e : Entry} → r ≡ is_reached e → e ≡ Unreached → r ≡ false
+unreached_told : {r : Bool} {e : Entry} → r ≡ is_reached e → e ≡ None → r ≡ false
 unreached_told p q = p ∙ ap is_reached q
 
 module _ {bytes : List ℕ} {g : Galley} {from : Origin} {work work' : List ℕ} (fill : Fillable bytes g from work) where

@@ -1,6 +1,7 @@
 -- `make_read` meets its contract: each refusal leaves what the definition says, and without one the list is sought.
 use native.Mathlib.Omega.{arith}
 use mathlib.Core.Path.{refl, sym}
+use Rattle.std.proofs.lemmas.Bool.Decides.{nat_tests}
 use Rattle.galley.proofs.laws.Sound.{sound}
 use Rattle.needs.specs.laws.Needs.{read_few, work_small, list_small}
 use Rattle.making.specs.laws.Made.{made_nine, made_ten, made_turned_away, made_soluble}
@@ -14,7 +15,7 @@ overflow_cast-needed c =
 pub returns-then-work-needed : goal.returns-then-work-needed
 returns-then-work-needed c =
     rw c.turned_away.ensures
-    (made_nine c.requires _ _ _ _ c.work_needed-needed.ensures (omega (arith, c.if-work-needed.true)) _ (omega arith))
+    (made_nine c.requires _ _ _ _ c.work_needed-needed.ensures (grind (arith, nat_tests)) _ (omega arith))
 
 pub overflow_cast-room : goal.overflow_cast-room
 overflow_cast-room c =
@@ -24,7 +25,7 @@ pub returns-then-pages-room : goal.returns-then-pages-room
 returns-then-pages-room c =
     let room = c.list_needed-room.ensures in
     rw (c.turned_away-then-pages-room.ensures, room)
-    (made_ten c.requires _ _ _ _ c.work_needed-needed.ensures c.if-work-needed.false (rw room at c.if-pages-room.true))
+    (made_ten c.requires _ _ _ _ c.work_needed-needed.ensures (omega arith) (rw room at c.if-pages-room.true))
 
 pub returns-in-Refused : goal.returns-in-Refused
 returns-in-Refused c =

@@ -5,7 +5,6 @@ use Rattle.std.proofs.Math.Path.{ap}
 use Rattle.std.proofs.Math.Bool.{true, false}
 use Rattle.std.proofs.Math.Option.{Option, none, some}
 use Rattle.model.specs.declared.answer.Answer.{Answer}
-use Rattle.model.specs.declared.answer.Answer.TheVariants.{Refused}
 use Rattle.model.specs.Gather.{pick}
 use Rattle.model.specs.Galley.{zeros}
 use Rattle.model.specs.Answers.{pages_of}

@@ -35,18 +35,18 @@ module _ {bytes : List ℕ} {g : Galley} {w₀ sums words₀ : List ℕ} {c : �
   order = rw asked.least (least_low bytes g asked.lent.sound false)
 
   -- The last line that is reached is one of the galley's.
-  pub last_low : pass.last ≤ g.text.count
+  pub last_low : pass.reach.last ≤ g.text.count
   last_low = asked.late.within asked.first
 
   -- How far a page of all that may be reached goes can be read.
-  pub side_reaches : Reachable sums 0 (pass_load g pass).tight (g.spec.htmax + 1) pass.first pass.last
+  pub side_reaches : Reachable sums 0 (pass_load g pass).tight (g.spec.htmax + 1) pass.reach.first pass.reach.last
   side_reaches =
       let since = asked.late.since in
-      (can_slide asked.lent asked.summed 1 pass.heights (le_refl 1) asked.passing.low pass.least pass.first order
-      (shut_at (pass_load g pass)) pass.last last_low since since since).low
+      (can_slide asked.lent asked.summed 1 pass.heights (le_refl 1) asked.passing.low pass.least pass.reach.first order
+      (shut_at (pass_load g pass)) pass.reach.last last_low since since since).low
 
   -- They can be bounded.
-  pub side_stands : Standing w₀ words₀ (record { tall = g.text.count + 1; column = pass.from; side = side_of g c }) pass.last
+  pub side_stands : Standing w₀ words₀ (record { tall = g.text.count + 1; column = pass.from; side = side_of g c }) pass.reach.last
   side_stands =
       record {
         stands = λ a l. can_stand asked.lent a pass.from (side_of g c) (omega (arith, last_low)) from_low (side_either g c);
@@ -57,8 +57,8 @@ module _ {bytes : List ℕ} {g : Galley} {w₀ sums words₀ : List ℕ} {c : �
 
   -- A side starts at the first line that is reached, with nothing in its queues: before it there is no start.
   pub side_first : (words : List ℕ) → length words ≡ length words₀ → (since : ℕ)
-      → BoundFound w₀ words₀ (record { tall = g.text.count + 1; column = pass.from; side = side_of g c }) pass.last since words
-      → SideRun bytes g w₀ w₀ sums words words c pass stop since no_parts (shut_at (pass_load g pass)) (shut_at (pass_load g pass)) pass.first
+      → BoundFound w₀ words₀ (record { tall = g.text.count + 1; column = pass.from; side = side_of g c }) pass.reach.last since words
+      → SideRun bytes g w₀ w₀ sums words words c pass stop since no_parts (shut_at (pass_load g pass)) (shut_at (pass_load g pass)) pass.reach.first
   side_first words sized since found =
       record {
         from = le_refl _;
@@ -66,24 +66,24 @@ module _ {bytes : List ℕ} {g : Galley} {w₀ sums words₀ : List ℕ} {c : �
         sized = refl;
         words_sized = refl;
         scratch = omega (arith, asked.scratch, sized);
-        ends = ends_first text (pass_load g pass) pass.first (le_refl _);
+        ends = ends_first text (pass_load g pass) pass.reach.first (le_refl _);
         windows = kept_beside found.beside apart (λ k p. kept k p.0 p.1);
         rises = record { low = le_refl _; split = le_refl _; high = le_refl _ };
         bounded = found.bounded;
         held = both_none (lines_of w₀ (g.text.count + 1) pass.from (side_of g c)) sums words 0 (shut_at (pass_load g pass)) (λ a l m. absurd (none a l m));
         swept =
-            swept_skip asked.lent c 0 pass.first (omega arith) (omega (arith, asked.first)) (λ k a y l m start.
+            swept_skip asked.lent c 0 pass.reach.first (omega arith) (omega (arith, asked.first)) (λ k a y l m start.
             start_quiet asked.lent asked.early k a y c asked.occurs start (omega arith) (omega (arith, start.line))) asked.swept;
         kept = fresh;
       }
     where
-      apart : (k : ℕ) → Taken pass stop k × ((0 < c) ⊎ (k < pass.first)) → (k + 8000 < 12001) ⊎ (16000 ≤ k + 8000)
+      apart : (k : ℕ) → Taken pass stop k × ((0 < c) ⊎ (k < pass.reach.first)) → (k + 8000 < 12001) ⊎ (16000 ≤ k + 8000)
       apart k p = inl (omega (arith, (end_inner g pass k (omega (arith, p.0.1, asked.stopped.within))).0, asked.lent.sound.few_lines))
 
-      none : (a : ℕ) → pass.first ≤ a → (a < pass.first) ⊎ (a < pass.first) → ⊥
+      none : (a : ℕ) → pass.reach.first ≤ a → (a < pass.reach.first) ⊎ (a < pass.reach.first) → ⊥
       none a l (inl m) = omega arith
       none a l (inr m) = omega arith
 
-      kept : (k : ℕ) → Taken pass stop k → (0 < c) ⊎ (k < pass.first) → Open text (pass_load g pass) (window_at words₀ k) k
+      kept : (k : ℕ) → Taken pass stop k → (0 < c) ⊎ (k < pass.reach.first) → Open text (pass_load g pass) (window_at words₀ k) k
       kept k l (inl p) = asked.windows p k l
       kept k l (inr p) = absurd (omega (arith, l.0))

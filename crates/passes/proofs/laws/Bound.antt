@@ -1,12 +1,9 @@
 -- Bounds found line by line from the last on, kept by what does not concern them, and what they spare.
-use Rattle.std.specs.Prelude.{ℕ, suc, ◌+◌, ◌-◌, ◌*◌, ◌≤◌, ◌<◌, ◌≡◌, refl, Bool, true, false, List, length}
-use Rattle.std.proofs.Common.{le_refl, arith, sym, ◌∙◌, inr, ltb-true, ltb-false}
+use Rattle.std.specs.Prelude.{ℕ, suc, ◌+◌, ◌-◌, ◌*◌, ◌≤◌, ◌<◌, ◌≡◌, refl, List, length, None, Some}
+use Rattle.std.proofs.Common.{le_refl, arith, sym, ◌∙◌, inr}
 use Rattle.std.proofs.Math.Decide.{dec_lt, ℕ_discrete}
-use Rattle.model.specs.Gather.{pick}
 use Rattle.places.specs.declared.Place.{Place}
-use Rattle.places.specs.declared.Entry.{Entry}
-use Rattle.places.specs.declared.Entry.TheVariants.{Unreached, Least}
-use Rattle.places.specs.Entry.{less}
+use Rattle.places.specs.Entry.{Entry, least}
 use Rattle.places.specs.Best.{Leads, Best}
 use Rattle.queues.specs.declared.queue.Source.{Source}
 use Rattle.window.specs.Rows.{Beside}
@@ -19,43 +16,33 @@ use Rattle.candidates.specs.Choice.{Candidate, Starts, Between}
 use Rattle.passes.specs.Bound.{lesser_of, bound_at, Bounded, BoundFound, BoundRun}
 
 -- The lesser is no more than either.
-pub lesser_low : (least : ℕ) (e : Entry) → lesser_of least e ≤ least
-unfolding lesser_of
-lesser_low least Unreached = le_refl least
-lesser_low least (Least x s) = go (less x least) refl
-  where
-    go : (t : Bool) → less x least ≡ t → pick t x least ≤ least
-    go true e = omega (arith, ltb-true x least e)
-    go false e = le_refl least
+pub lesser_low : (below : ℕ) (e : Entry) → lesser_of below e ≤ below
+lesser_low below None = le_refl below
+lesser_low below (Some l) = omega arith
 
-pub lesser_entry : (least x : ℕ) (s : Place) (e : Entry) → e ≡ Least x s → lesser_of least e ≤ x
-unfolding lesser_of
-lesser_entry least x s e p = rw p (go (less x least) refl)
-  where
-    go : (t : Bool) → less x least ≡ t → pick t x least ≤ x
-    go true e = le_refl x
-    go false e = omega (arith, ltb-false x least e)
+pub lesser_entry : (below x : ℕ) (s : Place) (e : Entry) → e ≡ least x s → lesser_of below e ≤ x
+lesser_entry below x s e p = rw p (omega arith)
 
 -- The last line needs no bound,
-pub bound_first : (work words : List ℕ) (source : Source) (lines least : ℕ) → 0 < lines
-    → BoundRun work words words source lines (lesser_of least (lines_in work source lines)) lines
-bound_first work words source lines least some =
+pub bound_first : (work words : List ℕ) (source : Source) (lines below : ℕ) → 0 < lines
+    → BoundRun work words words source lines (lesser_of below (lines_in work source lines)) lines
+bound_first work words source lines below some =
     record {
       within = le_refl lines;
       sized = refl;
       some = some;
       lowest = λ b x r l m e.
           let same : b ≡ lines = omega arith in
-          lesser_entry least x r (lines_in work source lines) (rw same at e);
+          lesser_entry below x r (lines_in work source lines) (rw same at e);
       bounded = λ k b x r l h m n e. absurd (omega arith);
       beside = beside_none _ _ _;
     }
 
 -- one line more is bounded,
-module _ {work words₀ words : List ℕ} {source : Source} {lines least a : ℕ} (run : BoundRun work words₀ words source lines least a)
+module _ {work words₀ words : List ℕ} {source : Source} {lines below a : ℕ} (run : BoundRun work words₀ words source lines below a)
     (few : lines ≤ 4000) (room : 48000 ≤ length words₀) (more : 1 < a) where
-  pub bound_next : (new : List ℕ) → new ≡ queued words (a - 1 + 12000) (a - 1) (lesser_of least (lines_in work source (a - 1)))
-      → BoundRun work words₀ new source lines (lesser_of least (lines_in work source (a - 1))) (a - 1)
+  pub bound_next : (new : List ℕ) → new ≡ queued words (a - 1 + 12000) (a - 1) (lesser_of below (lines_in work source (a - 1)))
+      → BoundRun work words₀ new source lines (lesser_of below (lines_in work source (a - 1))) (a - 1)
   bound_next new p =
       rw p
       (record {
@@ -67,23 +54,23 @@ module _ {work words₀ words : List ℕ} {source : Source} {lines least a : ℕ
         beside = pushed_beside words (a - 1 + 12000) (a - 1) _ _ (omega arith) (omega (arith, run.within)) run.beside;
       })
     where
-      low : (b x : ℕ) (r : Place) → a - 1 ≤ b → b ≤ lines → lines_in work source b ≡ Least x r → Dec (b ≡ a - 1)
-          → lesser_of least (lines_in work source (a - 1)) ≤ x
-      low b x r l m q (yes e) = lesser_entry least x r (lines_in work source (a - 1)) (rw e at q)
-      low b x r l m q (no n) = omega (arith, lesser_low least (lines_in work source (a - 1)), run.lowest b x r (omega arith) m q)
+      low : (b x : ℕ) (r : Place) → a - 1 ≤ b → b ≤ lines → lines_in work source b ≡ least x r → Dec (b ≡ a - 1)
+          → lesser_of below (lines_in work source (a - 1)) ≤ x
+      low b x r l m q (yes e) = lesser_entry below x r (lines_in work source (a - 1)) (rw e at q)
+      low b x r l m q (no n) = omega (arith, lesser_low below (lines_in work source (a - 1)), run.lowest b x r (omega arith) m q)
 
-      bound : (k b x : ℕ) (r : Place) → a - 1 ≤ k → k < lines → k ≤ b → b ≤ lines → lines_in work source b ≡ Least x r → Dec (k ≡ a - 1)
-          → bound_at (queued words (a - 1 + 12000) (a - 1) (lesser_of least (lines_in work source (a - 1)))) k ≤ x
+      bound : (k b x : ℕ) (r : Place) → a - 1 ≤ k → k < lines → k ≤ b → b ≤ lines → lines_in work source b ≡ least x r → Dec (k ≡ a - 1)
+          → bound_at (queued words (a - 1 + 12000) (a - 1) (lesser_of below (lines_in work source (a - 1)))) k ≤ x
       bound k b x r l h m n q (yes e) =
           let own =
-          pushed_own_cost words (a - 1 + 12000) (a - 1) (lesser_of least (lines_in work source (a - 1))) (omega (arith, run.sized, run.within)) in
+          pushed_own_cost words (a - 1 + 12000) (a - 1) (lesser_of below (lines_in work source (a - 1))) (omega (arith, run.sized, run.within)) in
           rw (e, own) (low b x r (omega arith) n q (ℕ_discrete b (a - 1)))
       bound k b x r l h m n q (no d) =
-          rw (other_cost words (a - 1 + 12000) (a - 1) (lesser_of least (lines_in work source (a - 1))) (k + 12000) (λ e. d (omega arith)))
+          rw (other_cost words (a - 1 + 12000) (a - 1) (lesser_of below (lines_in work source (a - 1))) (k + 12000) (λ e. d (omega arith)))
           (run.bounded k b x r (omega arith) h m n q)
 
 -- and at last all are.
-pub bound_last : {work words₀ words : List ℕ} {source : Source} {lines least a since : ℕ} → BoundRun work words₀ words source lines least a
+pub bound_last : {work words₀ words : List ℕ} {source : Source} {lines below a since : ℕ} → BoundRun work words₀ words source lines below a
     → a ≤ since + 1 → BoundFound work words₀ source lines since words
 bound_last run l =
     record { bounded = record { low = λ k b x r m h n o e. run.bounded k b x r (omega arith) h n o e }; beside = run.beside }
@@ -106,7 +93,7 @@ pub bounded_same : {col new : ℕ → Entry} {words : List ℕ} {lines since : �
 bounded_same same bounded = record { low = λ k a x r l h m n e. bounded.low k a x r l h m n (sym (same a n) ∙ e) }
 
 -- Where a place holds less than every start in column b costs, the starts from column b on are known with those of later columns.
-pub dearer : (s : Search) (b q x : ℕ) (r : Place) (held : Entry) → held ≡ Least x r → ((a y : ℕ) → Candidate s a b y → x < y)
+pub dearer : (s : Search) (b q x : ℕ) (r : Place) (held : Entry) → held ≡ least x r → ((a y : ℕ) → Candidate s a b y → x < y)
     → Best (Starts s (Between (suc b) q)) held → Best (Starts s (Between b q)) held
 unfolding Leads
 dearer s b q x r held is more best =

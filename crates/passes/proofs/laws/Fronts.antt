@@ -4,7 +4,7 @@ use Rattle.std.proofs.Common.{le_refl, arith, inl, inr}
 use Rattle.std.proofs.Math.Decide.{dec_lt}
 use Rattle.galley.specs.declared.Galley.{Galley}
 use Rattle.galley.specs.Model.{text_of}
-use Rattle.places.specs.declared.Entry.{Entry}
+use Rattle.places.specs.Entry.{Entry}
 use Rattle.places.specs.Best.{Best}
 use Rattle.window.specs.declared.slide.Load.{Load}
 use Rattle.window.specs.declared.slide.Window.{Window}

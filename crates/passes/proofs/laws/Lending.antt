@@ -1,5 +1,5 @@
 -- What is lent for a column is enough for the window, its queues and the best starts.
-use Rattle.std.specs.Prelude.{ℕ, ◌+◌, ◌-◌, ◌≤◌, ◌<◌, List}
+use Rattle.std.specs.Prelude.{ℕ, ◌+◌, ◌≤◌, ◌<◌, List}
 use Rattle.std.proofs.Common.{mul-le-mul_right, arith, sym, subst}
 use Rattle.galley.specs.declared.Galley.{Galley}
 use Rattle.blocks.specs.declared.heights.Heights.{Heights}

@@ -1,11 +1,10 @@
 -- What is not reached is no start: lines that were looked at, and all that stands before the origin.
-use Rattle.std.specs.Prelude.{ℕ, suc, ◌+◌, ◌≤◌, ◌<◌, ◌≡◌, refl, List}
+use Rattle.std.specs.Prelude.{ℕ, suc, ◌+◌, ◌≤◌, ◌<◌, ◌≡◌, refl, List, None, Some}
 use Rattle.std.proofs.Common.{le_refl, arith, sym, ◌∙◌}
 use Rattle.std.proofs.Math.Decide.{dec_lt}
 use Rattle.galley.specs.declared.Galley.{Galley}
 use Rattle.blocks.specs.declared.Counts.{Counts}
-use Rattle.places.specs.declared.Entry.{Entry}
-use Rattle.places.specs.declared.Entry.TheVariants.{Unreached, Least}
+use Rattle.places.specs.Entry.{Entry}
 use Rattle.places.proofs.laws.Best.{no_reach}
 use Rattle.candidates.specs.Choice.{Candidate, Between}
 use Rattle.candidates.specs.Read.{table_in, side_of, search_of, counts_at}
@@ -21,7 +20,7 @@ pub quiet_then : {g : Galley} {w : List ℕ} {j n from mid to : ℕ} → Quiet g
 quiet_then {g} {w} {j} {n} {from} {mid} {to} first second =
     record { none = λ a c l m occurs. go a c l m occurs (dec_lt a mid) }
   where
-    go : (a c : ℕ) → from ≤ a → a < to → c < n → Dec (a < mid) → table_in g w a j c ≡ Unreached
+    go : (a c : ℕ) → from ≤ a → a < to → c < n → Dec (a < mid) → table_in g w a j c ≡ None
     go a c l m occurs (yes h) = first.none a c l h occurs
     go a c l m occurs (no h) = second.none a c (omega arith) m occurs
 
@@ -90,21 +89,21 @@ module _ {bytes : List ℕ} {g : Galley} {w : List ℕ} {j : ℕ} (lent : Lent b
     pub past_quiet : (b : ℕ) → b < j → Quiet g w b g.spec.sides 0 origin.lines
     past_quiet b m = record { none = λ a c l before occurs. go a c before occurs (table_in g w a b c) refl }
       where
-        go : (a c : ℕ) → a < origin.lines → c < g.spec.sides → (e : Entry) → table_in g w a b c ≡ e → table_in g w a b c ≡ Unreached
-        go a c before occurs Unreached e = e
-        go a c before occurs (Least x s) e =
-            absurd (omega (arith, (past.past a b c x s (omega (arith, past.line)) m occurs e).0))
+        go : (a c : ℕ) → a < origin.lines → c < g.spec.sides → (e : Entry) → table_in g w a b c ≡ e → table_in g w a b c ≡ None
+        go a c before occurs None e = e
+        go a c before occurs (Some l) e =
+            absurd (omega (arith, (past.past a b c l.cost l.start (omega (arith, past.line)) m occurs e).0))
 
     -- So no page ends before it that starts in an earlier column.
     pub known_before : Known bytes g w j 0 → Quiet g w j g.spec.sides 0 origin.lines
     known_before known = record { none = λ a c l before occurs. go a c before occurs (table_in g w a j c) refl }
       where
-        go : (a c : ℕ) → a < origin.lines → c < g.spec.sides → (e : Entry) → table_in g w a j c ≡ e → table_in g w a j c ≡ Unreached
-        go a c before occurs Unreached e = e
-        go a c before occurs (Least x s) e =
+        go : (a c : ℕ) → a < origin.lines → c < g.spec.sides → (e : Entry) → table_in g w a j c ≡ e → table_in g w a j c ≡ None
+        go a c before occurs None e = e
+        go a c before occurs (Some l) e =
             let line : a ≤ g.text.count = omega (arith, past.line) in
-            let start = (known a c line occurs).may x s e in
-            absurd (omega (arith, start.1.line, (start_past a s.line s.column x c line occurs start.0.1 start.1).0))
+            let start = (known a c line occurs).may l.cost l.start e in
+            absurd (omega (arith, start.1.line, (start_past a l.start.line l.start.column l.cost c line occurs start.0.1 start.1).0))
 
   -- Where no line is reached, the starts of the column are known with those of later ones,
   pub known_quiet : {b : ℕ} → Quiet g w b g.spec.sides 0 (g.text.count + 1) → Known bytes g w j (suc b) → Known bytes g w j b

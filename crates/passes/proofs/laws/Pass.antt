@@ -1,5 +1,5 @@
 -- One line of a pass: what its place knows once the lines before it and the floats alone are weighed.
-use Rattle.std.specs.Prelude.{ℕ, ◌+◌, ◌≤◌, ◌<◌, ◌≡◌, refl, Bool, true, false, ◌&&◌, List, eqb}
+use Rattle.std.specs.Prelude.{ℕ, ◌+◌, ◌≤◌, ◌<◌, ◌≡◌, refl, Bool, true, false, ◌&&◌, List, eqb, None}
 use Rattle.std.proofs.Common.{le_refl, arith, sym, ◌∙◌, ap, ne_eqb}
 use Rattle.model.specs.Gather.{pick}
 use Rattle.model.specs.Rules.{floor}
@@ -9,8 +9,7 @@ use Rattle.galley.specs.declared.Galley.{Galley}
 use Rattle.galley.specs.Model.{text_of, model_of}
 use Rattle.galley.specs.Sound.{Sound}
 use Rattle.places.specs.declared.Place.{Place}
-use Rattle.places.specs.declared.Entry.{Entry}
-use Rattle.places.specs.declared.Entry.TheVariants.{Unreached, Least}
+use Rattle.places.specs.Entry.{Entry, least}
 use Rattle.places.specs.Columns.{place_at}
 use Rattle.places.specs.Best.{Best}
 use Rattle.window.specs.declared.slide.Window.{Window}
@@ -92,7 +91,7 @@ module _ {bytes : List ℕ} {g : Galley} {w : List ℕ} {pass : Pass} (lent : Le
         side = side;
       }
 
-  module _ (last : Bool) (ends : last_place g i pass.to ≡ last) (least : pass.least ≡ floor (model_of bytes g) last) where
+  module _ (last : Bool) (ends : last_place g i pass.to ≡ last) (lowest : pass.least ≡ floor (model_of bytes g) last) where
     full_last : full (model_of bytes g) (place_at (model_of bytes g) i pass.to) ≡ last
     full_last = full_in bytes g i pass.to lent.column ∙ ends
 
@@ -105,7 +104,7 @@ module _ {bytes : List ℕ} {g : Galley} {w : List ℕ} {pass : Pass} (lent : Le
         record {
           tight = omega (arith, passing.tight);
           loose = omega (arith, passing.loose);
-          htmin = least ∙ ap (floor model) (sym full_last);
+          htmin = lowest ∙ ap (floor model) (sym full_last);
           htmax = refl;
         }
 
@@ -114,12 +113,12 @@ module _ {bytes : List ℕ} {g : Galley} {w : List ℕ} {pass : Pass} (lent : Le
     sought_here = search_of bytes g w i pass.to (side_of g c)
 
     -- Where a page from the last line that is reached is too tall, the pass has no start.
-    pub pass_late : Late g w pass → pass.last < i → Tall (text_of bytes g.text) (pass_load g pass) pass.last i
+    pub pass_late : Late g w pass → pass.reach.last < i → Tall (text_of bytes g.text) (pass_load g pass) pass.reach.last i
         → (a y : ℕ) → Candidate (search_of bytes g w i pass.to (side_of g c)) a pass.from y → ⊥
     pass_late late after tall a y start =
         let sought = sought_in bytes g w i pass.to (side_of g c) (lent_placed lent i line) in
         let left : pass.from ≤ pass.to = omega (arith, passing.before) in
-        let beyond = start_tall sought_here sought pass.from left passing.under (pass_load g pass) bears pass.last after tall a y start in
+        let beyond = start_tall sought_here sought pass.from left passing.under (pass_load g pass) bears pass.reach.last after tall a y start in
         start_quiet lent late.quiet i a y c occurs start (omega arith) (omega (arith, start.line))
 
     module _ (early : Early g w pass) (white : pass.white ≡ white_at g last pass.heights.loose) (window : Window)
@@ -128,19 +127,19 @@ module _ {bytes : List ℕ} {g : Galley} {w : List ℕ} {pass : Pass} (lent : Le
       held = table_in g w i pass.to c
 
       -- No line of the column before the pass's first is a start of it.
-      early_here : (a : ℕ) → a < pass.first → a < i → table_in g w a pass.from (side_of g c) ≡ Unreached
+      early_here : (a : ℕ) → a < pass.reach.first → a < i → table_in g w a pass.from (side_of g c) ≡ None
       early_here a l m = early.none a (side_of g c) (omega arith) l (side_occurs lent.sound c occurs)
 
       -- Where the place holds less than every line from the window's low end on, one line more is swept.
-      pub pass_beaten : (x : ℕ) (r : Place) → table_in g w i pass.to c ≡ Least x r
-          → ((a y : ℕ) (t : Place) → window.low ≤ a → a ≤ i → lines_of w (g.text.count + 1) pass.from (side_of g c) a ≡ Least y t → x < y)
+      pub pass_beaten : (x : ℕ) (r : Place) → table_in g w i pass.to c ≡ least x r
+          → ((a y : ℕ) (t : Place) → window.low ≤ a → a ≤ i → lines_of w (g.text.count + 1) pass.from (side_of g c) a ≡ least y t → x < y)
           → Swept bytes g w pass.to pass.from (number c i) → Swept bytes g w pass.to pass.from (number c (i + 1))
       unfolding chosen taken
       pass_beaten x r is dear swept =
           let sought = sought_in bytes g w i pass.to (side_of g c) (lent_placed lent i line) in
           let left : pass.from ≤ pass.to = omega (arith, passing.before) in
           swept_next
-          (taken_changes g w i pass.to c line lent.column occurs lent.sound.spec_ranged.sides_two lent.room Unreached w refl)
+          (taken_changes g w i pass.to c line lent.column occurs lent.sound.spec_ranged.sides_two lent.room None w refl)
           lent.sound.few_lines line side lent.sound.spec_ranged.sides_two bytes pass.from swept
           (dearer sought_here pass.from pass.to x r held is (λ a y start.
           let low = window_low sought_here sought pass.from left passing.under (pass_load g pass) bears early_here window opened a y start in

@@ -6,8 +6,7 @@ use Rattle.model.specs.Galley.{Stream}
 use Rattle.galley.specs.declared.Galley.{Galley}
 use Rattle.galley.specs.Model.{text_of}
 use Rattle.places.specs.declared.Place.{Place}
-use Rattle.places.specs.declared.Entry.{Entry}
-use Rattle.places.specs.declared.Entry.TheVariants.{Least}
+use Rattle.places.specs.Entry.{Entry, least}
 use Rattle.places.proofs.laws.Best.{no_reach}
 use Rattle.window.specs.declared.slide.Window.{Window}
 use Rattle.queues.specs.declared.queue.Source.{Source}
@@ -69,10 +68,10 @@ module _ {bytes : List ℕ} {g : Galley} {w₀ sums words₀ : List ℕ} {c : �
     late_now = last_kept run.kept two asked.passing.before asked.late
 
     -- What is reached is no later than the last line of the pass.
-    reached_low : (a y : ℕ) (t : Place) → a ≤ g.text.count → column w a ≡ Least y t → a ≤ pass.last
-    reached_low a y t l e = go (dec_lt pass.last a)
+    reached_low : (a y : ℕ) (t : Place) → a ≤ g.text.count → column w a ≡ least y t → a ≤ pass.reach.last
+    reached_low a y t l e = go (dec_lt pass.reach.last a)
       where
-        go : Dec (pass.last < a) → a ≤ pass.last
+        go : Dec (pass.reach.last < a) → a ≤ pass.reach.last
         go (no h) = omega arith
         go (yes h) =
             absurd (no_reach (sym (late_now.quiet.none a (side_of g c) (omega arith) (omega arith) (side_occurs asked.lent.sound c asked.occurs)) ∙ e))
@@ -108,7 +107,7 @@ module _ {bytes : List ℕ} {g : Galley} {w₀ sums words₀ : List ℕ} {c : �
 
       slides : (window : Window) → window.low ≤ i → window.split ≤ i → window.high ≤ i → Slidable sums (pass_load g pass) window i
       slides window =
-          can_slide lent_now asked.summed 1 pass.heights (le_refl 1) asked.passing.low pass.least pass.first (order asked) window i side_line
+          can_slide lent_now asked.summed 1 pass.heights (le_refl 1) asked.passing.low pass.least pass.reach.first (order asked) window i side_line
 
       pub side_slides : Windowable sums (pass_load g pass) words window i
       side_slides =
@@ -130,7 +129,7 @@ module _ {bytes : List ℕ} {g : Galley} {w₀ sums words₀ : List ℕ} {c : �
             both_beside (omega (arith, run.rises.split, run.ends.split, side_line, asked.lent.sound.few_lines))
             (omega (arith, run.rises.high, run.ends.high, side_line, asked.lent.sound.few_lines)) found.beside (inl (omega arith)) run.held
 
-        bounded_found : Bounded (column w) words' pass.last since
+        bounded_found : Bounded (column w) words' pass.reach.last since
         bounded_found = bounded_beside found.beside (omega (arith, side_line, asked.lent.sound.few_lines)) run.bounded
 
         rises_found : Rises fed new
@@ -161,7 +160,7 @@ module _ {bytes : List ℕ} {g : Galley} {w₀ sums words₀ : List ℕ} {c : �
                 (sym (window_beside found.beside k (apart n (dec_lt k i)))) (run.windows k (l, before n p))
 
         -- The place can be compared with the bounds,
-        pub side_compares : Comparable w words' (g.text.count + 1) (record { line = i; column = pass.to }) c pass.last
+        pub side_compares : Comparable w words' (g.text.count + 1) (record { line = i; column = pass.to }) c pass.reach.last
         side_compares =
             record {
               stands = side_ended.end;
@@ -170,7 +169,7 @@ module _ {bytes : List ℕ} {g : Galley} {w₀ sums words₀ : List ℕ} {c : �
             }
 
         -- and where it holds less than all that the pass offers, the line is passed over.
-        pub side_beaten : Beaten w words' (g.text.count + 1) (record { line = i; column = pass.to }) c since new.low pass.last
+        pub side_beaten : Beaten w words' (g.text.count + 1) (record { line = i; column = pass.to }) c since new.low pass.reach.last
             → SideRun bytes g w₀ w sums words₁ words' c pass stop since parts fed new (i + 1)
         side_beaten beaten =
             record {

@@ -10,9 +10,9 @@ use Rattle.passes.proofs.laws.Pass.{end_from_lem, end_inner}
 
 module _ {g : Galley} {sums : List ℕ} {pass : Pass} (asked : Stoppable g sums pass) where
   -- A line after the last of the pass.
-  module _ {i : ℕ} (after : pass.last < i) (next : i < sweep_end g pass) where
+  module _ {i : ℕ} (after : pass.reach.last < i) (next : i < sweep_end g pass) where
     -- A page to it can be measured,
-    pub stop_reaches : Reachable sums 0 (pass_load g pass).tight (g.spec.htmax + 1) pass.last i
+    pub stop_reaches : Reachable sums 0 (pass_load g pass).tight (g.spec.htmax + 1) pass.reach.last i
     stop_reaches =
         let line = (end_inner g pass i next).0 in
         let all = asked.reaches in
@@ -26,20 +26,20 @@ module _ {g : Galley} {sums : List ℕ} {pass : Pass} (asked : Stoppable g sums 
         }
 
     -- and where it is too tall the sweep stops.
-    pub stop_found : too_tall sums (pass_load g pass) pass.last i ≡ true → Stopped g sums pass i
+    pub stop_found : too_tall sums (pass_load g pass) pass.reach.last i ≡ true → Stopped g sums pass i
     stop_found tall =
         record {
           from = omega (arith, asked.order);
           within = omega arith;
           after = λ l. after;
-          tall = λ st rows e l m. tall_on rows (pass_load g pass) pass.last i after (end_inner g pass i next).0 tall e l;
+          tall = λ st rows e l m. tall_on rows (pass_load g pass) pass.reach.last i after (end_inner g pass i next).0 tall e l;
         }
 
   -- Where there is none it goes on to the end.
   pub stop_none : Stopped g sums pass (sweep_end g pass)
   stop_none =
       record {
-        from = end_from_lem g pass pass.first (omega (arith, asked.order, asked.line));
+        from = end_from_lem g pass pass.reach.first (omega (arith, asked.order, asked.line));
         within = le_refl _;
         after = λ l. absurd (omega arith);
         tall = λ st rows e l m. absurd (omega arith);

@@ -1,5 +1,5 @@
 -- A window's best line is the best start of its column, and what the sweeps gather is the best of all starts.
-use Rattle.std.specs.Prelude.{ℕ, suc, ◌+◌, ◌≤◌, ◌<◌, ◌≡◌, ◌⊎◌, ◌↔◌, Bool, true, false, ltb}
+use Rattle.std.specs.Prelude.{ℕ, suc, ◌+◌, ◌≤◌, ◌<◌, ◌≡◌, ◌⊎◌, ◌↔◌, Bool, true, false, ltb, None}
 use Rattle.std.proofs.Common.{le_refl, arith, sym, subst, ◌∙◌, inl, inr, ltb-true, ltb-false}
 use Rattle.std.proofs.Math.Decide.{dec_le, dec_lt}
 use Rattle.std.proofs.Math.Path.{refl}
@@ -8,8 +8,7 @@ use Rattle.model.specs.Height.{stacked}
 use Rattle.model.proofs.laws.Height.{stacked_grows}
 use Rattle.model.specs.Rules.{floor}
 use Rattle.theorems.specs.pages.Graph.{full}
-use Rattle.places.specs.declared.Entry.{Entry}
-use Rattle.places.specs.declared.Entry.TheVariants.{Unreached}
+use Rattle.places.specs.Entry.{Entry}
 use Rattle.places.specs.Order.{Earlier}
 use Rattle.places.specs.Columns.{place_at}
 use Rattle.places.specs.Best.{Paid, Best}
@@ -47,7 +46,7 @@ module _ (s : Search) (sought : Sought s) (b : ℕ) (left : b ≤ s.column) (und
           absurd (omega (arith, ((page_lines load bears a (omega arith)).0 start.page).short, bears.htmax))
 
   -- No page starts before the window.
-  pub window_low : (load : Load) → Bears s b load → ((a : ℕ) → a < load.first → a < s.line → s.table a b s.side ≡ Unreached)
+  pub window_low : (load : Load) → Bears s b load → ((a : ℕ) → a < load.first → a < s.line → s.table a b s.side ≡ None)
       → (window : Window) → Open (s.galley.stream 0) load window s.line → (a x : ℕ) → Candidate s a b x → window.low ≤ a
   window_low load bears early window opened a x start = go (dec_lt a s.line) (dec_le load.first a) (dec_le window.low a)
     where
@@ -60,7 +59,7 @@ module _ (s : Search) (sought : Sought s) (b : ℕ) (left : b ≤ s.column) (und
           absurd (omega (arith, start_tall load bears a l tall a x start))
 
   -- The best line of the window is the best of the column's lines before this one: those before the first are not reached.
-  pub window_best : (load : Load) → Bears s b load → ((a : ℕ) → a < load.first → a < s.line → s.table a b s.side ≡ Unreached)
+  pub window_best : (load : Load) → Bears s b load → ((a : ℕ) → a < load.first → a < s.line → s.table a b s.side ≡ None)
       → (window : Window) → Open (s.galley.stream 0) load window s.line
       → (white : ℕ → ℕ) → ((a : ℕ) → a < s.line → white a ≡ white_from s a b) → (e : Entry)
       → Best (Lines (λ a. s.table a b s.side) white window.low window.high b) e → Best (Starts s (Above b s.line)) e
@@ -112,7 +111,7 @@ module _ (s : Search) (sought : Sought s) (b : ℕ) (left : b ≤ s.column) (und
       → loose ≡ alone s.galley (λ st. st.most) s.galley.spec.smax b s.column
       → least ≡ floor s.galley (full s.galley (place_at s.galley s.line s.column)) → tight ≤ s.galley.spec.htmax
       → white ≡ white_from s s.line b → Best (Starts s (Level b s.line))
-      (pick (ltb loose least) Unreached (start_at (s.table s.line b s.side) white s.line b))
+      (pick (ltb loose least) None (start_at (s.table s.line b s.side) white s.line b))
   unfolding start_from
   alone_best k tight loose least white t l f short w =
       go (ltb loose least) refl (goes s s.line b) refl (rw w (start_best s s.line b (le_refl _) left))
@@ -121,8 +120,8 @@ module _ (s : Search) (sought : Sought s) (b : ℕ) (left : b ≤ s.column) (und
       page = rw (t, l) (goes_alone s sought b k under)
 
       go : (x : Bool) → ltb loose least ≡ x → (y : Bool) → goes s s.line b ≡ y
-          → Best (Starts s (Level b s.line)) (pick y (start_at (s.table s.line b s.side) white s.line b) Unreached)
-          → Best (Starts s (Level b s.line)) (pick x Unreached (start_at (s.table s.line b s.side) white s.line b))
+          → Best (Starts s (Level b s.line)) (pick y (start_at (s.table s.line b s.side) white s.line b) None)
+          → Best (Starts s (Level b s.line)) (pick x None (start_at (s.table s.line b s.side) white s.line b))
       go true p false q best = best
       go false p true q best = best
       go true p true q best = absurd (omega (arith, ltb-true loose least p, (page.0 q).enough, f))

@@ -8,7 +8,7 @@ use Rattle.model.specs.Rules.{floor}
 use Rattle.rules.specs.Sums.{white_at}
 use Rattle.galley.specs.declared.Galley.{Galley}
 use Rattle.galley.specs.Model.{text_of, model_of}
-use Rattle.places.specs.declared.Entry.{Entry}
+use Rattle.places.specs.Entry.{Entry}
 use Rattle.window.specs.Slide.{shut_at}
 use Rattle.passes.specs.declared.pass.Pass.{Pass}
 use Rattle.candidates.specs.Read.{side_of, columns_in, last_place}
@@ -46,8 +46,7 @@ module _ {bytes : List ℕ} {g : Galley} {w sums : List ℕ} {c : ℕ} {pass : P
           heights = pass.heights;
           least = floor (model_of bytes g) true;
           white = 0;
-          first = pass.first;
-          last = pass.last;
+          reach = pass.reach;
         }
 
     passing : Passing bytes g short
@@ -70,7 +69,7 @@ module _ {bytes : List ℕ} {g : Galley} {w sums : List ℕ} {c : ℕ} {pass : P
           costs = λ a l. asked.lent.costs pass.from c asked.passing.before asked.occurs a (omega arith);
           first = asked.first;
           slides =
-              can_slide asked.lent asked.summed 1 pass.heights (le_refl 1) asked.passing.low g.spec.lastmin pass.first
+              can_slide asked.lent asked.summed 1 pass.heights (le_refl 1) asked.passing.low g.spec.lastmin pass.reach.first
               (least_low bytes g asked.lent.sound true) (shut_at (pass_load g short)) g.text.count (le_refl _) asked.first
               asked.first asked.first;
         }
@@ -116,7 +115,7 @@ module _ {bytes : List ℕ} {g : Galley} {w₀ sums words₀ : List ℕ} {pass :
   two = asked.lent.sound.spec_ranged.sides_two
 
   -- Where no line of the column is reached the pass has no start.
-  pub sweep_none : g.text.count < pass.first → SweepDone bytes g w₀ w₀ pass
+  pub sweep_none : g.text.count < pass.reach.first → SweepDone bytes g w₀ w₀ pass
   sweep_none l =
       record {
         known =
@@ -127,7 +126,7 @@ module _ {bytes : List ℕ} {g : Galley} {w₀ sums words₀ : List ℕ} {pass :
       }
 
   -- Where it stops can be found.
-  pub sweep_stops : pass.first ≤ g.text.count → Stoppable g sums pass
+  pub sweep_stops : pass.reach.first ≤ g.text.count → Stoppable g sums pass
   sweep_stops some =
       let line = asked.late.within some in
       record {
@@ -136,12 +135,12 @@ module _ {bytes : List ℕ} {g : Galley} {w₀ sums words₀ : List ℕ} {pass :
         order = asked.late.since;
         line = line;
         reaches =
-            (can_slide asked.lent asked.summed 1 pass.heights (le_refl 1) asked.passing.low pass.least pass.first
+            (can_slide asked.lent asked.summed 1 pass.heights (le_refl 1) asked.passing.low pass.least pass.reach.first
             (rw asked.least (least_low bytes g asked.lent.sound false))
-            (record { low = pass.last; split = pass.last; high = pass.last }) g.text.count (le_refl _) line line line).low;
+            (record { low = pass.reach.last; split = pass.reach.last; high = pass.reach.last }) g.text.count (le_refl _) line line line).low;
       }
 
-  module _ (some : pass.first ≤ g.text.count) {stop : ℕ} (stopped : Stopped g sums pass stop) {w words : List ℕ} {c : ℕ}
+  module _ (some : pass.reach.first ≤ g.text.count) {stop : ℕ} (stopped : Stopped g sums pass stop) {w words : List ℕ} {c : ℕ}
       (run : SweepRun bytes g w₀ w words₀ words pass stop c) where
     -- After the last side all places know the starts of the pass.
     pub sweep_last : g.spec.sides ≤ c → SweepDone bytes g w₀ w pass

@@ -12,7 +12,7 @@ unfolding entry_at
 returns-then-work-at-eq1 c =
     let args = c.args in
     let tag : get_or args.work.now args.at 0 ≡ 1 = omega (arith, c.if-work-at-eq1.true) in
-    simp (eq-eqb _ _ tag, c.joined.ensures)
+    simp (eq-eqb _ _ tag, c.joined-cost.ensures)
 
 pub returns-else-work-at-eq1 : goal.returns-else-work-at-eq1
 unfolding entry_at

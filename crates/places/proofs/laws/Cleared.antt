@@ -1,9 +1,8 @@
 -- The work area after clearing: word by word, the same whatever was there before, and unreached throughout.
-use Rattle.std.specs.Prelude.{◌≡◌, refl, List, [], ◌∷◌, ◌++◌, ℕ, zero, suc, ◌+◌, ◌-◌, ◌<◌, ◌≤◌, length, get_or, set, take, drop, replicate}
+use Rattle.std.specs.Prelude.{◌≡◌, refl, List, [], ◌∷◌, ◌++◌, ℕ, zero, suc, ◌+◌, ◌-◌, ◌<◌, ◌≤◌, length, get_or, set, take, drop, replicate, None}
 use Rattle.std.proofs.Common.{sym, ◌∙◌, ap, le_of_suc-le-suc, not-suc-le-zero, add-one, arith, take-append-drop, length-append, length-drop, take_at, drop_at}
 use Rattle.std.proofs.lemmas.List.{length-replicate, get_or-replicate, replicate-append-replicate, take-append-le}
 use Rattle.std.proofs.Math.ListN.{get_or-append}
-use Rattle.places.specs.declared.Entry.TheVariants.{Unreached}
 use Rattle.places.specs.Entry.{stored, cleared}
 use Rattle.places.proofs.laws.Stored.{stored_there}
 
@@ -55,7 +54,7 @@ cleared_zero n k w l =
     get_or-append (replicate n 0) (drop n w) 0 k (omega (arith, length-replicate {A = ℕ} n 0)) ∙ get_or-replicate n k 0 0 l
 
 -- so that a place among them is unreached, by all of its words.
-pub cleared_empty : (n at : ℕ) (w : List ℕ) → at + 5 ≤ n → n ≤ length w → stored (cleared n w) at Unreached ≡ cleared n w
+pub cleared_empty : (n at : ℕ) (w : List ℕ) → at + 5 ≤ n → n ≤ length w → stored (cleared n w) at None ≡ cleared n w
 cleared_empty n at w h room =
-    stored_there (cleared n w) at Unreached (omega (arith, cleared_length n w room))
+    stored_there (cleared n w) at None (omega (arith, cleared_length n w room))
     (λ d l. cleared_zero n (at + d) w (omega arith) ∙ sym (get_or-replicate 5 d 0 0 l))

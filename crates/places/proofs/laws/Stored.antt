@@ -1,13 +1,11 @@
 -- The words after a store, and an entry after it: what was stored at its own place, and what was there before at every place apart.
-use Rattle.std.specs.Prelude.{◌≡◌, refl, ◌⊎◌, List, [], ◌∷◌, ℕ, zero, suc, ◌+◌, ◌-◌, ◌<◌, ◌≤◌, length, get_or, set, take, drop, eqb}
+use Rattle.std.specs.Prelude.{◌≡◌, refl, ◌⊎◌, List, [], ◌∷◌, ℕ, zero, suc, ◌+◌, ◌-◌, ◌<◌, ◌≤◌, length, get_or, set, take, drop, eqb, None, Some}
 use Rattle.std.proofs.Common.{sym, ◌∙◌, ap, inl, inr, add-zero, arith, length-set, get_or-set_same, get_or-set_other, drop-set-lt, ext_get_or}
 use Rattle.std.proofs.Math.Decide.{dec_lt, dec_le}
 use Rattle.std.proofs.lemmas.List.{take-set-le}
 use Rattle.std.proofs.lemmas.List.Edits.{sets}
 use Rattle.std.proofs.Math.Seq.{length-sets}
-use Rattle.places.specs.declared.Entry.{Entry}
-use Rattle.places.specs.declared.Entry.TheVariants.{Unreached, Least}
-use Rattle.places.specs.Entry.{low_of, high_of, joined, tagged, entry_at, words_of, stored}
+use Rattle.places.specs.Entry.{Entry, least, low_of, high_of, joined, tagged, entry_at, words_of, stored}
 use Rattle.places.specs.Address.{Apart}
 
 -- An offset lies outside a run of so many words from another on.
@@ -49,8 +47,8 @@ sets_take (v ∷ vs) w at n l = sets_take vs (set w at v) (suc at) n (omega arit
 
 -- An entry has five words.
 pub words_five : (e : Entry) → length (words_of e) ≡ 5
-words_five Unreached = refl
-words_five (Least cost start) = refl
+words_five None = refl
+words_five (Some l) = refl
 
 -- A store leaves the length as it is.
 pub stored_length : (w : List ℕ) (at : ℕ) (e : Entry) → length (stored w at e) ≡ length w
@@ -84,8 +82,8 @@ cost_joined cost = omega arith
 words_entry : (e : Entry)
     → tagged (eqb (get_or (words_of e) 0 0) 1) (joined (get_or (words_of e) 1 0) (get_or (words_of e) 2 0))
     (record { line = get_or (words_of e) 3 0; column = get_or (words_of e) 4 0 }) ≡ e
-words_entry Unreached = refl
-words_entry (Least cost start) = ap (λ x. Least x start) (cost_joined cost)
+words_entry None = refl
+words_entry (Some l) = ap (λ x. least x l.start) (cost_joined l.cost)
 
 -- so that what is stored at an offset is read there.
 pub stored_same : (w : List ℕ) (at : ℕ) (e : Entry) → at + 5 ≤ length w → entry_at (stored w at e) at ≡ e

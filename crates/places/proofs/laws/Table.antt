@@ -1,7 +1,6 @@
 -- The table after a store, which changes one place on one side.
 use Rattle.std.specs.Prelude.{◌≡◌, List, ℕ, ◌+◌, ◌<◌, ◌≤◌, length}
-use Rattle.places.specs.declared.Entry.{Entry}
-use Rattle.places.specs.Entry.{stored}
+use Rattle.places.specs.Entry.{Entry, stored}
 use Rattle.places.specs.Address.{address}
 use Rattle.places.specs.Table.{table_of}
 use Rattle.places.proofs.laws.Address.{address_apart}

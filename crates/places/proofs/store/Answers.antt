@@ -2,12 +2,12 @@
 use Rattle.places.specs.Entry.{stored}
 use Rattle.places.proofs.store.Goals as goal
 
-pub returns-in-Unreached : goal.returns-in-Unreached
+pub returns-in-None : goal.returns-in-None
 unfolding stored
-returns-in-Unreached c =
-    rw (c.in-Unreached.is, ← c.address_of-at.ensures) c.put.ensures
+returns-in-None c =
+    rw (c.in-None.is, ← c.address_of-at.ensures) c.put.ensures
 
-pub returns-in-Least : goal.returns-in-Least
+pub returns-in-Some : goal.returns-in-Some
 unfolding stored
-returns-in-Least c =
-    rw (c.in-Least.is, ← c.address_of-at.ensures) c.put-in-Least.ensures
+returns-in-Some c =
+    rw (c.in-Some.is, ← c.address_of-at.ensures) c.put-in-Some.ensures

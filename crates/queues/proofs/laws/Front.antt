@@ -1,5 +1,5 @@
 -- The front of a queue is the best start of its part.
-use Rattle.std.specs.Prelude.{ℕ, zero, suc, ◌+◌, ◌-◌, ◌≤◌, ◌<◌, ◌≡◌, Bool, List}
+use Rattle.std.specs.Prelude.{ℕ, zero, suc, ◌+◌, ◌-◌, ◌≤◌, ◌<◌, ◌≡◌, Bool, List, None}
 use Rattle.std.proofs.Common.{add-zero, add-suc, ltb-true, ltb-false}
 use native.Mathlib.Omega.{arith}
 use Rattle.std.proofs.Math.Decide.{dec_lt}
@@ -8,8 +8,7 @@ use Rattle.std.proofs.Math.Logic.{inl, inr}
 use Rattle.std.proofs.Math.Bool.{true, false}
 use Rattle.std.proofs.Math.Dec.{ltb}
 use Rattle.model.specs.Gather.{pick}
-use Rattle.places.specs.declared.Entry.{Entry}
-use Rattle.places.specs.declared.Entry.TheVariants.{Unreached, Least}
+use Rattle.places.specs.Entry.{Entry, least}
 use Rattle.places.specs.Order.{NoLater}
 use Rattle.places.specs.Best.{Leads, Best}
 use Rattle.places.proofs.laws.Best.{best_none, best_least}
@@ -43,7 +42,7 @@ module _ (col : ℕ → Entry) (add : ℕ → ℕ) (words : List ℕ) (queue : Q
     (fresh : queue.head < queue.tail → low ≤ line_at words queue.head) where
   front_some : queue.head < queue.tail
       → Best (Lines col add low high b)
-      (Least (cost_at words queue.head) (record { line = line_at words queue.head; column = b }))
+      (least (cost_at words queue.head) (record { line = line_at words queue.head; column = b }))
   unfolding Leads
   front_some some =
       best_least (cost_at words queue.head) (record { line = line_at words queue.head; column = b })
@@ -61,7 +60,7 @@ module _ (col : ℕ → Entry) (add : ℕ → ℕ) (words : List ℕ) (queue : Q
           later first n (yes p) = inl p
           later first n (no p) = let o = ap (line_at words) first in inr (omega arith, omega arith)
 
-  front_none : queue.tail ≤ queue.head → Best (Lines col add low high b) Unreached
+  front_none : queue.tail ≤ queue.head → Best (Lines col add low high b) None
   front_none none =
       best_none (λ a b' x c. let k = h.covered a x c.0 c.1 c.3 in omega (arith, k.from, k.to))
 
@@ -71,6 +70,6 @@ module _ (col : ℕ → Entry) (add : ℕ → ℕ) (words : List ℕ) (queue : Q
     where
       go : (t : Bool) → ltb queue.head queue.tail ≡ t
           → Best (Lines col add low high b)
-          (pick t (Least (cost_at words queue.head) (record { line = line_at words queue.head; column = b })) Unreached)
+          (pick t (least (cost_at words queue.head) (record { line = line_at words queue.head; column = b })) None)
       go true e = front_some (ltb-true _ _ e)
       go false e = front_none (ltb-false _ _ e)

@@ -1,10 +1,9 @@
 -- A queue holds what it held: of no line, of the same column, with a line passed over, and with its front dropped.
-use Rattle.std.specs.Prelude.{ℕ, suc, ◌+◌, ◌*◌, ◌≤◌, ◌<◌, ◌≡◌, ◌⊎◌, Bool, List}
+use Rattle.std.specs.Prelude.{ℕ, suc, ◌+◌, ◌*◌, ◌≤◌, ◌<◌, ◌≡◌, ◌⊎◌, Bool, List, None}
 use Rattle.std.proofs.Math.Decide.{dec_le}
 use Rattle.std.proofs.Common.{arith, sym, ap, ◌∙◌, inl, inr}
 use Rattle.places.specs.declared.Place.{Place}
-use Rattle.places.specs.declared.Entry.{Entry}
-use Rattle.places.specs.declared.Entry.TheVariants.{Unreached, Least}
+use Rattle.places.specs.Entry.{Entry, least}
 use Rattle.queues.specs.declared.queue.Queue.{Queue}
 use Rattle.places.specs.Best.{Paid}
 use Rattle.places.proofs.laws.Best.{no_reach}
@@ -13,7 +12,7 @@ use Rattle.queues.specs.Queue.{line_at, cost_at, headed, Cover, Held, Passed}
 
 -- Of lines that are not reached an empty queue holds all.
 pub held_none : (col : ℕ → Entry) (add : ℕ → ℕ) (words : List ℕ) (base : ℕ) (lacks : Bool) (low high : ℕ)
-    → ((a : ℕ) → low ≤ a → a < high → col a ≡ Unreached)
+    → ((a : ℕ) → low ≤ a → a < high → col a ≡ None)
     → Held col add words (record { base = base; head = base; tail = base; lacks = lacks }) low high
 held_none col add words base lacks low high none =
     record {
@@ -28,7 +27,7 @@ held_none col add words base lacks low high none =
     }
 
 -- What is paid for a reached entry.
-pub paid_of : {e : Entry} {r : Place} (x p y : ℕ) → e ≡ Least x r → y ≡ x + p → Paid e p y
+pub paid_of : {e : Entry} {r : Place} (x p y : ℕ) → e ≡ least x r → y ≡ x + p → Paid e p y
 paid_of {r = r} x p y q sum = record { own = x; start = r; entry = q; whole = sum }
 
 -- What is paid for an entry is paid for the same entry.
@@ -51,7 +50,7 @@ held_same col col' add words queue low high same h =
     }
 
 -- A line that is unreached asks for no cover.
-pub held_passed : (col : ℕ → Entry) (add : ℕ → ℕ) (words : List ℕ) (queue : Queue) (low a : ℕ) → col a ≡ Unreached
+pub held_passed : (col : ℕ → Entry) (add : ℕ → ℕ) (words : List ℕ) (queue : Queue) (low a : ℕ) → col a ≡ None
     → Held col add words queue low a → Held col add words queue low (a + 1)
 held_passed col add words queue low a none h =
     record {

@@ -1,10 +1,9 @@
 -- The two parts of a window: where the second starts, and what their queues hold when something else is stored.
-use Rattle.std.specs.Prelude.{ℕ, ◌+◌, ◌*◌, ◌≤◌, ◌<◌, ◌≡◌, refl, ◌⊎◌, Bool, true, false, List, [], ◌∷◌, length, get_or, ltb}
+use Rattle.std.specs.Prelude.{ℕ, ◌+◌, ◌*◌, ◌≤◌, ◌<◌, ◌≡◌, refl, ◌⊎◌, Bool, true, false, List, [], ◌∷◌, length, get_or, ltb, None}
 use Rattle.std.proofs.Common.{le_refl, arith, subst, ◌∙◌, inl, inr, ltb-true, ltb-false}
 use Rattle.std.proofs.Math.Seq.{length-sets}
 use Rattle.model.specs.Gather.{pick}
-use Rattle.places.specs.declared.Entry.{Entry}
-use Rattle.places.specs.declared.Entry.TheVariants.{Unreached}
+use Rattle.places.specs.Entry.{Entry}
 use Rattle.places.proofs.laws.Stored.{sets_out, sets_in}
 use Rattle.window.specs.declared.slide.Window.{Window}
 use Rattle.queues.specs.declared.parts.Parts.{Parts}
@@ -96,7 +95,7 @@ module _ (work sums w₀ w₁ w₂ : List ℕ) (source : Source) (parts : Parts)
 
 -- Where no line of the window is reached queues of no line hold all.
 pub both_none : (col : ℕ → Entry) (sums words : List ℕ) (base : ℕ) (window : Window)
-    → ((a : ℕ) → window.low ≤ a → (a < window.split) ⊎ (a < window.high) → col a ≡ Unreached)
+    → ((a : ℕ) → window.low ≤ a → (a < window.split) ⊎ (a < window.high) → col a ≡ None)
     → Both col sums words base
     (record {
       full = record { base = base; head = base; tail = base; lacks = false };

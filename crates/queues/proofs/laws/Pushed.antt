@@ -1,11 +1,11 @@
 -- A line pushed: the queue holds it too.
 use Rattle.std.specs.Prelude.{ℕ, suc, ◌+◌, ◌*◌, ◌≤◌, ◌<◌, ◌≡◌, List, length, get_or}
 use Rattle.std.proofs.Math.Decide.{dec_le}
-use Rattle.std.proofs.Common.{arith, ap, ◌∙◌}
-use Rattle.places.specs.declared.Entry.{Entry}
-use Rattle.places.specs.Entry.{low_of, high_of}
+use Rattle.std.proofs.Common.{arith, sym, ap, ◌∙◌}
+use Rattle.places.specs.Entry.{Entry, low_of, high_of}
 use Rattle.places.specs.Best.{Paid}
 use Rattle.places.proofs.laws.Stored.{cost_joined}
+use Rattle.places.proofs.laws.Best.{least_same}
 use Rattle.queues.specs.declared.queue.Queue.{Queue}
 use Rattle.window.specs.laws.Rows.{pushed_other, pushed_own}
 use Rattle.queues.specs.Queue.{line_at, cost_at, queued, tailed, Cover, Held, Dropped}
@@ -129,7 +129,7 @@ module _ (col : ℕ → Entry) (add : ℕ → ℕ) (words : List ℕ) (queue : Q
           let last : k ≡ a = omega arith in
           let same : col k ≡ col a = ap col last in
           let more : add k ≡ add a = ap add last in
-          let own : here.own ≡ e.own = cc (here.entry, e.entry, same) in
+          let (own, start) = least_same (sym here.entry ∙ sym same ∙ e.entry) in
           push_covers k y (omega arith) (omega (arith, here.whole, e.whole))
 
   pub held_pushed : Held col add (queued words t a x) (tailed queue (t + 1)) low (a + 1)

@@ -1,16 +1,15 @@
 -- The white of a window's pages: nothing before the split, and after it what the page lacks, which differs from line to line by the height
 -- up to the line. So the front of each queue, the second with its page's white in place of that height, is the best start of its part.
-use Rattle.std.specs.Prelude.{ℕ, ◌+◌, ◌-◌, ◌≤◌, ◌<◌, ◌≡◌, refl, true, false, List}
+use Rattle.std.specs.Prelude.{ℕ, ◌+◌, ◌-◌, ◌≤◌, ◌<◌, ◌≡◌, refl, true, false, List, None, Some}
 use Rattle.std.proofs.Common.{le_refl, sym}
 use Rattle.std.proofs.Math.Decide.{dec_le}
 use native.Mathlib.Omega.{arith}
 use Rattle.model.specs.Galley.{Stream}
 use Rattle.model.specs.Height.{stacked}
 use Rattle.places.specs.declared.Place.{Place}
-use Rattle.places.specs.declared.Entry.{Entry}
-use Rattle.places.specs.declared.Entry.TheVariants.{Unreached, Least}
+use Rattle.places.specs.Entry.{Entry, least}
 use Rattle.places.specs.Best.{Leads, Best}
-use Rattle.places.proofs.laws.Best.{no_reach, best_none, best_least}
+use Rattle.places.proofs.laws.Best.{least_same, no_reach, best_none, best_least}
 use Rattle.window.specs.declared.slide.Load.{Load}
 use Rattle.window.specs.declared.slide.Window.{Window}
 use Rattle.queues.specs.declared.parts.Parts.{Parts}
@@ -24,25 +23,25 @@ use Rattle.queues.proofs.laws.Parts.{later-right}
 
 -- What is best with one thing added to each line is best with another, where the two differ alike from line to line.
 best_shifted : {col : ℕ → Entry} {add add' : ℕ → ℕ} {low high b : ℕ} (more less : ℕ) (e f : Entry)
-    → ((x : ℕ) (r : Place) → e ≡ Least x r → (y : ℕ) × (f ≡ Least y r) × (x + more ≡ y + less))
-    → (e ≡ Unreached → f ≡ Unreached) → ((a : ℕ) → low ≤ a → a < high → add a + more ≡ add' a + less)
+    → ((x : ℕ) (r : Place) → e ≡ least x r → (y : ℕ) × (f ≡ least y r) × (x + more ≡ y + less))
+    → (e ≡ None → f ≡ None) → ((a : ℕ) → low ≤ a → a < high → add a + more ≡ add' a + less)
     → Best (Lines col add low high b) e → Best (Lines col add' low high b) f
 unfolding Leads
-best_shifted {col} {add} {add'} {low} {high} {b} more less Unreached f some none same best =
+best_shifted {col} {add} {add'} {low} {high} {b} more less None f some none same best =
     let n = none refl in
     rw n (best_none (λ a b' x (l, m, p, c). best.leads a b' _
     (l, m, p, record { own = c.own; start = c.start; entry = c.entry; whole = refl })))
-best_shifted {col} {add} {add'} {low} {high} {b} more less (Least x r) f some none same best = go (some x r refl)
+best_shifted {col} {add} {add'} {low} {high} {b} more less (Some n) f some none same best = go (some n.cost n.start refl)
   where
-    go : (y : ℕ) × (f ≡ Least y r) × (x + more ≡ y + less) → Best (Lines col add' low high b) f
-    go (y, e, sum) = rw e (best_least y r here leads)
+    go : (y : ℕ) × (f ≡ least y n.start) × (n.cost + more ≡ y + less) → Best (Lines col add' low high b) f
+    go (y, e, sum) = rw e (best_least y n.start here leads)
       where
-        here : Lines col add' low high b r.line r.column y
+        here : Lines col add' low high b n.start.line n.start.column y
         here =
-            let (l, m, p, c) = best.may x r refl in
-            (l, m, p, record { own = c.own; start = c.start; entry = c.entry; whole = omega (arith, c.whole, same r.line l m, sum) })
+            let (l, m, p, c) = best.may n.cost n.start refl in
+            (l, m, p, record { own = c.own; start = c.start; entry = c.entry; whole = omega (arith, c.whole, same n.start.line l m, sum) })
 
-        leads : (a b' z : ℕ) → Lines col add' low high b a b' z → Leads (Least y r) a b' z
+        leads : (a b' z : ℕ) → Lines col add' low high b a b' z → Leads (least y n.start) a b' z
         leads a b' z (l, m, p, c) =
             let (h, k) = best.leads a b' (c.own + add a)
             (l, m, p, record { own = c.own; start = c.start; entry = c.entry; whole = refl }) in
@@ -51,20 +50,19 @@ best_shifted {col} {add} {add'} {low} {high} {b} more less (Least x r) f some no
             (omega (arith, h, alike, whole, sum), λ q. k (omega (arith, alike, whole, sum)))
 
 -- The cost of a start, with the page's white in place of the height up to its line.
-whitened_least : (e : Entry) (top reached : ℕ) → ((x : ℕ) (r : Place) → e ≡ Least x r → reached ≤ x + top) → (x : ℕ) (r : Place)
-    → e ≡ Least x r → (y : ℕ) × (whitened_of e top reached ≡ Least y r) × (x + top ≡ y + reached)
+whitened_least : (e : Entry) (top reached : ℕ) → ((x : ℕ) (r : Place) → e ≡ least x r → reached ≤ x + top) → (x : ℕ) (r : Place)
+    → e ≡ least x r → (y : ℕ) × (whitened_of e top reached ≡ least y r) × (x + top ≡ y + reached)
 unfolding whitened_of
-whitened_least Unreached top reached enough x r q = absurd (no_reach q)
-whitened_least (Least z s) top reached enough x r q =
-    let more = enough z s refl in
-    let cost : z ≡ x = cc in
-    let start : s ≡ r = cc in
+whitened_least None top reached enough x r q = absurd (no_reach q)
+whitened_least (Some l) top reached enough x r q =
+    let more = enough l.cost l.start refl in
+    let (cost, start) = least_same q in
     ((x + top) - reached, rw (cost, start) refl, omega arith)
 
-whitened_none : (e : Entry) (top reached : ℕ) → e ≡ Unreached → whitened_of e top reached ≡ Unreached
+whitened_none : (e : Entry) (top reached : ℕ) → e ≡ None → whitened_of e top reached ≡ None
 unfolding whitened_of
-whitened_none Unreached top reached q = refl
-whitened_none (Least x r) top reached q = absurd (no_reach (sym q))
+whitened_none None top reached q = refl
+whitened_none (Some l) top reached q = absurd (no_reach (sym q))
 
 -- A window of line i, and the queues of its parts.
 module _ (st : Stream) (load : Load) (window : Window) (i : ℕ) (opened : Open st load window i) (order : load.htmin ≤ load.htmax)
@@ -121,7 +119,7 @@ module _ (st : Stream) (load : Load) (window : Window) (i : ℕ) (opened : Open 
     rest_on : (a : ℕ) → rest_from window ≤ a → window.split ≤ a
     rest_on a l = omega (arith, later-right window.low window.split)
 
-    enough : (x : ℕ) (r : Place) → front_of words parts.rest b ≡ Least x r → reached_of sums 1 load.loose i ≤ x + load.htmax
+    enough : (x : ℕ) (r : Place) → front_of words parts.rest b ≡ least x r → reached_of sums 1 load.loose i ≤ x + load.htmax
     enough x r e =
         let (l, n, p, c) = rest_front.may x r e in
         omega (arith, c.whole, (rest_lacks r.line (rest_on r.line l) n).1)

@@ -1,10 +1,6 @@
 -- `all_routes` goes on chapter by chapter. The invariant says that the routes before chapter k are those of the theorem.
-use Prim.Native.Nat.{◌-◌}
 use Rattle.routes.specs.Next.{Routing}
 use Rattle.routes.proofs.all_routes.Given as goal
 
 abbrev pub invariant-loop-k : goal.invariant-loop-k
 invariant-loop-k l = Routing l.galleys l.lengths l.book l.initial.work l.work l.k l.routes l.from
-
-abbrev pub decreases-loop-k : goal.decreases-loop-k
-decreases-loop-k l = l.book.chapters - l.k

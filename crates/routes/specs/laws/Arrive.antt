@@ -20,8 +20,8 @@ use Rattle.galley.specs.Sound.{Sound}
 use Rattle.candidates.specs.Read.{table_in}
 use Rattle.walk.specs.Trace.{entry_of}
 use Rattle.closings.specs.Chapter.{on_folio, Tabled}
-use Rattle.routes.specs.declared.Route.{Route}
-use Rattle.routes.specs.declared.Route.TheVariants.{Unreached}
+use Rattle.routes.specs.Routes.{Route}
+use Rattle.std.specs.Prelude.{None}
 use Rattle.routes.specs.declared.Routes.{Routes}
 use Rattle.routes.specs.declared.Step.{Step}
 use Rattle.routes.specs.Routes.{kept_of, is_reached}
@@ -122,7 +122,7 @@ module _ (h : model.Galley) (f : ℕ) (rs : List model.Galley) {bytes : List ℕ
       same : like h.spec.sides next ≡ like (sides_of g.spec.sides g.folio) next
       same = sym (like_alike h (model_of bytes g) a next)
 
-      absent : route h f (model_of bytes g ∷ rs) next ≡ none → r ≡ record { route = Unreached; from = 1 } → Arrives h f (model_of bytes g) rs next r
+      absent : route h f (model_of bytes g ∷ rs) next ≡ none → r ≡ record { route = None; from = 1 } → Arrives h f (model_of bytes g) rs next r
       absent n is =
           record {
             best = ap (λ (s : Step). s.route) is ∙ sym (ap kept_of n);

@@ -6,7 +6,6 @@ use mathlib.Core.List.{List, [], ◌∷◌}
 use Rattle.model.specs.Gather.{pick}
 use Rattle.model.specs.Book.{first_folio}
 use Rattle.galley.specs.declared.Galley.{Galley}
-use Rattle.galley.specs.declared.Reading.TheVariants as reads
 use Rattle.galley.specs.Model.{model_of}
 use Rattle.places.specs.Address.{words_needed}
 use Rattle.chapters.specs.declared.Book.{Book}
@@ -14,8 +13,9 @@ use Rattle.chapters.specs.Book.{Chapter, read, book_of, models_of, chapter_bytes
 use Rattle.chapters.specs.laws.Chapters.{chapter_at, chapters_many}
 use Rattle.chapters.specs.laws.Alike.{spec_alike, models_drop, models_many}
 use Rattle.candidates.specs.Read.{columns_in}
-use Rattle.routes.specs.declared.Route.TheVariants.{Unreached, Least}
+use Rattle.std.specs.Prelude.{None, Some}
 use Rattle.routes.specs.declared.Routes.{Routes}
+use Rattle.routes.specs.Routes.{Route}
 use Rattle.routes.specs.Room.{BookRoom}
 use Rattle.routes.specs.Routes.{first_routes, before, Routed}
 use Rattle.routes.specs.Offer.{Cheap}
@@ -28,12 +28,12 @@ use Rattle.routes.specs.laws.Routing.{first_right, none_before, routed_next}
 first_cheap : (sides folio : ℕ) → Cheap 0 (first_routes sides folio).one × Cheap 0 (first_routes sides folio).two
 first_cheap sides folio = go (eqb sides 2) (eqb (folio % 2) 0)
   where
-    nothing : Cheap 0 (Least (record { turns = 0; white = 0 }))
+    nothing : Cheap 0 (Some (record { turns = 0; white = 0 }))
     nothing = least_cheap 0 (record { turns = 0; white = 0 }) (omega arith) (omega arith)
 
     go : (b d : Bool)
-        → (let none = Least (record { turns = 0; white = 0 }) in
-        let r = pick {A = Routes} b (pick d (record { one = Unreached; two = none }) (record { one = none; two = Unreached })) (record { one = none; two = Unreached }) in
+        → (let none : Route = Some (record { turns = 0; white = 0 }) in
+        let r = pick {A = Routes} b (pick d (record { one = None; two = none }) (record { one = none; two = None })) (record { one = none; two = None }) in
         Cheap 0 r.one × Cheap 0 r.two)
     go true true = (none_cheap 0, nothing)
     go true false = (nothing, none_cheap 0)

@@ -9,7 +9,7 @@ use Rattle.model.specs.Order.{then_by, by, lex, geb}
 use Rattle.theorems.specs.books.Routes.{Route, preferred, choose}
 use Rattle.theorems.specs.books.Engine.{taken}
 use Rattle.routes.specs.declared.Cost.{Cost}
-use Rattle.routes.specs.declared.Route.TheVariants.{Least}
+use Rattle.std.specs.Prelude.{Some}
 use Rattle.routes.specs.declared.Step.{Step}
 use Rattle.routes.specs.Routes.{kept_of, less}
 use Rattle.routes.specs.Offer.{decided}
@@ -54,8 +54,8 @@ decided_kept (some a) (some b) later tie =
   where
     go : (s t u : Bool)
         → ◌≡◌ {A = Step}
-        (pick s (record { route = Least (cost_of a); from = 1 }) (pick t (record { route = Least (cost_of b); from = 2 })
-        (pick u (record { route = Least (cost_of a); from = 1 }) (record { route = Least (cost_of b); from = 2 }))))
+        (pick s (record { route = Some (cost_of a); from = 1 }) (pick t (record { route = Some (cost_of b); from = 2 })
+        (pick u (record { route = Some (cost_of a); from = 1 }) (record { route = Some (cost_of b); from = 2 }))))
         (record {
           route = kept_of (some (pick (pick s true (pick t false u)) a b));
           from = pick (pick s true (pick t false u)) 1 2;

@@ -2,15 +2,12 @@
 use Rattle.std.specs.Prelude.{ℕ, suc, ◌+◌, ◌*◌, ◌≤◌, ◌<◌, ◌≡◌, refl, Bool, true, false, List}
 use Rattle.std.proofs.Common.{le_refl, arith, sym, ◌∙◌, ap, lt-ltb, le-ltb}
 use Rattle.model.specs.Gather.{pick}
-use Rattle.model.specs.Leaf.{ends, sides_of}
+use Rattle.model.specs.Leaf.{ends}
 use Rattle.theorems.specs.pages.Graph.{side}
 use Rattle.theorems.specs.pages.Sides.{side_side}
 use Rattle.galley.specs.declared.Galley.{Galley}
 use Rattle.galley.specs.Model.{sides_in}
-use Rattle.places.specs.declared.Place.{Place as Start}
-use Rattle.places.specs.declared.Entry as places
-use Rattle.places.specs.declared.Entry.TheVariants as entry
-use Rattle.places.specs.Entry.{low_of, high_of}
+use Rattle.places.specs.Entry.{Entry}
 use Rattle.candidates.specs.Read.{table_in}
 use Rattle.walk.specs.declared.Stop.{Stop}
 use Rattle.walk.specs.Trace.{entry_of}
@@ -18,8 +15,8 @@ use Rattle.walk.specs.Traceable.{WorkArea, Visits}
 use Rattle.walk.specs.laws.Walk.{columns_in_some}
 use Rattle.closings.specs.Chapter.{closing_stop, Counted}
 use Rattle.routes.specs.declared.Cost.{Cost}
-use Rattle.routes.specs.declared.Route.{Route}
-use Rattle.routes.specs.declared.Route.TheVariants.{Unreached, Least}
+use Rattle.routes.specs.Routes.{Route}
+use Rattle.std.specs.Prelude.{None, Some}
 use Rattle.routes.specs.declared.Routes.{Routes}
 use Rattle.routes.specs.declared.Step.{Step}
 use Rattle.routes.specs.Routes.{less, best_end}
@@ -44,9 +41,9 @@ turn_small g false o l = go (ends _ 0)
     go false = omega arith
 
 -- What is offered goes on from a route.
-offer_from : (route : Route) (turn : ℕ) (e : places.Entry) (x : Cost) → passed route turn e ≡ Least x → (c : Cost) × (route ≡ Least c)
-offer_from Unreached turn e x is = let z : ◌≡◌ {A = ℕ} 0 1 = cc in absurd (omega arith)
-offer_from (Least c) turn e x is = (c, refl)
+offer_from : (route : Route) (turn : ℕ) (e : Entry) (x : Cost) → passed route turn e ≡ Some x → (c : Cost) × (route ≡ Some c)
+offer_from None turn e x is = let z : ◌≡◌ {A = ℕ} 0 1 = cc in absurd (omega arith)
+offer_from (Some c) turn e x is = (c, refl)
 
 -- Two offers can be compared.
 pub arriving_comparing : {g : Galley} {routes : Routes} {next : ℕ} {w v : List ℕ} → Arriving g routes next w v → (first : Bool) (a b : Route)
@@ -66,64 +63,40 @@ arriving_comparing {g} {routes} {next} {w} {v} asked first a b ea eb =
 
 -- The preferred of two cheap offers is cheap.
 pub decided_cheap : (k : ℕ) (later : Bool) (a b : Route) → Cheap k a → Cheap k b → Cheap k (decided later a b).route
-decided_cheap k later Unreached b p q = q
-decided_cheap k later (Least x) Unreached p q = p
-decided_cheap k later (Least x) (Least y) p q = go (less x y) (less y x) later
+decided_cheap k later None b p q = q
+decided_cheap k later (Some x) None p q = p
+decided_cheap k later (Some x) (Some y) p q = go (less x y) (less y x) later
   where
     go : (s t u : Bool)
-        → Cheap k (pick {A = Step} s (record { route = Least x; from = 1 }) (pick t (record { route = Least y; from = 2 })
-        (pick u (record { route = Least x; from = 1 }) (record { route = Least y; from = 2 })))).route
+        → Cheap k (pick {A = Step} s (record { route = Some x; from = 1 }) (pick t (record { route = Some y; from = 2 })
+        (pick u (record { route = Some x; from = 1 }) (record { route = Some y; from = 2 })))).route
     go true t u = p
     go false true u = q
     go false false true = p
     go false false false = q
 
 -- No route is cheap.
-pub none_cheap : (k : ℕ) → Cheap k Unreached
+pub none_cheap : (k : ℕ) → Cheap k None
 none_cheap k c e = let z : ◌≡◌ {A = ℕ} 0 1 = cc in absurd (omega arith)
 
 -- So is one whose costs keep to the limit.
-pub least_cheap : (k : ℕ) (x : Cost) → x.turns ≤ k * 8589934592 → x.white ≤ k * 8589934592 → Cheap k (Least x)
+pub least_cheap : (k : ℕ) (x : Cost) → x.turns ≤ k * 8589934592 → x.white ≤ k * 8589934592 → Cheap k (Some x)
 least_cheap k x t w c e = let is : x ≡ c = cc in rw (← is) (t, w)
 
 -- The best end, where both folios are reached.
-pub end_both : {a b : Route} {x y : Cost} (t : Bool) → a ≡ Least x → b ≡ Least y → t ≡ less y x → pick t 2 1 ≡ best_end a b
+pub end_both : {a b : Route} {x y : Cost} (t : Bool) → a ≡ Some x → b ≡ Some y → t ≡ less y x → Some (pick t 2 1) ≡ best_end a b
 unfolding best_end
 end_both t p q e = rw (p, q, e)
 
--- What is turned to a later chapter.
-pub turn_later : (g : Galley) {first : Bool} (o : ℕ) (t : Bool) → first ≡ false → t ≡ ends (sides_of g.spec.sides o) 0
-    → pick t g.spec.beta 0 ≡ turn_to g first o
-turn_later g o t p e = rw (p, e)
-
 -- A route goes on by the entry that was read where a list closes.
-pub passed_from : (g : Galley) {route r : Route} {turn : ℕ} {e : places.Entry} (first : Bool) (o next : ℕ) (w : List ℕ) (c : ℕ) (at : Stop)
+pub passed_from : (g : Galley) {route r : Route} {turn : ℕ} {e : Entry} (first : Bool) (o next : ℕ) (w : List ℕ) (c : ℕ) (at : Stop)
     → c ≡ side (sides_in g) (o + next) → at ≡ closing_stop g c → e ≡ entry_of (table_in g w) at → turn ≡ turn_to g first o → Passed route turn e r
     → Passed route (turn_to g first o) (entry_of (table_in g w) (closing_from g o next)) r
 passed_from g first o next w c at ec ea ee et p = rw (et, ee, ea, ec) at p
 
--- A route that leads to a folio goes on by an entry that is reached.
-pub passed_least : {route : Route} {e : places.Entry} {x : Cost} {v : ℕ} {s : Start} (turn t w : ℕ) → route ≡ Least x → e ≡ entry.Least v s
-    → t ≡ high_of v → w ≡ low_of v → Least (record { turns = x.turns + turn + t; white = x.white + w }) ≡ passed route turn e
-passed_least turn t w p q et ew = rw (p, q, et, ew) refl
-
--- The preferred of two offers, where there is one or none,
-pub decided_second : {a : Route} (b : Route) (later : Bool) → a ≡ Unreached → record { route = b; from = 2 } ≡ decided later a b
-decided_second b later p = rw p refl
-
-pub decided_first : {a b : Route} {x : Cost} (later : Bool) → a ≡ Least x → b ≡ Unreached → record { route = Least x; from = 1 } ≡ decided later a b
-decided_first later p q = rw (p, q) refl
-
--- and where there are two.
-pub decided_both : {a b : Route} {x y : Cost} (s t u : Bool) {later : Bool} → a ≡ Least x → b ≡ Least y → s ≡ less x y → t ≡ less y x → u ≡ later
-    → pick s (record { route = Least x; from = 1 }) (pick t (record { route = Least y; from = 2 })
-    (pick u (record { route = Least x; from = 1 }) (record { route = Least y; from = 2 })))
-    ≡ decided later a b
-decided_both s t u p q es et eu = rw (p, q, es, et, eu) refl
-
 -- The route to the next folio, where that does not occur
 pub arrived_none : {g : Galley} {routes : Routes} {first : Bool} {next : ℕ} {w v : List ℕ} → g.spec.sides < next
-    → Arrived g routes first next w v (record { route = Unreached; from = 1 })
+    → Arrived g routes first next w v (record { route = None; from = 1 })
 arrived_none {g} {next = next} l = record { is = rw (lt-ltb g.spec.sides next l) refl; cheap = λ k p q. none_cheap _ }
 
 -- and where it does.

@@ -20,8 +20,8 @@ use Rattle.theorems.specs.books.Routes as theorems
 use Rattle.galley.specs.declared.Galley.{Galley}
 use Rattle.galley.specs.Model.{sides_in, model_of}
 use Rattle.places.specs.declared.Place.{Place as Start}
-use Rattle.places.specs.declared.Entry.{Entry}
-use Rattle.places.specs.declared.Entry.TheVariants as entry
+use Rattle.places.specs.Entry.{Entry, least}
+use Rattle.std.specs.Prelude.{None, Some}
 use Rattle.candidates.specs.Read.{table_in, columns_in}
 use Rattle.walk.specs.Trace.{entry_of}
 use Rattle.chapters.specs.laws.Alike.{sides_on_lem}
@@ -29,7 +29,6 @@ use Rattle.closings.specs.Chapter.{on_folio, Tabled}
 use Rattle.closings.specs.laws.Opened.{model_on_lem}
 use Rattle.closings.specs.laws.Chapter.{closed_none, Closes, closed_best, closed_costs}
 use Rattle.theorems.specs.pages.Sides.{side_side}
-use Rattle.routes.specs.declared.Route.TheVariants.{Unreached, Least}
 use Rattle.routes.specs.Routes.{kept_of, is_reached}
 use Rattle.routes.specs.Offer.{turn_to, passed, closing_from}
 use Rattle.routes.specs.laws.Folio.{side_of_lem, alike_side}
@@ -83,7 +82,7 @@ module _ (h : model.Galley) (bytes : List ℕ) (g : Galley) (a : Alike h (model_
 
   module _ (first : Bool) (r : theorems.Route) where
     -- Where no list closes so, the folio offers nothing;
-    pub offered_none : entry_of (table_in g w) (closing_from g o next) ≡ entry.Unreached → through h (model_of bytes g) first o next (some r) ≡ none
+    pub offered_none : entry_of (table_in g w) (closing_from g o next) ≡ None → through h (model_of bytes g) first o next (some r) ≡ none
     unfolding columns_in
     offered_none e = through_none h (model_of bytes g) first o next r (best_on none (closed_none tabled closes occurs e))
 
@@ -98,7 +97,7 @@ module _ (h : model.Galley) (bytes : List ℕ) (g : Galley) (a : Alike h (model_
             starts = starts_of (zeros (model_of bytes g)) list.pages [];
           })
 
-    pub offered_some : (x : ℕ) (s : Start) → entry_of (table_in g w) (closing_from g o next) ≡ entry.Least x s → Offered x
+    pub offered_some : (x : ℕ) (s : Start) → entry_of (table_in g w) (closing_from g o next) ≡ least x s → Offered x
     unfolding columns_in
     offered_some x s e =
         let k = closed_best tabled closes occurs x s e in
@@ -128,10 +127,10 @@ offer_kept h bytes g a first o next {w} (some r) tabled = go (entry_of (table_in
 
     go : (e : Entry) → entry_of (table_in g w) (closing_from g o next) ≡ e
         → passed (kept_of (some r)) (turn_to g first o) e ≡ kept_of (through h (model_of bytes g) first o next (some r))
-    go entry.Unreached e = sym (ap kept_of (offered_none h bytes g a o next table first r e))
-    go (entry.Least x s) e =
-        let k = offered_some h bytes g a o next table first r x s e in
-        let (high, low) = closed_costs table (closes h bytes g a o next table) (occurs h bytes g a o next table) x k.list in
+    go None e = sym (ap kept_of (offered_none h bytes g a o next table first r e))
+    go (Some l) e =
+        let k = offered_some h bytes g a o next table first r l.cost l.start e in
+        let (high, low) = closed_costs table (closes h bytes g a o next table) (occurs h bytes g a o next table) l.cost k.list in
         rw (k.is, ← high, ← low) refl
 
 -- A route that is offered goes by the best list from a table, and has its starts.
@@ -158,16 +157,16 @@ offer_view h bytes g a first o next {w} (some q) tabled r is = go (entry_of (tab
     starts_in (some q) = q.starts
 
     go : (e : Entry) → entry_of (table_in g w) (closing_from g o next) ≡ e → View h bytes g a o next w r
-    go entry.Unreached e =
+    go None e =
         let p = sym (offered_none h bytes g a o next table first q e) ∙ is in
         let z : ◌≡◌ {A = ℕ} 0 1 = cc in
         absurd (omega arith)
-    go (entry.Least x s) e =
-        let k = offered_some h bytes g a o next table first q x s e in
+    go (Some l) e =
+        let k = offered_some h bytes g a o next table first q l.cost l.start e in
         let p = sym k.is ∙ is in
         record {
           table = table;
-          cost = x;
+          cost = l.cost;
           list = k.list;
           starts = ap starts_in (sym p);
         }

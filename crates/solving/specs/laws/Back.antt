@@ -4,7 +4,7 @@ use native.Mathlib.Omega.{arith}
 use Rattle.std.proofs.Common.{mul-zero, ◌∙◌, subst, inl, drop_at, length-take-le}
 use Rattle.std.proofs.Math.Nat.{mul-suc}
 use Rattle.std.proofs.Math.Path.{◌≡◌, refl, sym, ap}
-use Rattle.std.specs.Prelude.{Bool, take}
+use Rattle.std.specs.Prelude.{Bool, take, None}
 use Rattle.std.proofs.Math.Bool.{true, false}
 use mathlib.Core.List.{List, [], ◌∷◌, ◌++◌, append_assoc}
 use Rattle.std.proofs.Math.Option.{none, some}
@@ -26,7 +26,7 @@ use Rattle.theorems.specs.pages.Opening.{after, Opening}
 use Rattle.theorems.specs.pages.Best.{table_none, table_best}
 use Rattle.places.specs.declared.Place.{Place as Start}
 use Rattle.places.specs.declared.Origin.{Origin}
-use Rattle.places.specs.declared.Entry.TheVariants.{Unreached, Least}
+use Rattle.places.specs.Entry.{least}
 use Rattle.places.specs.Columns.{columns, float_sizes}
 use Rattle.places.proofs.laws.Places.{place_inside}
 use Rattle.candidates.specs.Search.{Table, before, most_from}
@@ -172,13 +172,13 @@ module _ (g : Galley) (sane : Sane g) (narrow : Narrow g) (os : List Place) (ope
   right_after = subst (λ (o : Begin). Right (page_graph g o) (most_from from) (table_at g t) (Within g o)) begins right
 
   -- Where the table is right and the full place unreached within what any list can cost, no valid list begins with the opening.
-  pub back_none : Limits g → dearest_list ≤ most_from from → entry_of t (last_of g t) ≡ Unreached → best_after g os ≡ none
+  pub back_none : Limits g → dearest_list ≤ most_from from → entry_of t (last_of g t) ≡ None → best_after g os ≡ none
   unfolding table_at finished
   back_none limits enough e =
       table_none g sane narrow os opening (most_from from) (table_at g t) right_after limits enough (ap (finished (state_of g (last_of g t))) e)
 
   -- Where it is reached, the walk back from the better side counts and writes what follows in the best list.
-  pub back_best : (most : ℕ) → blocks g ≤ most → (x : ℕ) (s : Start) → entry_of t (last_of g t) ≡ Least x s
+  pub back_best : (most : ℕ) → blocks g ≤ most → (x : ℕ) (s : Start) → entry_of t (last_of g t) ≡ least x s
       → (ps : List Place) × Found g os from t most (last_of g t) ps
   unfolding table_at finished Trace pages_to blocks_at
   back_best most enough x s e =

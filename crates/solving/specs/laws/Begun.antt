@@ -5,12 +5,11 @@ use Rattle.std.proofs.Common.{mul-le-mul, add-one, ◌∙◌, inl, inr, length-a
 use Rattle.std.proofs.Math.Decide.{dec_lt}
 use native.Mathlib.Omega.{arith}
 use Rattle.std.proofs.Math.Path.{◌≡◌, sym, ap}
-use Rattle.std.specs.Prelude.{refl, ◌⊎◌, true, List, [], length}
+use Rattle.std.specs.Prelude.{refl, ◌⊎◌, true, List, [], length, Ok}
 use Rattle.std.proofs.Math.Option.{none, some}
-use Rattle.model.specs.declared.answer.Answer.{Answer}
 use Rattle.model.specs.Galley.{Place, zeros}
 use Rattle.model.specs.Leaf.{leaf}
-use Rattle.model.specs.Answers.{pages_of}
+use Rattle.model.specs.Answers.{pages_of, Answer}
 use Rattle.model.specs.Opening.{opening_turned}
 use Rattle.model.proofs.laws.Gather.{and_both}
 use Rattle.model.proofs.laws.Words.{length_pages}
@@ -31,7 +30,7 @@ use Rattle.rules.specs.Parts.{leaves_turned, all_placed, printed_cost}
 use Rattle.marking.specs.Parts.{pages_in}
 use Rattle.marking.specs.Judged.{waited, KeptPages}
 use Rattle.marking.specs.laws.Judged.{lacked_open}
-use Rattle.openings.specs.declared.Opening.TheVariants as opening
+use Rattle.openings.specs.declared.Ends.{Ends}
 use Rattle.openings.specs.Opening.{OpeningJudged}
 use Rattle.places.specs.declared.Origin.{Origin}
 use Rattle.places.specs.Columns.{place_at}
@@ -59,10 +58,18 @@ module _ (g : Galley) (at : Counts) (inside : Within g at) where
       let rows = ap (λ n. n * wide) (add-one g.figures.count) ∙ suc-mul g.figures.count wide in
       omega (arith, inside.tables)
 
-module _ {bytes : List ℕ} {g : Galley} (so : Sound bytes g) {ws : List ℕ} {pages : ℕ} {at : Counts} {sums : Sums}
-    (judged : OpeningJudged bytes g ws (opening.Ends pages at sums)) where
+module _ {bytes : List ℕ} {g : Galley} (so : Sound bytes g) {ws : List ℕ} {ends : Ends} (judged : OpeningJudged bytes g ws (Ok ends)) where
+  abbrev pages : ℕ
+  pages = ends.pages
+
+  abbrev at : Counts
+  at = ends.at
+
+  abbrev sums : Sums
+  sums = ends.sums
+
   known : (pages ≡ pages_in g ws) × KeptPages bytes g ws 0 at sums
-  known = judged.kept pages at sums refl
+  known = judged.kept ends refl
 
   stands : opening_turned (model_of bytes g) ws ≡ none
   stands = sym judged.told

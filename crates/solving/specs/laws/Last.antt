@@ -1,5 +1,5 @@
 -- The last side: it occurs, and it leads every side that is reached.
-use Rattle.std.specs.Prelude.{ℕ, ◌-◌, ◌%◌, ◌≤◌, ◌<◌, ◌≡◌, refl, Bool, true, false}
+use Rattle.std.specs.Prelude.{ℕ, ◌-◌, ◌%◌, ◌≤◌, ◌<◌, ◌≡◌, refl, Bool, true, false, None, Some}
 use Rattle.std.proofs.Common.{arith, sym, ◌∙◌, ap, ltb-true, ltb-false}
 use Rattle.std.proofs.Math.Decide.{ℕ_discrete}
 use Rattle.model.specs.Gather.{pick}
@@ -7,8 +7,8 @@ use Rattle.model.specs.Galley.{Sides, single, double}
 use Rattle.model.specs.Order.{oddly}
 use Rattle.theorems.specs.pages.Graph.{side}
 use Rattle.places.specs.declared.Place.{Place as Start}
-use Rattle.places.specs.declared.Entry.{Entry}
-use Rattle.places.specs.declared.Entry.TheVariants.{Unreached, Least}
+use Rattle.places.specs.Entry.{Entry, least}
+use Rattle.places.proofs.laws.Best.{no_reach, least_same}
 use Rattle.candidates.specs.Search.{Table}
 use Rattle.entries.specs.Filled.{Side}
 use Rattle.walk.specs.Trace.{cheaper, even_side, last_side}
@@ -28,29 +28,29 @@ last_side_lem (double f) t m = go (cheaper (t m.line m.column (1 - even_side f))
 pub record Leads (sides : Sides) (t : Table) (m : Start) (c b x : ℕ) : Type 0 where
   pub cost : ℕ
   pub start : Start
-  pub reached : t m.line m.column c ≡ Least cost start
+  pub reached : t m.line m.column c ≡ least cost start
   pub low : cost ≤ x
   pub tie : cost ≡ x → (oddly sides c ≤ oddly sides b) × (oddly sides c ≡ oddly sides b → c ≤ b)
 
 -- What is less dear is reached, and costs less than what is reached.
 cheaper_least : (e f : Entry) → cheaper e f ≡ true
-    → (y : ℕ) × (r : Start) × (e ≡ Least y r) × ((x : ℕ) (s : Start) → f ≡ Least x s → y < x)
+    → (y : ℕ) × (r : Start) × (e ≡ least y r) × ((x : ℕ) (s : Start) → f ≡ least x s → y < x)
 unfolding cheaper
-cheaper_least Unreached f h = let z : ◌≡◌ {A = ℕ} 0 1 = cc in absurd (omega arith)
-cheaper_least (Least y r) Unreached h = (y, r, refl, λ x s p. let z : ◌≡◌ {A = ℕ} 0 1 = cc in absurd (omega arith))
-cheaper_least (Least y r) (Least z k) h =
-    (y, r, refl, λ x s p. let l = ltb-true y z h in let q : z ≡ x = cc in omega arith)
+cheaper_least None f h = let z : ◌≡◌ {A = ℕ} 0 1 = cc in absurd (omega arith)
+cheaper_least (Some l) None h = (l.cost, l.start, refl, λ x s p. absurd (no_reach p))
+cheaper_least (Some m) (Some n) h =
+    (m.cost, m.start, refl, λ x s p. let l = ltb-true m.cost n.cost h in let q = (least_same p).0 in omega arith)
 
 -- Where what is reached is not less dear, the other is reached and costs no more.
-dearer_least : (e f : Entry) (x : ℕ) (s : Start) → e ≡ Least x s → cheaper e f ≡ false
-    → (y : ℕ) × (r : Start) × (f ≡ Least y r) × (y ≤ x)
+dearer_least : (e f : Entry) (x : ℕ) (s : Start) → e ≡ least x s → cheaper e f ≡ false
+    → (y : ℕ) × (r : Start) × (f ≡ least y r) × (y ≤ x)
 unfolding cheaper
-dearer_least Unreached f x s p h = let z : ◌≡◌ {A = ℕ} 0 1 = cc in absurd (omega arith)
-dearer_least (Least w k) Unreached x s p h = let z : ◌≡◌ {A = ℕ} 0 1 = cc in absurd (omega arith)
-dearer_least (Least w k) (Least y r) x s p h = (y, r, refl, let l = ltb-false w y h in let q : w ≡ x = cc in omega arith)
+dearer_least None f x s p h = absurd (no_reach p)
+dearer_least (Some l) None x s p h = let z : ◌≡◌ {A = ℕ} 0 1 = cc in absurd (omega arith)
+dearer_least (Some m) (Some n) x s p h = (n.cost, n.start, refl, let l = ltb-false m.cost n.cost h in let q = (least_same p).0 in omega arith)
 
 -- The last side leads every side that is reached.
-pub last_leads : (sides : Sides) (t : Table) (m : Start) (b x : ℕ) (s : Start) → Side sides b → t m.line m.column b ≡ Least x s
+pub last_leads : (sides : Sides) (t : Table) (m : Start) (b x : ℕ) (s : Start) → Side sides b → t m.line m.column b ≡ least x s
     → Leads sides t m (last_side sides t m) b x
 unfolding last_side side oddly
 last_leads single t m b x s occurs h =

@@ -1,6 +1,6 @@
 -- The search finds the best start, so that the entry of a place is right as the graph of pages has it, for any number of float
 -- streams and any origin.
-use Rattle.std.specs.Prelude.{ℕ, suc, ◌+◌, ◌≤◌, ◌<◌, Bool, ◌&&◌}
+use Rattle.std.specs.Prelude.{ℕ, suc, ◌+◌, ◌≤◌, ◌<◌, Bool, ◌&&◌, None, Some}
 use Rattle.std.proofs.Math.Nat.{le_refl}
 use native.Mathlib.Omega.{arith}
 use Rattle.std.proofs.Math.Path.{◌≡◌, refl, ap}
@@ -20,8 +20,7 @@ use Rattle.theorems.specs.optimality.Storing.{none_reached}
 use Rattle.theorems.specs.pages.Graph.{side, State, stop, end, full, Within, Step, price, Prefers}
 use Rattle.places.specs.declared.Place.{Place as Start}
 use Rattle.places.specs.declared.Origin.{Origin}
-use Rattle.places.specs.declared.Entry.{Entry}
-use Rattle.places.specs.declared.Entry.TheVariants.{Unreached, Least}
+use Rattle.places.specs.Entry.{Entry, least}
 use Rattle.places.specs.Best.{Leads, Best}
 use Rattle.places.specs.Columns.{columns, float_sizes, place_at, column_in}
 use Rattle.places.proofs.laws.Places.{place_inside, line_at, column_at, place_of, place_tie, forward_earlier}
@@ -125,7 +124,7 @@ module _ (g : Galley) (from : Origin) (origin : Proper g from.place) (t : Table)
       }
 
   -- A start with a page to here that the table has reached is one that the search weighs.
-  candidate : (u : Place) (e : ℕ) → HasPage u e → (x : ℕ) (r : Start) → t (count u 0) (column_in g u) e ≡ Least x r
+  candidate : (u : Place) (e : ℕ) → HasPage u e → (x : ℕ) (r : Start) → t (count u 0) (column_in g u) e ≡ least x r
       → Candidate search (count u 0) (column_in g u) (x + lacks u)
   unfolding search lacks white_from
   candidate u e st x r h =
@@ -168,13 +167,13 @@ module _ (g : Galley) (from : Origin) (origin : Proper g from.place) (t : Table)
     ahead : (e : Entry) → Best (Starts search Any) e → (a b y : ℕ) → b ≤ q → y + cost ≤ most_from from → Leads e a b y
         → Ahead (graph_of g from) (now e) (graph.least (y + cost) (begun a b))
     unfolding now shown Leads Ahead Prefers begun search
-    ahead Unreached best a b y k m l = absurd l
-    ahead (Least x r) best a b y k m (l, f) =
-        let left = (best.may x r refl).1.column in
-        rw (priced_within (most_from from) cost x r (omega arith)) (
+    ahead None best a b y k m l = absurd l
+    ahead (Some n) best a b y k m (l, f) =
+        let left = (best.may n.cost n.start refl).1.column in
+        rw (priced_within (most_from from) cost n.cost n.start (omega arith)) (
           omega arith,
           λ e. (
-            (place_tie g r.line r.column a b (omega arith) (omega arith)).1 (f (omega arith)),
+            (place_tie g n.start.line n.start.column a b (omega arith) (omega arith)).1 (f (omega arith)),
             λ _. (le_refl _, λ _. le_refl _),
           ),
         )
@@ -188,20 +187,20 @@ module _ (g : Galley) (from : Origin) (origin : Proper g from.place) (t : Table)
         st = has_page u d o.may
 
         go : (f : Entry) → t (count u 0) (column_in g u) d ≡ f → Ahead (graph_of g from) (now e) (graph.least x (stop u d))
-        go Unreached h =
+        go None h =
             let r : graph.unreached ≡ graph.least o.cost o.start = sym (ap (shown g d) h) ∙ o.reached in
             let z : ◌≡◌ {A = ℕ} 0 1 = cc in
             absurd (omega arith)
-        go (Least y r) h =
-            let least : graph.least y (stop (at g r) (before g.spec.sides d)) ≡ graph.least o.cost o.start =
+        go (Some l) h =
+            let is : graph.least l.cost (stop (at g l.start) (before g.spec.sides d)) ≡ graph.least o.cost o.start =
             sym (ap (shown g d) h) ∙ o.reached in
-            let same : y ≡ o.cost = cc in
+            let same : l.cost ≡ o.cost = cc in
             let price = o.price in
-            let sum : y + lacks u + cost ≡ x = omega arith in
+            let sum : l.cost + lacks u + cost ≡ x = omega arith in
             let begins : begun (count u 0) (column_in g u) ≡ stop u d = cc (st.shape, st.on_side) in
             rw (← sum, ← begins)
-            (ahead e best (count u 0) (column_in g u) (y + lacks u) st.left (omega arith)
-            (best.leads (count u 0) (column_in g u) (y + lacks u) (tt, candidate u d st y r h)))
+            (ahead e best (count u 0) (column_in g u) (l.cost + lacks u) st.left (omega arith)
+            (best.leads (count u 0) (column_in g u) (l.cost + lacks u) (tt, candidate u d st l.cost l.start h)))
     best_ahead e best x end o most = absurd o.may
 
     -- So what the search finds is the best of all starts.
@@ -210,7 +209,7 @@ module _ (g : Galley) (from : Origin) (origin : Proper g from.place) (t : Table)
         record { offered = offered (best_start search) (best_start_lem search); best = best_ahead (best_start search) (best_start_lem search) }
 
   -- Where no page may end here, nothing has a page to it.
-  none_seen : may_stop g i q c ≡ false → Seen (graph_of g from) (most_from from) (table_at g t) here (now Unreached)
+  none_seen : may_stop g i q c ≡ false → Seen (graph_of g from) (most_from from) (table_at g t) here (now None)
   unfolding now priced shown here
   none_seen shut = none_reached (graph_of g from) (most_from from) (table_at g t) none
     where
@@ -228,7 +227,7 @@ module _ (g : Galley) (from : Origin) (origin : Proper g from.place) (t : Table)
     where
       go : (a : Bool) → begins g.spec.sides from i q c ≡ a → (b : Bool) → may_stop g i q c ≡ b
           → Cell (graph_of g from) (most_from from) (table_at g t) (stop (place_at g i q) c)
-          (shown g c (pick a (Least from.cost from.place) (pick b (priced (most_from from) cost (best_start search)) Unreached)))
+          (shown g c (pick a (least from.cost from.place) (pick b (priced (most_from from) cost (best_start search)) None)))
       go true e b m = Cell.base (origin_here g from i q c e) (stop (at g from.place) (before g.spec.sides c)) refl
       go false e true m = Cell.inner (not_origin g from origin.column i q c wide e) (best_seen m)
       go false e false m = Cell.inner (not_origin g from origin.column i q c wide e) (none_seen m)

@@ -1,5 +1,5 @@
 -- What the table of entries shows, and that the end is right by the choice of the last side.
-use Rattle.std.specs.Prelude.{ℕ, suc, ◌-◌, ◌≤◌, ◌<◌, true, false, ◌&&◌}
+use Rattle.std.specs.Prelude.{ℕ, suc, ◌-◌, ◌≤◌, ◌<◌, true, false, ◌&&◌, None, Some}
 use Rattle.std.proofs.Math.Nat.{le_refl}
 use Rattle.std.proofs.Common.{arith, ◌∙◌}
 use Rattle.std.proofs.Math.Path.{◌≡◌, refl, sym, ap}
@@ -14,9 +14,9 @@ use Rattle.theorems.specs.pages.Graph.{side, State, stop, end, Within, Step, Pre
 use Rattle.theorems.specs.pages.Laws.{page_laws}
 use Rattle.places.specs.declared.Place.{Place as Start}
 use Rattle.places.specs.declared.Origin.{Origin}
-use Rattle.places.specs.declared.Entry.{Entry}
-use Rattle.places.specs.declared.Entry.TheVariants.{Unreached, Least}
+use Rattle.places.specs.Entry.{Entry, least}
 use Rattle.places.specs.Columns.{columns, float_sizes, place_at}
+use Rattle.places.proofs.laws.Best.{least_at}
 use Rattle.places.proofs.laws.Columns.{columns_some}
 use Rattle.places.proofs.laws.Places.{place_all, place_inside, line_at, column_at, place_same}
 use Rattle.candidates.specs.Search.{Table, before, most_from, begins}
@@ -28,20 +28,22 @@ use Rattle.solving.specs.laws.Last.{last_side_lem, Leads, last_leads}
 -- An entry that shows a least cost holds it, with the start that is shown.
 pub record Holds (g : Galley) (c : ℕ) (e : Entry) (x : ℕ) (u : State) : Type 0 where
   pub start : Start
-  pub entry : e ≡ Least x start
+  pub entry : e ≡ least x start
   pub shows : u ≡ stop (at g start) (before g.spec.sides c)
 
 pub shown_least : (g : Galley) (c : ℕ) (e : Entry) (x : ℕ) (u : State) → shown g c e ≡ graph.least x u → Holds g c e x u
 unfolding shown
-shown_least g c Unreached x u h = let z : ◌≡◌ {A = ℕ} 0 1 = cc in absurd (omega arith)
-shown_least g c (Least y s) x u h = record { start = s; entry = cc; shows = cc }
+shown_least g c None x u h = let z : ◌≡◌ {A = ℕ} 0 1 = cc in absurd (omega arith)
+shown_least g c (Some l) x u h =
+    let same : l.cost ≡ x = cc in
+    record { start = l.start; entry = least_at same refl; shows = cc }
 
 -- The same of the end.
 pub finished_least :
-    (w : State) (e : Entry) (x : ℕ) (u : State) → finished w e ≡ graph.least x u → (s : Start) × (e ≡ Least x s) × (u ≡ w)
+    (w : State) (e : Entry) (x : ℕ) (u : State) → finished w e ≡ graph.least x u → (s : Start) × (e ≡ least x s) × (u ≡ w)
 unfolding finished
-finished_least w Unreached x u h = let z : ◌≡◌ {A = ℕ} 0 1 = cc in absurd (omega arith)
-finished_least w (Least y s) x u h = (s, cc, cc)
+finished_least w None x u h = let z : ◌≡◌ {A = ℕ} 0 1 = cc in absurd (omega arith)
+finished_least w (Some l) x u h = let same : l.cost ≡ x = cc in (l.start, least_at same refl, cc)
 
 -- The end adds nothing, wherever it is entered from.
 end_free : (g : Galley) (u : State) → price g u end ≡ 0
@@ -93,7 +95,7 @@ module _ (g : Galley) where
     -- The end is right by the choice of the last side: the less dear of the two, then that of even folios. It adds nothing to what the
     -- full place costs.
     pub end_right : (t : Table)
-        → ((c x : ℕ) (s : Start) → Side g.spec.sides c → t (last_place g).line (last_place g).column c ≡ Least x s → x ≤ most_from from)
+        → ((c x : ℕ) (s : Start) → Side g.spec.sides c → t (last_place g).line (last_place g).column c ≡ least x s → x ≤ most_from from)
         → Cell (graph_of g from) (most_from from) (table_at g t) end (table_at g t end)
     unfolding Step Ahead Prefers shown finished table_at
     end_right t within =

@@ -1,14 +1,12 @@
 -- A filled work area holds the best list: what each step of making may rest on.
-use Rattle.std.specs.Prelude.{ℕ, ◌+◌, ◌-◌, ◌*◌, ◌≤◌, ◌≡◌, refl, Bool, true, false, List, [], ◌++◌, take}
+use Rattle.std.specs.Prelude.{ℕ, ◌+◌, ◌-◌, ◌*◌, ◌≤◌, ◌≡◌, refl, Bool, true, false, List, [], ◌++◌, take, None, Some, Ok}
 use Rattle.std.proofs.Common.{le_refl, mul_comm, mul-le-mul, mul-le-mul_right, arith, ◌∙◌, subst, append_assoc, append-nil, length-append, length-drop, take_all, take_at, drop_at, drop-drop}
 use Rattle.std.proofs.Math.Nat.{sub-zero}
 use Rattle.std.proofs.Math.Path.{sym, ap}
 use Rattle.std.proofs.Math.ListN.{length, drop}
 use Rattle.std.proofs.Math.Seq.{drop-length}
-use Rattle.model.specs.declared.answer.Answer.{Answer}
-use Rattle.model.specs.declared.answer.Answer.TheVariants.{Refused}
 use Rattle.model.specs.Galley.{Place, streams}
-use Rattle.model.specs.Answers.{pages_of, words_of, marked}
+use Rattle.model.specs.Answers.{pages_of, words_of, marked, Answer, refused}
 use Rattle.model.specs.Best.{valid}
 use Rattle.model.specs.Opening.{made_words_after}
 use Rattle.model.specs.laws.Lists.{◌∈◌}
@@ -20,7 +18,6 @@ use Rattle.theorems.specs.turns.Bounds.{Limits, Narrow}
 use Rattle.theorems.specs.pages.Following.{accepted_follows}
 use Rattle.theorems.specs.pages.LeastAfter.{words_append}
 use Rattle.galley.specs.declared.Galley.{Galley}
-use Rattle.galley.specs.declared.Reading.TheVariants as reads
 use Rattle.galley.specs.Whole.{galley_of}
 use Rattle.galley.specs.Model.{model_of, sides_in}
 use Rattle.galley.proofs.laws.Sound.{sound}
@@ -30,8 +27,7 @@ use Rattle.rules.specs.laws.Sane.{reads_sane}
 use Rattle.marking.specs.Mark.{mark_read, mark_of}
 use Rattle.places.specs.declared.Place.{Place as Start}
 use Rattle.places.specs.declared.Origin.{Origin}
-use Rattle.places.specs.declared.Entry.{Entry}
-use Rattle.places.specs.declared.Entry.TheVariants.{Unreached, Least}
+use Rattle.places.specs.Entry.{Entry}
 use Rattle.places.specs.Columns.{columns, float_sizes}
 use Rattle.candidates.specs.Read.{table_in, columns_in}
 use Rattle.entries.specs.Filled.{Filled}
@@ -50,7 +46,7 @@ use Rattle.solving.specs.laws.Written.{best_valid, made_none, made_some}
 use Rattle.solving.specs.laws.Tabled.{last_place_lem, tabled_narrow, tabled_filled, tabled_right, tabled_lent, tabled_traceable}
 
 -- A galley that was read keeps the ranges of documents 01 and 02.
-pub reads_limits : (bytes : List ℕ) (g : Galley) → galley_of bytes ≡ reads.Galley g → Limits (model_of bytes g)
+pub reads_limits : (bytes : List ℕ) (g : Galley) → galley_of bytes ≡ Ok g → Limits (model_of bytes g)
 reads_limits bytes g e = sound_limits bytes g (sound bytes g e)
 
 module _ {bytes : List ℕ} {g : Galley} {opening : List ℕ} {from : Origin} {work list : List ℕ}
@@ -98,18 +94,18 @@ module _ {bytes : List ℕ} {g : Galley} {opening : List ℕ} {from : Origin} {w
 
     module _ (r : Bool) (told : r ≡ is_reached (entry_of (table_in g work) last)) where
       -- Where the full place is not reached, making answers 11 and writes nothing.
-      pub walk_none : r ≡ false → Written bytes g opening list (Refused 11 0) list
+      pub walk_none : r ≡ false → Written bytes g opening list (refused 11 0) list
       walk_none e = go (entry_of (table_in g work) last) refl (sym told ∙ e)
         where
-          go : (y : Entry) → entry_of (table_in g work) last ≡ y → is_reached y ≡ false → Written bytes g opening list (Refused 11 0) list
-          go Unreached q h =
+          go : (y : Entry) → entry_of (table_in g work) last ≡ y → is_reached y ≡ false → Written bytes g opening list (refused 11 0) list
+          go None q h =
               let b =
               back_none (model_of bytes g) (reads_sane bytes g solved.reads) narrow printed solved.opened.whole.printed from solved.opened.is proper
               (table_in g work) right fill (reads_limits bytes g solved.reads) (omega (arith, solved.sought (ap (entry_of (table_in g work)) (sym is) ∙ q)))
               (ap (entry_of (table_in g work)) (sym at_last) ∙ q) in
               let (a, w) = made_none (model_of bytes g) opening solved.opened.stands b in
               record { answers = a; listed = sym (ap (λ l. l ++ drop (length l) list) w) }
-          go (Least x s) q h = let z : ◌≡◌ {A = ℕ} 0 1 = cc in absurd (omega arith)
+          go (Some l) q h = let z : ◌≡◌ {A = ℕ} 0 1 = cc in absurd (omega arith)
 
       -- Where it is reached, the walk back finds what follows in the best list.
       found : r ≡ true → (ps : List Place) × Found (model_of bytes g) printed from (table_in g work) (blocks_in g) last ps
@@ -117,14 +113,14 @@ module _ {bytes : List ℕ} {g : Galley} {opening : List ℕ} {from : Origin} {w
         where
           go : (y : Entry) → entry_of (table_in g work) last ≡ y → is_reached y ≡ true
               → (ps : List Place) × Found (model_of bytes g) printed from (table_in g work) (blocks_in g) last ps
-          go Unreached q h = let z : ◌≡◌ {A = ℕ} 0 1 = cc in absurd (omega arith)
-          go (Least x s) q h =
+          go None q h = let z : ◌≡◌ {A = ℕ} 0 1 = cc in absurd (omega arith)
+          go (Some l) q h =
               let all = blocks_of g bytes in
               subst
               (λ (at : Stop). (ps : List Place) × Found (model_of bytes g) printed from (table_in g work) (blocks_in g) at ps)
               (sym at_last)
               (back_best (model_of bytes g) (reads_sane bytes g solved.reads) narrow printed solved.opened.whole.printed from solved.opened.is proper
-              (table_in g work) right fill (blocks_in g) (omega arith) x s (ap (entry_of (table_in g work)) (sym at_last) ∙ q))
+              (table_in g work) right fill (blocks_in g) (omega arith) l.cost l.start (ap (entry_of (table_in g work)) (sym at_last) ∙ q))
 
       module _ (p : ℕ) (pages : p ≡ pages_back g work from last) (e : r ≡ true) where
         -- The list is valid, and its words are the opening's and those of what follows.

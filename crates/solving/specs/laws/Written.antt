@@ -4,11 +4,9 @@ use Rattle.std.proofs.Common.{arith, ◌∙◌}
 use Rattle.std.proofs.Math.Path.{sym, ap}
 use mathlib.Core.List.{List, []}
 use Rattle.std.proofs.Math.Option.{Option, none, some}
-use Rattle.model.specs.declared.answer.Answer.{Answer}
-use Rattle.model.specs.declared.answer.Answer.TheVariants.{Refused}
 use Rattle.model.specs.Galley as model
 use Rattle.model.specs.Galley.{Place}
-use Rattle.model.specs.Answers.{pages_of, words_of, counts_of}
+use Rattle.model.specs.Answers.{pages_of, words_of, counts_of, Answer, refused}
 use Rattle.model.specs.Best.{valid}
 use Rattle.model.specs.Opening.{valid_after, best_after, opening_turned, made_after, made_words_after}
 use Rattle.model.specs.laws.Lists.{◌∈◌}
@@ -25,7 +23,7 @@ best_valid g os qs e = go (best_after g os) (after_makes g os) e
 
 module _ (g : model.Galley) (ws : List ℕ) where
   answer : Option (List Place) → Answer
-  answer b = elim b [ none ↦ Refused 11 0 | some ps ↦ counts_of g ps ]
+  answer b = elim b [ none ↦ refused 11 0 | some ps ↦ counts_of g ps ]
 
   words : Option (List Place) → List ℕ
   words b = elim b [ none ↦ [] | some ps ↦ words_of ps ]
@@ -47,7 +45,7 @@ module _ (g : model.Galley) (ws : List ℕ) where
       ap (λ (t : Option Answer). elim t [ none ↦ words (best_after g (pages_of g ws)) | some refusal ↦ [] ]) stands ∙ ap words e,
     )
 
-    pub made_none : best_after g (pages_of g ws) ≡ none → (Refused 11 0 ≡ made_after g ws) × (made_words_after g ws ≡ [])
+    pub made_none : best_after g (pages_of g ws) ≡ none → (refused 11 0 ≡ made_after g ws) × (made_words_after g ws ≡ [])
     unfolding answer words
     made_none e = let (a, w) = made_by none e in (sym a, w)
 

@@ -1,11 +1,11 @@
 -- The columns of a row, one sweep after another: back from the tables of the column where pages end, until the floats are too tall.
-use Rattle.std.specs.Prelude.{ℕ, suc, ◌+◌, ◌-◌, ◌≤◌, ◌<◌, ◌≡◌, refl, ◌⊎◌, Bool, true, false, ◌&&◌, ◌||◌, List, length, ltb, leb}
-use Rattle.std.proofs.Common.{le_refl, arith, ap, ◌∙◌, inl, inr, ltb-true, ltb-false, leb-false}
+use Rattle.std.specs.Prelude.{ℕ, suc, ◌+◌, ◌-◌, ◌≤◌, ◌<◌, ◌≡◌, refl, ◌⊎◌, Bool, true, false, ◌&&◌, List, length, ltb}
+use Rattle.std.proofs.Common.{le_refl, arith, ap, sym, ◌∙◌, inl, inr, ltb-true, ltb-false}
+use Rattle.std.proofs.lemmas.Bool.{false≢true}
 use Rattle.model.specs.Gather.{pick}
 use Rattle.rules.specs.Sums.{white_at}
 use Rattle.galley.specs.declared.Galley.{Galley}
 use Rattle.galley.specs.Model.{floats_of, model_of}
-use Rattle.galley.proofs.laws.Pick.{or_false}
 use Rattle.blocks.specs.declared.Counts.{Counts}
 use Rattle.blocks.specs.declared.heights.Heights.{Heights}
 use Rattle.blocks.specs.Counts.{Within}
@@ -16,7 +16,7 @@ use Rattle.starts.specs.declared.sweep.Row.{Row}
 use Rattle.candidates.specs.Choice.{Candidate}
 use Rattle.candidates.specs.Beside.{Under, alone}
 use Rattle.candidates.specs.Read.{side_of, search_of, counts_at, row_of}
-use Rattle.reached.specs.Look.{PastOrigin, Told, Reached}
+use Rattle.reached.specs.Look.{Quiet, PastOrigin, Told, Reached}
 use Rattle.reached.specs.declared.look.Reach.{Reach}
 use Rattle.candidates.specs.Cells.{fresh, ColumnRoom}
 use Rattle.starts.specs.Sweep.{Layable, floats_alone, row_top}
@@ -28,7 +28,7 @@ use Rattle.passes.proofs.laws.Lending.{lent_room}
 use Rattle.candidates.proofs.laws.Cells.{scratched_then}
 use Rattle.passes.proofs.laws.Cells.{lent_kept}
 use Rattle.passes.proofs.laws.Past.{known_past, start_under, start_short}
-use Rattle.passes.proofs.laws.Look.{quiet_then, past_kept, recalled_kept, start_past, past_quiet}
+use Rattle.passes.proofs.laws.Look.{quiet_then, known_quiet, past_kept, recalled_kept, start_past, past_quiet}
 
 -- A row offers columns with no more tables than the end, and the end's own row one less.
 abbrev Offered : Row → ℕ → Type 0
@@ -197,11 +197,27 @@ module _ {bytes : List ℕ} {g : Galley} {w₀ sums words₀ seen : List ℕ} {r
             floats_lay bytes g asked.lent.sound row.figures (top - 1) row.to row.heights tables' asked.lent.column
             (rw (← end_figures) asked.floats) (rw (← end_tables) floats')
 
+        -- Where the column is not reached it has no starts.
+        pub row_unreached : Quiet g w (row_of g row.figures + (top - 1)) g.spec.sides row.begin.origin.lines (g.text.count + 1)
+            → RowRun bytes g w₀ w words₀ words row tables' (top - 1) any
+        row_unreached quiet =
+            let after : suc from ≡ row_of g row.figures + top = omega arith in
+            record {
+              still = run.still;
+              lent = run.lent;
+              scratch = run.scratch;
+              within = omega (arith, run.within);
+              sized = run.sized;
+              words_sized = run.words_sized;
+              floats = floats';
+              known = known_quiet run.lent (quiet_then (past_quiet run.lent past_now from from_before.0) quiet) (rw after run.known);
+              kept = run.kept;
+            }
+
         module _ (both : Bool) (mixed : both ≡ (ltb row.figures row.end.figures && ltb (top - 1) row.end.tables)) (floats : Heights)
             (laid : floats ≡ floats_alone g.spec row.heights tables' both) where
-          abbrev next : ℕ → ℕ → ℕ → Pass
-          next white first last =
-              record { from = from; to = row.to; heights = floats; least = row.least; white = white; first = first; last = last }
+          abbrev next : ℕ → Reach → Pass
+          next white reach = record { from = from; to = row.to; heights = floats; least = row.least; white = white; reach = reach }
 
           alone_from : (floats.tight ≡ alone (model_of bytes g) (λ st. st.least) g.spec.smin from row.to)
               × (floats.loose ≡ alone (model_of bytes g) (λ st. st.most) g.spec.smax from row.to)
@@ -213,7 +229,7 @@ module _ {bytes : List ℕ} {g : Galley} {w₀ sums words₀ seen : List ℕ} {r
           -- the next sweep may start,
           pub row_sweeps : floats.tight ≤ g.spec.htmax → (white : ℕ) → white ≡ white_at g false floats.loose → (reach : Reach)
               → Reached g w (row_of g row.figures + (top - 1)) row.begin.origin.lines reach
-              → Sweep bytes g w sums words (next white reach.first reach.last)
+              → Sweep bytes g w sums words (next white reach)
           row_sweeps short white e reach found =
               let after : suc from ≡ row_of g row.figures + top = omega arith in
               record {
@@ -237,14 +253,11 @@ module _ {bytes : List ℕ} {g : Galley} {w₀ sums words₀ seen : List ℕ} {r
               }
 
           -- and brings in the starts of its column.
-          pub row_swept : (white first last : ℕ) (v words' : List ℕ) → length v ≡ length w → length words' ≡ length words
-              → SweepDone bytes g w v (next white first last)
-              → RowRun bytes g w₀ v words₀ words' row tables' (top - 1) (any || leb first g.text.count)
-          row_swept white first last v words' p q done =
+          pub row_swept : (white : ℕ) (reach : Reach) (v words' : List ℕ) → length v ≡ length w → length words' ≡ length words
+              → SweepDone bytes g w v (next white reach) → RowRun bytes g w₀ v words₀ words' row tables' (top - 1) true
+          row_swept white reach v words' p q done =
               record {
-                still = λ e.
-                    let (before, here) = or_false any (leb first g.text.count) e in
-                    done.still (leb-false first g.text.count here) ∙ run.still before;
+                still = λ e. absurd (false≢true (sym e));
                 lent = lent_kept done.kept run.lent;
                 scratch = omega (arith, run.scratch);
                 within = omega (arith, run.within);

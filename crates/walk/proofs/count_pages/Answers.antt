@@ -1,19 +1,12 @@
 -- `count_pages` counts the pages on the way back. The invariant says that the count from here on is the whole count.
-use Prim.Native.Nat.{◌-◌}
 use native.Mathlib.Omega.{arith}
-use mathlib.Core.Path.{sym, ◌∙◌}
-use Rattle.walk.specs.laws.Walk.{counting_first, counting_next, counting_done, counting_most}
+use mathlib.Core.Path.{◌≡◌, sym, ◌∙◌}
+use Rattle.walk.specs.Traceable.{blocks_in}
+use Rattle.walk.specs.laws.Walk.{counting_next, counting_done, counting_most}
 use Rattle.walk.proofs.count_pages.Goals as goal
-
-pub loop-p-init : goal.loop-p-init
-loop-p-init c = counting_first c.requires.visits
 
 pub returns-then-at_origin : goal.returns-then-at_origin
 returns-then-at_origin c = counting_done c.loop-p.invariant (sym c.at_origin.ensures ∙ c.if-at_origin.true)
-
-pub page_before-at-requires : goal.page_before-at-requires
-page_before-at-requires c =
-    (c.requires.table.lent, c.loop-p.invariant.visits)
 
 pub loop-p-preserved : goal.loop-p-preserved
 loop-p-preserved c =
@@ -22,4 +15,6 @@ loop-p-preserved c =
     (sym c.at_origin.ensures ∙ c.if-at_origin.false))
 
 pub returns : goal.returns
-returns c = counting_most c.loop-p.invariant (omega (arith, c.loop-p-test.false))
+returns c =
+    let all : blocks_in c.args.g ≡ c.loop-p.p = omega (arith, c.loop-p-test.false, c.loop-p.invariant.few) in
+    all ∙ counting_most c.loop-p.invariant c.loop-p-test.false

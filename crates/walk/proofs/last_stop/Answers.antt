@@ -13,10 +13,3 @@ place_of-full-requires c =
       line = c.requires.0.lines;
       column = omega (arith, c.columns_of.ensures, columns_few c.args.g c.requires.0.floats);
     }
-
-pub last_side-side-requires : goal.last_side-side-requires
-last_side-side-requires c =
-    (c.requires.0, c.requires.1, rw (c.place_of-full.ensures, c.columns_of.ensures))
-
-pub returns : goal.returns
-returns c = rw (c.last_side-side.ensures, c.place_of-full.ensures, c.columns_of.ensures)

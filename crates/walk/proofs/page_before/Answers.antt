@@ -10,6 +10,3 @@ entry_of-entry-requires c = let p = c.requires in visits_stands p.0 p.1
 pub side_before-requires : goal.side_before-requires
 side_before-requires c =
     side_low (sides_in c.args.g) c.args.at.side c.requires.1.side
-
-pub returns : goal.returns
-returns c = rw (c.start_of.ensures, c.entry_of-entry.ensures, c.side_before.ensures)

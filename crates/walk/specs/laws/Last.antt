@@ -4,7 +4,7 @@ use Rattle.std.proofs.Common.{eq-eqb}
 use Rattle.model.specs.Gather.{pick}
 use Rattle.model.specs.Leaf.{sides_of}
 use Rattle.places.specs.declared.Place.{Place}
-use Rattle.places.specs.declared.Entry.{Entry}
+use Rattle.places.specs.Entry.{Entry}
 use Rattle.candidates.specs.Search.{Table}
 use Rattle.walk.specs.Trace.{cheaper, even_side, last_side}
 

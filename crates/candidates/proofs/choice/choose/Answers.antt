@@ -11,10 +11,10 @@ pub returns-then-wins : goal.returns-then-wins
 unfolding chosen
 returns-then-wins c =
     let test = sym c.wins.ensures ∙ c.if-wins.true in
-    rw (c.in-Least.is, test)
+    rw (c.in-Some.is, test)
 
 pub returns : goal.returns
 unfolding chosen
 returns c =
     let test = sym c.wins.ensures ∙ c.if-wins.false in
-    rw (c.in-Least.is, test)
+    rw (c.in-Some.is, test)

@@ -10,16 +10,16 @@ returns-in_default c = cc
 
 pub returns-in_default-held : goal.returns-in_default-held
 unfolding chosen wins
-returns-in_default-held c = rw (c.in-Least.is, c.in_default-held.is)
+returns-in_default-held c = rw (c.in-Some.is, c.in_default-held.is)
 
 pub returns-then-less : goal.returns-then-less
 returns-then-less c =
-    rw (c.in-Least-held.is, c.in-Least.is)
-    (sym (later_left_behind _ _ _ _ (c.requires _ _ _ _ c.in-Least-held.is c.in-Least.is)
+    rw (c.in-Some-held.is, c.in-Some.is)
+    (sym (later_left_behind _ _ _ _ (c.requires _ _ _ _ c.in-Some-held.is c.in-Some.is)
     (sym c.less.ensures ∙ c.if-less.true)))
 
 pub returns : goal.returns
 returns c =
-    rw (c.in-Least-held.is, c.in-Least.is)
-    (sym (later_taken _ _ _ _ (c.requires _ _ _ _ c.in-Least-held.is c.in-Least.is)
+    rw (c.in-Some-held.is, c.in-Some.is)
+    (sym (later_taken _ _ _ _ (c.requires _ _ _ _ c.in-Some-held.is c.in-Some.is)
     (sym c.less.ensures ∙ c.if-less.false)))

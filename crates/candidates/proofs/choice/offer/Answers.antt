@@ -13,11 +13,11 @@ unfolding taken table_of
 returns-then-wins c =
     let test = sym c.wins.ensures ∙ c.if-wins.true in
     let held = c.entry_of-held.ensures in
-    c.store.ensures ∙ rw (c.in-Least.is, ← held, test)
+    c.store.ensures ∙ rw (c.in-Some.is, ← held, test)
 
 pub returns-else-wins : goal.returns-else-wins
 unfolding taken table_of
 returns-else-wins c =
     let test = sym c.wins.ensures ∙ c.if-wins.false in
     let held = c.entry_of-held.ensures in
-    rw (c.in-Least.is, ← held, test)
+    rw (c.in-Some.is, ← held, test)

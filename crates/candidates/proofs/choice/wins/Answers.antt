@@ -2,10 +2,10 @@
 use Rattle.candidates.specs.Better.{wins}
 use Rattle.candidates.proofs.choice.wins.Goals as goal
 
-pub returns-in-Unreached : goal.returns-in-Unreached
+pub returns-in-None : goal.returns-in-None
 unfolding wins
-returns-in-Unreached c = cc
+returns-in-None c = cc
 
-pub returns-in-Least : goal.returns-in-Least
+pub returns-in-Some : goal.returns-in-Some
 unfolding wins
-returns-in-Least c = cc
+returns-in-Some c = cc

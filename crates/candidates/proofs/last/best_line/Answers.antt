@@ -1,5 +1,4 @@
 -- `best_line` meets its contract. The loop's invariant: of the window's lines before a the entry is the best.
-use Prim.Native.Nat.{◌-◌}
 use native.Mathlib.Omega.{arith}
 use mathlib.Core.Path.{refl}
 use mathlib.Core.Logic.{inl, inr}

@@ -1,17 +1,16 @@
--- `add_up` meets its contract: the start after the last chapter is the sum of all lengths.
-use borrow.Author.Tests.{eq-eqb, ne_eqb, lt-ltb, le-ltb}
+-- `add_up` meets its contract: its tests are those of the definition.
+use borrow.Author.Tests.{lt-ltb, le-ltb}
 use Rattle.chapters.specs.Book.{adds_up}
-use Rattle.chapters.specs.laws.Lengths.{start_all}
 use Rattle.chapters.proofs.extent.add_up.Goals as goal
 
-pub returns-then-lengths-eq0 : goal.returns-then-lengths-eq0
+pub returns-then-is_empty : goal.returns-then-is_empty
 unfolding adds_up
-returns-then-lengths-eq0 c = rw (eq-eqb _ _ c.if-lengths-eq0.true)
+returns-then-is_empty c = simp (← c.is_empty.ensures, c.if-is_empty.true)
 
 pub returns-then-lengths-gt200 : goal.returns-then-lengths-gt200
 unfolding adds_up
-returns-then-lengths-gt200 c = simp (ne_eqb _ _ c.if-lengths-eq0.false, lt-ltb _ _ c.if-lengths-gt200.true)
+returns-then-lengths-gt200 c = simp (← c.is_empty.ensures, c.if-is_empty.false, lt-ltb _ _ c.if-lengths-gt200.true)
 
 pub returns : goal.returns
 unfolding adds_up
-returns c = simp (ne_eqb _ _ c.if-lengths-eq0.false, le-ltb _ _ c.if-lengths-gt200.false, ← c.chapter_start.ensures.0, ← start_all c.args.lengths.now)
+returns c = simp (← c.is_empty.ensures, c.if-is_empty.false, le-ltb _ _ c.if-lengths-gt200.false, c.all_bytes.ensures)

@@ -8,6 +8,3 @@ use Rattle.course.proofs.trace.trace.Given as goal
 abbrev pub invariant-loop-k : goal.invariant-loop-k
 invariant-loop-k l =
     Following l.from l.chapters l.last (drop (l.chapters + 1) l.initial.folios) l.folios l.k × (length l.folios ≡ length l.initial.folios)
-
-abbrev pub decreases-loop-k : goal.decreases-loop-k
-decreases-loop-k l = l.k

@@ -1,11 +1,7 @@
 -- `all_weighed` meets its contract: the chapters counted and those left come to all.
-use Prim.Native.Nat.{◌-◌}
 use Rattle.chapters.specs.Book.{chapters_in, book_of}
 use Rattle.course.specs.Weighed.{Weighing}
 use Rattle.course.proofs.weighed.all_weighed.Given as goal
 
 abbrev pub invariant-loop-k : goal.invariant-loop-k
 invariant-loop-k l = Weighing (chapters_in (book_of l.galleys l.lengths)) l.k l.sum
-
-abbrev pub decreases-loop-k : goal.decreases-loop-k
-decreases-loop-k l = l.book.chapters - l.k

@@ -15,7 +15,7 @@ move_on-moved-requires c =
 pub new_entry-entry-requires : goal.new_entry-entry-requires
 new_entry-entry-requires c =
     side_entry c.requires _
-    (search (rules, c.slice_known-3-1.given, c.words-1.given)) c.move_on-moved.result
+    (search rules) c.move_on-moved.result
     (rw c.side_before.ensures at c.move_on-moved.ensures)
 
 pub place_of-place-requires : goal.place_of-place-requires

@@ -9,7 +9,7 @@ use Rattle.rules.specs.laws.Sane.{sound_sane}
 use Rattle.rules.specs.laws.Walked.{waiting_few}
 use Rattle.places.specs.Columns.{place_at}
 use Rattle.candidates.specs.Better.{chosen}
-use Rattle.places.specs.declared.Entry.TheVariants.{Least}
+use Rattle.places.specs.Entry.{least}
 use Rattle.candidates.specs.Search.{most_from, priced, new_entry}
 use Rattle.candidates.proofs.laws.Priced.{priced_within, priced_beyond}
 use Rattle.candidates.specs.Read.{table_in}
@@ -17,7 +17,7 @@ use Rattle.passes.proofs.laws.Lending.{can_stand}
 use Rattle.entries.specs.laws.Own.{end_stops, end_cost}
 use Rattle.entries.specs.laws.NewEntry.{entry_origin, entry_forbidden, entry_proper, entry_told, cost_low}
 use Rattle.entries.proofs.side.new_entry.Goals as goal
-use Rattle.entries.proofs.side.new_entry.Goals.{After-choose-start, After-joined, After-price-price}
+use Rattle.entries.proofs.side.new_entry.Goals.{After-choose, After-joined, After-price-price}
 
 pub returns-then-is_origin : goal.returns-then-is_origin
 returns-then-is_origin c =
@@ -35,10 +35,6 @@ returns-then-not-may_stop c =
     (end_stops a.s.now a.task.galley e c.requires.ending.counts e.side ∙ sym (c.may_stop.ensures a.s.now a.task.galley a.end.at a.end.side (entry_proper c.requires) c.requires.ending.stop c.requires.turns)
     ∙ c.if-not-may_stop.true))
 
-pub overflow_add-g : goal.overflow_add-g
-overflow_add-g c =
-    omega (arith, c.requires.next.lent.sound.few_lines)
-
 pub entry_of-held-requires : goal.entry_of-held-requires
 entry_of-held-requires c =
     let e = c.args.end in
@@ -47,8 +43,8 @@ entry_of-held-requires c =
     c.requires.above.side)
 
 -- What is chosen is the better of what the place holds and of the lines above.
-told : (c : After-choose-start)
-    → c.choose-start.result
+told : (c : After-choose)
+    → c.choose.result
     ≡ chosen
     (table_in c.args.task.galley
     c.args.work.now
@@ -56,17 +52,18 @@ told : (c : After-choose-start)
     c.args.end.column
     c.args.end.side)
     c.lines_above-lines.result
-told c = c.choose-start.ensures ∙ rw (c.entry_of-held.ensures, c.place_of-place.ensures)
+told c = c.choose.ensures ∙ rw (c.entry_of-held.ensures, c.place_of-place.ensures)
 
-pub returns-in_default : goal.returns-in_default
+pub returns-in_err-best : goal.returns-in_err-best
 unfolding priced
-returns-in_default c =
+returns-in_err-best c =
     let a = c.args in
     let lines = c.lines_above-lines in
-    sym
+    rw c.from_residual.ensures
+    (sym
     (entry_told c.requires lines.result lines.ensures _
-    (sym c.in_default.is ∙ told (goal.at.returns-in_default c).After-choose-start) (sym c.is_origin.ensures ∙ c.if-is_origin.false)
-    (end_stops a.s.now a.task.galley a.end c.requires.ending.counts a.end.side ∙ sym (c.may_stop.ensures a.s.now a.task.galley a.end.at a.end.side (entry_proper c.requires) c.requires.ending.stop c.requires.turns) ∙ c.if-not-may_stop.false))
+    (sym c.in_err-best.was ∙ told (goal.at.returns-in_err-best c).After-choose) (sym c.is_origin.ensures ∙ c.if-is_origin.false)
+    (end_stops a.s.now a.task.galley a.end c.requires.ending.counts a.end.side ∙ sym (c.may_stop.ensures a.s.now a.task.galley a.end.at a.end.side (entry_proper c.requires) c.requires.ending.stop c.requires.turns) ∙ c.if-not-may_stop.false)))
 
 pub price-price-requires : goal.price-price-requires
 price-price-requires c =
@@ -91,18 +88,14 @@ priced-at c =
 pub overflow_add-cost : goal.overflow_add-cost
 overflow_add-cost c =
     let lines = c.lines_above-lines in
-    let low = cost_low c.requires lines.result lines.ensures _ (told (goal.at.overflow_add-cost c).After-choose-start) _ _ c.in-Least.is in
+    let low = cost_low c.requires lines.result lines.ensures _ (told (goal.at.overflow_add-cost c).After-choose) _ _ c.in_ok-best.was in
     omega (arith, low, c.joined.ensures, priced-at (goal.at.overflow_add-cost c).After-price-price)
-
-pub overflow_add-task : goal.overflow_add-task
-overflow_add-task c =
-    omega (arith, c.requires.next.cheap, c.requires.next.limited)
 
 -- The entry has the price of the page added to what its start costs.
 entered : (c : After-joined)
     → (let a = c.args in
     new_entry (model_of a.s.now a.task.galley) a.task.origin (table_in a.task.galley a.work.now) a.end.at.lines a.end.column a.end.side
-    ≡ priced (most_from a.task.origin) c.joined.result (Least c.in-Least.x c.in-Least.from))
+    ≡ priced (most_from a.task.origin) c.joined.result (least c.in_ok-best.best.cost c.in_ok-best.best.start))
 entered c =
     let a = c.args in
     let lines = c.lines_above-lines in
@@ -110,10 +103,10 @@ entered c =
     page_cost (model_of a.s.now a.task.galley) a.end.side (full (model_of a.s.now a.task.galley) v) v) =
     c.price-price.ensures a.s.now a.end.at a.end.side (entry_proper c.requires) (sound_sane a.s.now a.task.galley c.requires.next.lent.sound) c.requires.above.full c.requires.turns c.requires.ending.found
     ∙ end_cost a.s.now a.task.galley a.end c.requires.ending.counts a.end.side in
-    let chose : c.choose-start.result ≡ chosen (table_in a.task.galley a.work.now a.end.at.lines a.end.column a.end.side) lines.result =
-    c.choose-start.ensures ∙ rw (c.entry_of-held.ensures, c.place_of-place.ensures) in
+    let chose : c.choose.result ≡ chosen (table_in a.task.galley a.work.now a.end.at.lines a.end.column a.end.side) lines.result =
+    c.choose.ensures ∙ rw (c.entry_of-held.ensures, c.place_of-place.ensures) in
     rw (c.joined.ensures, price)
-    (entry_told c.requires lines.result lines.ensures _ (sym c.in-Least.is ∙ chose)
+    (entry_told c.requires lines.result lines.ensures _ (sym c.in_ok-best.was ∙ chose)
     (sym c.is_origin.ensures ∙ c.if-is_origin.false)
     (end_stops a.s.now a.task.galley a.end c.requires.ending.counts a.end.side ∙ sym (c.may_stop.ensures a.s.now a.task.galley a.end.at a.end.side (entry_proper c.requires) c.requires.ending.stop c.requires.turns) ∙ c.if-not-may_stop.false))
 

@@ -1,6 +1,5 @@
 -- `fill` meets its contract: what is cleared is an empty table, and the local arrays are as long as 4,000 lines ask for.
 use native.Mathlib.Omega.{arith}
-use mathlib.Core.Path.{refl}
 use Rattle.candidates.proofs.laws.Columns.{few_floats, columns_few}
 use Rattle.filling.specs.laws.Columns.{cleared_fillable, cleared_blank, cleared_whole}
 use borrow.Author.Rules.{rules}
@@ -9,13 +8,9 @@ use Rattle.filling.proofs.fill.fill.Goals as goal
 pub words_needed-requires : goal.words_needed-requires
 words_needed-requires c =
     record {
-      lines = c.requires.sound.few_lines;
+      lines = omega (arith, c.requires.sound.few_lines, (few_floats c.requires.sound).figures);
       columns = omega (arith, c.columns_of-columns.ensures, columns_few c.args.g (few_floats c.requires.sound));
     }
-
-pub clear-requires : goal.clear-requires
-clear-requires c =
-    (omega arith, rw (c.words_needed.ensures, c.columns_of-columns.ensures) c.requires.room, refl)
 
 pub fill_columns-requires : goal.fill_columns-requires
 fill_columns-requires c =
@@ -32,6 +27,3 @@ returns c =
     cleared_whole c.requires _
     (rw (c.words_needed.ensures, c.columns_of-columns.ensures) at c.clear.ensures)
     c.fill_columns.ensures
-
-pub columns_of-columns-requires : goal.columns_of-columns-requires
-columns_of-columns-requires c = few_floats c.requires.sound

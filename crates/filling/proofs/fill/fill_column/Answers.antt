@@ -2,19 +2,13 @@
 -- nothing. Where the column has no start they leave it filled. Whatever is known of the columns before it stays known.
 use mathlib.Core.Path.{refl, ◌∙◌}
 use native.Mathlib.Omega.{arith}
-use Rattle.candidates.proofs.laws.Columns.{few_floats}
-use Rattle.passes.proofs.laws.Lending.{lent_room}
-use Rattle.passes.proofs.laws.Cells.{lent_kept}
 use Rattle.entries.specs.laws.Before.{columns_past}
 use Rattle.filling.specs.laws.First.{column_none}
 use Rattle.filling.specs.laws.Column.{column_last, scratched_same}
 use Rattle.reached.proofs.laws.Recall.{noted_none}
-use Rattle.filling.specs.laws.Recall.{filled_room, filled_quiet, column_noted}
+use Rattle.filling.specs.laws.Recall.{filled_quiet, column_noted}
 use borrow.Author.Rules.{rules}
 use Rattle.filling.proofs.fill.fill_column.Goals as goal
-
-pub counts_at-origin-requires : goal.counts_at-origin-requires
-counts_at-origin-requires c = few_floats c.requires.column.next.lent.sound
 
 pub sweep_column-any-requires : goal.sweep_column-any-requires
 sweep_column-any-requires c =
@@ -29,20 +23,14 @@ sweep_column-any-requires c =
       scratch = asked.column.scratch;
     })
 
-pub first_start-first-requires : goal.first_start-first-requires
-first_start-first-requires c =
-    let asked = c.requires in
-    let done = c.sweep_column-any.ensures in
-    (lent_room (lent_kept done.kept asked.column.next.lent), asked.column.next.line, λ none. rw (done.still none) asked.blank)
-
-pub returns-then-task-first : goal.returns-then-task-first
-returns-then-task-first c =
+pub returns-in_default : goal.returns-in_default
+returns-in_default c =
     column_noted c.requires _
-    (column_none (column_last c.requires.column _ c.args.words.now refl c.sweep_column-any.ensures) c.first_start-first.ensures
-    c.if-task-first.true
+    (column_none (column_last c.requires.column _ c.args.words.now refl c.sweep_column-any.ensures) c.in_default.ensures.begun
+    (omega arith)
     ∙ scratched_same c.requires.column.next _ c.sweep_column-any.ensures.kept)
-    c.first_start-first.ensures.found.quiet
-    (noted_none c.args.recall c.requires.head c.requires.recalled.named (record { none = λ a d l m. absurd (omega (arith, c.if-task-first.true)) }))
+    c.in_default.ensures.begun.found.quiet
+    (noted_none c.args.recall c.requires.head c.requires.recalled.named (record { none = λ a d l m. absurd (omega arith) }))
 
 pub last_sweep-requires : goal.last_sweep-requires
 last_sweep-requires c =
@@ -50,17 +38,13 @@ last_sweep-requires c =
       gathered =
           column_last c.requires.column _ _ (search rules)
           c.sweep_column-any.ensures;
-      begun = c.first_start-first.ensures;
-      within = omega (arith, c.if-task-first.false);
+      begun = c.in-Some.ensures.begun;
+      within = c.in-Some.ensures.within;
     }
-
-pub note-requires : goal.note-requires
-note-requires c =
-    (filled_room c.args.task (lent_kept c.sweep_column-any.ensures.kept c.requires.column.next.lent) c.last_sweep.ensures, c.requires.head, c.requires.recalled.named)
 
 pub returns : goal.returns
 returns c =
     column_noted c.requires _
     (c.last_sweep.ensures ∙ scratched_same c.requires.column.next _ c.sweep_column-any.ensures.kept)
-    (filled_quiet (column_last c.requires.column _ c.args.words.now refl c.sweep_column-any.ensures) c.first_start-first.ensures c.last_sweep.ensures)
+    (filled_quiet (column_last c.requires.column _ c.args.words.now refl c.sweep_column-any.ensures) c.in-Some.ensures.begun c.last_sweep.ensures)
     c.note.ensures

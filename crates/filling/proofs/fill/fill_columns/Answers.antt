@@ -1,21 +1,13 @@
 -- `fill_columns` meets its contract. The loop's invariant is `ColumnsRun`: what is left of the columns makes of the words
 -- what all columns make of those at the start.
-use Prim.Native.Nat.{◌-◌}
 use native.Mathlib.Omega.{arith}
-use Rattle.candidates.proofs.laws.Columns.{few_floats}
 use Rattle.reached.proofs.laws.Ring.{fresh_named}
 use Rattle.filling.specs.laws.Columns.{columns_first, columns_done, columns_turn, columns_next}
 use borrow.Author.Rules.{rules}
 use Rattle.filling.proofs.fill.fill_columns.Goals as goal
 
-pub columns_of-columns-requires : goal.columns_of-columns-requires
-columns_of-columns-requires c = few_floats c.requires.fillable.sound
-
 pub loop-j-init : goal.loop-j-init
 loop-j-init c = columns_first c.requires _ (search rules) (fresh_named 68)
-
-pub slice_bounds-fill_column-end : goal.slice_bounds-fill_column-end
-slice_bounds-fill_column-end c = search (rules, c.loop-j.invariant.ring)
 
 pub fill_column-recall-requires : goal.fill_column-recall-requires
 fill_column-recall-requires c =
@@ -24,7 +16,7 @@ fill_column-recall-requires c =
 pub loop-j-preserved : goal.loop-j-preserved
 loop-j-preserved c =
     columns_next c.requires c.loop-j.invariant (omega (arith, c.loop-j-test.true, c.columns_of-columns.ensures)) _ _ _ _
-    (search (rules, c.words-1.given, c.type_inv.words)) (search (rules, c.seen-in-loop-j-1.given)) c.fill_column-recall.ensures
+    (search rules) (search rules) c.fill_column-recall.ensures
 
 pub returns : goal.returns
 returns c =

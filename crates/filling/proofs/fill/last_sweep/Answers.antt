@@ -1,28 +1,18 @@
 -- `last_sweep` meets its contract. The loop's invariant is `LastRun`: the column is filled above line i, and the queues hold
 -- the starts of the window. Above the first line nothing is reached, so that the column is as if filled there; and so are the lines that
 -- are left where no line from the window's first on is reached or has a start.
-use Prim.Native.Nat.{◌-◌}
 use native.Mathlib.Omega.{arith}
 use mathlib.Core.Path.{◌≡◌, ◌∙◌}
-use Rattle.blocks.specs.Heights.{no_heights}
 use Rattle.rules.specs.laws.Walked.{waiting_few}
 use Rattle.window.specs.Slide.{Slid}
 use Rattle.candidates.specs.Read.{counts_at}
-use Rattle.candidates.proofs.laws.Columns.{few_floats, within_at}
-use Rattle.passes.proofs.laws.Lending.{floats_separable}
+use Rattle.candidates.proofs.laws.Columns.{within_at}
 use Rattle.pricing.specs.Stop.{floats_say}
 use Rattle.entries.specs.Next.{plain}
-use Rattle.filling.specs.laws.Column.{first_slides, last_first, last_done, last_slides, last_looks, last_over, last_place_lem, last_next}
+use Rattle.filling.specs.laws.Column.{first_slides, last_first, last_done, last_slides, last_over, last_place_lem, last_next}
 use borrow.Author.Rules.{rules}
 use Rattle.filling.proofs.fill.last_sweep.Goals as goal
 use Rattle.filling.proofs.fill.last_sweep.Goals.{After-end_at-end, After-slide-span-in-loop-i}
-
-pub load_of-load-requires : goal.load_of-load-requires
-load_of-load-requires c =
-    floats_separable c.requires.gathered.column.next.lent 0 no_heights (omega arith) (record { tight = omega arith; loose = omega arith })
-
-pub counts_at-top-requires : goal.counts_at-top-requires
-counts_at-top-requires c = few_floats c.requires.gathered.column.next.lent.sound
 
 pub floats_of-floats-requires : goal.floats_of-floats-requires
 floats_of-floats-requires c =
@@ -54,19 +44,11 @@ slid : (c : After-slide-span-in-loop-i)
 slid c =
     rw (c.load_of-load.ensures, c.floor_of-least.ensures c.args.s.now) at c.slide-span-in-loop-i.ensures
 
-pub next_start-last-requires : goal.next_start-last-requires
-next_start-last-requires c =
-    last_looks c.requires c.loop-i.invariant (omega (arith, c.loop-i-test.true)) c.slide-span-in-loop-i.result (slid (goal.at.next_start-last-requires c).After-slide-span-in-loop-i)
-
 -- Nothing more is reached.
-pub returns-then-g-last : goal.returns-then-g-last
-returns-then-g-last c =
-    last_over c.requires c.loop-i.invariant (omega (arith, c.loop-i-test.true)) c.slide-span-in-loop-i.result (slid (goal.at.returns-then-g-last c).After-slide-span-in-loop-i)
-    c.next_start-last.result c.next_start-last.ensures c.if-g-last.true
-
--- All places of the column have the figures and tables of its top.
-pub waiting_after-waiting-requires : goal.waiting_after-waiting-requires
-waiting_after-waiting-requires c = rw c.counts_at-top.ensures c.loop-i.invariant.walked
+pub returns-in_default : goal.returns-in_default
+returns-in_default c =
+    last_over c.requires c.loop-i.invariant (omega (arith, c.loop-i-test.true)) c.slide-span-in-loop-i.result (slid (goal.at.returns-in_default c).After-slide-span-in-loop-i)
+    _ c.in_default.ensures.onward (omega arith)
 
 pub end_at-end-requires : goal.end_at-end-requires
 end_at-end-requires c =
@@ -89,20 +71,14 @@ fill_place-requires c =
     (last_place_lem c.requires c.loop-i.invariant (omega (arith, c.loop-i-test.true)) c.slide-span-in-loop-i.result (slid (goal.at.fill_place-requires c).After-slide-span-in-loop-i)
     c.waiting_after-waiting.result (rw top at c.waiting_after-waiting.ensures) c.floats_of-floats.result (say (goal.at.fill_place-requires c).After-end_at-end))
 
-pub overflow_add-i : goal.overflow_add-i
-overflow_add-i c = omega (arith, c.loop-i-test.true, c.requires.gathered.column.next.lent.sound.few_lines)
-
 pub loop-i-preserved : goal.loop-i-preserved
 loop-i-preserved c =
     let top = c.counts_at-top.ensures in
     last_next c.requires c.loop-i.invariant (omega (arith, c.loop-i-test.true)) c.slide-span-in-loop-i.result (slid (goal.at.loop-i-preserved c).After-slide-span-in-loop-i)
     c.waiting_after-waiting.result (rw top at c.waiting_after-waiting.ensures) c.floats_of-floats.result (say (goal.at.loop-i-preserved c).After-end_at-end)
-    c.next_start-last.result c.next_start-last.ensures (omega (arith, c.if-g-last.false)) _ _
+    _ c.in-Some.ensures.onward c.in-Some.ensures.within _ _
     (search rules) _
     (rw (c.end_at-end.ensures, top) at c.fill_place.ensures)
 
 pub returns : goal.returns
 returns c = last_done c.requires c.loop-i.invariant (omega (arith, c.loop-i-test.false))
-
-pub slice_bounds-fill_place-end : goal.slice_bounds-fill_place-end
-slice_bounds-fill_place-end c = search (rules, c.loop-i.invariant.queued.rows)

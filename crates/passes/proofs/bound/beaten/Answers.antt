@@ -1,18 +1,8 @@
 -- `beaten` meets its contract: it says so only where the place is reached, and compares its cost with the two words of the bound.
 use native.Mathlib.Omega.{arith}
 use mathlib.Core.Path.{sym, ◌∙◌}
-use mathlib.Core.Bool.{true≢false}
 use borrow.Author.Tests.{ltb-true}
 use Rattle.passes.proofs.bound.beaten.Goals as goal
-
-pub returns-then-low-since : goal.returns-then-low-since
-returns-then-low-since c = λ e. absurd (true≢false (sym e))
-
-pub returns-then-last-low : goal.returns-then-last-low
-returns-then-last-low c = λ e. absurd (true≢false (sym e))
-
-pub returns-in_default : goal.returns-in_default
-returns-in_default c = λ e. absurd (true≢false (sym e))
 
 pub bounds-words-at : goal.bounds-words-at
 bounds-words-at c =
@@ -27,8 +17,8 @@ returns c = λ e.
     record {
       cost = _;
       start = _;
-      held = sym c.entry_of.ensures ∙ c.in-Least.is;
+      held = sym c.entry_of.ensures ∙ c.in-Some.is;
       after = omega (arith, c.if-low-since.false);
       before = omega (arith, c.if-last-low.false);
-      less = ltb-true _ _ (rw c.joined.ensures at (sym c.less.ensures ∙ e));
+      less = ltb-true _ _ (rw c.joined.ensures at e);
     }

@@ -22,8 +22,8 @@ loop-a-init c =
     rw (c.lesser-least.ensures, c.entry_of-far.ensures, c.place_of-end.ensures)
     (bound_first c.args.work.now c.args.words.now c.args.source c.args.lines _ (omega (arith, c.requires.within)))
 
-pub overflow_add-since : goal.overflow_add-since
-overflow_add-since c = omega (arith, c.requires.within, c.requires.all.few)
+pub overflow_add-a-start : goal.overflow_add-a-start
+overflow_add-a-start c = omega (arith, c.requires.within, c.requires.all.few)
 
 pub place_of-place-requires : goal.place_of-place-requires
 place_of-place-requires c =

@@ -18,13 +18,13 @@ pub returns-then-pass-columns_of : goal.returns-then-pass-columns_of
 returns-then-pass-columns_of c =
     last_taken c.requires (rw (← c.columns_of.ensures) c.if-pass-columns_of.true)
 
-pub load_of-load-requires : goal.load_of-load-requires
-load_of-load-requires c =
+pub load-load-requires : goal.load-load-requires
+load-load-requires c =
     floats_separable c.requires.lent 1 c.args.pass.heights (le_refl 1) c.requires.passing.low
 
 pub last_lines-lines-requires : goal.last_lines-lines-requires
 last_lines-lines-requires c =
-    rw (c.load_of-load.ensures, c.floor_of.ensures c.args.s.now, c.side_before-side.ensures)
+    rw (c.load-load.ensures, c.floor_of.ensures c.args.s.now, c.side_before-side.ensures)
     (last_stand c.requires (omega (arith, c.if-pass-columns_of.false, c.columns_of.ensures)))
 
 pub improve-requires : goal.improve-requires
@@ -35,5 +35,5 @@ improve-requires c =
 pub returns : goal.returns
 returns c =
     last_done c.requires (omega (arith, c.if-pass-columns_of.false, c.columns_of.ensures)) c.last_lines-lines.result
-    (rw (c.load_of-load.ensures, c.floor_of.ensures c.args.s.now, c.side_before-side.ensures) at c.last_lines-lines.ensures) _
+    (rw (c.load-load.ensures, c.floor_of.ensures c.args.s.now, c.side_before-side.ensures) at c.last_lines-lines.ensures) _
     (rw (c.floor_of.ensures c.args.s.now) at c.improve.ensures)

@@ -1,5 +1,4 @@
 -- `sweep` meets its contract. The loop's invariant is `SweepRun`: the sides before c know the starts of the pass too.
-use Prim.Native.Nat.{◌-◌}
 use native.Mathlib.Omega.{arith}
 use Rattle.passes.proofs.laws.Sweeping.{sweep_first, sweep_none, sweep_stops, sweep_last, sweep_side, sweep_line, sweep_next}
 use borrow.Author.Rules.{rules}

@@ -10,8 +10,8 @@ overflow_add-pass c = omega (arith, c.requires.within, columns_few c.args.g c.re
 pub returns-then-pass-columns_of : goal.returns-then-pass-columns_of
 returns-then-pass-columns_of c = rw (← c.columns_of.ensures) (simp (eq-eqb _ _ c.if-pass-columns_of.true))
 
-pub returns : goal.returns
-returns c = rw (← c.columns_of.ensures) (simp (ne_eqb _ _ c.if-pass-columns_of.false))
+pub returns-else-pass-columns_of : goal.returns-else-pass-columns_of
+returns-else-pass-columns_of c = rw (← c.columns_of.ensures) (simp (ne_eqb _ _ c.if-pass-columns_of.false))
 
 pub columns_of-requires : goal.columns_of-requires
 columns_of-requires c = c.requires.floats

@@ -3,16 +3,16 @@ use native.Mathlib.Omega.{arith}
 use Rattle.queues.specs.Parts.{whitened_of}
 use Rattle.queues.proofs.parts.whitened.Goals as goal
 
-pub returns-in_default : goal.returns-in_default
+pub returns-in_err-x : goal.returns-in_err-x
 unfolding whitened_of
-returns-in_default c = rw c.in_default.is
+returns-in_err-x c = rw c.in_err-x.was c.from_residual.ensures
 
 pub overflow_add-result : goal.overflow_add-result
-overflow_add-result c = omega (arith, c.requires.small _ _ c.in-Least.is)
+overflow_add-result c = omega (arith, c.requires.small _ _ c.in_ok-x.was)
 
 pub overflow_sub-result : goal.overflow_sub-result
-overflow_sub-result c = omega (arith, c.requires.enough _ _ c.in-Least.is)
+overflow_sub-result c = omega (arith, c.requires.enough _ _ c.in_ok-x.was)
 
 pub returns : goal.returns
 unfolding whitened_of
-returns c = rw c.in-Least.is
+returns c = rw c.in_ok-x.was

@@ -1,5 +1,4 @@
 -- `drop_dearer` meets its contract. The loop's invariant: the entries dropped cost x or more, to which each turn adds one.
-use Prim.Native.Nat.{◌-◌}
 use Rattle.queues.specs.Run.{DearerRun}
 use Rattle.queues.proofs.queue.drop_dearer.Given as goal
 

@@ -1,5 +1,5 @@
 -- `drop_passed` meets its contract. The loop's invariant: the lines dropped are before `low`, to which each turn adds one.
-use Prim.Native.Nat.{◌-◌, ◌*◌}
+use Prim.Native.Nat.{◌*◌}
 use native.Mathlib.Omega.{arith}
 use Rattle.window.specs.laws.First.{first_start, first_next, first_found}
 use Rattle.queues.proofs.queue.drop_passed.Goals as goal

@@ -1,6 +1,6 @@
 -- `feed` meets its contract. The loop's invariant: what was held of the lines before `from` is held of those before a; a
 -- turn passes an unreached line, or drops what is no cheaper and pushes a reached one.
-use Prim.Native.Nat.{ℕ, ◌+◌, ◌-◌, ◌*◌, ◌≤◌}
+use Prim.Native.Nat.{ℕ, ◌+◌, ◌*◌, ◌≤◌}
 use native.Mathlib.Omega.{arith}
 use mathlib.Core.Path.{◌≡◌, refl, sym, ap, subst, ◌∙◌}
 use mathlib.Core.List.{List}
@@ -65,7 +65,7 @@ loop-a-preserved-in_default c =
 pub overflow_add-cost : goal.overflow_add-cost
 overflow_add-cost c =
     let st = c.loop-a in
-    let small = c.requires.costs st.a c.loop-a-test.true _ _ (read (goal.at.overflow_add-cost c).After-entry_of-entry ∙ c.in-Least.is) in
+    let small = c.requires.costs st.a c.loop-a-test.true _ _ (read (goal.at.overflow_add-cost c).After-entry_of-entry ∙ c.in-Some.is) in
     omega (arith, small)
 
 pub overflow_add-tail : goal.overflow_add-tail
@@ -82,10 +82,10 @@ loop-a-preserved c =
     let drops = c.drop_dearer-tail.ensures in
     let new = rw (c.place_of-place.ensures, c.high_of.ensures, c.low_of.ensures)
     at c.push.ensures in
-    let x = c.in-Least.x in
+    let x = c.in-Some.found.cost in
     let more = c.added-more.result in
     let here : Paid (col st.a) (add st.a) (x + more) =
-    paid_of x (add st.a) (x + more) (read (goal.at.loop-a-preserved c).After-entry_of-entry ∙ c.in-Least.is) (omega (arith, c.added-more.ensures)) in
+    paid_of x (add st.a) (x + more) (read (goal.at.loop-a-preserved c).After-entry_of-entry ∙ c.in-Some.is) (omega (arith, c.added-more.ensures)) in
     let room : 3 * t + 3 ≤ length st.words =
     omega (arith, drops.to, st.invariant.short, st.invariant.sized, c.requires.room, c.loop-a-test.true) in
     record {

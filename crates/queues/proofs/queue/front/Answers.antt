@@ -5,7 +5,7 @@ use Rattle.queues.proofs.queue.front.Goals as goal
 
 pub returns-then-queue : goal.returns-then-queue
 unfolding front_of
-returns-then-queue c = simp (lt-ltb _ _ c.if-queue.true, c.joined.ensures)
+returns-then-queue c = simp (lt-ltb _ _ c.if-queue.true, c.joined-cost.ensures)
 
 pub returns : goal.returns
 unfolding front_of

@@ -6,10 +6,10 @@ use Rattle.solving.proofs.opening.origin_after.Goals as goal
 use Rattle.solving.proofs.opening.origin_after.Goals.{Start}
 
 -- A column is a small number.
-low : (c : Start) → c.args.at.figures * (c.args.g.tables.count + 1) ≤ 10200
+low : (c : Start) → c.args.ends.at.figures * (c.args.g.tables.count + 1) ≤ 10200
 low c =
     let pre = c.requires in
-    mul-le-mul {n₁ = c.args.at.figures} {m₁ = c.args.g.tables.count + 1} {n₂ = 200} {m₂ = 51}
+    mul-le-mul {n₁ = c.args.ends.at.figures} {m₁ = c.args.g.tables.count + 1} {n₂ = 200} {m₂ = 51}
     (omega (arith, pre.placed.figures, pre.floats.figures)) (omega (arith, pre.floats.tables))
 
 pub place_of-requires : goal.place_of-requires

@@ -25,6 +25,6 @@ pub returns-then-both : goal.returns-then-both
 unfolding floats_alone
 returns-then-both c = c.separated.ensures ∙ rw c.if-both.true
 
-pub returns : goal.returns
+pub returns-else-both : goal.returns-else-both
 unfolding floats_alone
-returns c = rw c.if-both.false
+returns-else-both c = rw c.if-both.false

@@ -7,6 +7,6 @@ pub returns-then-row : goal.returns-then-row
 unfolding row_top
 returns-then-row c = simp (lt-ltb _ _ c.if-row.true)
 
-pub returns : goal.returns
+pub returns-else-row : goal.returns-else-row
 unfolding row_top
-returns c = simp (le-ltb _ _ c.if-row.false)
+returns-else-row c = simp (le-ltb _ _ c.if-row.false)

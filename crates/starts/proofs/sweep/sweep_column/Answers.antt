@@ -6,8 +6,8 @@ use Rattle.starts.proofs.laws.Rows.{column_first, column_since, column_last, col
 use borrow.Author.Rules.{rules}
 use Rattle.starts.proofs.sweep.sweep_column.Goals as goal
 
-pub overflow_add-b : goal.overflow_add-b
-overflow_add-b c =
+pub overflow_step-b : goal.overflow_step-b
+overflow_step-b c =
     let few = c.requires.lent.sound.figures.few in
     let within = within_at c.args.g 0 c.args.j (omega arith) c.requires.lent.column in
     rw c.counts_at-end.ensures (omega (arith, within.figures))

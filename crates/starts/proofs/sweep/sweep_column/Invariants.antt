@@ -6,6 +6,3 @@ use Rattle.starts.proofs.sweep.sweep_column.Given as goal
 abbrev pub invariant-loop-b : goal.invariant-loop-b
 invariant-loop-b l =
     ColumnSweepRun l.s l.g l.initial.work l.work l.initial.words l.words l.seen l.j l.begin l.heights l.b l.any
-
-abbrev pub decreases-loop-b : goal.decreases-loop-b
-decreases-loop-b l = l.b

@@ -4,7 +4,7 @@ use mathlib.Core.Path.{refl}
 use native.Mathlib.Omega.{arith}
 use Rattle.candidates.specs.Read.{row_of}
 use Rattle.candidates.proofs.laws.Columns.{few_floats}
-use Rattle.starts.proofs.laws.Row.{end_few, row_small, from_small, row_first, row_last, row_room, row_told, row_stands, row_lays, row_sweeps, row_swept, row_tall}
+use Rattle.starts.proofs.laws.Row.{end_few, row_small, from_small, row_first, row_last, row_room, row_told, row_stands, row_lays, row_unreached, row_sweeps, row_swept, row_tall}
 use borrow.Author.Rules.{rules}
 use Rattle.starts.proofs.sweep.sweep_row.Goals as goal
 
@@ -55,21 +55,22 @@ unfolding row_of
 sweep-requires c =
     row_sweeps c.requires c.loop-t.invariant (omega (arith, c.loop-t-test.true))
     c.block_before-tables.result c.block_before-tables.ensures _ refl c.floats_alone-floats.result c.floats_alone-floats.ensures
-    (omega (arith, c.if-g-floats.false)) c.white_at.result c.white_at.ensures.0 c.reach_in-reach.result
-    c.reach_in-reach.ensures
+    (omega (arith, c.if-g-floats.false)) c.white_at.result c.white_at.ensures.0 c.in-Some.reach c.in-Some.ensures.1
+
+pub loop-t-preserved-in_default : goal.loop-t-preserved-in_default
+unfolding row_of
+loop-t-preserved-in_default c =
+    row_unreached c.requires c.loop-t.invariant (omega (arith, c.loop-t-test.true)) c.block_before-tables.result c.block_before-tables.ensures c.in_default.ensures
 
 pub loop-t-preserved : goal.loop-t-preserved
 unfolding row_of
 loop-t-preserved c =
     row_swept c.requires c.loop-t.invariant (omega (arith, c.loop-t-test.true))
     c.block_before-tables.result c.block_before-tables.ensures _ refl c.floats_alone-floats.result c.floats_alone-floats.ensures
-    c.white_at.result c.reach_in-reach.result.first c.reach_in-reach.result.last _ _
+    c.white_at.result c.in-Some.reach _ _
     (search rules)
     (search rules) c.sweep.ensures
 
 pub returns : goal.returns
 returns c =
     row_last c.requires c.loop-t.invariant (omega (arith, c.loop-t-test.false))
-
-pub loop-t-smaller : goal.loop-t-smaller
-loop-t-smaller c = search (rules, c.loop-t-test.true)

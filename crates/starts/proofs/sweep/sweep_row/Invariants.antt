@@ -5,6 +5,3 @@ use Rattle.starts.proofs.sweep.sweep_row.Given as goal
 
 abbrev pub invariant-loop-t : goal.invariant-loop-t
 invariant-loop-t l = RowRun l.s l.g l.initial.work l.work l.initial.words l.words l.row l.tables l.t l.any
-
-abbrev pub decreases-loop-t : goal.decreases-loop-t
-decreases-loop-t l = l.t

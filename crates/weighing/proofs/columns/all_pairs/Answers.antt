@@ -1,5 +1,4 @@
 -- `all_pairs` meets its contract. The loop's invariant is `AllCount`: the pages that end in columns before q are counted.
-use Prim.Native.Nat.{◌-◌}
 use native.Mathlib.Omega.{arith}
 use Rattle.candidates.proofs.laws.Columns.{few_floats}
 use Rattle.weighing.proofs.laws.Count.{all_first, all_few, all_next, all_last}

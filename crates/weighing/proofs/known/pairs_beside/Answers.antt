@@ -2,8 +2,6 @@
 use Rattle.weighing.proofs.laws.Known.{known_counts, knows_headed}
 use Rattle.weighing.proofs.known.pairs_beside.Goals as goal
 
-pub returns-then-told-lt-UNKNOWN : goal.returns-then-told-lt-UNKNOWN
-returns-then-told-lt-UNKNOWN c = (
-  known_counts c.requires.1 (c.known_pairs-told.ensures c.if-told-lt-UNKNOWN.true),
-  rw c.push.ensures (knows_headed c.requires.1 _ _ _),
-)
+pub returns-in-Some : goal.returns-in-Some
+returns-in-Some c =
+    (rw c.from.ensures (known_counts c.requires.1 c.in-Some.ensures), rw c.push.ensures (knows_headed c.requires.1 _ _ _))

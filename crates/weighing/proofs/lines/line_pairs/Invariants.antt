@@ -1,11 +1,7 @@
 -- `line_pairs` meets its contract. The invariant: the pairs that end before line i are counted, for what stands beside the lines and for
 -- all else that the tally says.
-use Prim.Native.Nat.{◌+◌, ◌-◌}
 use Rattle.weighing.specs.Lines.{Tallied}
 use Rattle.weighing.proofs.lines.line_pairs.Given as goal
 
 abbrev pub invariant-loop-i : goal.invariant-loop-i
 invariant-loop-i l = Tallied l.sums l.first l.beside l.limit l.lines l.low l.i l.tally
-
-abbrev pub decreases-loop-i : goal.decreases-loop-i
-decreases-loop-i l = l.lines + 1 - l.i
