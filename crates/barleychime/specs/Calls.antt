@@ -1,15 +1,12 @@
 -- Calls through C on one lent desk, one after the other, given one galley each time: what they return and leave is that of a sitting
 -- (document 02, S-7 and S-8).
-use Rattle.std.specs.Prelude.{ℕ, Bool, true, false, ◌&&◌, List, [], ◌∷◌, map, ◌≡◌, refl, leb}
+use Rattle.std.specs.Prelude.{ℕ, Bool, true, false, ◌&&◌, List, [], ◌∷◌, map, ◌≡◌, refl, leb, Err, Ok}
 use Rattle.std.proofs.Common.{arith, sym, ap, ap₂, subst, ◌∙◌}
-use Rattle.model.specs.declared.answer.Answer.TheVariants.{Refused}
 use Rattle.model.specs.Galley as model
-use Rattle.model.specs.Answers.{numbers_of, accepted}
+use Rattle.model.specs.Answers.{numbers_of, accepted, refused}
 use Rattle.model.specs.Gather.{pick}
 use Rattle.galley.specs.declared.Galley.{Galley}
-use Rattle.galley.specs.declared.Reading.{Reading}
-use Rattle.galley.specs.declared.Reading.TheVariants as reads
-use Rattle.galley.specs.Whole.{galley_of}
+use Rattle.galley.specs.Whole.{galley_of, Reading}
 use Rattle.galley.specs.Model.{model_of}
 use Rattle.galley.proofs.laws.Sound.{refusal_number}
 use Rattle.marking.specs.Mark.{mark_of}
@@ -93,7 +90,7 @@ zero_accepted bytes list lent = go (galley_of bytes) refl
     told : Bool → Told
     told b =
         pick b (record { desk = opened list (numbers_of (mark_of bytes list)).pages; answer = mark_of bytes list })
-        (record { desk = closed lent; answer = Refused 22 0 })
+        (record { desk = closed lent; answer = refused 22 0 })
 
     on : (a b : Bool) → accepted (mark_of bytes list) ≡ a → number_of (told (a && b)).answer ≡ 0 → accepted (told (a && b)).answer ≡ true
     on true true e h = e
@@ -102,12 +99,12 @@ zero_accepted bytes list lent = go (galley_of bytes) refl
 
     go : (r : Reading) → galley_of bytes ≡ r → number_of (open_read bytes list lent r).answer ≡ 0
         → accepted (open_read bytes list lent r).answer ≡ true
-    go (reads.Galley g) e h = on (accepted (mark_of bytes list)) (leb (numbers_of (mark_of bytes list)).pages 64) refl h
-    go (reads.Refused number place) e h = absurd (omega (arith, (refusal_number bytes number place e).0))
+    go (Ok g) e h = on (accepted (mark_of bytes list)) (leb (numbers_of (mark_of bytes list)).pages 64) refl h
+    go (Err r) e h = absurd (omega (arith, (refusal_number bytes number place e).0))
 
 -- For every list of calls through C on a lent desk, from one opened with 0 returned, all is as in a sitting that begins with the opening list.
 pub calls_sit : (bytes list : List ℕ) (lent d : Desk) (number : ℕ) (answer : List ℕ)
-    → LeftTold (open_desk bytes list lent) number d answer → number ≡ 0 → (G : Galley) → galley_of bytes ≡ reads.Galley G
+    → LeftTold (open_desk bytes list lent) number d answer → number ≡ 0 → (G : Galley) → galley_of bytes ≡ Ok G
     → (calls : List Call) (rs : List Returned) (after : Desk) → AllCalled bytes d calls rs after
     → SitsInC (model_of bytes G) (begin list) calls rs after
 calls_sit bytes list lent d number answer left none G reading calls rs after called =

@@ -10,7 +10,10 @@ pub extern "C" fn barleychime_section(
 ) -> u32
     ensures { Folded size numbers.old result numbers.new answer.new }
 {
-    let reply = sections::section(size, numbers);
-    *answer = [reply.number, reply.place];
-    reply.number
+    let (number, place) = match sections::section(size, numbers) {
+        Ok(()) => (0, 0),
+        Err(refusal) => (refusal.number, refusal.place),
+    };
+    *answer = [number, place];
+    number
 }

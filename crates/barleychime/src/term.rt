@@ -2,21 +2,22 @@
 ghost use Rattle.std.specs.Prelude.{◌≡◌};
 ghost use Rattle.report.specs.Report.{report_of, number_of, words_of};
 
-use report::{Mark, Report};
+use model::answer::Refusal;
+use report::{Mark, Totals};
 
 // A report told to the caller: its eleven words, and its number, which is 0 for a success.
-fn tell(told: Report, words: &mut [u64; 11]) -> u32
+fn tell(told: Result<Totals, Refusal>, words: &mut [u64; 11]) -> u32
     ensures { (result ≡ number_of told) × (words.new ≡ words_of told) }
 {
     match told {
-        Report::Summed(f) => {
+        Ok(f) => {
             *words = [
                 0, 0, f.papers, f.pages, f.x, f.y, f.turns, f.least, f.greatest, f.excess, f.count,
             ];
             0
         }
-        Report::Refused { number, place } => {
-            *words = [number as u64, place, 0, 0, 0, 0, 0, 0, 0, 0, 0];
+        Err(Refusal { number, place }) => {
+            *words = [u64::from(number), u64::from(place), 0, 0, 0, 0, 0, 0, 0, 0, 0];
             number
         }
     }

@@ -7,12 +7,16 @@ ghost use Rattle.desk.specs.Layouts.{save_desk, back_desk, drop_desk};
 ghost use Rattle.barleychime.specs.Desk.{number_alone, pages_alone, LeftTold, LeftDone};
 
 use desk::Desk;
+use model::answer::Refusal;
 
 // A number alone, which is 0 where nothing is refused, told in nine words.
-fn tell_number(done: Result<(), u32>, words: &mut [u32; 9]) -> u32
+fn tell_number(done: Result<(), Refusal>, words: &mut [u32; 9]) -> u32
     ensures { (result ≡ number_in done) × (words.new ≡ number_alone (number_in done)) }
 {
-    let number = done.err().unwrap_or(0);
+    let number = match done {
+        Ok(()) => 0,
+        Err(refusal) => refusal.number,
+    };
     *words = [number, 0, 0, 0, 0, 0, 0, 0, 0];
     number
 }

@@ -1,18 +1,15 @@
 -- What is promised of every desk (document 02, S-7 and S-8).
-use Rattle.std.specs.Prelude.{ℕ, ◌≤◌, Bool, ◌&&◌, List, [], ◌∷◌, ◌++◌, ◌≡◌, leb, length, Some, None}
+use Rattle.std.specs.Prelude.{ℕ, ◌≤◌, Bool, ◌&&◌, List, [], ◌∷◌, ◌++◌, ◌≡◌, leb, length, Some, None, Err, Ok}
 use Rattle.std.proofs.Math.Bool.{true, false}
 use Rattle.std.proofs.Math.Path.{refl, sym, ap, subst⁻¹}
 use Rattle.std.proofs.Common.{subst, ◌∙◌, arith}
 use Rattle.std.proofs.Math.Dec.{ltb}
 use borrow.Author.Tests.{le-ltb}
-use Rattle.model.specs.declared.answer.Answer.TheVariants.{Refused}
 use Rattle.model.specs.Galley as model
-use Rattle.model.specs.Answers.{numbers_of, accepted, marked}
+use Rattle.model.specs.Answers.{numbers_of, accepted, marked, refused}
 use Rattle.model.specs.Gather.{pick}
 use Rattle.galley.specs.declared.Galley.{Galley}
-use Rattle.galley.specs.declared.Reading.{Reading}
-use Rattle.galley.specs.declared.Reading.TheVariants as reads
-use Rattle.galley.specs.Whole.{galley_of}
+use Rattle.galley.specs.Whole.{galley_of, Reading}
 use Rattle.galley.specs.Model.{model_of}
 use Rattle.marking.specs.Mark.{mark_of}
 use Rattle.desk.specs.declared.Desk.{Desk}
@@ -39,20 +36,20 @@ pub record Kind (P : List ℕ → Type 0) (d : Desk) : Type 0 where
 
 -- A desk that is opened unrefused has a galley that reads.
 pub opened_reads : (bytes list : List ℕ) (lent : Desk) → accepted (open_desk bytes list lent).answer ≡ true
-    → (G : Galley) × (galley_of bytes ≡ reads.Galley G)
+    → (G : Galley) × (galley_of bytes ≡ Ok G)
 unfolding open_desk open_read
 opened_reads bytes list lent = go (galley_of bytes)
   where
-    go : (r : Reading) → accepted (open_read bytes list lent r).answer ≡ true → (G : Galley) × (r ≡ reads.Galley G)
-    go (reads.Galley G) h = (G, refl)
-    go (reads.Refused number place) h = let z : ◌≡◌ {A = ℕ} 0 1 = cc in absurd (omega arith)
+    go : (r : Reading) → accepted (open_read bytes list lent r).answer ≡ true → (G : Galley) × (r ≡ Ok G)
+    go (Ok G) h = (G, refl)
+    go (Err r) h = let z : ◌≡◌ {A = ℕ} 0 1 = cc in absurd (omega arith)
 
 -- A desk that is opened unrefused on a galley and a list.
 module _ (bytes list : List ℕ) (lent : Desk) (so : accepted (open_desk bytes list lent).answer ≡ true) where
   abbrev d : Desk
   d = (open_desk bytes list lent).desk
 
-  module _ (G : Galley) (reading : galley_of bytes ≡ reads.Galley G) where
+  module _ (G : Galley) (reading : galley_of bytes ≡ Ok G) where
     abbrev g : model.Galley
     g = model_of bytes G
 
@@ -145,7 +142,7 @@ module _ (bytes list : List ℕ) (lent : Desk) (so : accepted (open_desk bytes l
   abbrev G : Galley
   G = (opened_reads bytes list lent so).0
 
-  reading : galley_of bytes ≡ reads.Galley G
+  reading : galley_of bytes ≡ Ok G
   reading = (opened_reads bytes list lent so).1
 
   -- The marking accepts every list of the desk,
@@ -205,7 +202,7 @@ refused_opening bytes list lent = go (galley_of bytes)
     told : Bool → Told
     told b =
         pick b (record { desk = opened list (numbers_of (mark_of bytes list)).pages; answer = mark_of bytes list })
-        (record { desk = closed lent; answer = Refused 22 0 })
+        (record { desk = closed lent; answer = refused 22 0 })
 
     on : (a b : Bool) → accepted (mark_of bytes list) ≡ a → accepted (told (a && b)).answer ≡ false → (told (a && b)).desk ≡ closed lent
     on true true e h = let z : ◌≡◌ {A = ℕ} 0 1 = cc in absurd (omega arith)
@@ -213,8 +210,8 @@ refused_opening bytes list lent = go (galley_of bytes)
     on false b e h = refl
 
     go : (r : Reading) → accepted (open_read bytes list lent r).answer ≡ false → (open_read bytes list lent r).desk ≡ closed lent
-    go (reads.Galley g) h = on (accepted (mark_of bytes list)) (leb (numbers_of (mark_of bytes list)).pages 64) refl h
-    go (reads.Refused number place) h = refl
+    go (Ok g) h = on (accepted (mark_of bytes list)) (leb (numbers_of (mark_of bytes list)).pages 64) refl h
+    go (Err r) h = refl
 
 module _ (d : Desk) (none : pages_on d ≡ 0) where
   no_inner : (page : ℕ) → is_inner d page ≡ false

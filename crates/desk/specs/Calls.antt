@@ -1,7 +1,6 @@
 -- The calls on an open desk, their answers, and what a sitting of them holds (document 02, S-7 and S-8).
 use Rattle.std.specs.Prelude.{ℕ, false, Option, List, [], ◌∷◌, ◌≡◌}
-use Rattle.model.specs.declared.answer.Answer.{Answer}
-use Rattle.model.specs.Answers.{same}
+use Rattle.model.specs.Answers.{same, Answer}
 
 -- A page's new end: the lines, figures and tables placed by then.
 pub record End : Type 0 where

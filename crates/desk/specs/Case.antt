@@ -2,7 +2,6 @@
 -- document 02 (S-7 and S-8), as those are that tests/desk puts to the compiled desk; those of the second are what the reference in Python
 -- answers.
 use Rattle.std.specs.Prelude.{ℕ, zero, suc, true, List, [], ◌∷◌, ◌++◌, map, ◌≡◌, refl, replicate}
-use Rattle.model.specs.declared.answer.Answer.TheVariants.{Counted, Refused}
 use Rattle.model.specs.Gather.{sum, between, total, each, every, row}
 use Rattle.model.specs.Galley.{single, Spec, Stream, Galley, count, streams, zeros, sizes, blocks}
 use Rattle.model.specs.Height.{has, kinds, stacked, height, tightest, loosest}
@@ -10,7 +9,7 @@ use Rattle.model.specs.Leaf.{leaf, ends}
 use Rattle.model.specs.Rules.{forward, may_end, closes, fits, fills, cited, first_broken, broken}
 use Rattle.model.specs.Turns.{page_of, apart, x_of, y_of, turns}
 use Rattle.model.specs.White.{white_on, whites, white}
-use Rattle.model.specs.Answers.{chunks, pages_of, words_of, counted, same, refuse, judge, counts_of, marked}
+use Rattle.model.specs.Answers.{chunks, pages_of, words_of, counted, same, refuse, judge, counts_of, marked, counted_as, refused}
 use Rattle.layouts.specs.Names.{is_name}
 use Rattle.desk.specs.Calls.{Call, Ask, Commit, Save, Back, Drop, Reply, Marking, Number, Sitting}
 use Rattle.desk.specs.Sitting.{under, without, has_room, other_end, tried, step, begin}
@@ -35,10 +34,10 @@ abbrev does : Call → ℕ → List ℕ → Row
 does call number force = record { call = call; reply = Number number; force = force }
 
 abbrev accepts : ℕ → ℕ → ℕ → ℕ → ℕ → Reply
-accepts p x y t w = Marking (Counted p x y t w)
+accepts p x y t w = Marking (counted_as p x y t w)
 
 abbrev refuses : ℕ → ℕ → Reply
-refuses number place = Marking (Refused number place)
+refuses number place = Marking (refused number place)
 
 -- So many blocks, all of one height and without a space, each cited by line 1.
 abbrev alike : ℕ → ℕ → Stream

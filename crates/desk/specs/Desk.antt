@@ -1,8 +1,7 @@
 -- What an ask and a commit leave and answer, for any words of a desk (document 02, S-7). The type `Desk` is that of src/lib.rt.
 use Rattle.std.specs.Prelude.{ℕ, zero, suc, Bool, true, false, List, ◌≡◌, take, Option, None, Some, Result, Ok, Err}
-use Rattle.model.specs.declared.answer.Answer.{Answer}
-use Rattle.model.specs.declared.answer.Answer.TheVariants.{Refused}
-use Rattle.model.specs.Answers.{accepted}
+use Rattle.model.specs.declared.answer.Refusal.{Refusal}
+use Rattle.model.specs.Answers.{accepted, Answer, refused}
 use Rattle.model.specs.Gather.{pick}
 use Rattle.marking.specs.Mark.{mark_of}
 use Rattle.desk.specs.declared.Desk.{Desk}
@@ -22,15 +21,15 @@ pub record Done : Type 0 where
   pub desk : Desk
   pub number : ℕ
 
-abbrev pub plain : ℕ → Result (Unit {0}) ℕ
+abbrev pub plain : ℕ → Result (Unit {0}) Refusal
 plain zero = Ok tt
-plain (suc n) = Err (suc n)
+plain (suc n) = refused (suc n) 0
 
-abbrev pub number_in : Result (Unit {0}) ℕ → ℕ
+abbrev pub number_in : Result (Unit {0}) Refusal → ℕ
 number_in (Ok it) = 0
-number_in (Err number) = number
+number_in (Err r) = r.number
 
-abbrev pub Does : Done → Result (Unit {0}) ℕ → Desk → Type 0
+abbrev pub Does : Done → Result (Unit {0}) Refusal → Desk → Type 0
 Does done answer desk = (answer ≡ plain done.number) × (desk ≡ done.desk)
 
 -- A page and its new end are pending, in place of what was.
@@ -56,7 +55,7 @@ ask_marked d page end answer = record { desk = after_ask d page end answer; answ
 
 -- and one about any other with 23 and the page.
 abbrev pub ask_off : Desk → ℕ → Told
-ask_off d page = record { desk = cleared d; answer = Refused 23 page }
+ask_off d page = record { desk = cleared d; answer = refused 23 page }
 
 -- What an ask leaves and answers: 23 whatever the bytes, then the marking of the altered list (document 02, S-7).
 unfoldable pub ask_desk : List ℕ → ℕ → List ℕ → Desk → Told

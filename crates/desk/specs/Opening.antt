@@ -1,12 +1,8 @@
 -- A desk opened on a galley and a list (document 02, S-7). The type `Desk` is that of src/lib.rt.
-use Rattle.std.specs.Prelude.{ℕ, ◌≤◌, ◌&&◌, List, [], ◌∷◌, ◌++◌, leb, length, drop, replicate}
-use Rattle.model.specs.declared.answer.Answer.{Answer}
-use Rattle.model.specs.declared.answer.Answer.TheVariants.{Refused}
-use Rattle.model.specs.Answers.{numbers_of, accepted}
+use Rattle.std.specs.Prelude.{ℕ, ◌≤◌, ◌&&◌, List, [], ◌∷◌, ◌++◌, leb, length, drop, replicate, Err, Ok}
+use Rattle.model.specs.Answers.{numbers_of, accepted, Answer, refused}
 use Rattle.model.specs.Gather.{pick}
-use Rattle.galley.specs.declared.Reading.{Reading}
-use Rattle.galley.specs.declared.Reading.TheVariants as reads
-use Rattle.galley.specs.Whole.{galley_of}
+use Rattle.galley.specs.Whole.{galley_of, Reading}
 use Rattle.marking.specs.Mark.{mark_of}
 use Rattle.desk.specs.declared.Desk.{Desk}
 use Rattle.desk.specs.Desk.{Told}
@@ -37,12 +33,12 @@ unfoldable pub open_on : List ℕ → Desk → Answer → Told
 open_on list d answer =
     pick (accepted answer && leb (numbers_of answer).pages 64)
     (record { desk = opened list (numbers_of answer).pages; answer = answer })
-    (record { desk = closed d; answer = Refused 22 0 })
+    (record { desk = closed d; answer = refused 22 0 })
 
 -- A refused galley is refused as ever (document 02, S-7).
 unfoldable pub open_read : List ℕ → List ℕ → Desk → Reading → Told
-open_read bytes list d (reads.Galley g) = open_on list d (mark_of bytes list)
-open_read bytes list d (reads.Refused number place) = record { desk = closed d; answer = Refused number place }
+open_read bytes list d (Ok g) = open_on list d (mark_of bytes list)
+open_read bytes list d (Err r) = record { desk = closed d; answer = Err r }
 
 -- What opening leaves and answers, for any bytes, any list and any words of a desk (document 02, S-7).
 unfoldable pub open_desk : List ℕ → List ℕ → Desk → Told

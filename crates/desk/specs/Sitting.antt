@@ -1,10 +1,8 @@
 -- A sitting at a desk, told by the calls alone: what each call answers, and the list in force, what is pending and the layouts held
 -- after it (document 02, S-7 and S-8). The galley is one that reads, since a desk does not open on any other.
 use Rattle.std.specs.Prelude.{ℕ, ◌-◌, Bool, ◌&&◌, ◌||◌, List, [], ◌∷◌, leb, ltb, length, set, take, Option, None, Some, is_some}
-use Rattle.model.specs.declared.answer.Answer.{Answer}
-use Rattle.model.specs.declared.answer.Answer.TheVariants.{Refused}
 use Rattle.model.specs.Galley.{Galley, streams}
-use Rattle.model.specs.Answers.{accepted, pages_of, words_of, same, marked}
+use Rattle.model.specs.Answers.{accepted, pages_of, words_of, same, marked, Answer, refused}
 use Rattle.model.specs.Gather.{pick}
 use Rattle.layouts.specs.Names.{is_name}
 use Rattle.desk.specs.Calls.{End, Call, Ask, Commit, Save, Back, Drop, Reply, Marking, Number, words_at, Named, Sitting, Step}
@@ -49,7 +47,7 @@ other_end g list page end = words_of (set (pages_of g list) (page - 1) (take (st
 -- An ask answers 23 for a page that is not 1 to p − 1, then the marking of the altered list (document 02, S-7).
 unfoldable pub tried : Galley → List ℕ → ℕ → End → Answer
 tried g list page end =
-    pick (leb 1 page && ltb page (length (pages_of g list))) (marked g (other_end g list page end)) (Refused 23 page)
+    pick (leb 1 page && ltb page (length (pages_of g list))) (marked g (other_end g list page end)) (refused 23 page)
 
 -- What a call answers and leaves. An accepted ask is pending, and after a refused one none is; 24 is a commit with none pending, 26 a
 -- name not held, 27 a ninth name; saving supersedes (document 02, S-7 and S-8).

@@ -4,7 +4,7 @@
 #![tactic(auto)]
 
 ghost use Rattle.std.specs.Prelude.{◌++◌, ◌≡◌, drop, ok_or};
-ghost use Rattle.model.specs.Answers.{accepted};
+ghost use Rattle.model.specs.Answers.{refused};
 ghost use Rattle.model.specs.Gather.{pick};
 ghost use Rattle.layouts.specs.Names.{is_name, find_named};
 ghost use Rattle.marking.specs.Mark.{mark_of};
@@ -13,9 +13,8 @@ ghost use Rattle.desk.specs.Desk.{cleared, pended, put_in, after_ask, ask_desk, 
 ghost use Rattle.desk.specs.Layouts.{save_desk, back_desk, drop_desk};
 ghost use Rattle.desk.specs.Opening.{closed, Short, opened, open_on, open_desk};
 
-use galley::Reading;
 use layouts::Layout;
-use model::answer::Answer;
+use model::answer::{Answer, Refusal};
 
 mod pages; // pages.rt: the pages of the list in force, and one of them with another end
 
@@ -33,24 +32,21 @@ pub struct Desk {
     pub layouts: [Layout; 8],
 }
 
-// Whether an answer is that of an accepted list.
-fn is_accepted(answer: Answer) -> bool
-    ensures { result ≡ accepted answer }
+// A refusal by its number alone.
+fn alone(number: u32) -> Refusal
+    ensures { result ≡ record { number = number; place = 0 } }
 {
-    match answer {
-        Answer::Counted { .. } => true,
-        Answer::Refused { .. } => false,
-    }
+    Refusal { number, place: 0 }
 }
 
 // 25 refuses a name that has not 1 to 16 bytes.
-fn named(name: &[u8]) -> Result<(), u32>
-    ensures { result ≡ pick (is_name name.now) (Ok tt) (Err 25) }
+fn named(name: &[u8]) -> Result<(), Refusal>
+    ensures { result ≡ pick (is_name name.now) (Ok tt) (refused 25 0) }
 {
     if layouts::names::is_name(name) {
         Ok(())
     } else {
-        Err(25)
+        Err(alone(25))
     }
 }
 
@@ -105,20 +101,19 @@ impl Desk {
     }
 
     // Opened on a galley that reads: 22 where the marking does not accept the list, or it has more than 64 pages.
-    #[tactic(auto, unfolding(crate::specs::Opening::open_on), using(crate::proofs::laws::Opening::open_short))]
+    #[tactic(auto, unfolding(crate::specs::Opening::open_on))]
     fn open_read(&mut self, galley: &[u8], list: &[u32]) -> Answer
         ensures { Says (open_on list.now self.old (mark_of galley.now list.now)) result self.new }
     {
-        let answer = marking::mark(galley, list);
-        let n = model::answer::numbers_of(answer);
-        if is_accepted(answer) & (n.pages <= 64) {
-            *self = Desk::of(list, n.pages);
-            return answer;
-        }
-        self.close();
-        Answer::Refused {
-            number: 22,
-            place: 0,
+        match marking::mark(galley, list) {
+            Ok(n) if n.pages <= 64 => {
+                *self = Desk::of(list, n.pages);
+                Ok(n)
+            }
+            _ => {
+                self.close();
+                Err(alone(22))
+            }
         }
     }
 
@@ -127,13 +122,11 @@ impl Desk {
     pub fn open(&mut self, galley: &[u8], list: &[u32]) -> Answer
         ensures { Says (open_desk galley.now list.now self.old) result self.new }
     {
-        match reading::read_galley(galley) {
-            Reading::Galley(_g) => self.open_read(galley, list),
-            Reading::Refused { number, place } => {
-                self.close();
-                Answer::Refused { number, place }
-            }
+        if let Err(refusal) = reading::read_galley(galley) {
+            self.close();
+            return Err(refusal);
         }
+        self.open_read(galley, list)
     }
 
     // What an ask leaves that the marking answered so: pending where it is accepted, and none pending where it is refused.
@@ -141,10 +134,9 @@ impl Desk {
     fn after_ask(&mut self, page: u32, end: [u32; 3], answer: Answer)
         ensures { self.new ≡ after_ask self.old page end answer }
     {
-        if is_accepted(answer) {
-            self.pend(page, end);
-        } else {
-            self.clear();
+        match answer {
+            Ok(_) => self.pend(page, end),
+            Err(_) => self.clear(),
         }
     }
 
@@ -155,10 +147,10 @@ impl Desk {
     {
         if !self.is_inner(page) {
             self.clear();
-            return Answer::Refused {
+            return Err(Refusal {
                 number: 23,
                 place: page,
-            };
+            });
         }
         let altered = self.with_end(page, end);
         let words = self.words_on();
@@ -169,12 +161,12 @@ impl Desk {
 
     // What is pending put in force: 24 where nothing is, and the desk stays as it is.
     #[tactic(auto, unfolding(crate::specs::Desk::commit_desk))]
-    pub fn commit(&mut self) -> Result<(), u32>
+    pub fn commit(&mut self) -> Result<(), Refusal>
         ensures { Does (commit_desk self.old) result self.new }
     {
         let page = self.page;
         if !self.is_inner(page) {
-            return Err(24);
+            return Err(alone(24));
         }
         let list = self.with_end(page, self.end);
         self.put(list);
@@ -192,21 +184,21 @@ impl Desk {
     }
 
     // Where the layout under a name is: 25 a bad name, then 26 where it is not held.
-    fn held(&self, name: &[u8]) -> Result<usize, u32>
-        ensures { result ≡ pick (is_name name.now) (ok_or (find_named self.now.layouts name.now) 26) (Err 25) }
+    fn held(&self, name: &[u8]) -> Result<usize, Refusal>
+        ensures { result ≡ pick (is_name name.now) (ok_or (find_named self.now.layouts name.now) (record { number = 26; place = 0 })) (refused 25 0) }
     {
         named(name)?;
-        layouts::find(&self.layouts, name).ok_or(26)
+        layouts::find(&self.layouts, name).ok_or(alone(26))
     }
 
     // The list in force kept under a name: 25 a bad name, then 27 where the name is not held and no layout is free. A refusal leaves the
     // desk as it is.
     #[tactic(auto, unfolding(crate::specs::Layouts::save_desk), using(layouts::specs::laws::Names::name_few))]
-    pub fn save(&mut self, name: &[u8]) -> Result<(), u32>
+    pub fn save(&mut self, name: &[u8]) -> Result<(), Refusal>
         ensures { Does (save_desk name.now self.old) result self.new }
     {
         named(name)?;
-        let at = layouts::room_for(&self.layouts, name).ok_or(27u32)?;
+        let at = layouts::room_for(&self.layouts, name).ok_or(alone(27))?;
         self.layouts[at] = Layout::under(name, self.list);
         Ok(())
     }
@@ -214,7 +206,7 @@ impl Desk {
     // The layout under a name put in force, with nothing pending: 25 a bad name, then 26 where it is not held. A refusal leaves the desk
     // as it is.
     #[tactic(auto, unfolding(crate::specs::Layouts::back_desk))]
-    pub fn back(&mut self, name: &[u8]) -> Result<(), u32>
+    pub fn back(&mut self, name: &[u8]) -> Result<(), Refusal>
         ensures { Does (back_desk name.now self.old) result self.new }
     {
         let at = self.held(name)?;
@@ -226,7 +218,7 @@ impl Desk {
     // A name freed: 25 a bad name, then 26 where it is not held. On a desk of words that no call leaves, every layout under the name is. A
     // refusal leaves the desk as it is.
     #[tactic(auto, unfolding(crate::specs::Layouts::drop_desk))]
-    pub fn drop(&mut self, name: &[u8]) -> Result<(), u32>
+    pub fn drop(&mut self, name: &[u8]) -> Result<(), Refusal>
         ensures { Does (drop_desk name.now self.old) result self.new }
     {
         self.held(name)?;

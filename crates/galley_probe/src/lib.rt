@@ -7,7 +7,7 @@ ghost use Rattle.galley.specs.Sound.{SoundStream};
 ghost use Rattle.rules.specs.Waiting.{Walked};
 ghost use Rattle.galley_probe.specs.Words.{words_of, stream_at, block_words, waiting_of};
 
-use galley::{Galley, Reading, Stream};
+use galley::{Galley, Stream};
 
 // A refusal's number and place, or 0 and 0; then the specification with its edition, the first folio and the counts of lines,
 // figures and tables.
@@ -16,9 +16,8 @@ use galley::{Galley, Reading, Stream};
 pub extern "C" fn galley_probe_read(bytes: &[u8], out: &mut [u32; 15])
     ensures { out.new ≡ words_of (galley_of bytes.now) }
 {
-    let reading = reading::read_galley(bytes);
-    match reading {
-        Reading::Galley(g) => {
+    match reading::read_galley(bytes) {
+        Ok(g) => {
             let spec = g.spec;
             *out = [
                 0,
@@ -38,8 +37,24 @@ pub extern "C" fn galley_probe_read(bytes: &[u8], out: &mut [u32; 15])
                 g.tables.count as u32,
             ];
         }
-        Reading::Refused { number, place } => {
-            *out = [number, place, 0, 0, 0, 0, 0, 0, 0, 0, 0, 0, 0, 0, 0];
+        Err(refusal) => {
+            *out = [
+                refusal.number,
+                refusal.place,
+                0,
+                0,
+                0,
+                0,
+                0,
+                0,
+                0,
+                0,
+                0,
+                0,
+                0,
+                0,
+                0,
+            ];
         }
     }
 }
@@ -61,8 +76,7 @@ fn stream_at(g: Galley, number: usize) -> Stream
 pub extern "C" fn galley_probe_block(bytes: &[u8], number: usize, k: usize, out: &mut [u32; 5])
     ensures { out.new ≡ block_words bytes.now number k (galley_of bytes.now) }
 {
-    let reading = reading::read_galley(bytes);
-    let Reading::Galley(g) = reading else {
+    let Ok(g) = reading::read_galley(bytes) else {
         *out = [0; 5];
         return;
     };
@@ -105,8 +119,7 @@ pub extern "C" fn galley_probe_waiting(
 ) -> u32
     ensures { result ≡ waiting_of bytes.now number i j (galley_of bytes.now) }
 {
-    let reading = reading::read_galley(bytes);
-    let Reading::Galley(g) = reading else {
+    let Ok(g) = reading::read_galley(bytes) else {
         return 0;
     };
     let floats = stream_at(g, number);

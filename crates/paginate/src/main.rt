@@ -4,11 +4,9 @@
 ghost use Rattle.std.specs.Prelude.{◌+◌, ◌≤◌, ◌<◌, ◌≡◌, IfOk};
 ghost use Rattle.model.specs.Galley.{streams};
 ghost use Rattle.galley.specs.declared.Galley.{Galley};
-ghost use Rattle.galley.specs.declared.Reading.TheVariants as reads;
 ghost use Rattle.galley.specs.Whole.{galley_of};
 ghost use Rattle.galley.specs.Model.{model_of};
 
-use galley::Reading;
 use std::io;
 use std::io::Read;
 
@@ -16,15 +14,11 @@ use std::io::Read;
 fn words_of(galley: &[u8]) -> usize
     ensures { (2 ≤ result)
         × (result ≤ 3)
-        × ((g : Galley) → galley_of galley.now ≡ reads.Galley g → result ≡ streams (model_of galley.now g)) }
+        × ((g : Galley) → galley_of galley.now ≡ Ok g → result ≡ streams (model_of galley.now g)) }
 {
-    let reading = reading::read_galley(galley);
-    match reading {
-        Reading::Galley(g) => blocks::page_words(g),
-        Reading::Refused {
-            number: _n,
-            place: _p,
-        } => 2,
+    match reading::read_galley(galley) {
+        Ok(g) => blocks::page_words(g),
+        Err(_) => 2,
     }
 }
 
@@ -73,12 +67,11 @@ fn main(rt: HostRuntime) -> io::Result<()> {
     let mut work = [0u32; 10248];
     let mut list = [0u32; 400];
     let made = making::make(&input[..got], &mut work, &mut list);
-    let answer = made.answer;
-    let n = model::answer::numbers_of(answer);
-    if n.number == 0 {
-        println!(&rt; "{} {} {} {} {}", n.pages, n.x, n.y, n.turns, n.white)?;
-        print_pages(&rt, n.pages, &list, words_of(&input[..got]))
-    } else {
-        println!(&rt; "R {} {}", n.number, n.place)
+    match made.answer {
+        Ok(n) => {
+            println!(&rt; "{} {} {} {} {}", n.pages, n.x, n.y, n.turns, n.white)?;
+            print_pages(&rt, n.pages, &list, words_of(&input[..got]))
+        }
+        Err(refusal) => println!(&rt; "R {} {}", refusal.number, refusal.place),
     }
 }

@@ -1,13 +1,12 @@
 -- What is proved of every report, whatever the marks (document 02, S-12).
-use Rattle.std.specs.Prelude.{ℕ, zero, suc, ◌+◌, ◌-◌, ◌*◌, ◌^◌, ◌≤◌, ◌<◌, min, max, ◌≡◌, refl, Bool, true, false, List, [], ◌∷◌, ltb, length, Option}
+use Rattle.std.specs.Prelude.{ℕ, zero, suc, ◌+◌, ◌-◌, ◌*◌, ◌^◌, ◌≤◌, ◌<◌, min, max, ◌≡◌, refl, Bool, true, false, List, [], ◌∷◌, ltb, length, Option, Ok}
 use Rattle.std.proofs.Common.{le_refl, arith, sym, ◌∙◌, ltb-true, ltb-false}
 use Rattle.model.specs.Gather.{pick, sum}
 use Rattle.model.proofs.laws.Gather.{sum_add, sum_ext}
 use Rattle.report.specs.declared.Mark.{Mark}
 use Rattle.report.specs.declared.Totals.{Totals}
-use Rattle.report.specs.declared.Report.{Report}
-use Rattle.report.specs.declared.Report.TheVariants.{Summed, Refused}
-use Rattle.report.specs.Report.{paper, extreme, first, first_below, totals_of, answer_of, report_of, words_of}
+use Rattle.model.specs.Answers.{refused}
+use Rattle.report.specs.Report.{Report, paper, extreme, first, first_below, totals_of, answer_of, report_of, words_of}
 use Rattle.report.specs.laws.Extreme.{either, Reached, extreme_reached, extreme_bounds}
 use Rattle.report.specs.laws.First.{Fails, First, nowhere, somewhere, first_is}
 
@@ -35,11 +34,11 @@ pub record Exact (marks : List Mark) (n : ℕ) (f : Totals) : Type 0 where
 -- What a report says of the marks, case by case: they are more than 10,000; or a paper is below its engine, and none before it;
 -- or none is, and the totals are those of all papers and exact.
 pub data Reports (marks : List Mark) : Report → Type 0 where
-  too_many : 10000 < length marks → Reports marks (Refused 31 0)
+  too_many : 10000 < length marks → Reports marks (refused 31 0)
   below : {j : ℕ} → length marks ≤ 10000 → j < length marks → turns_of marks (suc j) < engine_of marks (suc j)
-      → NoneBelow marks j → Reports marks (Refused 32 (suc j))
+      → NoneBelow marks j → Reports marks (refused 32 (suc j))
   summed : length marks ≤ 10000 → NoneBelow marks (length marks) → Exact marks (length marks) (totals_of marks (length marks))
-      → Reports marks (Summed (totals_of marks (length marks)))
+      → Reports marks (Ok (totals_of marks (length marks)))
 
 -- The excesses and the engines' turns come to the papers' turns.
 excess_sum : (marks : List Mark) (n : ℕ) → NoneBelow marks n
@@ -75,7 +74,7 @@ report_exact marks = go (ltb 10000 n) refl (first_is n (λ k. ltb (turns_of mark
     n = length marks
 
     go : (b : Bool) → ltb 10000 n ≡ b → {o : Option ℕ} → First n (λ k. ltb (turns_of marks k) (engine_of marks k)) o
-        → Reports marks (pick b (Refused 31 0) (answer_of o (totals_of marks n)))
+        → Reports marks (pick b (refused 31 0) (answer_of o (totals_of marks n)))
     go true e h = too_many (ltb-true 10000 n e)
     go false e (nowhere none) = summed (ltb-false 10000 n e) (none_below marks n none) (exact marks n (none_below marks n none))
     go false e (somewhere {j} low holds none) =
@@ -92,7 +91,7 @@ unfolding report_of first_below first totals_of sum extreme
 no_papers_lem = refl
 
 -- After its number and its place a refusal has zeros throughout.
-pub refusal_zeros : (number place : ℕ) → words_of (Refused number place) ≡ number ∷ place ∷ zeros 9
+pub refusal_zeros : (number place : ℕ) → words_of (refused number place) ≡ number ∷ place ∷ zeros 9
 refusal_zeros number place = refl
 
 -- A sum over at most 10,000 papers of numbers of 32 bits is a number of 64 bits.

@@ -5,6 +5,7 @@ ghost use Rattle.std.specs.Prelude.{◌≡◌};
 ghost use Rattle.report.specs.Report.{report_of};
 
 use crate::tally::{Tally, Total};
+use model::answer::Refusal;
 
 pub mod tally;
 
@@ -34,29 +35,23 @@ pub struct Totals {
     pub count: Total,
 }
 
-#[derive(Clone, Copy)]
-pub enum Report {
-    Summed(Totals),
-    Refused { number: u32, place: Total },
-}
-
 // The report on marks of any number: 31 where they are too many, then 32 where a paper is below its engine.
 #[tactic(auto, unfolding(crate::specs::Report::report_of, crate::specs::Tally::tally_of, crate::specs::Report::totals_of), using(crate::specs::laws::Tally::tally_none, crate::specs::laws::Tally::none_within))]
-pub fn report_on(marks: &[Mark]) -> Report
+pub fn report_on(marks: &[Mark]) -> Result<Totals, Refusal>
     ensures { result ≡ report_of marks.now }
 {
     if 10000 < marks.len() {
-        return Report::Refused {
+        return Err(Refusal {
             number: 31,
             place: 0,
-        };
+        });
     }
     let mut tally = Tally::none();
     for mark in marks {
         tally.add(mark);
     }
     match tally.below {
-        Some(place) => Report::Refused { number: 32, place },
-        None => Report::Summed(tally.totals),
+        Some(place) => Err(Refusal { number: 32, place }),
+        None => Ok(tally.totals),
     }
 }

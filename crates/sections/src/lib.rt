@@ -5,14 +5,9 @@ ghost use Rattle.std.specs.Prelude.{◌≡◌, ◌≤◌, ◌++◌, length, drop
 ghost use Rattle.sections.specs.Folding.{start_of};
 ghost use Rattle.sections.specs.Answer.{is_size, Size, Answered};
 
-pub mod table; // table.rt: the numbers of all sections
+use model::answer::Refusal;
 
-// The answer to a request: two zeros, or the number and the place of a refusal.
-#[derive(Clone, Copy)]
-pub struct Reply {
-    pub number: u32,
-    pub place: u32,
-}
+pub mod table; // table.rt: the numbers of all sections
 
 // Whether there are sections of so many pages.
 fn is_size(size: u32) -> bool
@@ -44,21 +39,18 @@ fn copy_numbers(table: &[u8], numbers: &mut [u32])
 // A section's numbers in the table's order, in the first of the lent words; any other size is refused with 33, and nothing is
 // written.
 #[tactic(auto, unfolding(crate::specs::Answer::answer_of, crate::specs::Answer::numbers_after, crate::specs::Folding::part_of), using(crate::specs::laws::Size::size_facts, crate::specs::laws::Table::section_copied))]
-pub fn section(size: u32, numbers: &mut [u32; 64]) -> Reply
+pub fn section(size: u32, numbers: &mut [u32; 64]) -> Result<(), Refusal>
     ensures { Answered size numbers.old result numbers.new }
 {
     if !is_size(size) {
-        return Reply {
+        return Err(Refusal {
             number: 33,
             place: size,
-        };
+        });
     }
     let pages = size as usize;
     let start = start_of(pages);
     let table = table::numbers();
     copy_numbers(&table[start..start + pages], numbers);
-    Reply {
-        number: 0,
-        place: 0,
-    }
+    Ok(())
 }

@@ -1,9 +1,8 @@
 -- An answer as words: the six of document 01 in its order, number, place, p, X, Y, T; the count of what is weighed, its low word and its
 -- high word (document 02, S-5); and W (document 02, S-10).
 use Rattle.std.specs.Prelude.{ℕ, ◌/◌, ◌%◌, List, [], ◌∷◌}
-use Rattle.model.specs.declared.answer.Answer.{Answer}
 use Rattle.model.specs.declared.answer.Numbers.{Numbers}
-use Rattle.model.specs.Answers.{numbers_of}
+use Rattle.model.specs.Answers.{numbers_of, Answer}
 
 -- The low and the high word of a number of 64 bits.
 abbrev pub low : ℕ → ℕ

@@ -1,20 +1,17 @@
 -- A desk that is opened unrefused: its list in force is the opening one, and nothing is pending.
-use Rattle.std.specs.Prelude.{ℕ, zero, suc, ◌*◌, ◌/◌, ◌≤◌, Bool, true, false, ◌&&◌, List, [], ◌++◌, ◌≡◌, eqb, leb, length, replicate, Option, None, is_some, option_map}
+use Rattle.std.specs.Prelude.{ℕ, zero, suc, ◌*◌, ◌/◌, ◌≤◌, Bool, true, false, ◌&&◌, List, [], ◌++◌, ◌≡◌, eqb, leb, length, replicate, Option, None, is_some, option_map, Err, Ok}
 use Rattle.std.proofs.Common.{arith, ◌∙◌, leb-true, le-leb}
 use Rattle.std.proofs.Math.Path.{refl, sym, ap}
 use Rattle.std.proofs.Math.ListN.{take, drop, length-replicate}
 use Rattle.std.proofs.Math.Seq.{take_at}
-use Rattle.model.specs.declared.answer.Answer.TheVariants.{Refused}
 use Rattle.model.specs.Galley as model
-use Rattle.model.specs.Answers.{numbers_of, accepted, marked}
+use Rattle.model.specs.Answers.{numbers_of, accepted, marked, refused}
 use Rattle.model.specs.Gather.{pick, one}
 use Rattle.model.proofs.laws.Gather.{and_right, and_both}
 use Rattle.model.proofs.laws.Words.{counted_at}
 use Rattle.model.proofs.laws.Valid.{marked_accepted}
 use Rattle.galley.specs.declared.Galley.{Galley}
-use Rattle.galley.specs.declared.Reading.{Reading}
-use Rattle.galley.specs.declared.Reading.TheVariants as reads
-use Rattle.galley.specs.Whole.{galley_of}
+use Rattle.galley.specs.Whole.{galley_of, Reading}
 use Rattle.galley.specs.Model.{model_of}
 use Rattle.blocks.specs.laws.Counts.{streams_of_lem}
 use Rattle.marking.specs.Mark.{mark_read, mark_of}
@@ -48,18 +45,18 @@ unrefused bytes list lent = go (galley_of bytes)
     p = (numbers_of (mark_of bytes list)).pages
 
     told : Bool → Told
-    told b = pick b (record { desk = opened list p; answer = mark_of bytes list }) (record { desk = closed lent; answer = Refused 22 0 })
+    told b = pick b (record { desk = opened list p; answer = mark_of bytes list }) (record { desk = closed lent; answer = refused 22 0 })
 
     on : (b : Bool) → (accepted (mark_of bytes list) && leb p 64) ≡ b → accepted (told b).answer ≡ true → Opened bytes list (told b).desk
     on true e h = record { taken = h; few = leb-true p 64 (and_right (accepted (mark_of bytes list)) (leb p 64) e); desk = refl }
     on false e h = let z : ◌≡◌ {A = ℕ} 0 1 = cc in absurd (omega arith)
 
     go : (r : Reading) → accepted (open_read bytes list lent r).answer ≡ true → Opened bytes list (open_read bytes list lent r).desk
-    go (reads.Galley g) h = on (accepted (mark_of bytes list) && leb p 64) refl h
-    go (reads.Refused number place) h = let z : ◌≡◌ {A = ℕ} 0 1 = cc in absurd (omega arith)
+    go (Ok g) h = on (accepted (mark_of bytes list) && leb p 64) refl h
+    go (Err r) h = let z : ◌≡◌ {A = ℕ} 0 1 = cc in absurd (omega arith)
 
 -- On a galley that reads, the marking is that of its model,
-pub marks_model : (bytes : List ℕ) (G : Galley) → galley_of bytes ≡ reads.Galley G → (list : List ℕ)
+pub marks_model : (bytes : List ℕ) (G : Galley) → galley_of bytes ≡ Ok G → (list : List ℕ)
     → mark_of bytes list ≡ marked (model_of bytes G) list
 unfolding mark_of mark_read
 marks_model bytes G reading list = rw reading

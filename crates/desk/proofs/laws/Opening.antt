@@ -1,5 +1,5 @@
 -- What the marking's acceptance tells of a list that a desk is opened on.
-use Rattle.std.specs.Prelude.{ℕ, ◌*◌, ◌/◌, ◌≤◌, Bool, ◌&&◌, List, ◌≡◌, leb}
+use Rattle.std.specs.Prelude.{ℕ, ◌*◌, ◌/◌, ◌≤◌, Bool, ◌&&◌, List, ◌≡◌, leb, Err, Ok}
 use native.Mathlib.Omega.{arith}
 use Rattle.std.proofs.Math.Bool.{true, false}
 use Rattle.std.proofs.Math.Path.{refl}
@@ -14,9 +14,7 @@ use Rattle.model.proofs.laws.Gather.{and_left, and_right}
 use Rattle.model.proofs.laws.Words.{counted_at, length_pages}
 use Rattle.model.proofs.laws.Valid.{marked_accepted, marked_counts}
 use Rattle.galley.specs.declared.Galley.{Galley}
-use Rattle.galley.specs.declared.Reading.{Reading}
-use Rattle.galley.specs.declared.Reading.TheVariants as reads
-use Rattle.galley.specs.Whole.{galley_of}
+use Rattle.galley.specs.Whole.{galley_of, Reading}
 use Rattle.galley.specs.Model.{model_of}
 use Rattle.blocks.specs.laws.Counts.{streams_of_lem}
 use Rattle.marking.specs.Mark.{mark_read, mark_of}
@@ -48,10 +46,10 @@ accepted_whole bytes list = go (galley_of bytes)
     by_words g p false e = threes e
 
     go : (r : Reading) → accepted (mark_read bytes list r) ≡ true → Whole list (numbers_of (mark_read bytes list r)).pages
-    go (reads.Galley g) h =
+    go (Ok g) h =
         by_words g _ (eqb g.tables.count 0)
         (marked_long (model_of bytes g) list h ∙ ap (λ (k : ℕ). (numbers_of (marked (model_of bytes g) list)).pages * k) (streams_of_lem g bytes))
-    go (reads.Refused number place) h = let z : ◌≡◌ {A = ℕ} 0 1 = cc in absurd (omega arith)
+    go (Err r) h = let z : ◌≡◌ {A = ℕ} 0 1 = cc in absurd (omega arith)
 
 module _ (list : List ℕ) (pages : ℕ) where
   -- At most 64 pages have at most 192 words.

@@ -4,9 +4,8 @@ use Rattle.std.proofs.Common.{arith, sym, ap, subst, ◌∙◌}
 use Rattle.std.proofs.Math.Bool.{Bool}
 use mathlib.Core.List.{List, [], ◌∷◌, ◌++◌}
 use Rattle.std.proofs.Math.Path.{refl, subst⁻¹}
-use Rattle.model.specs.declared.answer.Answer.TheVariants.{Refused}
 use Rattle.model.specs.Galley.{Galley}
-use Rattle.model.specs.Answers.{accepted, pages_of, same, marked}
+use Rattle.model.specs.Answers.{accepted, pages_of, same, marked, refused}
 use Rattle.model.specs.Gather.{pick, one}
 use Rattle.model.proofs.laws.Valid.{same_true, same_refl}
 use Rattle.layouts.specs.Names.{is_name}
@@ -159,7 +158,7 @@ pub taken_lasts : (g : Galley) → Lasts g (λ list. accepted (marked g list) �
 unfolding tried
 taken_lasts g list page end was = go (leb 1 page && ltb page (length (pages_of g list)))
   where
-    go : (b : Bool) → accepted (pick b (marked g (other_end g list page end)) (Refused 23 page)) ≡ true
+    go : (b : Bool) → accepted (pick b (marked g (other_end g list page end)) (refused 23 page)) ≡ true
         → accepted (marked g (other_end g list page end)) ≡ true
     go true h = h
     go false h = let z : ◌≡◌ {A = ℕ} 0 1 = cc in absurd (omega arith)

@@ -8,10 +8,8 @@ use Rattle.std.proofs.Math.Path.{sym, ap, subst}
 use Rattle.std.proofs.Common.{◌∙◌}
 use Rattle.std.proofs.Math.ListN.{length}
 use borrow.Author.Tests.{leb-true, ltb-true}
-use Rattle.model.specs.declared.answer.Answer.{Answer}
-use Rattle.model.specs.declared.answer.Answer.TheVariants.{Refused}
 use Rattle.model.specs.Galley.{Galley, streams}
-use Rattle.model.specs.Answers.{accepted, pages_of, marked}
+use Rattle.model.specs.Answers.{accepted, pages_of, marked, Answer, refused}
 use Rattle.model.specs.Gather.{pick}
 use Rattle.model.proofs.laws.Gather.{and_left, and_right}
 use Rattle.model.proofs.laws.Words.{length_pages}
@@ -75,7 +73,7 @@ module _ (g : Galley) (n : ℕ) (d : Desk) (s : Sitting) (so : Stands g n d s) w
           told b = pick b (ask_marked d page (words_at end) (mark_of bytes (altered d page (words_at end)))) (ask_off d page)
 
           answer : Bool → Answer
-          answer b = pick b (marked g asked) (Refused 23 page)
+          answer b = pick b (marked g asked) (refused 23 page)
 
           next : Answer → Step
           next a = record { reply = Marking a; after = pend s (pick (accepted a) (Some asked) None) }

@@ -14,7 +14,7 @@ has : (c : Else-stream-k) (at : ℕ) → at ≤ 14
     → Has c.args.bytes.now c.stream_at-stream.result c.args.k at
 has c at inside =
     let a = c.args in
-    let read = sym c.read_galley-reading.ensures ∙ c.in-Galley.is in
+    let read = sym c.read_galley.ensures ∙ c.in-Ok.is in
     record {
       within = rw c.stream_at-stream.ensures (stream_sound a.bytes.now _ a.number (sound _ _ read)).0.within;
       low = c.if-k-lt1.false;

@@ -6,10 +6,10 @@ use Rattle.galley.proofs.laws.Sound.{sound}
 use Rattle.galley_probe.proofs.galley_probe_read.Goals as goal
 
 pub overflow_cast-out : goal.overflow_cast-out
-overflow_cast-out c = omega (arith, (sound _ _ (sym c.read_galley-reading.ensures ∙ c.in-Galley.is)).few_lines)
+overflow_cast-out c = omega (arith, (sound _ _ (sym c.read_galley.ensures ∙ c.in-Ok.is)).few_lines)
 
-pub overflow_cast-out-in-Galley : goal.overflow_cast-out-in-Galley
-overflow_cast-out-in-Galley c = omega (arith, (sound _ _ (sym c.read_galley-reading.ensures ∙ c.in-Galley.is)).figures.few)
+pub overflow_cast-out-in-Ok : goal.overflow_cast-out-in-Ok
+overflow_cast-out-in-Ok c = omega (arith, (sound _ _ (sym c.read_galley.ensures ∙ c.in-Ok.is)).figures.few)
 
-pub overflow_cast-out-in-Galley-2 : goal.overflow_cast-out-in-Galley-2
-overflow_cast-out-in-Galley-2 c = omega (arith, (sound _ _ (sym c.read_galley-reading.ensures ∙ c.in-Galley.is)).tables.few)
+pub overflow_cast-out-in-Ok-2 : goal.overflow_cast-out-in-Ok-2
+overflow_cast-out-in-Ok-2 c = omega (arith, (sound _ _ (sym c.read_galley.ensures ∙ c.in-Ok.is)).tables.few)

@@ -19,7 +19,7 @@ fine : (c : After-stream_at-floats)
 fine c =
     let a = c.args in
     rw c.stream_at-floats.ensures
-    (stream_sound a.bytes.now _ a.number (sound _ _ (sym c.read_galley-reading.ensures ∙ c.in-Galley.is)))
+    (stream_sound a.bytes.now _ a.number (sound _ _ (sym c.read_galley.ensures ∙ c.in-Ok.is)))
 
 pub returns-then-floats-j : goal.returns-then-floats-j
 unfolding waiting_of
@@ -27,7 +27,7 @@ returns-then-floats-j c =
     let a = c.args in
     let none = waits_end (floats_of a.bytes.now c.stream_at-floats.result) a.i a.j (omega (arith, c.if-floats-j.true)) in
     simp (
-      sym c.read_galley-reading.ensures ∙ c.in-Galley.is,
+      sym c.read_galley.ensures ∙ c.in-Ok.is,
       ← c.stream_at-floats.ensures,
       none,
     )
