@@ -5,6 +5,8 @@ import re
 USE = re.compile(r'^\s*(?:pub )?(?:ghost )?use\s+([^\s{;]+?)(?:(?:\.|::)\{(.*?)\})?(?: as ([^\s;]+))?;?\s*$', re.S)
 SIGNATURE = re.compile(r'^(\s*)(?:unfoldable |abbrev |pub )*((?:record|data) )?([^\s(){}:,;]+)((?: [({].*)?) ?:(?: |$)')
 CRATE_PATH = re.compile(r'Rattle\.([^.]+)\.(.*)$')
+ATTRIBUTE = re.compile(r'^\s*#\[tactic\((.*)\)\]\s*$')
+CITED = re.compile(r'(\w+)((?:::\w+)+)::(\w+)')
 WORD = re.compile(r'[^\s(){}\[\],;«»]+')
 KEYWORDS = {'module', 'mod', 'open', 'let', 'in', 'where', 'λ', 'elim', 'record', 'data', 'unfolding'}
 
@@ -49,6 +51,11 @@ class Source:
                 pairs = [tuple(p.strip() for p in name.split(' as ')) for name in (names or '').split(',') if name.strip()]
                 self.uses.append(Use(path, [(p[0], p[-1]) for p in pairs], alias, first + 1))
                 line = ''
+            attribute = ATTRIBUTE.match(line) if self.is_code else None
+            if attribute: # the laws and definitions that a function's attribute names, by their paths
+                for crate, modules, name in CITED.findall(attribute.group(1)):
+                    path = f'Rattle.{self.crate if crate == "crate" else crate}{modules.replace("::", ".")}'
+                    self.uses.append(Use(path, [(name, name)], None, first + 1))
             self.lines += [line] + [''] * (at - first)
             at += 1
 

@@ -2,31 +2,24 @@
 ghost use Rattle.std.specs.Prelude.{◌≡◌};
 ghost use Rattle.places.specs.Address.{address, Stands};
 ghost use Rattle.places.specs.Best.{Affordable};
-ghost use Rattle.candidates.specs.Better.{no_later, beats, wins, chosen, Later, start_at, taken};
+ghost use Rattle.candidates.specs.Better.{beats, wins, chosen, Later, start_at, taken};
 
 use places::{Entry, Least, Place};
 
-// Whether the start s is no later than r.
-fn no_later(r: Place, s: Place) -> bool
-    ensures { result ≡ no_later r s }
+// Whether a start is better than another, or is it. Both tests are made, and no branch depends on them.
+fn beats(y: Least, x: Least) -> bool
+    ensures { result ≡ beats y.cost y.start x.cost x.start }
 {
-    (s.line < r.line) | ((s.line == r.line) & (s.column <= r.column))
+    (y.cost < x.cost) | ((y.cost <= x.cost) & (x.start <= y.start))
 }
 
-// Whether r at cost y is better than s at cost x, or is s.
-fn beats(y: u64, r: Place, x: u64, s: Place) -> bool
-    ensures { result ≡ beats y r x s }
-{
-    places::less(y, x) | (!places::less(x, y) & no_later(r, s))
-}
-
-// Whether the start r at cost y is better than an entry, or is its start.
-fn wins(y: u64, r: Place, held: Entry) -> bool
-    ensures { result ≡ wins y r held }
+// Whether a start is better than an entry, or is its start.
+fn wins(y: Least, held: Entry) -> bool
+    ensures { result ≡ wins y.cost y.start held }
 {
     match held {
         None => true,
-        Some(x) => beats(y, r, x.cost, x.start),
+        Some(x) => beats(y, x),
     }
 }
 
@@ -37,7 +30,7 @@ pub fn choose(held: Entry, other: Entry) -> Entry
     let Some(y) = other else {
         return held;
     };
-    if wins(y.cost, y.start, held) {
+    if wins(y, held) {
         return other;
     }
     held
@@ -54,7 +47,7 @@ pub fn choose_later(held: Entry, other: Entry) -> Entry
     let Some(x) = held else {
         return other;
     };
-    if places::less(x.cost, y.cost) {
+    if x.cost < y.cost {
         return held;
     }
     other
@@ -68,7 +61,7 @@ pub fn start_at(entry: Entry, place: Place, white: u32) -> Entry
 {
     let x = entry?;
     Some(Least {
-        cost: x.cost + white as u64,
+        cost: x.cost + u64::from(white),
         start: place,
     })
 }
@@ -82,7 +75,7 @@ pub fn offer(work: &mut [u32], tall: usize, place: Place, side: usize, other: En
         return;
     };
     let held = places::entry_of(work, tall, place, side);
-    if wins(y.cost, y.start, held) {
+    if wins(y, held) {
         places::store(work, tall, place, side, other);
     }
 }

@@ -16,12 +16,10 @@ fn best_line(work: &[u32], tall: usize, column: usize, side: usize, window: Wind
     ensures { Best (Lines (lines_of work.now tall column side) (λ a. 0) window.low window.high column) result }
 {
     let mut best: Entry = None;
-    let mut a = window.low;
-    while a < window.high {
+    for a in window.low..window.high {
         let place = places::place_of(a, column);
         let entry = places::entry_of(work, tall, place, side);
         best = crate::choice::choose(best, crate::choice::start_at(entry, place, 0));
-        a += 1;
     }
     best
 }

@@ -12,26 +12,8 @@ pub record Alike (bytes bytes' : List ℕ) : Type 0 where
 
 -- A specification with h for its htMin and all else as it is,
 abbrev pub spec_with : ℕ → Spec → Spec
-spec_with h s =
-    record {
-      htmin = h;
-      htmax = s.htmax;
-      smin = s.smin;
-      smax = s.smax;
-      sides = s.sides;
-      alpha = s.alpha;
-      beta = s.beta;
-      edition = s.edition;
-      lastmin = s.lastmin;
-    }
+spec_with h s = record s { htmin = h }
 
 -- and a galley that was read with it.
 abbrev pub with_htmin : ℕ → Galley → Galley
-with_htmin h g =
-    record {
-      spec = spec_with h g.spec;
-      folio = g.folio;
-      text = g.text;
-      figures = g.figures;
-      tables = g.tables;
-    }
+with_htmin h g = record g { spec = spec_with h g.spec }

@@ -30,47 +30,15 @@ beginning = record { stage = nothing; count = 0; last = 0; at = 0; folio = 1; fi
 abbrev pub moved : Sofar → Kind → Sofar
 moved so kind =
     let same = eqb kind.stage so.stage in
-    record {
-      stage = kind.stage;
-      count = pick same (so.count + 1) 1;
-      last = pick same so.last 0;
-      at = so.at + kind.size;
-      folio = so.folio;
-      first = so.first;
-      lines = so.lines;
-      figures = so.figures;
-      tables = so.tables;
-    }
+    record so { stage = kind.stage; count = pick same (so.count + 1) 1; last = pick same so.last 0; at = so.at + kind.size }
 
 -- So far with these counts, and this line cited last.
 abbrev pub counting : Sofar → ℕ → ℕ → ℕ → ℕ → Sofar
-counting so lines figures tables last =
-    record {
-      stage = so.stage;
-      count = so.count;
-      last = last;
-      at = so.at;
-      folio = so.folio;
-      first = so.first;
-      lines = lines;
-      figures = figures;
-      tables = tables;
-    }
+counting so lines figures tables last = record so { last = last; lines = lines; figures = figures; tables = tables }
 
 -- A specification or a first folio (document 02, S-1) more: the text is still to come, after it.
 abbrev pub with_folio : Sofar → ℕ → Sofar
-with_folio so f =
-    record {
-      stage = so.stage;
-      count = so.count;
-      last = so.last;
-      at = so.at;
-      folio = f;
-      first = so.at;
-      lines = so.lines;
-      figures = so.figures;
-      tables = so.tables;
-    }
+with_folio so f = record so { folio = f; first = so.at }
 
 -- A line more, or a figure or a table, whose citation is the last.
 abbrev pub with_line : Sofar → Sofar

@@ -1,5 +1,5 @@
 // The loop over pages.
-ghost use Rattle.std.specs.Prelude.{◌≡◌, ◌+◌, ◌≤◌, length};
+ghost use Rattle.std.specs.Prelude.{◌≡◌, ◌+◌, ◌≤◌, length, unwrap_or};
 ghost use Rattle.galley.specs.Model.{model_of};
 ghost use Rattle.galley.specs.Sound.{Sound};
 ghost use Rattle.blocks.specs.Counts.{page_words, counts_in};
@@ -38,11 +38,11 @@ pub struct Kept {
     pub sums: Sums,
 }
 
-// The pages of a list judged, of which page number `last` counts as the last of its list: none does where that is 0. The first page that
-// breaks a rule refuses them, by the first of 13 to 17 that it breaks.
-pub fn judge_pages(s: &[u8], g: Galley, list: &[u32], last: usize) -> Result<Kept, Refusal>
+// The pages of a list judged, of which page number `last`, if there is one, counts as the last of its list. The first page that breaks a
+// rule refuses them, by the first of 13 to 17 that it breaks.
+pub fn judge_pages(s: &[u8], g: Galley, list: &[u32], last: Option<usize>) -> Result<Kept, Refusal>
     requires { WholePages s.now g list.now }
-    ensures { JudgedPages s.now g list.now last result }
+    ensures { JudgedPages s.now g list.now (unwrap_or last 0) result }
 {
     let words = blocks::page_words(g);
     let mut at = Counts::default();
@@ -66,7 +66,7 @@ pub fn judge_pages(s: &[u8], g: Galley, list: &[u32], last: usize) -> Result<Kep
             laid = laying::with_next(s, g, at, v, laid);
         }
         let loose = laid.heights.loose;
-        let closing = done + 1 == last;
+        let closing = last == Some(done + 1);
         if let Some(number) = judging::end_fault(s, g, loose, Page(place), closing, v) {
             return Err(Refusal { number, place });
         }
@@ -82,7 +82,7 @@ fn judge_list(s: &[u8], g: Galley, list: &[u32], pages: usize) -> Answer
     requires { CountedPages s.now g list.now pages }
     ensures { result ≡ marked (model_of s.now g) list.now }
 {
-    let Kept { at, sums } = judge_pages(s, g, list, pages)?;
+    let Kept { at, sums } = judge_pages(s, g, list, Some(pages))?;
     counting::finish(g, pages as u32, at, sums)
 }
 

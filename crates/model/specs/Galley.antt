@@ -40,21 +40,7 @@ pub record Galley : Type 0 where
 
 -- The galley with these for its htMin, its sidedness and its lastMin, and all else as it is (notation).
 abbrev pub respecified : ℕ → Sides → ℕ → Galley → Galley
-respecified htmin sides lastmin g =
-    record {
-      spec = record {
-        htmin = htmin;
-        htmax = g.spec.htmax;
-        smin = g.spec.smin;
-        smax = g.spec.smax;
-        sides = sides;
-        alpha = g.spec.alpha;
-        beta = g.spec.beta;
-        lastmin = lastmin;
-      };
-      floats = g.floats;
-      stream = g.stream;
-    }
+respecified htmin sides lastmin g = record g { spec = record g.spec { htmin = htmin; sides = sides; lastmin = lastmin } }
 
 -- A place: how many blocks of each stream are placed so far, the lines first (document 01, "One page").
 abbrev pub Place : Type 0

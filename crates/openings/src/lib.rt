@@ -48,7 +48,7 @@ pub fn judge_opening(s: &[u8], g: Galley, opening: &[u32]) -> Result<Ends, Refus
         return refused(20, 0);
     }
     let pages = opening.len() / words;
-    match marking::pages::judge_pages(s, g, opening, 0) {
+    match marking::pages::judge_pages(s, g, opening, None) {
         Ok(Kept { at, sums }) => opening_end(g, pages as u32, at, sums),
         Err(Refusal { number: _, place }) => refused(20, place),
     }

@@ -39,13 +39,8 @@ fn bound_lines(work: &[u32], words: &mut [u32], source: Source, since: usize, li
         let place = places::place_of(a, source.column);
         let entry = places::entry_of(work, source.tall, place, source.side);
         least = lesser(least, entry);
-        window::rows::push(
-            words,
-            a + 12000,
-            place.line,
-            places::low_of(least),
-            places::high_of(least),
-        );
+        let row = [place.line, places::low_of(least), places::high_of(least)];
+        window::rows::put(words, a + 12000, row);
     }
 }
 

@@ -173,7 +173,7 @@ fn last_line(s: &[u8], g: Galley, work: &mut [u32], sums: &[u32], c: usize, pass
 }
 
 // The starts of a pass weighed for every line of the column on every side that occurs. Where no line of their column is reached there
-// are none.
+// are none: no row asks for such a pass, but what is promised of one may not change (`still` of SweepDone).
 pub fn sweep(s: &[u8], g: Galley, work: &mut [u32], sums: &[u32], words: &mut [u32], pass: Pass)
     requires { Sweep s.now g work.old sums.now words.old pass }
     ensures { SweepDone s.now g work.old work.new pass }

@@ -4,9 +4,9 @@
 // in two words, the low one first, and the line and column that the page starts at. Places stand column by column.
 #![tactic(auto)]
 
-ghost use Rattle.std.specs.Prelude.{◌≡◌, ◌+◌, ◌≤◌, [], ◌∷◌, length, take, replicate};
+ghost use Rattle.std.specs.Prelude.{◌≡◌, ◌+◌, ◌≤◌, length, take, replicate};
 ghost use Rattle.std.proofs.lemmas.List.Edits.{sets};
-ghost use Rattle.places.specs.Entry.{less, low_of, high_of, joined, entry_at, stored, cleared};
+ghost use Rattle.places.specs.Entry.{low_of, high_of, joined, entry_at, stored, cleared};
 ghost use Rattle.places.specs.Address.{address, words_needed, Inside, Small, Limited, Stands};
 ghost use Rattle.places.specs.Table.{table_of};
 
@@ -20,7 +20,7 @@ pub struct Place {
 
 // The least cost of a place, with the side of the page ending there; with the cost goes the start of that page. A cost is one
 // number: turns by 2³², and white, so that turns decide and then white.
-#[derive(Clone, Copy)]
+#[derive(Clone, Copy, PartialEq, Eq)]
 pub struct Least {
     pub cost: u64,
     pub start: Place,
@@ -31,6 +31,9 @@ pub type Entry = Option<Least>;
 
 // A limit that no list passes: the dearest costs 1,066,499,000 turns and 424,900,000 of white.
 pub const BOUNDLESS: u64 = 4600000000000000000;
+
+// What the high word of a cost counts.
+const WORD: u64 = 4294967296;
 
 // Where a search begins: the place, the pages before it, and what they cost; and how far it goes: what the pages after it may cost in all
 // to be looked for.
@@ -53,32 +56,25 @@ pub fn place_of(line: usize, column: usize) -> Place
     }
 }
 
-// Whether the cost x is less than y.
-pub fn less(x: u64, y: u64) -> bool
-    ensures { result ≡ less x y }
-{
-    x < y
-}
-
 // The low word of a cost.
 pub fn low_of(cost: u64) -> u32
     ensures { result ≡ low_of cost }
 {
-    (cost % 4294967296) as u32
+    (cost % WORD) as u32
 }
 
 // Its high word.
 pub fn high_of(cost: u64) -> u32
     ensures { result ≡ high_of cost }
 {
-    (cost / 4294967296) as u32
+    (cost / WORD) as u32
 }
 
 // The cost of these two words.
 pub fn joined(low: u32, high: u32) -> u64
     ensures { result ≡ joined low high }
 {
-    high as u64 * 4294967296 + low as u64
+    u64::from(high) * WORD + u64::from(low)
 }
 
 // Where the five words start of a place on a side, in columns of `tall` places.
@@ -114,16 +110,14 @@ pub fn entry_of(work: &[u32], tall: usize, place: Place, side: usize) -> Entry
     entry_at(work, address_of(tall, place, side))
 }
 
-// Five words written from `at` on.
-fn put(work: &mut [u32], at: usize, tag: u32, cost: u64, start: Place)
-    requires { at + 5 ≤ length work.old }
-    ensures { work.new ≡ sets work.old at (tag ∷ low_of cost ∷ high_of cost ∷ start.line ∷ start.column ∷ []) }
+// So many words written from `at` on.
+pub fn put<const N: usize>(words: &mut [u32], at: usize, row: [u32; N])
+    requires { at + N ≤ length words.old }
+    ensures { words.new ≡ sets words.old at row.entry }
 {
-    work[at] = tag;
-    work[at + 1] = low_of(cost);
-    work[at + 2] = high_of(cost);
-    work[at + 3] = start.line;
-    work[at + 4] = start.column;
+    for k in 0..N {
+        words[at + k] = row[k];
+    }
 }
 
 // The entry of a place on a side stored.
@@ -133,8 +127,11 @@ pub fn store(work: &mut [u32], tall: usize, place: Place, side: usize, entry: En
 {
     let at = address_of(tall, place, side);
     match entry {
-        None => put(work, at, 0, 0, Place { line: 0, column: 0 }),
-        Some(least) => put(work, at, 1, least.cost, least.start),
+        None => put(work, at, [0; 5]),
+        Some(Least { cost, start }) => {
+            let words = [1, low_of(cost), high_of(cost), start.line, start.column];
+            put(work, at, words);
+        }
     }
 }
 
@@ -143,11 +140,7 @@ pub fn clear(work: &mut [u32], from: usize, n: usize)
     requires { (from ≤ n) × (n ≤ length work.old) × (take from work.old ≡ replicate from 0) }
     ensures { work.new ≡ cleared n work.old }
 {
-    let mut i = from;
-    while i < n {
-        work[i] = 0;
-        i += 1;
-    }
+    work[from..n].fill(0);
 }
 
 // The words that a galley of so many lines and columns needs.

@@ -1,5 +1,4 @@
 -- The laws of the queues.
-pub mod Run
 pub mod Held
 pub mod Pushed
 pub mod Front

@@ -1,17 +1,25 @@
 -- The two parts of a window, each with its queue: the starts of full pages, which have no white, and those of the others, whose white is
 -- what they lack of htMax (document 02, S-10).
-use Rattle.std.specs.Prelude.{ℕ, ◌+◌, ◌-◌, ◌*◌, ◌≤◌, ◌<◌, ◌≡◌, true, false, List, [], ◌∷◌, length, get_or, ltb, None, Some}
+use Rattle.std.specs.Prelude.{ℕ, ◌+◌, ◌-◌, ◌*◌, ◌≤◌, ◌<◌, ◌≡◌, true, false, List, [], ◌∷◌, length, get_or, max, Bool, None, Some}
 use Rattle.std.proofs.lemmas.List.Edits.{sets}
-use Rattle.model.specs.Gather.{pick}
 use Rattle.places.specs.declared.Place.{Place}
 use Rattle.places.specs.Entry.{Entry, least}
 use Rattle.places.specs.Address.{Stands}
 use Rattle.window.specs.declared.slide.Window.{Window}
 use Rattle.queues.specs.declared.queue.Source.{Source}
+use Rattle.queues.specs.declared.queue.Queue.{Queue}
 use Rattle.queues.specs.declared.parts.Parts.{Parts}
 use Rattle.window.specs.Rows.{Beside}
 use Rattle.window.specs.Slide.{Rises}
 use Rattle.queues.specs.Queue.{line_at, added_of, lines_in, Held, Payable}
+
+-- A queue from `base` on, whose head and tail are the words from `at` on.
+abbrev pub queue_at : List ℕ → ℕ → ℕ → Bool → Queue
+queue_at ends at base lacks = record { base = base; head = get_or ends at 0; tail = get_or ends (at + 1) 0; lacks = lacks }
+
+-- A queue of no line.
+abbrev pub emptied : ℕ → Bool → Queue
+emptied base lacks = record { base = base; head = base; tail = base; lacks = lacks }
 
 -- The queues of side c: each has the room of 4,000 entries, and their heads and tails stand as row c of `ends`.
 abbrev pub parts_of : List ℕ → ℕ → Parts
@@ -33,13 +41,9 @@ no_parts =
       rest = record { base = 4000; head = 4000; tail = 4000; lacks = true };
     }
 
--- The later of two lines.
-unfoldable pub later : ℕ → ℕ → ℕ
-later a b = pick (ltb a b) b a
-
 -- Where the part of the pages with white starts: from there on they are neither full nor too tall.
 abbrev pub rest_from : Window → ℕ
-rest_from window = later window.low window.split
+rest_from window = max window.low window.split
 
 -- Both queues lie from `base` on, and hold the parts of the window.
 pub record Both (col : ℕ → Entry) (sums words : List ℕ) (base : ℕ) (parts : Parts) (window : Window) : Type 0 where

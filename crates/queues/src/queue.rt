@@ -41,15 +41,12 @@ fn drop_dearer(words: &[u32], head: usize, tail: usize, x: u64) -> usize
     requires { Entries words.now head tail }
     ensures { Dropped words.now head tail x result }
 {
-    let mut t = tail;
-    while head < t {
-        let last = t - 1;
-        if places::less(places::joined(words[3 * last + 1], words[3 * last + 2]), x) {
-            return t;
+    for k in (head..tail).rev() {
+        if places::joined(words[3 * k + 1], words[3 * k + 2]) < x {
+            return k + 1;
         }
-        t = last;
     }
-    t
+    head
 }
 
 // The head after lines before `low` are dropped from the front.
@@ -57,14 +54,12 @@ fn drop_passed(words: &[u32], head: usize, tail: usize, low: usize) -> usize
     requires { Entries words.now head tail }
     ensures { Passed words.now head tail low result }
 {
-    let mut h = head;
-    while h < tail {
+    for h in head..tail {
         if low <= words[3 * h] as usize {
             return h;
         }
-        h += 1;
     }
-    h
+    tail
 }
 
 // The tail after the lines of the source from `from` on and before `to` are offered as starts.
@@ -81,24 +76,17 @@ fn feed(
     ensures { Fed work.now sums.now words.old source queue from to result words.new }
 {
     let mut tail = queue.tail;
-    let mut a = from;
-    while a < to {
+    for a in from..to {
         let place = places::place_of(a, source.column);
         let entry = places::entry_of(work, source.tall, place, source.side);
         let more = added(sums, queue.lacks, a);
-        a += 1;
         let Some(found) = entry else {
             continue;
         };
-        let cost = found.cost + more as u64;
+        let cost = found.cost + u64::from(more);
         tail = drop_dearer(words, queue.head, tail, cost);
-        window::rows::push(
-            words,
-            tail,
-            place.line,
-            places::low_of(cost),
-            places::high_of(cost),
-        );
+        let row = [place.line, places::low_of(cost), places::high_of(cost)];
+        window::rows::put(words, tail, row);
         tail += 1;
     }
     tail
@@ -121,10 +109,9 @@ pub fn advance(
     let tail = feed(work, sums, words, source, queue, from, high);
     let head = drop_passed(words, queue.head, tail, low);
     Queue {
-        base: queue.base,
         head,
         tail,
-        lacks: queue.lacks,
+        ..queue
     }
 }
 

@@ -11,7 +11,8 @@ pub fn hint_of(column: usize, first: usize, last: usize) -> u32
     (column as u32 + 1) * 262144 + first as u32 / 8 * 512 + (last as u32 + 7) / 8
 }
 
-// One more than the number of the column that a word names: the word 0 names none.
+// One more than the number of the column that a word names: the word 0 names none. It is a number and no Option, since it is the first
+// column that a ring covers once the word is dropped.
 pub fn name_of(hint: u32) -> usize
     ensures { result ≡ hint_name hint }
 {

@@ -3,7 +3,5 @@ pub mod Columns
 pub mod Count
 pub mod From
 pub mod Lines
-pub mod Known
 pub mod Pairs
-pub mod Part
 pub mod Past

@@ -1,21 +1,22 @@
--- The counts of pairs that are known: rows of three words.
-use Rattle.std.specs.Prelude.{ℕ, ◌+◌, ◌*◌, ◌≤◌, ◌<◌, ◌≡◌, List, length, get_or}
-use Rattle.model.specs.Galley.{Stream}
-use Rattle.window.specs.Sums.{Sums}
-use Rattle.weighing.specs.Lines.{line_pairs}
+-- The counts of pairs that are known: tallies of what leaves them as they are.
+use Rattle.std.specs.Prelude.{ℕ, ◌≤◌, ◌<◌, ◌≡◌, Some, IfSome, List, length}
+use Rattle.std.specs.List.{All, Contains}
+use Rattle.weighing.specs.declared.lines.Tally.{Tally}
+use Rattle.weighing.specs.declared.known.Known.{Known}
+use Rattle.weighing.specs.Lines.{Same}
 
--- A row after the first has r for so much beside the lines.
-pub record Covers (known : List ℕ) (beside r : ℕ) : Type 0 where
-  pub at : ℕ
-  pub some : 1 ≤ at
-  pub inside : at < 128
-  pub from : get_or known (3 * at) 0 ≤ beside
-  pub end : beside < get_or known (3 * at + 1) 0
-  pub pairs : get_or known (3 * at + 2) 0 ≡ r
+-- A row tells the pairs for so much beside the lines.
+pub record Covers (known : Known) (beside : ℕ) (row : Tally) : Type 0 where
+  pub told : Contains known.rows (Some row)
+  pub from : row.from ≤ beside
+  pub end : beside < row.end
 
--- What every row after the first says is so.
-pub record Knows (sums known : List ℕ) (m first limit : ℕ) : Type 0 where
-  pub sized : length known ≡ 384
-  pub few : (k : ℕ) → 1 ≤ k → k < 128 → get_or known (3 * k + 2) 0 ≤ 16004000
-  pub right : (k b : ℕ) → 1 ≤ k → k < 128 → get_or known (3 * k) 0 ≤ b → b < get_or known (3 * k + 1) 0 → (st : Stream) → Sums st m sums
-      → get_or known (3 * k + 2) 0 ≡ line_pairs st first b limit m
+-- There are as many rows as can be told apart, and the next is one of them.
+pub record Writable (known : Known) : Type 0 where
+  pub sized : length known.rows ≡ 127
+  pub next : known.next < 127
+
+-- What every row says is so.
+pub record Knows (sums : List ℕ) (known : Known) (m first limit : ℕ) : Type 0 where
+  pub writable : Writable known
+  pub right : All (λ row. IfSome row (Same sums m first limit)) known.rows

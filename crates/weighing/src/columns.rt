@@ -6,48 +6,19 @@ ghost use Rattle.model.specs.Weighed.{weighed_from};
 ghost use Rattle.galley.specs.Model.{model_of};
 ghost use Rattle.blocks.specs.Counts.{place_of};
 ghost use Rattle.window.specs.Sums.{Sums};
-ghost use Rattle.weighing.specs.Count.{pairs_between, Weighable, Between, nothing, with_one_more, Extendable, CountableColumn, ColumnCounted, KnownOf};
+ghost use Rattle.weighing.specs.Count.{pairs_between, Weighable, Between, CountableColumn, ColumnCounted, KnownOf};
 
+use crate::known::Known;
 use blocks::Counts;
 use blocks::heights::Heights;
-use galley::{Galley, Stream};
-
-// What pages that end in a column have of a stream of floats: so many stand before where the pages start, and those from there to the end
-// have these heights.
-#[derive(Clone, Copy)]
-struct Part {
-    from: usize,
-    heights: Heights,
-}
-
-// Nothing, where as many are placed at the start as at the end.
-fn nothing(end: usize) -> Part
-    ensures { result ≡ nothing end }
-{
-    Part {
-        from: end,
-        heights: Heights { tight: 0, loose: 0 },
-    }
-}
-
-// The part with one float more: the one before.
-fn with_one_more(s: &[u8], stream: Stream, part: Part, end: usize) -> Part
-    requires { Extendable s.now stream part end }
-    ensures { result ≡ with_one_more s.now stream part end }
-{
-    let from = part.from - 1;
-    Part {
-        from,
-        heights: blocks::heights::block_before(s, stream, part.heights, from, end),
-    }
-}
+use galley::Galley;
 
 // The pages from a column to another whose floats between are so high alone, none where that is too tall; without floats between, within
 // a column. They start at line `first` or past it.
 fn pairs_between(
     g: Galley,
     sums: &[u32],
-    known: &mut [u32],
+    known: &mut Known,
     first: usize,
     floats: u32,
     some: bool,
@@ -68,46 +39,38 @@ fn pairs_between(
     crate::known::pairs_beside(sums, known, lines, first, 0, g.spec.htmax)
 }
 
-// The pages that end in column q, by the columns where they start, from its own back: a table more on the page each time, back to the
-// tables placed first or until the floats are too tall alone; then a figure more, and again no table.
-fn pairs_into(s: &[u8], g: Galley, sums: &[u32], known: &mut [u32], first: Counts, q: usize) -> u64
+// The pages that end in column q, by the columns where they start, from its own back: row by row to the figures placed first, and in a row a
+// table more on the page each time, to the tables placed first or until the floats are too tall alone.
+fn pairs_into(s: &[u8], g: Galley, sums: &[u32], known: &mut Known, first: Counts, q: usize) -> u64
     requires { CountableColumn s.now g sums.now first q × KnownOf g sums.now first.lines known.old }
     ensures { ColumnCounted s.now g first q result × KnownOf g sums.now first.lines known.new }
 {
     let end = candidates::read::counts_at(g, 0, q);
-    if (end.figures < first.figures) | (end.tables < first.tables) {
-        return 0;
-    }
     let mut pairs: u64 = 0;
-    let mut figures = nothing(end.figures);
-    loop {
-        let figured = figures.from < end.figures;
-        let mut tables = nothing(end.tables);
-        // Where figures alone are too tall, so are they with one more.
-        let bare = loop {
-            let tabled = tables.from < end.tables;
-            let floats = starts::sweep::floats_alone(
-                g,
-                figures.heights,
-                tables.heights,
-                figured & tabled,
-            );
+    let mut figures = Heights { tight: 0, loose: 0 };
+    for b in (first.figures..end.figures + 1).rev() {
+        figures = blocks::heights::block_before(s, g.figures, figures, b, end.figures);
+        let mut tables = Heights { tight: 0, loose: 0 };
+        for t in (first.tables..end.tables + 1).rev() {
+            tables = blocks::heights::block_before(s, g.tables, tables, t, end.tables);
+            let figured = b < end.figures;
+            let tabled = t < end.tables;
+            let floats = starts::sweep::floats_alone(g, figures, tables, figured & tabled);
             pairs += pairs_between(g, sums, known, first.lines, floats.tight, figured | tabled);
-            let tall = g.spec.htmax < floats.tight;
-            if tall | (tables.from <= first.tables) {
-                break tall & (end.tables <= tables.from);
+            if g.spec.htmax < floats.tight {
+                // Where figures alone are too tall, so are they with one more.
+                if end.tables <= t {
+                    return pairs;
+                }
+                break;
             }
-            tables = with_one_more(s, g.tables, tables, end.tables);
-        };
-        if bare | (figures.from <= first.figures) {
-            return pairs;
         }
-        figures = with_one_more(s, g.figures, figures, end.figures);
     }
+    pairs
 }
 
 // All pages that start at or past what is placed first.
-pub fn all_pairs(s: &[u8], g: Galley, sums: &[u32], known: &mut [u32], first: Counts) -> u64
+pub fn all_pairs(s: &[u8], g: Galley, sums: &[u32], known: &mut Known, first: Counts) -> u64
     requires { Weighable s.now g sums.now first × KnownOf g sums.now first.lines known.old }
     ensures { result ≡ weighed_from (model_of s.now g) (place_of g first) }
 {

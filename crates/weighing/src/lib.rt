@@ -22,9 +22,9 @@ pub fn weighed(s: &[u8], g: Galley, first: Counts) -> u64
     requires { (Sound s.now g) × (Within g first) }
     ensures { result ≡ weighed_from (model_of s.now g) (place_of g first) }
 {
-    // Three words to a line, for 4,000 lines and one before and one after them; and for counts that are known, 127 of them.
+    // Three words to a line, for 4,000 lines and one before and one after them.
     let mut sums = [0u32; 12006];
-    let mut known = [0u32; 384];
     window::sums::gather(s, g.text, &mut sums);
+    let mut known = known::Known::nothing();
     crate::columns::all_pairs(s, g, &sums, &mut known, first)
 }

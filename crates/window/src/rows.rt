@@ -1,14 +1,14 @@
-// Rows of three words in a slice: the sums of a line, the ends of a window, or an entry of a queue.
+// Rows of words in a slice: the sums of a line, the ends of a window, or an entry of a queue.
 ghost use Rattle.std.specs.Prelude.{◌≡◌, ◌+◌, ◌*◌, ◌≤◌, length};
-ghost use Rattle.window.specs.Rows.{pushed};
+ghost use Rattle.std.proofs.lemmas.List.Edits.{sets};
 
-// Three words written as row `at`.
-pub fn push(words: &mut [u32], at: usize, first: u32, second: u32, third: u32)
-    requires { 3 * at + 3 ≤ length words.old }
-    ensures { words.new ≡ pushed words.old at first second third }
+// The rows that a queue has room for: one for each line of the longest text.
+pub const ROOM: usize = 4000;
+
+// The words of a row written as row `at` of rows of so many words.
+pub fn put<const N: usize>(words: &mut [u32], at: usize, row: [u32; N])
+    requires { N * at + N ≤ length words.old }
+    ensures { words.new ≡ sets words.old (N * at) row.entry }
 {
-    let k = 3 * at;
-    words[k] = first;
-    words[k + 1] = second;
-    words[k + 2] = third;
+    places::put(words, N * at, row);
 }

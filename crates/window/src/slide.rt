@@ -58,14 +58,12 @@ pub fn first_below(
     ensures { FirstBelow sums.now space beside limit from i result }
 {
     let far = reached(sums, space, beside, i);
-    let mut a = from;
-    while a < i {
+    for a in from..i {
         if far < limit + crate::sums::spaced(sums, space, a) {
             return a;
         }
-        a += 1;
     }
-    a
+    i
 }
 
 // Whether a page from line a to line i is too tall.

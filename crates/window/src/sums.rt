@@ -32,18 +32,16 @@ pub fn gather(s: &[u8], text: Stream, sums: &mut [u32])
     requires { SumsRoom s.now text sums.old }
     ensures { Sums (text_of s.now text) text.count sums.new }
 {
-    crate::rows::push(sums, 0, 0, 0, 0);
+    crate::rows::put(sums, 0, [0, 0, 0]);
     let mut tight = 0;
     let mut loose = 0;
-    let mut k = 0;
-    while k < text.count {
-        k += 1;
-        let height = blocks::field(s, text, k, galley::HEIGHT);
-        let least = blocks::field(s, text, k, galley::LEAST);
-        let most = blocks::field(s, text, k, galley::MOST);
-        crate::rows::push(sums, k, tight, loose, height);
+    for k in 0..text.count {
+        let height = blocks::field(s, text, k + 1, galley::HEIGHT);
+        let least = blocks::field(s, text, k + 1, galley::LEAST);
+        let most = blocks::field(s, text, k + 1, galley::MOST);
+        crate::rows::put(sums, k + 1, [tight, loose, height]);
         tight += height + least;
         loose += height + most;
     }
-    crate::rows::push(sums, text.count + 1, tight, loose, 0);
+    crate::rows::put(sums, text.count + 1, [tight, loose, 0]);
 }

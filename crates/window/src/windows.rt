@@ -1,9 +1,13 @@
 // The windows of the lines of a column, kept from one side to the next: they depend on heights alone.
 ghost use Rattle.window.specs.Windows.{Windowable, WindowFound};
 
+use crate::rows::ROOM;
 use crate::slide::{Load, Window};
 
-// The window of line i, from that of the line before. On side 0 it is found, and kept as entry 8,000 + i, behind the room of two
+// The rows before those of windows: the room of two queues.
+const KEPT: usize = 2 * ROOM;
+
+// The window of line i, from that of the line before. On side 0 it is found, and kept as row KEPT + i, behind the room of two
 // queues; on a further side it is what was kept.
 pub fn window_of(
     sums: &[u32],
@@ -17,7 +21,7 @@ pub fn window_of(
     ensures { WindowFound sums.now load words.old before i c result words.new }
 {
     if 0 < c {
-        let at = 3 * (i + 8000);
+        let at = 3 * (i + KEPT);
         return Window {
             low: galley::word::size(words[at]),
             split: galley::word::size(words[at + 1]),
@@ -25,12 +29,7 @@ pub fn window_of(
         };
     }
     let window = crate::slide::slide(sums, load, before, i);
-    crate::rows::push(
-        words,
-        i + 8000,
-        window.low as u32,
-        window.split as u32,
-        window.high as u32,
-    );
+    let ends = [window.low as u32, window.split as u32, window.high as u32];
+    crate::rows::put(words, i + KEPT, ends);
     window
 }

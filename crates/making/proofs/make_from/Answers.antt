@@ -11,8 +11,8 @@ pub best_pages-answer-requires : goal.best_pages-answer-requires
 best_pages-answer-requires c =
     soluble_solved c.requires _ _ c.fill_far-sought.ensures
 
-pub words_needed-begun-requires : goal.words_needed-begun-requires
-words_needed-begun-requires c =
+pub words_needed-early-requires : goal.words_needed-early-requires
+words_needed-early-requires c =
     let pre = c.requires in
     let fill = soluble_fillable pre in
     record { lines = fill.sound.few_lines; columns = omega (arith, fill.origin, columns_few _ (few_floats fill.sound)) }
@@ -20,7 +20,7 @@ words_needed-begun-requires c =
 pub clear-requires : goal.clear-requires
 clear-requires c =
     let pre = c.requires in
-    rw c.words_needed-begun.ensures (soluble_early pre, search rules, sought_early pre _ _ c.fill_far-sought.ensures)
+    rw c.words_needed-early.ensures (soluble_early pre, search rules, sought_early pre _ _ c.fill_far-sought.ensures)
 
 pub counts_at-first-requires : goal.counts_at-first-requires
 counts_at-first-requires c = few_floats (sound _ _ c.requires.reads)

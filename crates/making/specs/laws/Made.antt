@@ -1,5 +1,5 @@
 -- What each way out of making leaves: its answer and every word of the lent memory.
-use Rattle.std.specs.Prelude.{ℕ, ◌+◌, ◌≤◌, ◌<◌, ◌≡◌, refl, Bool, List, length}
+use Rattle.std.specs.Prelude.{ℕ, ◌+◌, ◌≤◌, ◌<◌, ◌≡◌, refl, Bool, List, length, Err}
 use native.Mathlib.Omega.{arith}
 use Rattle.std.proofs.Common.{sym, ◌∙◌, subst}
 use Rattle.std.proofs.Math.Path.{ap}
@@ -7,16 +7,14 @@ use Rattle.std.proofs.Math.Bool.{true, false}
 use Rattle.std.proofs.Math.Option.{Option, none, some}
 use Rattle.std.proofs.Math.ListN.{take, replicate}
 use borrow.Author.Tests.{lt-ltb, le-ltb}
-use Rattle.model.specs.declared.answer.Answer.{Answer}
-use Rattle.model.specs.declared.answer.Answer.TheVariants.{Refused}
 use Rattle.model.specs.Galley.{zeros}
-use Rattle.model.specs.Answers.{pages_of}
+use Rattle.model.specs.declared.answer.Refusal.{Refusal}
+use Rattle.model.specs.Answers.{pages_of, Answer, refused}
 use Rattle.model.specs.Weighed.{weighed_from}
 use Rattle.model.specs.Opening.{end_of, opening_turned}
 use Rattle.theorems.specs.pages.Graph.{Origin as Begin, beginning}
 use Rattle.theorems.specs.pages.Opening.{end_onto}
 use Rattle.galley.specs.declared.Galley.{Galley}
-use Rattle.galley.specs.declared.Reading.TheVariants as reads
 use Rattle.galley.specs.Whole.{galley_of}
 use Rattle.galley.specs.Model.{model_of}
 use Rattle.galley.proofs.laws.Sound.{sound}
@@ -45,15 +43,15 @@ abbrev standing : Option Answer → Bool
 standing r = elim r [ none ↦ true | some refusal ↦ false ]
 
 -- A galley that is refused is refused alike, and nothing is written.
-pub made_refused : (bytes opening work list : List ℕ) (n at : ℕ) → galley_of bytes ≡ reads.Refused n at
-    → MadeAfter bytes opening work list (Refused n at) 0 work list
+pub made_refused : (bytes opening work list : List ℕ) (r : Refusal) → galley_of bytes ≡ Err r
+    → MadeAfter bytes opening work list (Err r) 0 work list
 unfolding make_after_of make_after_read weighed_after_of weighed_after_read work_made_after work_made_read list_made_after list_made_read
-made_refused bytes opening work list n at e = record { answers = rw e refl; counts = rw e refl; clean = rw e refl; listed = rw e refl }
+made_refused bytes opening work list r e = record { answers = rw e refl; counts = rw e refl; clean = rw e refl; listed = rw e refl }
 
 module _ {bytes : List ℕ} {g : Galley} (asked : Readable bytes g) where
   module _ (opening work list : List ℕ) (n : ℕ) (is : n ≡ work_needed g) where
     -- 9: the work area is too short; its place is the words needed.
-    pub made_nine : length work < n → (at : ℕ) → at ≡ n → MadeAfter bytes opening work list (Refused 9 at) 0 work list
+    pub made_nine : length work < n → (at : ℕ) → at ≡ n → MadeAfter bytes opening work list (refused 9 at) 0 work list
     unfolding make_after_of make_after_read weighed_after_of weighed_after_read work_made_after work_made_read list_made_after list_made_read
     made_nine l at e =
         let t = lt-ltb (length work) (work_needed g) (omega arith) in
@@ -66,7 +64,7 @@ module _ {bytes : List ℕ} {g : Galley} (asked : Readable bytes g) where
 
     module _ (enough : n ≤ length work) where
       -- 10: the page list is too short.
-      pub made_ten : length list < list_needed g → MadeAfter bytes opening work list (Refused 10 (list_needed g)) 0 work list
+      pub made_ten : length list < list_needed g → MadeAfter bytes opening work list (refused 10 (list_needed g)) 0 work list
       unfolding make_after_of make_after_read weighed_after_of weighed_after_read work_made_after work_made_read list_made_after list_made_read
       made_ten l =
           let t = le-ltb (length work) (work_needed g) (omega arith) in

@@ -1,21 +1,18 @@
 -- Making is making after no opening.
-use Rattle.std.specs.Prelude.{ℕ, ◌≡◌, refl, Bool, not, ◌&&◌, List, [], length}
+use Rattle.std.specs.Prelude.{ℕ, ◌≡◌, refl, Bool, not, ◌&&◌, List, [], length, Err, Ok}
 use Rattle.std.proofs.Common.{◌∙◌}
 use Rattle.std.proofs.Math.Path.{ap}
 use Rattle.std.proofs.Math.Bool.{true, false}
 use Rattle.std.proofs.Math.Option.{Option, none, some}
-use Rattle.model.specs.declared.answer.Answer.{Answer}
 use Rattle.model.specs.Gather.{pick}
 use Rattle.model.specs.Galley.{zeros}
-use Rattle.model.specs.Answers.{pages_of}
+use Rattle.model.specs.Answers.{pages_of, Answer}
 use Rattle.model.specs.Weighed.{weighed, weighed_from}
 use Rattle.model.specs.Opening.{end_of}
 use Rattle.model.proofs.laws.Weighed.{weighed_from_nothing}
 use Rattle.model.proofs.laws.Opening.{no_pages, nothing_turned, made_after_nothing, words_after_nothing}
 use Rattle.galley.specs.declared.Galley.{Galley}
-use Rattle.galley.specs.declared.Reading.{Reading}
-use Rattle.galley.specs.declared.Reading.TheVariants as reads
-use Rattle.galley.specs.Whole.{galley_of}
+use Rattle.galley.specs.Whole.{galley_of, Reading}
 use Rattle.galley.specs.Model.{model_of}
 use Rattle.rules.specs.laws.Sane.{reads_sane}
 use Rattle.places.specs.Entry.{cleared}
@@ -23,7 +20,7 @@ use Rattle.needs.specs.Needs.{work_needed}
 use Rattle.making.specs.Make.{too_short, make_read, make_of, work_read, work_after, list_read, list_after, weighed_read, weighed_of, Made}
 use Rattle.making.specs.After.{stands, sought, make_after_read, make_after_of, work_made_read, work_made_after, list_made_read, list_made_after, weighed_after_read, weighed_after_of, MadeAfter}
 
-module _ (bytes : List ℕ) (g : Galley) (read : galley_of bytes ≡ reads.Galley g) where
+module _ (bytes : List ℕ) (g : Galley) (read : galley_of bytes ≡ Ok g) where
   stood : stands bytes g [] ≡ true
   unfolding stands
   stood = ap (λ (r : Option Answer). elim r [ none ↦ true | some refusal ↦ false ]) (nothing_turned (model_of bytes g) (reads_sane bytes g read))
@@ -58,22 +55,22 @@ nothing_made {bytes} {work} {list} m =
   where
     answer : (r : Reading) → galley_of bytes ≡ r
         → make_after_read bytes [] (length work) (length list) r ≡ make_read bytes (length work) (length list) r
-    answer (reads.Galley g) e = rw (made_after_nothing (model_of bytes g) (reads_sane bytes g e)) refl
-    answer (reads.Refused n at) e = refl
+    answer (Ok g) e = rw (made_after_nothing (model_of bytes g) (reads_sane bytes g e)) refl
+    answer (Err r) e = refl
 
     count : (r : Reading) → galley_of bytes ≡ r
         → weighed_after_read bytes [] (length work) (length list) r ≡ weighed_read bytes (length work) (length list) r
-    count (reads.Galley g) e =
+    count (Ok g) e =
         rw (seeks bytes g e (length work) (length list), counted bytes g e)
         (picked (too_short g (length work) (length list)) (weighed (model_of bytes g)) 0)
-    count (reads.Refused n at) e = refl
+    count (Err r) e = refl
 
     clear : (r : Reading) → galley_of bytes ≡ r → work_made_read bytes [] work (length list) r ≡ work_read work (length list) r
-    clear (reads.Galley g) e =
+    clear (Ok g) e =
         rw (seeks bytes g e (length work) (length list))
         (picked (too_short g (length work) (length list)) (cleared (work_needed g) work) work)
-    clear (reads.Refused n at) e = refl
+    clear (Err r) e = refl
 
     written : (r : Reading) → galley_of bytes ≡ r → list_made_read bytes [] (length work) list r ≡ list_read bytes (length work) list r
-    written (reads.Galley g) e = rw (words_after_nothing (model_of bytes g) (reads_sane bytes g e)) refl
-    written (reads.Refused n at) e = refl
+    written (Ok g) e = rw (words_after_nothing (model_of bytes g) (reads_sane bytes g e)) refl
+    written (Err r) e = refl

@@ -14,7 +14,6 @@ use Rattle.queues.specs.Queue.{added_of, front_of, Lines, Payable}
 use Rattle.queues.specs.Parts.{rest_from, whitened_of, Both, Fresh}
 use Rattle.window.specs.laws.Sums.{sums_small}
 use Rattle.window.specs.laws.Slide.{reaches_readable}
-use Rattle.queues.proofs.laws.Parts.{later_left, later-right, later_least}
 use Rattle.queues.proofs.laws.White.{split_within, full_best, rest_best, rest_whitenable}
 use Rattle.candidates.specs.Fronts.{best_front, Fronted}
 use Rattle.candidates.specs.Read.{columns_in}
@@ -42,7 +41,7 @@ module _ {bytes : List ℕ} {g : Galley} {w : List ℕ} {j : ℕ} (lent : Lent b
       Best (Lines col (white_of (text_of bytes g.text) load i) window.low window.high b) (best_front sums words parts b load i)
   fronts_best =
       best_chosen (λ a b' x c. (c.0, omega (arith, c.1, within), c.2, c.3))
-      (λ a b' x c. (omega (arith, c.0, later_left window.low window.split), c.1, c.2, c.3)) part _ _ front_full front_rest
+      (λ a b' x c. (omega (arith, c.0), c.1, c.2, c.3)) part _ _ front_full front_rest
     where
       within : window.split ≤ window.high
       within = split_within (text_of bytes g.text) load window i opened order g.text.count sums summed.rows line
@@ -55,7 +54,7 @@ module _ {bytes : List ℕ} {g : Galley} {w : List ℕ} {j : ℕ} (lent : Lent b
           go : Dec (a < window.split) → Lines col (white_of (text_of bytes g.text) load i) window.low window.split b a b' x
               ⊎ Lines col (white_of (text_of bytes g.text) load i) (rest_from window) window.high b a b' x
           go (yes l) = inl (c.0, l, c.2, c.3)
-          go (no l) = inr (later_least window.low window.split a c.0 (omega arith), c.1, c.2, c.3)
+          go (no l) = inr (omega (arith, c.0), c.1, c.2, c.3)
 
   -- Both can be read.
   pub can_front : b < columns_in g → base ≤ 8000 → Payable col i → Slidable sums load window i
@@ -84,7 +83,7 @@ module _ {bytes : List ℕ} {g : Galley} {w : List ℕ} {j : ℕ} (lent : Lent b
         order = λ x y s r e f.
             let first = front_full.may x s e in
             let second = front_rest.may y r f in
-            omega (arith, first.1, second.0, later-right window.low window.split);
+            omega (arith, first.1, second.0);
       }
     where
       small : (a : ℕ) → a < i → added_of sums true a ≤ 1000000000

@@ -1,9 +1,10 @@
 -- The words after a store, and an entry after it: what was stored at its own place, and what was there before at every place apart.
 use Rattle.std.specs.Prelude.{◌≡◌, refl, ◌⊎◌, List, [], ◌∷◌, ℕ, zero, suc, ◌+◌, ◌-◌, ◌<◌, ◌≤◌, length, get_or, set, take, drop, eqb, None, Some}
-use Rattle.std.proofs.Common.{sym, ◌∙◌, ap, inl, inr, add-zero, arith, length-set, get_or-set_same, get_or-set_other, drop-set-lt, ext_get_or}
+use Rattle.std.proofs.Common.{append_assoc, sym, ◌∙◌, ap, inl, inr, add-zero, arith, length-set, get_or-set_same, get_or-set_other, drop-set-lt, ext_get_or}
 use Rattle.std.proofs.Math.Decide.{dec_lt, dec_le}
 use Rattle.std.proofs.lemmas.List.{take-set-le}
-use Rattle.std.proofs.lemmas.List.Edits.{sets}
+use Rattle.std.proofs.lemmas.List.Edits.{sets, sets-eq, paste_all}
+use lib.Seq.{paste}
 use Rattle.std.proofs.Math.Seq.{length-sets}
 use Rattle.places.specs.Entry.{Entry, least, low_of, high_of, joined, tagged, entry_at, words_of, stored}
 use Rattle.places.specs.Address.{Apart}
@@ -44,6 +45,12 @@ sets_drop (v ∷ vs) w at n l = sets_drop vs (set w at v) (suc at) n (omega arit
 sets_take : (vs w : List ℕ) (at n : ℕ) → n ≤ at → take n (sets w at vs) ≡ take n w
 sets_take [] w at n l = refl
 sets_take (v ∷ vs) w at n l = sets_take vs (set w at v) (suc at) n (omega arith) ∙ take-set-le n w at v l
+
+-- A row pasted whole is its words stored one by one.
+pub pasted_sets : (words row : List ℕ) (at n : ℕ) → n ≡ length row → at + n ≤ length words → paste words at row n ≡ sets words at row
+pasted_sets words row at n whole room =
+    paste_all words at row n whole
+    ∙ rw (whole, sets-eq row words at (omega (arith, whole))) (sym (append_assoc (take at words) row (drop (at + length row) words)))
 
 -- An entry has five words.
 pub words_five : (e : Entry) → length (words_of e) ≡ 5

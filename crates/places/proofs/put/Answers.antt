@@ -1,27 +1,24 @@
--- `put` meets its contract: its five stores are the five of the definition, and none changes the length that the next is within.
-use Prim.Native.Nat.{suc, ◌+◌}
+-- `put` meets its contract: word by word the row is pasted over what was there, and that is what the stores of its words leave.
+use Prim.Native.Nat.{ℕ, ◌+◌}
 use native.Mathlib.Omega.{arith}
-use mathlib.Core.Path.{◌≡◌, refl}
-use lib.ListN.{length-set}
+use mathlib.Core.Path.{◌≡◌, ap, ◌∙◌}
+use mathlib.Core.List.{List}
+use lib.ListN.{length, set, get_or}
+use Rattle.std.proofs.lemmas.List.Edits.{paste_more}
+use Rattle.places.proofs.laws.Stored.{pasted_sets}
 use Rattle.places.proofs.put.Goals as goal
 
-pub returns : goal.returns
-returns c =
+pub loop-k-preserved : goal.loop-k-preserved
+loop-k-preserved g c =
+    let st = c.loop-k in
     let at = c.args.at in
-    let one : at + 1 ≡ suc at = omega arith in
-    let two : at + 2 ≡ suc (suc at) = omega arith in
-    let three : at + 3 ≡ suc (suc (suc at)) = omega arith in
-    let four : at + 4 ≡ suc (suc (suc (suc at))) = omega arith in
-    rw (one, two, three, four, c.high_of.ensures, c.low_of.ensures) refl
+    let size : length c.args.row ≡ g.row.N = omega arith in
+    ap (λ (l : List ℕ). set l (at + st.k) (get_or c.args.row st.k 0)) st.invariant ∙ paste_more c.args.words.now at c.args.row st.k 0 (omega arith) (omega arith)
 
-pub bounds-work-at-2 : goal.bounds-work-at-2
-bounds-work-at-2 c = simp length-set (omega arith)
-
-pub bounds-work-at-3 : goal.bounds-work-at-3
-bounds-work-at-3 c = simp length-set (omega arith)
-
-pub bounds-work-at-4 : goal.bounds-work-at-4
-bounds-work-at-4 c = simp length-set (omega arith)
-
-pub bounds-work-at-5 : goal.bounds-work-at-5
-bounds-work-at-5 c = simp length-set (omega arith)
+pub returns : goal.returns
+returns g c =
+    let st = c.loop-k in
+    let at = c.args.at in
+    let size : length c.args.row ≡ g.row.N = omega arith in
+    let done : st.k ≡ length c.args.row = omega arith in
+    st.invariant ∙ pasted_sets c.args.words.now c.args.row at st.k done (omega arith)

@@ -10,4 +10,4 @@ returns-in-None c =
 pub returns-in-Some : goal.returns-in-Some
 unfolding stored
 returns-in-Some c =
-    rw (c.in-Some.is, ← c.address_of-at.ensures) c.put-in-Some.ensures
+    rw (c.in-Some.is, ← c.address_of-at.ensures) (rw (c.low_of.ensures, c.high_of.ensures) at c.put-in-Some.ensures)

@@ -1,8 +1,7 @@
 -- The two parts of a window: where the second starts, and what their queues hold when something else is stored.
-use Rattle.std.specs.Prelude.{ℕ, ◌+◌, ◌*◌, ◌≤◌, ◌<◌, ◌≡◌, refl, ◌⊎◌, Bool, true, false, List, [], ◌∷◌, length, get_or, ltb, None}
-use Rattle.std.proofs.Common.{le_refl, arith, subst, ◌∙◌, inl, inr, ltb-true, ltb-false}
+use Rattle.std.specs.Prelude.{ℕ, ◌+◌, ◌*◌, ◌≤◌, ◌<◌, ◌≡◌, refl, ◌⊎◌, Bool, true, false, List, [], ◌∷◌, length, get_or, None}
+use Rattle.std.proofs.Common.{arith, subst, ◌∙◌, inl, inr}
 use Rattle.std.proofs.Math.Seq.{length-sets}
-use Rattle.model.specs.Gather.{pick}
 use Rattle.places.specs.Entry.{Entry}
 use Rattle.places.proofs.laws.Stored.{sets_out, sets_in}
 use Rattle.window.specs.declared.slide.Window.{Window}
@@ -11,34 +10,9 @@ use Rattle.queues.specs.declared.queue.Source.{Source}
 use Rattle.queues.specs.declared.queue.Queue.{Queue}
 use Rattle.window.specs.Rows.{Beside}
 use Rattle.queues.specs.Queue.{added_of, lines_in, Held, Advanced}
-use Rattle.queues.specs.Parts.{row_put, later, rest_from, Both, Movable, Moved}
+use Rattle.queues.specs.Parts.{row_put, rest_from, Both, Movable, Moved}
 use Rattle.window.specs.laws.Rows.{beside_both}
 use Rattle.queues.proofs.laws.Held.{held_none, held_same, beside_line, held_beside}
-
--- The later of two lines is no earlier than either, and no later than what is no earlier than both.
-pub later_left : (a b : ℕ) → a ≤ later a b
-unfolding later
-later_left a b = go (ltb a b) refl
-  where
-    go : (t : Bool) → ltb a b ≡ t → a ≤ pick t b a
-    go true e = omega (arith, ltb-true a b e)
-    go false e = le_refl a
-
-pub later-right : (a b : ℕ) → b ≤ later a b
-unfolding later
-later-right a b = go (ltb a b) refl
-  where
-    go : (t : Bool) → ltb a b ≡ t → b ≤ pick t b a
-    go true e = le_refl b
-    go false e = omega (arith, ltb-false a b e)
-
-pub later_least : (a b c : ℕ) → a ≤ c → b ≤ c → later a b ≤ c
-unfolding later
-later_least a b c p q = go (ltb a b)
-  where
-    go : (t : Bool) → pick t b a ≤ c
-    go true = q
-    go false = p
 
 -- A queue that is moved on holds its part, whatever its lines add.
 part_held : {work sums old new : List ℕ} {source : Source} {queue r : Queue} {from low high : ℕ} {lacks : Bool}
@@ -60,9 +34,7 @@ module _ (work sums w₀ w₁ w₂ : List ℕ) (source : Source) (parts : Parts)
   rest_held : Held (lines_in work source) (added_of sums true) w₂ rest (rest_from to) to.high
   rest_held =
       part_held two asked.held.keyed (rest_from from)
-      (later_least from.low from.split (rest_from to)
-      (omega (arith, asked.rises.low, later_left to.low to.split))
-      (omega (arith, asked.rises.split, later-right to.low to.split)))
+      (omega (arith, asked.rises.low, asked.rises.split))
       (held_beside (lines_in work source) (added_of sums true) w₀ w₁ parts.rest (rest_from from) from.high parts.full.base
       (parts.full.base + to.split) one.beside
       (inr (omega (arith, asked.held.second, asked.split, asked.few))) asked.held.rest)
@@ -111,7 +83,7 @@ both_none col sums words base window none =
       full = held_none col (added_of sums false) words base false window.low window.split (λ a l m. none a l (inl m));
       rest =
           held_none col (added_of sums true) words (base + 4000) true (rest_from window) window.high
-          (λ a l m. none a (omega (arith, later_left window.low window.split)) (inr m));
+          (λ a l m. none a (omega arith) (inr m));
     }
 
 -- They hold the same of a column that is the same before the ends of both parts,

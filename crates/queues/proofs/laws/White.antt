@@ -19,7 +19,6 @@ use Rattle.queues.specs.Queue.{added_of, front_of, Lines, Payable}
 use Rattle.queues.specs.Parts.{rest_from, whitened_of, Whitenable, Both, Fresh}
 use Rattle.window.specs.laws.Sums.{reach_stacked}
 use Rattle.queues.proofs.laws.Front.{front_best}
-use Rattle.queues.proofs.laws.Parts.{later-right}
 
 -- What is best with one thing added to each line is best with another, where the two differ alike from line to line.
 best_shifted : {col : ℕ → Entry} {add add' : ℕ → ℕ} {low high b : ℕ} (more less : ℕ) (e f : Entry)
@@ -117,7 +116,7 @@ module _ (st : Stream) (load : Load) (window : Window) (i : ℕ) (opened : Open 
         front_best col (added_of sums true) words parts.rest (rest_from window) window.high b held.rest fresh.rest
 
     rest_on : (a : ℕ) → rest_from window ≤ a → window.split ≤ a
-    rest_on a l = omega (arith, later-right window.low window.split)
+    rest_on a l = omega arith
 
     enough : (x : ℕ) (r : Place) → front_of words parts.rest b ≡ least x r → reached_of sums 1 load.loose i ≤ x + load.htmax
     enough x r e =

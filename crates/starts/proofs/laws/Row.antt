@@ -61,20 +61,6 @@ module _ {bytes : List ℕ} {g : Galley} {w₀ sums words₀ seen : List ℕ} {r
   tables_few : row.end.tables ≤ g.tables.count
   tables_few = omega (arith, end_tables, end_within.tables)
 
-  -- Counts and columns are small.
-  pub end_few : row.end.tables ≤ 50
-  end_few = omega (arith, tables_few, asked.lent.sound.tables.few)
-
-  pub row_small : row_of g row.figures ≤ 10250
-  row_small =
-      omega (
-        arith,
-        row_grows g row.figures row.end.figures asked.within,
-        end_stands,
-        asked.lent.column,
-        columns_few g (few_floats asked.lent.sound),
-      )
-
   -- Before the first sweep no more is known than in the row after it: the columns past the top are not under the end.
   pub row_first : RowRun bytes g w₀ w₀ words₀ words₀ row no_heights (row_top row) false
   row_first =

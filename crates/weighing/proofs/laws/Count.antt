@@ -1,150 +1,150 @@
 -- The columns where pages start are counted back from that where they end; and so for every such column.
-use Prim.Native.Nat.{ℕ, suc, ◌+◌, ◌-◌, ◌*◌, ◌≤◌, ◌<◌}
-use Rattle.std.proofs.Math.Decide.{dec_le}
-use native.Mathlib.Omega.{arith}
-use Rattle.std.specs.Prelude.{◌≡◌, ◌⊎◌, true, false, ◌&&◌, ◌||◌, List, ltb, leb}
-use Rattle.std.proofs.Math.Path.{refl}
-use Rattle.std.proofs.Common.{sym, ◌∙◌, inl, inr}
-use borrow.Author.Tests.{ltb-true, ltb-false, leb-false}
+use Rattle.std.specs.Prelude.{ℕ, suc, ◌+◌, ◌-◌, ◌*◌, ◌≤◌, ◌<◌, ◌≡◌, refl, List}
+use Rattle.std.proofs.Common.{arith, ap, sym, ◌∙◌}
 use Rattle.model.specs.Weighed.{weighed_from}
 use Rattle.model.specs.laws.Boxes.{below}
-use Rattle.model.proofs.laws.Gather.{or_cases}
 use Rattle.galley.specs.declared.Galley.{Galley}
-use Rattle.galley.specs.Model.{model_of}
-use Rattle.galley.proofs.laws.Pick.{or_false}
+use Rattle.galley.specs.Model.{floats_of, model_of}
 use Rattle.blocks.specs.declared.Counts.{Counts}
 use Rattle.blocks.specs.declared.heights.Heights.{Heights}
 use Rattle.blocks.specs.Counts.{place_of}
+use Rattle.blocks.specs.Heights.{no_heights, Room, block_before}
+use Rattle.blocks.specs.laws.Heights.{stacked_nothing, stacked_room, back_stacked}
 use Rattle.candidates.specs.Read.{columns_in, counts_at, row_of}
-use Rattle.candidates.proofs.laws.Columns.{few_floats, columns_few, row_next, row_grows, row_of_lem, row_in, columns_in_lem}
-use Rattle.weighing.specs.declared.columns.Part.{Part}
-use Rattle.weighing.specs.Count.{pairs_into, Weighable, nothing, with_one_more, Extendable, column_of, CountableColumn, ColumnCount, ColumnStep, row_over, rows_over, ColumnCounted, AllCount}
+use Rattle.candidates.proofs.laws.Columns.{few_floats, columns_few, row_next, row_grows, row_since, row_under, row_in, columns_in_lem}
+use Rattle.weighing.specs.Count.{pairs_into, Weighable, Part, PartOf, CountableColumn, RowsCount, RowCount, ColumnStep, ColumnCounted, AllCount}
 use Rattle.weighing.proofs.laws.Columns.{weighed_columns}
-use Rattle.weighing.proofs.laws.From.{end_within, over, short, from_before, from_pairs, row_passed, rows_passed}
-use Rattle.weighing.proofs.laws.Part.{part_nothing, part_more, part_room}
+use Rattle.weighing.proofs.laws.From.{end_within, over, short, from_pairs, row_passed, rows_passed}
 use Rattle.weighing.proofs.laws.Past.{past}
+
+-- The last row is that of all figures.
+rows_all : (g : Galley) → row_of g (suc g.figures.count) ≡ columns_in g
+unfolding row_of columns_in
+rows_all g = let e : suc g.figures.count ≡ g.figures.count + 1 = omega arith in ap (λ n. n * (g.tables.count + 1)) e
 
 -- The columns where pages start that end in column q.
 module _ {bytes : List ℕ} {g : Galley} {sums : List ℕ} {first : Counts} {q : ℕ} (asked : CountableColumn bytes g sums first q) where
   abbrev end : Counts
   end = counts_at g 0 q
 
-  -- Where the end has fewer of a stream than are placed first, no page ends in the column.
-  pub column_short : ltb (counts_at g 0 q).figures first.figures || ltb (counts_at g 0 q).tables first.tables ≡ true
-      → ColumnCounted bytes g first q 0
-  unfolding below
-  column_short e =
-      let none = past 0 (columns_in g) (pairs_into bytes g first q) (omega arith)
-      (λ x l h.
-      go x h (dec_le (counts_at g 0 x).figures end.figures) (dec_le (counts_at g 0 x).tables end.tables)
-      (or_cases (ltb end.figures first.figures) (ltb end.tables first.tables) e)) in
-      record { few = omega arith; counted = omega arith }
-    where
-      go : (x : ℕ) → x < columns_in g → Dec ((counts_at g 0 x).figures ≤ end.figures) → Dec ((counts_at g 0 x).tables ≤ end.tables)
-          → (ltb end.figures first.figures ≡ true) ⊎ (ltb end.tables first.tables ≡ true) → pairs_into bytes g first q x ≡ 0
-      go x h (yes f) (yes t) (inl l) = short asked x h (λ a b. omega (arith, ltb-true end.figures first.figures l))
-      go x h (yes f) (yes t) (inr l) = short asked x h (λ a b. omega (arith, ltb-true end.tables first.tables l))
-      go x h (yes f) (no t) l = over asked x h (λ a b. t b)
-      go x h (no f) t l = over asked x h (λ a b. f a)
-
-  -- Else the count begins with the pages within the column: those past it have more of a stream than the end.
-  pub column_first : ltb (counts_at g 0 q).figures first.figures || ltb (counts_at g 0 q).tables first.tables ≡ false
-      → ColumnCount bytes g first q (nothing (counts_at g 0 q).figures) (nothing (counts_at g 0 q).tables) 0
-  column_first e =
-      let (f, t) = or_false (ltb end.figures first.figures) (ltb end.tables first.tables) e in
-      let here : column_of g (nothing end.figures) (nothing end.tables) ≡ q = row_of_lem g 0 q in
-      let none = past (suc q) (columns_in g) (pairs_into bytes g first q) asked.column
-      (λ x l h. over asked x h (λ a b. omega (arith, row_of_lem g 0 q, row_of_lem g 0 x, row_grows g _ _ a))) in
+  -- The count begins past the end's row: columns there have more figures than the end.
+  pub rows_first : RowsCount bytes g first q ((counts_at g 0 q).figures + 1) no_heights 0
+  rows_first =
+      let next : end.figures + 1 ≡ suc end.figures = omega arith in
+      let all : row_of g (end.figures + 1) ≤ columns_in g =
+      rw next (omega (arith, row_grows g (suc end.figures) (suc g.figures.count) (omega (arith, (end_within asked).figures)), rows_all g)) in
+      let none = past (row_of g (end.figures + 1)) (columns_in g) (pairs_into bytes g first q) all
+      (λ x l h. over asked x h (λ a b. omega (arith, row_since g 0 (end.figures + 1) x l))) in
       record {
-        figured = part_nothing bytes g.figures first.figures end.figures (ltb-false _ _ f);
-        tabled = part_nothing bytes g.tables first.tables end.tables (ltb-false _ _ t);
-        few = rw here (omega (arith, asked.column));
-        counted = rw here (omega arith);
+        within = omega arith;
+        high = stacked_nothing (floats_of bytes g.figures) (end.figures + 1) end.figures (omega arith);
+        few = omega (arith, all);
+        counted = omega (arith, none);
       }
 
-  module _ {figures tables : Part} {pairs : ℕ} (run : ColumnCount bytes g first q figures tables pairs) {floats : Heights} {more : ℕ}
-      (step : ColumnStep bytes g first q figures tables floats more) where
-    abbrev from : ℕ
-    from = column_of g figures tables
+  module _ {b : ℕ} {figures : Heights} {pairs : ℕ} (run : RowsCount bytes g first q b figures pairs) where
+    -- There is room for the figure before.
+    pub figure_room : Room bytes g.figures figures (counts_at g 0 q).figures
+    figure_room =
+        stacked_room bytes g.figures b end.figures figures asked.ready.sound.figures.sound
+        (omega (arith, asked.ready.sound.figures.few)) (end_within asked).figures run.high
 
-    -- A turn adds the column's pages.
-    added : pairs + more + below from (pairs_into bytes g first q) ≡ below (columns_in g) (pairs_into bytes g first q)
+    -- Back at the figures placed first all columns are counted: those before have fewer.
+    pub rows_last : b ≤ first.figures → ColumnCounted bytes g first q pairs
     unfolding below
-    added = let here = from_pairs asked run.figured run.tabled floats step.laid in omega (arith, run.counted, step.counted)
+    rows_last l =
+        let none = past 0 (row_of g b) (pairs_into bytes g first q) (omega arith)
+        (λ x k h. short asked x (omega (arith, h, run.few)) (λ a c. omega (arith, row_under g 0 b x h))) in
+        record { few = omega (arith, run.few, columns_few g (few_floats asked.ready.sound)); counted = omega (arith, run.counted) }
 
-    pub column_few : pairs + more ≤ 164098018251
-    column_few = omega (arith, run.few, step.few, columns_few g (few_floats asked.ready.sound))
+    -- A row begins past the end's tables: columns there have more.
+    pub row_first : first.figures < b → (figures' : Heights) → figures' ≡ block_before bytes g.figures figures (b - 1) (counts_at g 0 q).figures
+        → RowCount bytes g first q (b - 1) ((counts_at g 0 q).tables + 1) figures' no_heights pairs
+    row_first some figures' put =
+        let step : b ≡ suc (b - 1) = omega arith in
+        let next = row_next g (b - 1) in
+        let after = rw (← step) at next in
+        let wide : row_of g (b - 1) + (end.tables + 1) ≤ row_of g b = omega (arith, after, (end_within asked).tables) in
+        let none = past (row_of g (b - 1) + (end.tables + 1)) (row_of g b) (pairs_into bytes g first q) wide
+        (λ x l h.
+        let (f, t) = row_in g (b - 1) x (omega arith) (rw (← step) h) in over asked x (omega (arith, h, run.few)) (λ a c. omega arith)) in
+        record {
+          figured = record { since = omega arith; within = omega (arith, run.within); high = back_stacked bytes g.figures b end.figures figures figures' (omega arith) put run.high };
+          within = omega arith;
+          high = stacked_nothing (floats_of bytes g.tables) (end.tables + 1) end.tables (omega arith);
+          few = omega (arith, run.few, wide);
+          counted = omega (arith, run.counted, none);
+        }
 
-    -- Then comes the column with a table more on the page,
-    module _ (left : row_over g first floats tables ≡ false) where
-      some_tables : first.tables < tables.from
-      some_tables =
-          leb-false tables.from first.tables
-          (or_false (ltb g.spec.htmax floats.tight) (leb tables.from first.tables) left).1
+  module _ {b t : ℕ} {figures tables : Heights} {pairs : ℕ} (run : RowCount bytes g first q b t figures tables pairs) where
+    -- There is room for the table before.
+    pub table_room : Room bytes g.tables tables (counts_at g 0 q).tables
+    table_room =
+        stacked_room bytes g.tables t end.tables tables asked.ready.sound.tables.sound
+        (omega (arith, asked.ready.sound.tables.few)) (end_within asked).tables run.high
 
-      pub table_room : Extendable bytes g.tables tables (counts_at g 0 q).tables
-      table_room =
-          part_room bytes g.tables first.tables end.tables run.tabled some_tables asked.ready.sound.tables.sound
-          (omega (arith, asked.ready.sound.tables.few)) (end_within asked).tables
+    -- Back at the tables placed first the row is counted: the columns before have fewer.
+    pub row_last : t ≤ first.tables → RowsCount bytes g first q b figures pairs
+    row_last l =
+        let none = past (row_of g b) (row_of g b + t) (pairs_into bytes g first q) (omega arith)
+        (λ x k h.
+        let (f, at) = row_in g b x k (omega (arith, row_next g b, run.within, (end_within asked).tables)) in
+        short asked x (omega (arith, h, run.few)) (λ a c. omega arith)) in
+        record { within = omega (arith, run.figured.within); high = run.figured.high; few = omega (arith, run.few); counted = omega (arith, run.counted, none) }
 
-      pub table_next : ColumnCount bytes g first q figures (with_one_more bytes g.tables tables (counts_at g 0 q).tables) (pairs + more)
-      table_next =
-          let next : from ≡ suc (row_of g figures.from + (tables.from - 1)) = omega (arith, some_tables) in
+    module _ (some : first.tables < t) (tables' : Heights) (put : tables' ≡ block_before bytes g.tables tables (t - 1) (counts_at g 0 q).tables) where
+      -- What the column of the next table has of both streams.
+      abbrev figures_part : Part
+      figures_part = record { from = b; heights = figures }
+
+      abbrev tables_part : Part
+      tables_part = record { from = t - 1; heights = tables' }
+
+      pub row_tabled : PartOf bytes g.tables first.tables (counts_at g 0 q).tables (record { from = t - 1; heights = tables' })
+      row_tabled =
           record {
-            figured = run.figured;
-            tabled = part_more bytes g.tables first.tables end.tables run.tabled some_tables;
-            few = omega (arith, run.few, step.few);
-            counted = rw next at added;
+            since = omega arith;
+            within = omega (arith, run.within);
+            high = back_stacked bytes g.tables t end.tables tables tables' (omega arith) put run.high;
           }
 
-    module _ (done : row_over g first floats tables ≡ true) where
-      -- or that with a figure more and no table,
-      module _ (left : rows_over g first q floats figures tables ≡ false) where
-        some_figures : first.figures < figures.from
-        some_figures =
-            leb-false figures.from first.figures
-            (or_false (ltb g.spec.htmax floats.tight && leb end.tables tables.from) (leb figures.from first.figures) left).1
+      module _ {floats : Heights} {more : ℕ} (step : ColumnStep bytes g first q figures_part tables_part floats more) where
+        -- A turn adds the column's pages,
+        added : pairs + more + below (row_of g b + (t - 1)) (pairs_into bytes g first q) ≡ below (columns_in g) (pairs_into bytes g first q)
+        unfolding below
+        added =
+            let here = from_pairs asked run.figured row_tabled floats step.laid in
+            let next : row_of g b + t ≡ suc (row_of g b + (t - 1)) = omega arith in
+            let counted = rw next at run.counted in
+            omega (arith, counted, here, step.counted)
 
-        pub figure_room : Extendable bytes g.figures figures (counts_at g 0 q).figures
-        figure_room =
-            part_room bytes g.figures first.figures end.figures run.figured some_figures asked.ready.sound.figures.sound
-            (omega (arith, asked.ready.sound.figures.few)) (end_within asked).figures
+        pub row_few : pairs + more ≤ 164098018251
+        row_few = omega (arith, run.few, step.few, columns_few g (few_floats asked.ready.sound))
 
-        row_step : figures.from ≡ suc (figures.from - 1)
-        row_step = omega (arith, some_figures)
-
-        figure_less : row_of g (figures.from - 1) + end.tables < from
-        figure_less =
-            let row = row_next g (figures.from - 1) in
-            omega (arith, rw (← row_step) at row, (end_within asked).tables)
-
-        -- where the columns between have more tables than the end, or are passed in the row,
-        row_between : (x : ℕ) → suc (row_of g (figures.from - 1) + end.tables) ≤ x → x < from → pairs_into bytes g first q x ≡ 0
-        row_between x l h = go (dec_le (row_of g figures.from) x)
-          where
-            go : Dec (row_of g figures.from ≤ x) → pairs_into bytes g first q x ≡ 0
-            go (yes k) = row_passed asked run.figured run.tabled floats step.laid done x k h
-            go (no k) =
-                let (f, t) = row_in g (figures.from - 1) x (omega arith) (rw (← row_step) (omega arith)) in
-                over asked x (omega (arith, from_before asked run.figured run.tabled, asked.column)) (λ a b. omega arith)
-
-        pub figure_next : ColumnCount bytes g first q (with_one_more bytes g.figures figures (counts_at g 0 q).figures) (nothing (counts_at g 0 q).tables) (pairs + more)
-        figure_next =
-            let none = past (suc (row_of g (figures.from - 1) + end.tables)) from (pairs_into bytes g first q) figure_less row_between in
+        pub row_counted : RowCount bytes g first q b (t - 1) figures tables' (pairs + more)
+        row_counted =
             record {
-              figured = part_more bytes g.figures first.figures end.figures run.figured some_figures;
-              tabled = part_nothing bytes g.tables first.tables end.tables (omega (arith, run.tabled.since, run.tabled.within));
-              few = omega (arith, run.few, step.few, figure_less);
-              counted = omega (arith, added);
+              figured = run.figured;
+              within = omega (arith, run.within);
+              high = row_tabled.high;
+              few = omega (arith, run.few, step.few);
+              counted = added;
             }
 
-      -- or none is left.
-      pub column_last : rows_over g first q floats figures tables ≡ true → ColumnCounted bytes g first q (pairs + more)
-      unfolding below
-      column_last all =
-          let none = past 0 from (pairs_into bytes g first q) (omega arith)
-          (rows_passed asked run.figured run.tabled floats step.laid done all) in
-          record { few = column_few; counted = omega (arith, added) }
+        -- and where the floats are too tall the row is counted,
+        pub row_tall : g.spec.htmax < floats.tight → RowsCount bytes g first q b figures (pairs + more)
+        row_tall tall =
+            let none = past (row_of g b) (row_of g b + (t - 1)) (pairs_into bytes g first q) (omega arith)
+            (row_passed asked run.figured row_tabled floats step.laid tall) in
+            record { within = omega (arith, run.figured.within); high = run.figured.high; few = omega (arith, run.few, step.few); counted = omega (arith, added, none) }
+
+        -- or all columns are, where the figures alone are.
+        pub row_all : g.spec.htmax < floats.tight → (counts_at g 0 q).tables ≤ t - 1 → ColumnCounted bytes g first q (pairs + more)
+        unfolding below
+        row_all tall all =
+            let none = past 0 (row_of g b + (t - 1)) (pairs_into bytes g first q) (omega arith)
+            (λ x l h. rows_passed asked run.figured row_tabled floats step.laid tall all x h) in
+            record { few = row_few; counted = omega (arith, added, none) }
 
 -- The columns where pages end, one after another.
 module _ {bytes : List ℕ} {g : Galley} {sums : List ℕ} {first : Counts} (ready : Weighable bytes g sums first) where

@@ -1,5 +1,4 @@
--- `weighed` meets its contract: the local arrays are as long as 4,000 lines and the counts that are known ask for.
-use Rattle.weighing.proofs.laws.Known.{knows_none}
+-- `weighed` meets its contract: the local array is as long as 4,000 lines ask for.
 use borrow.Author.Rules.{rules}
 use Rattle.weighing.proofs.weighed.Goals as goal
 
@@ -10,5 +9,5 @@ all_pairs-requires c = (
     placed = c.requires.1;
     summed = record { rows = c.gather.ensures; room = search rules };
   },
-  knows_none _ _ _ _,
+  c.nothing-known.ensures _ _ _ _,
 )

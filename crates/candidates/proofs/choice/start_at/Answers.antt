@@ -12,4 +12,4 @@ overflow_add-result c = omega (arith, c.requires _ _ c.in_ok-x.was)
 
 pub returns : goal.returns
 unfolding start_at
-returns c = rw c.in_ok-x.was
+returns c = rw (c.in_ok-x.was, c.from.ensures)

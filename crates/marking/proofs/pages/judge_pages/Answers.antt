@@ -1,6 +1,7 @@
 -- `judge_pages` meets its contract. The outer invariant is the run over the pages so far (laws/Run), the inner one the page under
 -- way with the blocks that it has so far (laws/Page); each way of leaving a page is one law of laws/Page.
-use Rattle.std.proofs.Common.{◌≡◌, ◌∙◌, ◌/◌, ℕ, List, length, None, Ok, sym, arith}
+use Rattle.std.proofs.Common.{◌≡◌, ◌∙◌, ◌/◌, ℕ, List, length, ◌+◌, Option, None, Some, unwrap_or, eqb, ne_eqb, Ok, sym, arith}
+use Rattle.std.specs.Option.{option_eq}
 use Rattle.std.proofs.Math.Option.{none, some}
 use Rattle.model.specs.Answers.{refused}
 use Rattle.galley.specs.declared.Galley.{Galley}
@@ -12,7 +13,7 @@ use Rattle.marking.specs.Judged.{first_fault, JudgedPages, KeptPages}
 use Rattle.marking.specs.laws.Page.{Begun, page_there, page_few, run_over, begins, begun_proper, begun_refused, begun_ahead, underway_bare, underway_open, underway_more, underway_less, underway_over, underway_ended, underway_next, underway_walking, underway_addable}
 use Rattle.marking.specs.laws.Run.{Run, run_start}
 use Rattle.marking.proofs.pages.judge_pages.Goals as goal
-use Rattle.marking.proofs.pages.judge_pages.Goals.{After-page_at-v, In_default}
+use Rattle.marking.proofs.pages.judge_pages.Goals.{After-page_at-v, In_default, After-eq-closing}
 
 -- Counts, floats that wait and sums that are all 0 are those before the first page.
 from_none : {bytes : List ℕ} {g : Galley} {ws : List ℕ} {last l f t fw tw x white : ℕ}
@@ -26,7 +27,7 @@ loop-done-init c =
     let at = c.default-at.ensures in
     let w = c.default-waiting.ensures in
     let sums = c.default-sums.ensures in
-    from_none (run_start c.args.s.now c.args.g c.requires.sound c.args.list.now c.args.last) at.0 at.1.0 at.1.1 w.0 w.1 sums.0 sums.1
+    from_none (run_start c.args.s.now c.args.g c.requires.sound c.args.list.now (unwrap_or c.args.last 0)) at.0 at.1.0 at.1.1 w.0 w.1 sums.0 sums.1
 
 pub overflow_mul-words : goal.overflow_mul-words
 overflow_mul-words c =
@@ -44,7 +45,7 @@ start_fault-requires c =
 -- The page that is looked at.
 page : (c : After-page_at-v)
     → (let l = c.loop-done in
-    Begun c.args.s.now c.args.g c.args.list.now c.args.last l.done l.at l.waiting l.sums c.page_at-v.result)
+    Begun c.args.s.now c.args.g c.args.list.now (unwrap_or c.args.last 0) l.done l.at l.waiting l.sums c.page_at-v.result)
 page c =
     begins c.args.s.now c.args.g c.args.list.now c.requires c.page_words-words.ensures.1 c.loop-done.invariant c.loop-done-test.true
     c.page_at-v.ensures
@@ -78,11 +79,21 @@ pub with_page-sums-requires : goal.with_page-sums-requires
 with_page-sums-requires c =
     underway_addable c.loop-laid.invariant c.waiting_on-waiting.result c.waiting_on-waiting.ensures
 
+-- The page that counts as the last is the one of that number, of which no page has 0.
+closing : (last : Option ℕ) (done : ℕ) → option_eq eqb last (Some (done + 1)) ≡ eqb (done + 1) (unwrap_or last 0)
+closing None done = sym (ne_eqb (done + 1) 0 (λ e. omega arith))
+closing (Some n) done = grind arith
+
+-- So it is asked of the page that is looked at.
+is_last : (c : After-eq-closing) → c.eq-closing.result ≡ eqb (c.loop-done.done + 1) (unwrap_or c.args.last 0)
+is_last c = c.eq-closing.ensures ∙ closing c.args.last c.loop-done.done
+
 pub loop-done-preserved : goal.loop-done-preserved
 loop-done-preserved c =
-    rw c.with_page-sums.ensures
+    let last = is_last (goal.at.loop-done-preserved c).After-eq-closing in
+    rw (c.with_page-sums.ensures, last)
     (underway_next c.loop-laid.invariant c.if-g-laid.false (sym c.is_laid.ensures ∙ c.if-is_laid.true) c.end_fault.result
-    c.end_fault.ensures c.in_default-end_fault.is c.waiting_on-waiting.result c.waiting_on-waiting.ensures)
+    (rw last at c.end_fault.ensures) c.in_default-end_fault.is c.waiting_on-waiting.result c.waiting_on-waiting.ensures)
 
 -- A rule that is broken is told with its page, and nothing is kept.
 broke : {bytes : List ℕ} {g : Galley} {ws : List ℕ} {last n q : ℕ} → some (refused n q) ≡ first_fault bytes g ws last
@@ -98,9 +109,10 @@ returns-then-g-laid c = broke (underway_over c.loop-laid.invariant c.if-g-laid.t
 
 pub returns-in-Some-end_fault : goal.returns-in-Some-end_fault
 returns-in-Some-end_fault c =
+    let last = is_last (goal.at.returns-in-Some-end_fault c).After-eq-closing in
     broke
     (underway_ended c.loop-laid.invariant c.if-g-laid.false (sym c.is_laid.ensures ∙ c.if-is_laid.true) c.end_fault.result
-    c.end_fault.ensures c.in-Some-end_fault.number c.in-Some-end_fault.is)
+    (rw last at c.end_fault.ensures) c.in-Some-end_fault.number c.in-Some-end_fault.is)
 
 -- No rule is broken, and what is kept is what the run has.
 through : {bytes : List ℕ} {g : Galley} {ws : List ℕ} {last : ℕ} {kept : Kept} → none ≡ first_fault bytes g ws last

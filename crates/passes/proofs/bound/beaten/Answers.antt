@@ -4,14 +4,6 @@ use mathlib.Core.Path.{sym, ◌∙◌}
 use borrow.Author.Tests.{ltb-true}
 use Rattle.passes.proofs.bound.beaten.Goals as goal
 
-pub bounds-words-at : goal.bounds-words-at
-bounds-words-at c =
-    omega (arith, c.requires.few, c.requires.room, c.if-last-low.false)
-
-pub bounds-words-at-2 : goal.bounds-words-at-2
-bounds-words-at-2 c =
-    omega (arith, c.requires.few, c.requires.room, c.if-last-low.false)
-
 pub returns : goal.returns
 returns c = λ e.
     record {

@@ -1,8 +1,7 @@
 -- `last_line` meets its contract: where the column is not the last nothing is left, else the lines and the floats alone are weighed.
-use native.Mathlib.Nat.{le_refl}
 use native.Mathlib.Omega.{arith}
-use Rattle.candidates.proofs.laws.Columns.{few_floats, columns_few}
-use Rattle.passes.proofs.laws.Lending.{lent_wide, floats_separable}
+use Rattle.candidates.proofs.laws.Columns.{columns_few}
+use Rattle.passes.proofs.laws.Lending.{lent_wide}
 use Rattle.passes.proofs.laws.Sweeping.{last_taken, last_stand, last_ended, last_done}
 use Rattle.passes.proofs.pass.last_line.Goals as goal
 
@@ -11,16 +10,9 @@ overflow_add-pass c =
     let wide = lent_wide c.requires.lent in
     omega (arith, wide.within, columns_few c.args.g wide.floats)
 
-pub columns_of-requires : goal.columns_of-requires
-columns_of-requires c = few_floats c.requires.lent.sound
-
 pub returns-then-pass-columns_of : goal.returns-then-pass-columns_of
 returns-then-pass-columns_of c =
     last_taken c.requires (rw (← c.columns_of.ensures) c.if-pass-columns_of.true)
-
-pub load-load-requires : goal.load-load-requires
-load-load-requires c =
-    floats_separable c.requires.lent 1 c.args.pass.heights (le_refl 1) c.requires.passing.low
 
 pub last_lines-lines-requires : goal.last_lines-lines-requires
 last_lines-lines-requires c =

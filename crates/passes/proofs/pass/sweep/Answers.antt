@@ -1,6 +1,6 @@
 -- `sweep` meets its contract. The loop's invariant is `SweepRun`: the sides before c know the starts of the pass too.
 use native.Mathlib.Omega.{arith}
-use Rattle.passes.proofs.laws.Sweeping.{sweep_first, sweep_none, sweep_stops, sweep_last, sweep_side, sweep_line, sweep_next}
+use Rattle.passes.proofs.laws.Sweeping.{sweep_first, sweep_none, sweep_stops, sweep_side, sweep_line, sweep_next}
 use borrow.Author.Rules.{rules}
 use Rattle.passes.proofs.pass.sweep.Goals as goal
 
@@ -32,9 +32,3 @@ loop-c-preserved c =
 
 pub returns-then-g-pass : goal.returns-then-g-pass
 returns-then-g-pass c = sweep_none c.requires c.if-g-pass.true
-
-pub returns : goal.returns
-returns c =
-    sweep_last c.requires (omega (arith, c.if-g-pass.false)) c.sweep_stop-stop.ensures
-    c.loop-c.invariant
-    c.loop-c-test.false

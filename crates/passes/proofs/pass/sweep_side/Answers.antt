@@ -1,20 +1,11 @@
 -- `sweep_side` meets its contract. The loop's invariant is `SideRun`: the lines above line i know the starts of the pass too. A turn
 -- passes over a line whose place holds less than they cost, or weighs them.
-use native.Mathlib.Nat.{le_refl}
 use native.Mathlib.Omega.{arith}
 use Rattle.candidates.proofs.laws.Columns.{columns_few, few_floats}
-use Rattle.passes.proofs.laws.Lending.{floats_separable}
 use Rattle.passes.proofs.laws.Begin.{side_reaches, side_stands, side_first}
 use Rattle.passes.proofs.laws.Side.{side_last, side_line, side_slides, side_compares, side_beaten, side_moves, side_fronted, side_ended, side_next}
 use borrow.Author.Rules.{rules}
 use Rattle.passes.proofs.pass.sweep_side.Goals as goal
-
-pub load-load-requires : goal.load-load-requires
-load-load-requires c =
-    floats_separable c.requires.lent 1 c.args.pass.heights (le_refl 1) c.requires.passing.low
-
-pub overflow_add-source : goal.overflow_add-source
-overflow_add-source c = omega (arith, c.requires.lent.sound.few_lines)
 
 pub too_tall-several-requires : goal.too_tall-several-requires
 too_tall-several-requires c = rw c.load-load.ensures (side_reaches c.requires)

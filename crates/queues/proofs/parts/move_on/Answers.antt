@@ -4,20 +4,6 @@ use native.Mathlib.Omega.{arith}
 use Rattle.queues.proofs.laws.Parts.{parts_moved}
 use Rattle.queues.proofs.parts.move_on.Goals as goal
 
-pub advance-full-requires : goal.advance-full-requires
-advance-full-requires c =
-    let pre = c.requires in
-    record {
-      stands = λ a l. pre.stands a (omega (arith, pre.split));
-      costs = λ a l. pre.costs a (omega (arith, pre.split));
-      summed = omega (arith, pre.split, pre.summed);
-      based = pre.held.full.based;
-      order = pre.held.full.order;
-      short = pre.held.full.short;
-      start = pre.rises.split;
-      room = omega (arith, pre.split, pre.few, pre.room);
-    }
-
 pub advance-rest-requires : goal.advance-rest-requires
 advance-rest-requires c =
     let pre = c.requires in
@@ -36,4 +22,4 @@ pub returns : goal.returns
 returns c =
     let a = c.args in
     parts_moved a.work.now a.sums.now a.words.now _ _ a.source a.parts a.from a.to _ _ c.requires
-    c.advance-full.ensures (rw c.later-start.ensures at c.advance-rest.ensures)
+    c.advance-full.ensures (rw c.max-start.ensures at c.advance-rest.ensures)

@@ -15,4 +15,4 @@ overflow_sub-result c = omega (arith, c.requires.enough _ _ c.in_ok-x.was)
 
 pub returns : goal.returns
 unfolding whitened_of
-returns c = rw c.in_ok-x.was
+returns c = rw (c.in_ok-x.was, c.from.ensures, c.from-2.ensures)

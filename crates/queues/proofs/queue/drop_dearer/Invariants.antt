@@ -2,8 +2,5 @@
 use Rattle.queues.specs.Run.{DearerRun}
 use Rattle.queues.proofs.queue.drop_dearer.Given as goal
 
-abbrev pub invariant-loop-t : goal.invariant-loop-t
-invariant-loop-t l = DearerRun l.words l.head l.tail l.x l.t
-
-abbrev pub decreases-loop-t : goal.decreases-loop-t
-decreases-loop-t l = l.t
+abbrev pub invariant-loop-k : goal.invariant-loop-k
+invariant-loop-k l = DearerRun l.words l.head l.tail l.x l.k

@@ -2,41 +2,17 @@
 -- turn passes an unreached line, or drops what is no cheaper and pushes a reached one.
 use Prim.Native.Nat.{ℕ, ◌+◌, ◌*◌, ◌≤◌}
 use native.Mathlib.Omega.{arith}
-use mathlib.Core.Path.{◌≡◌, refl, sym, ap, subst, ◌∙◌}
+use mathlib.Core.Path.{◌≡◌, sym, ap, subst, ◌∙◌}
 use mathlib.Core.List.{List}
 use lib.ListN.{length}
 use Rattle.places.specs.Best.{Paid}
-use Rattle.window.specs.Rows.{Beside}
-use Rattle.queues.specs.Queue.{added_of, lines_in, tailed, Held}
-use Rattle.window.specs.laws.Rows.{beside_none}
+use Rattle.window.specs.Rows.{Beside, pushed}
+use Rattle.queues.specs.Queue.{added_of, lines_in, tailed, queued, Held}
 use Rattle.queues.proofs.laws.Held.{paid_of, held_passed}
 use Rattle.window.specs.laws.Rows.{pushed_length, pushed_beside}
 use Rattle.queues.proofs.laws.Pushed.{held_pushed}
 use Rattle.queues.proofs.queue.feed.Goals as goal
 use Rattle.queues.proofs.queue.feed.Goals.{After-entry_of-entry}
-
-pub loop-a-init : goal.loop-a-init
-loop-a-init c =
-    let pre = c.requires in
-    record {
-      start = omega arith;
-      within = pre.start;
-      order = pre.order;
-      short = pre.short;
-      beside = beside_none _ _ _;
-      sized = refl;
-      held = λ low h. h;
-    }
-
-pub place_of-place-requires : goal.place_of-place-requires
-place_of-place-requires c =
-    let stands = c.requires.stands c.loop-a.a c.loop-a-test.true in
-    record { line = omega (arith, stands.inside.row, stands.inside.high); column = stands.inside.wide }
-
-pub entry_of-entry-requires : goal.entry_of-entry-requires
-entry_of-entry-requires c =
-    rw c.place_of-place.ensures
-    (c.requires.stands c.loop-a.a c.loop-a-test.true)
 
 -- The entry of line a in the column.
 read : (c : After-entry_of-entry)
@@ -62,28 +38,19 @@ loop-a-preserved-in_default c =
           (tailed a.queue st.tail) low st.a none (st.invariant.held low h);
     }
 
-pub overflow_add-cost : goal.overflow_add-cost
-overflow_add-cost c =
-    let st = c.loop-a in
-    let small = c.requires.costs st.a c.loop-a-test.true _ _ (read (goal.at.overflow_add-cost c).After-entry_of-entry ∙ c.in-Some.is) in
-    omega (arith, small)
-
-pub overflow_add-tail : goal.overflow_add-tail
-overflow_add-tail c =
-    omega (arith, c.drop_dearer-tail.ensures.to, c.loop-a.invariant.short)
-
 pub loop-a-preserved : goal.loop-a-preserved
+unfolding pushed
 loop-a-preserved c =
     let st = c.loop-a in
     let a = c.args in
     let col = lines_in a.work.now a.source in
     let add = added_of a.sums.now a.queue.lacks in
     let t = c.drop_dearer-tail.result in
-    let drops = c.drop_dearer-tail.ensures in
-    let new = rw (c.place_of-place.ensures, c.high_of.ensures, c.low_of.ensures)
-    at c.push.ensures in
     let x = c.in-Some.found.cost in
     let more = c.added-more.result in
+    let drops = rw c.from.ensures at c.drop_dearer-tail.ensures in
+    let new : c.put.new.words ≡ queued st.words t st.a (x + more) =
+    rw (c.place_of-place.ensures, c.high_of.ensures, c.low_of.ensures, c.from.ensures) at c.put.ensures in
     let here : Paid (col st.a) (add st.a) (x + more) =
     paid_of x (add st.a) (x + more) (read (goal.at.loop-a-preserved c).After-entry_of-entry ∙ c.in-Some.is) (omega (arith, c.added-more.ensures)) in
     let room : 3 * t + 3 ≤ length st.words =

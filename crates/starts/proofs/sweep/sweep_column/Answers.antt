@@ -1,7 +1,7 @@
 -- `sweep_column` meets its contract. The loop's invariant is `ColumnSweepRun`: the starts in rows from b figures on are known. Where
 -- the figures alone are too tall, no earlier row has a start, and none before the origin's figures is reached.
 use native.Mathlib.Omega.{arith}
-use Rattle.candidates.proofs.laws.Columns.{few_floats, within_at}
+use Rattle.candidates.proofs.laws.Columns.{within_at}
 use Rattle.starts.proofs.laws.Rows.{column_first, column_since, column_last, column_room, column_sweeps, column_next, column_tall}
 use borrow.Author.Rules.{rules}
 use Rattle.starts.proofs.sweep.sweep_column.Goals as goal
@@ -44,6 +44,3 @@ pub returns : goal.returns
 returns c =
     let asked = c.requires in
     column_since asked.lent asked.blank (column_last c.loop-b.invariant (omega (arith, c.loop-b-test.false))) c.loop-b.invariant.kept c.loop-b.invariant.still
-
-pub counts_at-end-requires : goal.counts_at-end-requires
-counts_at-end-requires c = few_floats c.requires.lent.sound

@@ -3,20 +3,9 @@
 use mathlib.Core.Path.{refl}
 use native.Mathlib.Omega.{arith}
 use Rattle.candidates.specs.Read.{row_of}
-use Rattle.candidates.proofs.laws.Columns.{few_floats}
-use Rattle.starts.proofs.laws.Row.{end_few, row_small, from_small, row_first, row_last, row_room, row_told, row_stands, row_lays, row_unreached, row_sweeps, row_swept, row_tall}
+use Rattle.starts.proofs.laws.Row.{from_small, row_first, row_last, row_room, row_told, row_stands, row_lays, row_unreached, row_sweeps, row_swept, row_tall}
 use borrow.Author.Rules.{rules}
 use Rattle.starts.proofs.sweep.sweep_row.Goals as goal
-
-pub overflow_add-row_from : goal.overflow_add-row_from
-overflow_add-row_from c = omega (arith, (few_floats c.requires.lent.sound).tables)
-
-pub overflow_mul-row_from : goal.overflow_mul-row_from
-unfolding row_of
-overflow_mul-row_from c = omega (arith, row_small c.requires)
-
-pub row_top-t-requires : goal.row_top-t-requires
-row_top-t-requires c = end_few c.requires
 
 pub loop-t-init : goal.loop-t-init
 loop-t-init c = rw c.row_top-t.ensures (row_first c.requires)

@@ -33,6 +33,3 @@ returns c =
 
 pub columns_of-columns-requires : goal.columns_of-columns-requires
 columns_of-columns-requires c = few_floats c.requires.0.sound
-
-pub shape_of-known : goal.shape_of-known
-shape_of-known c = omega (arith, c.loop-q.invariant.1.sized, c.requires.1.sized)

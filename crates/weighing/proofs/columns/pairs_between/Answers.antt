@@ -1,11 +1,11 @@
 -- `pairs_between` meets its contract: each way is that of the definition.
-use Prim.Native.Nat.{◌+◌, ◌-◌, ◌≤◌}
+use Rattle.std.specs.Prelude.{ℕ, ◌+◌, ◌-◌, ◌≤◌, List}
 use native.Mathlib.Omega.{arith}
 use mathlib.Core.Path.{ap}
 use borrow.Author.Tests.{lt-ltb, le-ltb}
-use Rattle.weighing.specs.Count.{pairs_between}
+use Rattle.galley.specs.declared.Galley.{Galley}
+use Rattle.weighing.specs.Count.{pairs_between, Between}
 use Rattle.weighing.proofs.columns.pairs_between.Goals as goal
-use Rattle.weighing.proofs.columns.pairs_between.Goals.{After-slice_known-then-some-1}
 
 -- Where the floats are too tall alone there are none.
 pub returns-then-g-floats : goal.returns-then-g-floats
@@ -18,15 +18,14 @@ pairs_beside-requires c =
     (pre.0.pairable _ (omega (arith, pre.0.low, pre.0.separation)), pre.1)
 
 -- No more lines are left than there are.
-few : (c : After-slice_known-then-some-1) → let start = c.before.before.before.before.before.before.before.before.before.before in
-    start.args.g.text.count - start.args.first ≤ 4000
-few c = omega (arith, (c.requires.0.pairable 0 (omega arith)).few)
+few : {g : Galley} {sums : List ℕ} {first floats : ℕ} → Between g sums first floats → g.text.count - first ≤ 4000
+few between = omega (arith, (between.pairable 0 (omega arith)).few)
 
 pub returns-then-some : goal.returns-then-some
 unfolding pairs_between
 returns-then-some c =
     let args = c.args in (
-      omega (arith, few (goal.at.returns-then-some c).After-slice_known-then-some-1, c.pairs_beside.ensures.0.few),
+      omega (arith, few c.requires.0, c.pairs_beside.ensures.0.few),
       (λ st rows.
           rw (
             le-ltb args.g.spec.htmax args.floats (omega (arith, c.if-g-floats.false)),
@@ -59,4 +58,4 @@ pub overflow_add-alone : goal.overflow_add-alone
 overflow_add-alone c = omega (arith, (c.requires.0.pairable 0 (omega arith)).few)
 
 pub overflow_add-result : goal.overflow_add-result
-overflow_add-result c = omega (arith, few (goal.at.overflow_add-result c).After-slice_known-then-some-1, c.pairs_beside.ensures.0.few)
+overflow_add-result c = omega (arith, few c.requires.0, c.pairs_beside.ensures.0.few)

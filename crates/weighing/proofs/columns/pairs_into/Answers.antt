@@ -1,38 +1,61 @@
--- `pairs_into` meets its contract. Both loops have one invariant, `ColumnCount`: the pages from all columns past that of these parts are
--- counted. A turn counts one column more; those between it and the next add nothing.
-use native.Mathlib.Omega.{arith}
-use Rattle.candidates.proofs.laws.Columns.{few_floats}
-use Rattle.weighing.specs.Count.{ColumnStep}
+-- `pairs_into` meets its contract. The outer loop's invariant is `RowsCount`: the pages from all rows from that of b figures on are counted. The
+-- inner one's is `RowCount`: so are those from the columns of the row before it with t tables and more. A turn counts one column; those
+-- between it and the next add nothing.
+use Rattle.std.proofs.Common.{◌-◌, arith}
+use Rattle.candidates.specs.Read.{counts_at}
+use Rattle.candidates.proofs.laws.Columns.{few_floats, within_at}
+use Rattle.weighing.specs.Count.{PartOf, ColumnStep}
 use Rattle.weighing.proofs.laws.From.{from_lays, from_between}
-use Rattle.weighing.proofs.laws.Count.{column_short, column_first, column_few, table_room, table_next, figure_room, figure_next, column_last}
+use Rattle.weighing.proofs.laws.Count.{rows_first, rows_last, figure_room, row_first, row_last, table_room, row_tabled, row_few, row_counted, row_tall, row_all}
 use Rattle.weighing.proofs.columns.pairs_into.Goals as goal
-use Rattle.weighing.proofs.columns.pairs_into.Goals.{After-pairs_between-pairs, After-with_one_more-arg-1, After-with_one_more-arg-in-loop-tables-1}
+use Rattle.weighing.proofs.columns.pairs_into.Goals.{After-block_before-tables, After-pairs_between-pairs}
 
-pub returns-then-end-first : goal.returns-then-end-first
-returns-then-end-first c =
-    (column_short c.requires.0 (rw c.counts_at-end.ensures at c.if-end-first.true), c.requires.1)
+pub counts_at-end-requires : goal.counts_at-end-requires
+counts_at-end-requires c = few_floats c.requires.0.ready.sound
 
-pub loop-tables-init : goal.loop-tables-init
-loop-tables-init c = (
-  rw (c.nothing-figures.ensures, c.counts_at-end.ensures)
-      (column_first c.requires.0 (rw c.counts_at-end.ensures at c.if-end-first.false)),
-  c.requires.1,
+pub overflow_step-b : goal.overflow_step-b
+overflow_step-b c =
+    let few = c.requires.0.ready.sound.figures.few in
+    let within = within_at c.args.g 0 c.args.q (omega arith) c.requires.0.column in
+    rw c.counts_at-end.ensures (omega (arith, within.figures))
+
+pub loop-b-init : goal.loop-b-init
+loop-b-init c = (rw c.counts_at-end.ensures (rows_first c.requires.0), c.requires.1)
+
+pub block_before-figures-requires : goal.block_before-figures-requires
+block_before-figures-requires c = rw c.counts_at-end.ensures (figure_room c.requires.0 c.loop-b.invariant.0)
+
+pub loop-t-init : goal.loop-t-init
+loop-t-init c = (
+  rw c.counts_at-end.ensures
+      (row_first c.requires.0 c.loop-b.invariant.0 (omega arith) _ (rw c.counts_at-end.ensures at c.block_before-figures.ensures)),
+  c.loop-b.invariant.1,
 )
 
-pub loop-tables-2-init : goal.loop-tables-2-init
-loop-tables-2-init c =
-    (rw (c.nothing-tables.ensures, c.counts_at-end.ensures) c.loop-tables.invariant.0, c.loop-tables.invariant.1)
+pub block_before-tables-requires : goal.block_before-tables-requires
+block_before-tables-requires c = rw c.counts_at-end.ensures (table_room c.requires.0 c.loop-t.invariant.0)
+
+-- What the next column has of tables.
+tabled : (c : After-block_before-tables)
+    → PartOf c.args.s.now c.args.g.tables c.args.first.tables (counts_at c.args.g 0 c.args.q).tables (record { from = c.loop-t.t - 1; heights = c.block_before-tables.result })
+tabled c =
+    row_tabled c.requires.0 c.loop-t.invariant.0 (omega (arith, c.loop-t-test.true)) _ (rw c.counts_at-end.ensures at c.block_before-tables.ensures)
+
+pub floats_alone-floats-requires : goal.floats_alone-floats-requires
+floats_alone-floats-requires c =
+    from_lays c.requires.0 c.loop-t.invariant.0.figured (tabled (goal.at.floats_alone-floats-requires c).After-block_before-tables)
 
 pub pairs_between-pairs-requires : goal.pairs_between-pairs-requires
 pairs_between-pairs-requires c = (
-  from_between c.requires.0 c.loop-tables-2.invariant.0.figured c.loop-tables-2.invariant.0.tabled c.floats_alone-floats.result
+  from_between c.requires.0 c.loop-t.invariant.0.figured (tabled (goal.at.pairs_between-pairs-requires c).After-block_before-tables) c.floats_alone-floats.result
       (rw c.counts_at-end.ensures at c.floats_alone-floats.ensures),
-  c.loop-tables-2.invariant.1,
+  c.loop-t.invariant.1,
 )
 
 -- What a turn adds.
 step : (c : After-pairs_between-pairs) → let a = c.args in
-    ColumnStep a.s.now a.g a.first a.q c.loop-tables.figures c.loop-tables-2.tables c.floats_alone-floats.result c.pairs_between-pairs.result
+    ColumnStep a.s.now a.g a.first a.q (record { from = c.loop-b.b - 1; heights = c.block_before-figures.result })
+    (record { from = c.loop-t.t - 1; heights = c.block_before-tables.result }) c.floats_alone-floats.result c.pairs_between-pairs.result
 step c =
     record {
       laid = rw c.counts_at-end.ensures at c.floats_alone-floats.ensures;
@@ -40,47 +63,38 @@ step c =
       counted = rw c.counts_at-end.ensures at (c.pairs_between-pairs.ensures.1 _ c.requires.0.ready.summed.rows);
     }
 
-pub with_one_more-tables-requires : goal.with_one_more-tables-requires
-with_one_more-tables-requires c =
-    rw c.counts_at-end.ensures (table_room c.requires.0 c.loop-tables-2.invariant.0 (step (goal.at.with_one_more-tables-requires c).After-pairs_between-pairs) c.if-tall-tables.false)
-
-pub loop-tables-2-preserved : goal.loop-tables-2-preserved
-loop-tables-2-preserved c = (
-  rw (c.with_one_more-tables.ensures, c.counts_at-end.ensures) (table_next c.requires.0 c.loop-tables-2.invariant.0 (step (goal.at.loop-tables-2-preserved c).After-pairs_between-pairs) c.if-tall-tables.false),
-  c.pairs_between-pairs.ensures.2,
-)
-
-pub returns-then-bare-figures : goal.returns-then-bare-figures
-returns-then-bare-figures c = (
-  column_last c.requires.0 c.loop-tables-2.invariant.0 (step (goal.at.returns-then-bare-figures c).After-pairs_between-pairs) c.if-tall-tables.true (rw c.counts_at-end.ensures at c.if-bare-figures.true),
-  c.pairs_between-pairs.ensures.2,
-)
-
-pub with_one_more-figures-requires : goal.with_one_more-figures-requires
-with_one_more-figures-requires c =
-    rw c.counts_at-end.ensures (figure_room c.requires.0 c.loop-tables-2.invariant.0 (step (goal.at.with_one_more-figures-requires c).After-pairs_between-pairs) c.if-tall-tables.true (rw c.counts_at-end.ensures at c.if-bare-figures.false))
-
-pub loop-tables-preserved : goal.loop-tables-preserved
-loop-tables-preserved c = (
-  rw (c.with_one_more-figures.ensures, c.counts_at-end.ensures)
-      (figure_next c.requires.0 c.loop-tables-2.invariant.0 (step (goal.at.loop-tables-preserved c).After-pairs_between-pairs) c.if-tall-tables.true (rw c.counts_at-end.ensures at c.if-bare-figures.false)),
-  c.pairs_between-pairs.ensures.2,
-)
-
-pub counts_at-end-requires : goal.counts_at-end-requires
-counts_at-end-requires c = few_floats c.requires.0.ready.sound
-
-pub floats_alone-floats-requires : goal.floats_alone-floats-requires
-floats_alone-floats-requires c = from_lays c.requires.0 c.loop-tables-2.invariant.0.figured c.loop-tables-2.invariant.0.tabled
-
 pub overflow_add-pairs : goal.overflow_add-pairs
-overflow_add-pairs c = omega (arith, column_few c.requires.0 c.loop-tables-2.invariant.0 (step (goal.at.overflow_add-pairs c).After-pairs_between-pairs))
+overflow_add-pairs c =
+    omega (
+      arith,
+      row_few c.requires.0 c.loop-t.invariant.0 (omega (arith, c.loop-t-test.true)) _ (rw c.counts_at-end.ensures at c.block_before-tables.ensures)
+          (step (goal.at.overflow_add-pairs c).After-pairs_between-pairs),
+    )
 
-pub loop-tables-2-smaller : goal.loop-tables-2-smaller
-loop-tables-2-smaller c = rw c.with_one_more-tables.ensures (omega (arith, (with_one_more-tables-requires (goal.at.loop-tables-2-smaller c).After-with_one_more-arg-1).some))
+pub returns-then-end-t : goal.returns-then-end-t
+returns-then-end-t c = (
+  row_all c.requires.0 c.loop-t.invariant.0 (omega (arith, c.loop-t-test.true)) _ (rw c.counts_at-end.ensures at c.block_before-tables.ensures)
+      (step (goal.at.returns-then-end-t c).After-pairs_between-pairs) c.if-g-floats.true (rw c.counts_at-end.ensures at c.if-end-t.true),
+  c.pairs_between-pairs.ensures.2,
+)
 
-pub shape_of-known-then-bare-figures : goal.shape_of-known-then-bare-figures
-shape_of-known-then-bare-figures c = omega (arith, c.pairs_between-pairs.ensures.2.sized, c.requires.1.sized)
+pub loop-b-preserved : goal.loop-b-preserved
+loop-b-preserved c = (
+  row_tall c.requires.0 c.loop-t.invariant.0 (omega (arith, c.loop-t-test.true)) _ (rw c.counts_at-end.ensures at c.block_before-tables.ensures)
+      (step (goal.at.loop-b-preserved c).After-pairs_between-pairs) c.if-g-floats.true,
+  c.pairs_between-pairs.ensures.2,
+)
 
-pub loop-tables-smaller : goal.loop-tables-smaller
-loop-tables-smaller c = rw c.with_one_more-figures.ensures (omega (arith, (with_one_more-figures-requires (goal.at.loop-tables-smaller c).After-with_one_more-arg-in-loop-tables-1).some))
+pub loop-t-preserved : goal.loop-t-preserved
+loop-t-preserved c = (
+  row_counted c.requires.0 c.loop-t.invariant.0 (omega (arith, c.loop-t-test.true)) _ (rw c.counts_at-end.ensures at c.block_before-tables.ensures)
+      (step (goal.at.loop-t-preserved c).After-pairs_between-pairs),
+  c.pairs_between-pairs.ensures.2,
+)
+
+pub loop-b-preserved-in-loop-t : goal.loop-b-preserved-in-loop-t
+loop-b-preserved-in-loop-t c =
+    (row_last c.requires.0 c.loop-t.invariant.0 (omega (arith, c.loop-t-test.false)), c.loop-t.invariant.1)
+
+pub returns : goal.returns
+returns c = (rows_last c.requires.0 c.loop-b.invariant.0 (omega (arith, c.loop-b-test.false)), c.loop-b.invariant.1)

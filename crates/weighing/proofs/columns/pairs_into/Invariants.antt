@@ -1,19 +1,10 @@
--- `pairs_into` meets its contract. Both loops have one invariant, `ColumnCount`: the pages from all columns past that of these parts are
--- counted. A turn counts one column more; those between it and the next add nothing.
-use Rattle.candidates.specs.Read.{counts_at}
-use Rattle.weighing.specs.Count.{nothing, ColumnCount, KnownOf}
+-- `pairs_into` meets its contract. The outer loop's invariant is `RowsCount`: the pages from all rows from that of b figures on are counted. The
+-- inner one's is `RowCount`: so are those from the columns of the row before it with t tables and more.
+use Rattle.weighing.specs.Count.{RowsCount, RowCount, KnownOf}
 use Rattle.weighing.proofs.columns.pairs_into.Given as goal
 
-abbrev pub invariant-loop-tables-2 : goal.invariant-loop-tables-2
-invariant-loop-tables-2 l =
-    ColumnCount l.s l.g l.first l.q l.figures l.tables l.pairs × KnownOf l.g l.sums l.first.lines l.known
+abbrev pub invariant-loop-b : goal.invariant-loop-b
+invariant-loop-b l = RowsCount l.s l.g l.first l.q l.b l.figures l.pairs × KnownOf l.g l.sums l.first.lines l.known
 
-abbrev pub decreases-loop-tables-2 : goal.decreases-loop-tables-2
-decreases-loop-tables-2 l = l.tables.from
-
-abbrev pub invariant-loop-tables : goal.invariant-loop-tables
-invariant-loop-tables l =
-    ColumnCount l.s l.g l.first l.q l.figures (nothing (counts_at l.g 0 l.q).tables) l.pairs × KnownOf l.g l.sums l.first.lines l.known
-
-abbrev pub decreases-loop-tables : goal.decreases-loop-tables
-decreases-loop-tables l = l.figures.from
+abbrev pub invariant-loop-t : goal.invariant-loop-t
+invariant-loop-t l = RowCount l.s l.g l.first l.q l.b l.t l.figures l.tables l.pairs × KnownOf l.g l.sums l.first.lines l.known

@@ -1,7 +1,7 @@
 -- `pairs_beside` meets its contract: what a row says is so, and a tally that is kept says what was counted.
-use Rattle.weighing.proofs.laws.Known.{known_counts, knows_headed}
 use Rattle.weighing.proofs.known.pairs_beside.Goals as goal
 
-pub returns-in-Some : goal.returns-in-Some
-returns-in-Some c =
-    (rw c.from.ensures (known_counts c.requires.1 c.in-Some.ensures), rw c.push.ensures (knows_headed c.requires.1 _ _ _))
+pub returns : goal.returns
+returns c =
+    let counted = c.line_pairs-tally.ensures in
+    (rw c.from-2.ensures counted.0, c.keep.ensures _ _ _ _ c.requires.1 counted.1)

@@ -1,26 +1,12 @@
 -- `first_below` meets its contract. The loop's invariant: the pages from the lines passed all reach the limit, to which each turn
 -- adds one.
-use Prim.Native.Nat.{◌-◌}
+use mathlib.Core.Path.{◌≡◌}
 use native.Mathlib.Omega.{arith}
 use Rattle.window.specs.laws.First.{first_start, first_next, first_found}
-use Rattle.window.specs.laws.Slide.{reaches_readable}
 use Rattle.window.proofs.slide.first_below.Goals as goal
-
-pub reached-far-requires : goal.reached-far-requires
-reached-far-requires c = reaches_readable c.requires
 
 pub loop-a-init : goal.loop-a-init
 loop-a-init c = (omega (arith, c.requires.start), first_start _ _ _)
-
-pub spaced-requires : goal.spaced-requires
-spaced-requires c =
-    let pre = c.requires in
-    (pre.either, omega (arith, pre.room))
-
-pub overflow_add-limit : goal.overflow_add-limit
-overflow_add-limit c =
-    let pre = c.requires in
-    omega (arith, (pre.small c.loop-a.a (omega arith)).0, pre.limited, c.spaced.ensures)
 
 pub returns-then-far-limit : goal.returns-then-far-limit
 returns-then-far-limit c =
@@ -36,5 +22,6 @@ loop-a-preserved c =
 pub returns : goal.returns
 returns c =
     let st = c.loop-a in
+    let done : st.a ≡ c.args.i = omega arith in
     let far = c.reached-far.ensures in
-    rw (← far) (first_found _ st.invariant.1 st.invariant.0 (λ l. absurd (omega arith)))
+    rw (← far) (rw done at (first_found _ st.invariant.1 st.invariant.0 (λ l. absurd (omega arith))))
