@@ -1,12 +1,12 @@
 -- The folios that are followed back are those of the best route.
 use Prim.Native.Nat.{ℕ, zero, suc, ◌+◌, ◌-◌, ◌≤◌, ◌<◌}
 use native.Mathlib.Omega.{arith}
-use Rattle.std.specs.Prelude.{◌≡◌, refl, List, ◌∷◌, set}
+use Rattle.std.specs.Prelude.{◌≡◌, List, ◌∷◌, set}
 use Rattle.std.proofs.Common.{sym, ◌∙◌, subst}
 use Rattle.std.proofs.Math.Path.{ap}
 use Rattle.std.proofs.Math.ListN.{length, get_or, drop, length-set}
 use Rattle.std.proofs.Math.Seq.{drop-cons, get_or-set_same, drop-set-lt}
-use Rattle.course.specs.Trace.{came_from, followed, Leads, Followable, Following}
+use Rattle.course.specs.Trace.{came_from, followed, Leads, Following}
 
 module _ {from : List ℕ} {chapters last : ℕ} where
   module _ {after folios : List ℕ} where

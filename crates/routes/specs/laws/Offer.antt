@@ -2,7 +2,7 @@
 use Rattle.std.specs.Prelude.{ℕ, suc, ◌+◌, ◌*◌, ◌≤◌, ◌<◌, ◌≡◌, refl, Bool, true, false, List}
 use Rattle.std.proofs.Common.{le_refl, arith, sym, ◌∙◌, ap, lt-ltb, le-ltb}
 use Rattle.model.specs.Gather.{pick}
-use Rattle.model.specs.Leaf.{ends, sides_of}
+use Rattle.model.specs.Leaf.{ends}
 use Rattle.theorems.specs.pages.Graph.{side}
 use Rattle.theorems.specs.pages.Sides.{side_side}
 use Rattle.galley.specs.declared.Galley.{Galley}

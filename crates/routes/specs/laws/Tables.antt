@@ -1,5 +1,5 @@
 -- Both tables of a chapter, each in one half of the work area: what filling one leaves of the other, and what can be read of them.
-use Rattle.std.specs.Prelude.{ℕ, ◌+◌, ◌-◌, ◌≤◌, ◌≡◌, refl, Bool, true, false, List, [], ◌++◌, length, take, drop}
+use Rattle.std.specs.Prelude.{ℕ, ◌+◌, ◌-◌, ◌≤◌, ◌≡◌, Bool, List, [], ◌++◌, length, take, drop}
 use Rattle.std.proofs.Common.{arith, sym, ◌∙◌, ap, subst, append-nil, length-drop, length-append, length-take-le, take_at, drop_at, take_all}
 use Rattle.std.proofs.Math.Seq.{drop-length}
 use Rattle.galley.specs.declared.Galley.{Galley}
