@@ -153,13 +153,12 @@ pub fn fill_place(
         };
         let parts = queues::parts::parts_of(ends, c);
         let Parts { full, rest } = fill_side(s, task, work, sums, words, parts, windows, here);
-        queues::parts::put_row(
-            ends,
-            c,
+        let row = [
             full.head as u32,
             full.tail as u32,
             rest.head as u32,
             rest.tail as u32,
-        );
+        ];
+        window::rows::put(ends, c, row);
     }
 }

@@ -1,6 +1,7 @@
 -- `fill_place` meets its contract. The loop's invariant is `SidesRun`: the sides before c are filled.
 use mathlib.Core.Path.{◌≡◌}
 use lib.Dec.{eqb}
+use Rattle.queues.specs.Parts.{row_put}
 use Rattle.pricing.specs.Stop.{turns_on}
 use Rattle.pricing.specs.laws.Price.{turns_on_lem}
 use Rattle.entries.specs.laws.Sides.{sides_first, sides_last, sides_side, sides_next}
@@ -26,8 +27,9 @@ fill_side-requires c =
     (sides_side c.requires c.loop-c.invariant c.loop-c-test.true _ (turned (goal.at.fill_side-requires c).In-loop-c))
 
 pub loop-c-preserved : goal.loop-c-preserved
+unfolding row_put
 loop-c-preserved c =
-    rw c.put_row.ensures
+    rw c.put.ensures
     (sides_next c.requires c.loop-c.invariant
     c.loop-c-test.true _ (turned (goal.at.loop-c-preserved c).In-loop-c) _ _ (search rules)
     c.fill_side.result (rw c.parts_of-parts.ensures at c.fill_side.ensures))
