@@ -36,6 +36,7 @@ pub fn field(s: &[u8], stream: Stream, k: usize, at: usize) -> u32
 }
 
 // Whether a page may end in the space after block k: after a line that says so, and after a float that is not kept with the next.
+#[tactic(auto, unfolding(galley::specs::Model::legal_of))]
 pub fn is_legal(s: &[u8], stream: Stream, k: usize) -> bool
     requires { Has s.now stream k 14 }
     ensures { result ≡ legal_of s.now stream k }
@@ -44,5 +45,5 @@ pub fn is_legal(s: &[u8], stream: Stream, k: usize) -> bool
     if mark == galley::place::TL {
         return field(s, stream, k, galley::LEGAL) == 1;
     }
-    !(mark == galley::place::FK)
+    mark != galley::place::FK
 }
