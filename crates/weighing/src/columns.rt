@@ -59,7 +59,8 @@ fn pairs_into(s: &[u8], g: Galley, sums: &[u32], known: &mut Known, first: Count
             pairs += pairs_between(g, sums, known, first.lines, floats.tight, figured | tabled);
             if g.spec.htmax < floats.tight {
                 // Where figures alone are too tall, so are they with one more.
-                if end.tables <= t {
+                let bare = end.tables <= t;
+                if bare {
                     return pairs;
                 }
                 break;

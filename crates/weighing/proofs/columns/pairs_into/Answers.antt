@@ -68,10 +68,10 @@ overflow_add-pairs c =
           (step (goal.at.overflow_add-pairs c).After-pairs_between-pairs),
     )
 
-pub returns-then-end-t : goal.returns-then-end-t
-returns-then-end-t c = (
+pub returns-then-bare : goal.returns-then-bare
+returns-then-bare c = (
   row_all c.requires.0 c.loop-t.invariant.0 (omega (arith, c.loop-t-test.true)) _ (rw c.counts_at-end.ensures at c.block_before-tables.ensures)
-      (step (goal.at.returns-then-end-t c).After-pairs_between-pairs) c.if-g-floats.true (rw c.counts_at-end.ensures at c.if-end-t.true),
+      (step (goal.at.returns-then-bare c).After-pairs_between-pairs) c.if-g-floats.true (rw c.counts_at-end.ensures at c.if-bare.true),
   c.pairs_between-pairs.ensures.2,
 )
 
