@@ -48,33 +48,35 @@ pub fn judge_pages(s: &[u8], g: Galley, list: &[u32], last: Option<usize>) -> Re
     let mut at = Counts::default();
     let mut waiting = Waiting::default();
     let mut sums = Sums::default();
-    for done in 0..list.len() / words {
-        let place = (done + 1) as u32;
-        let v = page_at(g, list, words * done);
-        if let Some(number) = judging::start_fault(s, g, at, v) {
-            return Err(Refusal { number, place });
-        }
-        // The heights are looked at before each block and after the last.
-        let mut laid = laying::bare_page(g, at, v);
-        loop {
-            if g.spec.htmax < laid.heights.tight {
-                return Err(Refusal { number: 15, place });
+    'pages: {
+        for done in 0..list.len() / words {
+            let place = (done + 1) as u32;
+            let v = page_at(g, list, words * done);
+            if let Some(number) = judging::start_fault(s, g, at, v) {
+                break 'pages Err(Refusal { number, place });
             }
-            if laying::is_laid(laid.on, v) {
-                break;
+            // The heights are looked at before each block and after the last.
+            let mut laid = laying::bare_page(g, at, v);
+            loop {
+                if g.spec.htmax < laid.heights.tight {
+                    break 'pages Err(Refusal { number: 15, place });
+                }
+                if laying::is_laid(laid.on, v) {
+                    break;
+                }
+                laid = laying::with_next(s, g, at, v, laid);
             }
-            laid = laying::with_next(s, g, at, v, laid);
+            let loose = laid.heights.loose;
+            let closing = last == Some(done + 1);
+            if let Some(number) = judging::end_fault(s, g, loose, Page(place), closing, v) {
+                break 'pages Err(Refusal { number, place });
+            }
+            waiting = rules::waiting::waiting_on(s, g, at, v, waiting);
+            sums = counting::with_page(g, Page(place), closing, loose, waiting, sums);
+            at = v;
         }
-        let loose = laid.heights.loose;
-        let closing = last == Some(done + 1);
-        if let Some(number) = judging::end_fault(s, g, loose, Page(place), closing, v) {
-            return Err(Refusal { number, place });
-        }
-        waiting = rules::waiting::waiting_on(s, g, at, v, waiting);
-        sums = counting::with_page(g, Page(place), closing, loose, waiting, sums);
-        at = v;
+        Ok(Kept { at, sums })
     }
-    Ok(Kept { at, sums })
 }
 
 // The answer for a list of so many pages, all but the last of which another follows: the first page that breaks a rule, then 18.

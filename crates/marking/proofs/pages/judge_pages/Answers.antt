@@ -119,8 +119,8 @@ through : {bytes : List ℕ} {g : Galley} {ws : List ℕ} {last : ℕ} {kept : K
     → KeptPages bytes g ws last kept.at kept.sums → JudgedPages bytes g ws last (Ok kept)
 through {kept = kept} e pages = record { fault = e; kept = λ k f. let same : kept ≡ k = cc in rw (← same) pages }
 
-pub returns : goal.returns
-returns c =
+pub returns-after-loop-done : goal.returns-after-loop-done
+returns-after-loop-done c =
     let all : c.loop-done.done ≡ length c.args.list.now / c.page_words-words.result = omega (arith, c.loop-done.auto.done-end, c.loop-done-test.false) in
     let over = run_over c.args.s.now c.args.g c.args.list.now c.requires c.page_words-words.ensures.1 c.loop-done.invariant all in
     through over.0 over.1
