@@ -6,9 +6,8 @@ use Rattle.std.proofs.Common.{arith, sym, ◌∙◌, take_at, le-ltb}
 use Rattle.std.proofs.Math.Path.{ap, subst}
 use Rattle.std.proofs.Math.Logic.{inl, inr}
 use Rattle.std.proofs.Math.ListN.{take, drop}
-use Rattle.model.specs.declared.answer.Answer.{Answer}
 use Rattle.model.specs.Galley.{Galley}
-use Rattle.model.specs.Answers.{numbers_of, words_of}
+use Rattle.model.specs.Answers.{numbers_of, words_of, Answer}
 use Rattle.model.specs.Book.{first_folio, Choice, gathered, choices, book_turns, book_white, book_counts, book_made, book_words}
 use Rattle.model.specs.laws.Lists.{◌∈◌}
 use Rattle.theorems.specs.books.Binding.{Binding, no_choice, best_choice, binding}

@@ -3,8 +3,7 @@
 -- ends, with nothing undefined, is what the proofs of both say of any bytes, words and lent memory: neither has a `requires`.)
 use Rattle.std.specs.Prelude.{ℕ, List, length}
 use Rattle.std.proofs.Common.{sym, subst}
-use Rattle.model.specs.declared.answer.Answer.{Answer}
-use Rattle.model.specs.Answers.{numbers_of}
+use Rattle.model.specs.Answers.{numbers_of, Answer}
 use Rattle.galley.specs.Model.{model_of}
 use Rattle.making.specs.Make.{Made}
 use Rattle.promises.specs.Answers.{ByMaking, of_making}

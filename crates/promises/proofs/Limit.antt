@@ -1,10 +1,10 @@
 -- No answer has more turns than documents 01 ("Spreads and turns") and 02 (S-4) allow for, nor more white than htMax for each page but
 -- one (document 02, S-10), so that T and W fit the 32 bits of an answer.
 use Rattle.std.specs.Prelude.{ℕ, List}
-use Rattle.model.specs.declared.answer.Answer.{Answer}
 use Rattle.marking.specs.Mark.{mark_of}
 use Rattle.making.specs.Make.{Made}
 use Rattle.promises.specs.Limit.{Within, most_turns, most_untabled, Untabled, reads_costs, untabled_costs, marking_within, making_within}
+use Rattle.model.specs.Answers.{Answer}
 
 -- Marking reports at most 1,066,499,000 turns and 424,900,000 of white,
 pub marking_limit : (bytes words : List ℕ) → Within most_turns (mark_of bytes words)

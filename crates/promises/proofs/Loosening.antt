@@ -1,17 +1,15 @@
 -- Loosening the least fill (document 02, S-14): with a lower htMin, and all else alike, no galley loses a list, and making turns no more
 -- leaves. `make` is proved to answer `make_of`, `make_after` to answer `make_after_of`, and `mark` to answer `mark_of`.
-use Rattle.std.specs.Prelude.{ℕ, ◌≤◌, ◌≡◌, List, ◌++◌}
+use Rattle.std.specs.Prelude.{ℕ, ◌≤◌, ◌≡◌, List, ◌++◌, Ok}
 use Rattle.std.proofs.Common.{arith, sym, ◌∙◌}
 use Rattle.std.proofs.Math.Path.{ap}
-use Rattle.model.specs.declared.answer.Answer.{Answer}
 use Rattle.model.specs.Galley as model
-use Rattle.model.specs.Answers.{accepted}
+use Rattle.model.specs.Answers.{accepted, Answer}
 use Rattle.model.specs.Opening.{made_after}
 use Rattle.model.specs.Loosened.{with_htmin}
 use Rattle.model.proofs.laws.Loosened.{marked_loosened, standing_loosened}
 use Rattle.theorems.specs.pages.LeastAfter.{MakingAfter, turned_away, no_list, best_list, making_after}
 use Rattle.galley.specs.declared.Galley.{Galley}
-use Rattle.galley.specs.declared.Reading.TheVariants as reads
 use Rattle.galley.specs.Whole.{galley_of}
 use Rattle.galley.specs.Model.{model_of}
 use Rattle.galley.specs.Alike.{Alike}
@@ -30,8 +28,8 @@ made_loosened m h low opening (best_list words e is long best whiter) made' =
     (marked_loosened m h low (opening ++ words) (ap accepted is) ∙ is) made'
 
 -- Two galleys that are read from bytes alike in all but htMin, which is no higher in the second.
-module _ {bytes bytes' : List ℕ} (like : Alike bytes bytes') (g g' : Galley) (read : galley_of bytes ≡ reads.Galley g)
-    (read' : galley_of bytes' ≡ reads.Galley g') (low : g'.spec.htmin ≤ g.spec.htmin) where
+module _ {bytes bytes' : List ℕ} (like : Alike bytes bytes') (g g' : Galley) (read : galley_of bytes ≡ Ok g)
+    (read' : galley_of bytes' ≡ Ok g') (low : g'.spec.htmin ≤ g.spec.htmin) where
   module _ (work list work' list' : ℕ) (enough : work_needed g' ≤ work') (room : list_needed g' ≤ list') where
     -- Making after one opening given to both, with any memory lent for the higher htMin and enough for the lower.
     pub making_loosened : (opening : List ℕ) → Loosens (make_after_of bytes opening work list) (make_after_of bytes' opening work' list')

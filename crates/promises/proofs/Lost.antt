@@ -1,18 +1,14 @@
 -- Lost for good: of a list that marking accepts, what is best of all lists that begin with its first q pages never gets better as q grows,
 -- from making's own to the list's own. So each page end loses what can no longer be had after it, these losses add up to what the list has
 -- above making, and they are found by halves. `make_after` is proved to answer `make_after_of`, `make` to answer `make_of`, `mark` `mark_of`.
-use Rattle.std.specs.Prelude.{ℕ, zero, suc, ◌+◌, ◌-◌, ◌*◌, ◌≤◌, ◌<◌, ◌≡◌, refl, ◌⊎◌, true, List, ◌++◌, length, take, drop}
+use Rattle.std.specs.Prelude.{ℕ, zero, suc, ◌+◌, ◌-◌, ◌*◌, ◌≤◌, ◌<◌, ◌≡◌, refl, ◌⊎◌, true, List, ◌++◌, length, take, drop, Ok}
 use Rattle.std.proofs.Common.{zero-mul, mul-le-mul_right, arith, sym, ◌∙◌, ap, subst, inl, inr, append_assoc, take-append-drop, take-take, lt-ltb, le-ltb}
 use Rattle.std.proofs.Math.Decide.{dec_lt}
-use Rattle.std.proofs.Math.Option.{none}
-use Rattle.model.specs.declared.answer.Answer.{Answer}
-use Rattle.model.specs.declared.answer.Answer.TheVariants.{Refused}
 use Rattle.model.specs.Gather.{sum, between}
 use Rattle.model.specs.Galley as model
-use Rattle.model.specs.Answers.{numbers_of, accepted, same, marked}
+use Rattle.model.specs.Answers.{numbers_of, accepted, marked, Answer, refused}
 use Rattle.model.proofs.laws.Gather.{between_sum}
 use Rattle.galley.specs.declared.Galley.{Galley}
-use Rattle.galley.specs.declared.Reading.TheVariants as reads
 use Rattle.galley.specs.Whole.{galley_of}
 use Rattle.galley.specs.Model.{model_of}
 use Rattle.marking.specs.Mark.{mark_of}
@@ -32,7 +28,7 @@ steps_add f up (suc n) =
     let e : suc n - 1 ≡ n = omega arith in
     omega (arith, steps_add f up n, ap f e, up n (suc n) (omega arith))
 
-module _ (bytes : List ℕ) (g : Galley) (read : galley_of bytes ≡ reads.Galley g) (words : List ℕ) (taken : accepted (mark_of bytes words) ≡ true) where
+module _ (bytes : List ℕ) (g : Galley) (read : galley_of bytes ≡ Ok g) (words : List ℕ) (taken : accepted (mark_of bytes words) ≡ true) where
   abbrev mark : Answer
   mark = mark_of bytes words
 
@@ -70,7 +66,7 @@ module _ (bytes : List ℕ) (g : Galley) (read : galley_of bytes ≡ reads.Galle
     after_finished : (q : ℕ) → q < pages → accepted (after q) ≡ true
     after_finished q few = go (demand q few).outcome
       where
-        go : (after q ≡ Refused 11 0) ⊎ (accepted (after q) ≡ true) → accepted (after q) ≡ true
+        go : (after q ≡ refused 11 0) ⊎ (accepted (after q) ≡ true) → accepted (after q) ≡ true
         go (inr a) = a
         go (inl e) =
             let no = (demand q few).none.0 e (drop (q * model.streams (model_of bytes g)) words) in

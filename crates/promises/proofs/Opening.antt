@@ -4,8 +4,7 @@ use Rattle.std.specs.Prelude.{ℕ, List, length}
 use Rattle.std.proofs.Common.{sym, inl}
 use native.Mathlib.Omega.{arith}
 use Rattle.std.proofs.Math.Path.{subst}
-use Rattle.model.specs.declared.answer.Answer.{Answer}
-use Rattle.model.specs.Answers.{numbers_of}
+use Rattle.model.specs.Answers.{numbers_of, Answer}
 use Rattle.theorems.specs.pages.LeastAfter.{making_after}
 use Rattle.galley.specs.Model.{model_of}
 use Rattle.making.specs.After.{MadeAfter}

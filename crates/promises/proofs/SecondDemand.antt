@@ -3,7 +3,6 @@
 use Rattle.std.specs.Prelude.{ℕ, ◌+◌, ◌-◌, ◌*◌, ◌/◌, ◌≡◌, refl, List}
 use Rattle.std.proofs.Common.{zero-add, ◌∙◌}
 use native.Mathlib.Omega.{arith}
-use Rattle.model.specs.declared.answer.Answer.TheVariants.{Counted}
 use Rattle.model.specs.Gather.{sum}
 use Rattle.model.specs.Leaf.{folio_of, leaf, sides_of}
 use Rattle.model.specs.Pagination.{Map, x_on, turns_on, white_over}
@@ -15,6 +14,7 @@ use Rattle.galley.specs.Model.{sides_in, model_of}
 use Rattle.marking.specs.Mark.{mark_of}
 use Rattle.blocks.specs.laws.Counts.{sum_floats}
 use Rattle.promises.specs.SecondDemand.{Paginates, reports}
+use Rattle.model.specs.Answers.{counted_as}
 
 module _ {bytes words : List ℕ} {g : Galley} {p : ℕ} {P : Map} (m : Paginates bytes words g p P) where
   -- The leaves turned from the line that cites float f of stream s to the float itself, with S for the numbers of the leaves:
@@ -33,7 +33,7 @@ module _ {bytes words : List ℕ} {g : Galley} {p : ℕ} {P : Map} (m : Paginate
   -- X is Σ (S(P(f)) − S(P(R(f)))) over the figures and the tables, Y is S(p) − S(1), and the turns are X and Y by their weights.
   by_leaves : (S : ℕ → ℕ) → ((q : ℕ) → leaf (sides_in g) q ≡ S q)
       → mark_of bytes words
-      ≡ Counted p (Over (Apart S)) (S p - S 1) (Over (λ s st f. g.spec.alpha * Apart S s st f) + g.spec.beta * (S p - S 1)) White
+      ≡ counted_as p (Over (Apart S)) (S p - S 1) (Over (λ s st f. g.spec.alpha * Apart S s st f) + g.spec.beta * (S p - S 1)) White
   unfolding x_on sum
   by_leaves S is =
       let M = model_of bytes g in
@@ -50,7 +50,7 @@ module _ {bytes words : List ℕ} {g : Galley} {p : ℕ} {P : Map} (m : Paginate
   -- Single-sided: X is Σ (P(f) − P(R(f))), Y is p − 1, and the turns are the paper's Turn.S, whatever the folio.
   pub reports_single : g.spec.sides ≡ 1
       → mark_of bytes words
-      ≡ Counted p (Over (Apart (λ q. q))) (p - 1) (Over (λ s st f. g.spec.alpha * Apart (λ q. q) s st f) + g.spec.beta * (p - 1)) White
+      ≡ counted_as p (Over (Apart (λ q. q))) (p - 1) (Over (λ s st f. g.spec.alpha * Apart (λ q. q) s st f) + g.spec.beta * (p - 1)) White
   unfolding leaf sides_of
   reports_single e = by_leaves (λ q. q) (λ q. rw e)
 
@@ -59,7 +59,7 @@ module _ {bytes words : List ℕ} {g : Galley} {p : ℕ} {P : Map} (m : Paginate
   pub reports_double : g.spec.sides ≡ 2
       → (let S : ℕ → ℕ = λ q. folio_of g.folio q / 2 + 1 in
       mark_of bytes words
-      ≡ Counted p (Over (Apart S)) (S p - S 1) (Over (λ s st f. g.spec.alpha * Apart S s st f) + g.spec.beta * (S p - S 1)) White)
+      ≡ counted_as p (Over (Apart S)) (S p - S 1) (Over (λ s st f. g.spec.alpha * Apart S s st f) + g.spec.beta * (S p - S 1)) White)
   unfolding leaf sides_of
   reports_double e = by_leaves (λ q. folio_of g.folio q / 2 + 1) (λ q. rw e)
 
@@ -67,6 +67,6 @@ module _ {bytes words : List ℕ} {g : Galley} {p : ℕ} {P : Map} (m : Paginate
   pub reports_first : g.spec.sides ≡ 2 → g.folio ≡ 1
       → (let S : ℕ → ℕ = λ q. q / 2 + 1 in
       mark_of bytes words
-      ≡ Counted p (Over (Apart S)) (S p - 1) (Over (λ s st f. g.spec.alpha * Apart S s st f) + g.spec.beta * (S p - 1)) White)
+      ≡ counted_as p (Over (Apart S)) (S p - 1) (Over (λ s st f. g.spec.alpha * Apart S s st f) + g.spec.beta * (S p - 1)) White)
   unfolding leaf sides_of
   reports_first e f = by_leaves (λ q. q / 2 + 1) (λ q. rw (e, f, zero-add))

@@ -1,12 +1,11 @@
 -- The editions of the page specification (document 02, S-11): a galley under `GS` is held to what it was held to before there was a
 -- second edition, so that every answer of its marking and its making is what it was.
-use Rattle.std.specs.Prelude.{ℕ, ◌≤◌, ◌<◌, ◌≡◌, ◌↔◌, Bool, ◌||◌, List, eqb, leb}
+use Rattle.std.specs.Prelude.{ℕ, ◌≤◌, ◌<◌, ◌≡◌, ◌↔◌, Bool, ◌||◌, List, eqb, leb, Ok}
 use Rattle.model.specs.Galley as model
 use Rattle.model.specs.Height.{loosest}
 use Rattle.model.specs.Rules.{floor, fills}
 use Rattle.model.proofs.laws.Rules.{fills_first, under_first}
 use Rattle.galley.specs.declared.Galley.{Galley}
-use Rattle.galley.specs.declared.Reading.TheVariants as reads
 use Rattle.galley.specs.Whole.{galley_of}
 use Rattle.galley.specs.Model.{model_of}
 use Rattle.galley.proofs.laws.Sound.{sound}
@@ -22,7 +21,7 @@ pub record FirstEdition (bytes : List ℕ) (g : Galley) : Type 0 where
       ↔ ((q : ℕ) → 1 ≤ q → q < p → g.spec.htmin ≤ height q)
 
 -- It holds of every galley that names the first edition.
-pub first_edition : (bytes : List ℕ) (g : Galley) → galley_of bytes ≡ reads.Galley g → g.spec.edition ≡ 1 → FirstEdition bytes g
+pub first_edition : (bytes : List ℕ) (g : Galley) → galley_of bytes ≡ Ok g → g.spec.edition ≡ 1 → FirstEdition bytes g
 first_edition bytes g read first =
     let none = (sound bytes g read).edition.plain first in
     record {

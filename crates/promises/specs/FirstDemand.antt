@@ -1,21 +1,17 @@
 -- The first demand, from the contracts: every answer is the counts of a pagination or one numbered refusal with its place, and a
 -- refusal leaves the page list untouched. `mark` is proved to answer `mark_of`, and `make` to do what `Made` says. (That every call
 -- ends, with nothing undefined, is what the proofs of both say of any bytes, words and lent memory: neither has a `requires`.)
-use Rattle.std.specs.Prelude.{ℕ, zero, suc, pred, ◌≡◌, refl, ◌⊎◌, Bool, true, false, ◌||◌, List, [], ◌∷◌, ◌++◌, length, drop, ltb}
+use Rattle.std.specs.Prelude.{ℕ, zero, suc, pred, ◌≡◌, refl, ◌⊎◌, Bool, true, false, List, [], ◌∷◌, ◌++◌, length, drop, ltb, Err, Ok}
 use Rattle.std.proofs.Common.{arith, sym, ◌∙◌, inl, inr}
 use Rattle.std.proofs.Math.Option.{Option, none, some}
-use Rattle.model.specs.declared.answer.Answer.{Answer}
-use Rattle.model.specs.declared.answer.Answer.TheVariants.{Refused}
 use Rattle.model.specs.declared.answer.Numbers.{Numbers}
 use Rattle.model.specs.Gather.{pick}
 use Rattle.model.specs.Galley as model
 use Rattle.model.specs.Rules.{forward, closes, fits, fills, cited, first_broken, broken}
-use Rattle.model.specs.Answers.{numbers_of, same, ended, refuse, judge, counted, counts_of, pages_of, words_of, marked}
+use Rattle.model.specs.Answers as answers
+use Rattle.model.specs.Answers.{numbers_of, same, ended, refuse, judge, counted, counts_of, pages_of, words_of, marked, Answer}
 use Rattle.model.specs.Best.{best, made, made_words}
-use Rattle.galley.specs.declared.Galley.{Galley}
-use Rattle.galley.specs.declared.Reading.{Reading}
-use Rattle.galley.specs.declared.Reading.TheVariants as reads
-use Rattle.galley.specs.Whole.{galley_of}
+use Rattle.galley.specs.Whole.{galley_of, Reading}
 use Rattle.galley.specs.Model.{model_of}
 use Rattle.places.specs.Entry.{cleared}
 use Rattle.marking.specs.Mark.{mark_of}
@@ -53,7 +49,7 @@ judge_ends : (g : model.Galley) (good : Answer) (q : ℕ) (u : model.Place) (ps 
     → Ends ByMarking (judge g good q u ps)
 unfolding judge broken
 judge_ends g good q u [] h =
-    picked (Ends ByMarking) (same u (model.sizes g)) good (Refused 18 (pred q)) h (refused (inr (omega arith, omega arith)))
+    picked (Ends ByMarking) (same u (model.sizes g)) good (answers.refused 18 (pred q)) h (refused (inr (omega arith, omega arith)))
 judge_ends g good q u (v ∷ vs) h =
     refuse_ends (broken g q (ended vs) u v) q (judge g good (suc q) v vs)
     (broken_number (forward g u v) (closes g v) (fits g u v) (fills g (ended vs) u v) (cited g q (ended vs) v))
@@ -66,7 +62,7 @@ counts_end May g ps = finished
 marked_ends : (g : model.Galley) (words : List ℕ) → Ends ByMarking (marked g words)
 unfolding marked
 marked_ends g words =
-    picked (Ends ByMarking) (counted g words) (judge g (counts_of g (pages_of g words)) 1 (model.zeros g) (pages_of g words)) (Refused 12 0)
+    picked (Ends ByMarking) (counted g words) (judge g (counts_of g (pages_of g words)) 1 (model.zeros g) (pages_of g words)) (answers.refused 12 0)
     (judge_ends g (counts_of g (pages_of g words)) 1 (model.zeros g) (pages_of g words) (counts_end ByMarking g (pages_of g words)))
     (refused (inr (omega arith, omega arith)))
 
@@ -74,7 +70,7 @@ pub made_ends : (g : model.Galley) → Ends ByMaking (made g)
 unfolding made
 made_ends g = go (best g)
   where
-    go : (b : Option (List model.Place)) → Ends ByMaking (elim b [ none ↦ Refused 11 0 | some ps ↦ counts_of g ps ])
+    go : (b : Option (List model.Place)) → Ends ByMaking (elim b [ none ↦ answers.refused 11 0 | some ps ↦ counts_of g ps ])
     go none = refused {n = 11} (omega arith, omega arith)
     go (some ps) = counts_end ByMaking g ps
 
@@ -84,51 +80,50 @@ marking_answers bytes words =
     of_marking (Ends ByMarking) bytes words (λ n at l h. refused (inl (l, h))) (λ g e. marked_ends (model_of bytes g) words)
 
 -- Where making answers 11, or anything but counts, it writes no word.
-pub made_refused : (g : model.Galley) (n at : ℕ) → made g ≡ Refused n at → (n ≡ 11) × (made_words g ≡ [])
+pub made_refused : (g : model.Galley) (n at : ℕ) → made g ≡ answers.refused n at → (n ≡ 11) × (made_words g ≡ [])
 unfolding made made_words counts_of
 made_refused g n at e = go (best g) e
   where
     answer : Option (List model.Place) → Answer
-    answer b = elim b [ none ↦ Refused 11 0 | some ps ↦ counts_of g ps ]
+    answer b = elim b [ none ↦ answers.refused 11 0 | some ps ↦ counts_of g ps ]
 
     words : Option (List model.Place) → List ℕ
     words b = elim b [ none ↦ [] | some ps ↦ words_of ps ]
 
-    go : (b : Option (List model.Place)) → answer b ≡ Refused n at → (n ≡ 11) × (words b ≡ [])
-    go none e = (cc, refl)
-    go (some ps) e = absurd cc
+    go : (b : Option (List model.Place)) → answer b ≡ answers.refused n at → (n ≡ 11) × (words b ≡ [])
+    go b e = grind arith
 
-refused_list : (bytes : List ℕ) (work : ℕ) (list : List ℕ) (n at : ℕ) → make_of bytes work (length list) ≡ Refused n at
+refused_list : (bytes : List ℕ) (work : ℕ) (list : List ℕ) (n at : ℕ) → make_of bytes work (length list) ≡ answers.refused n at
     → list_after bytes work list ≡ list
 unfolding make_of make_read list_after list_read
 refused_list bytes work list n at e = go (galley_of bytes) e
   where
-    go : (r : Reading) → make_read bytes work (length list) r ≡ Refused n at → list_read bytes work list r ≡ list
-    go (reads.Galley g) e =
+    go : (r : Reading) → make_read bytes work (length list) r ≡ answers.refused n at → list_read bytes work list r ≡ list
+    go (Ok g) e =
         let words = made_words (model_of bytes g) in
-        past_memory (λ short. pick short list (words ++ drop (length words) list) ≡ list) (made (model_of bytes g)) _ _ refl
+        past_memory (λ short. pick short list (words ++ drop (length words) list) ≡ list) _ _ (made (model_of bytes g)) refl
         (λ e. let m = (made_refused (model_of bytes g) n at e).1 in rw m)
         (ltb work (work_needed g)) (ltb (length list) (list_needed g)) e
-    go (reads.Refused m there) e = refl
+    go (Err r) e = refl
 
-refused_work : (bytes work : List ℕ) (list n at : ℕ) → make_of bytes (length work) list ≡ Refused n at → ¬ (n ≡ 11)
+refused_work : (bytes work : List ℕ) (list n at : ℕ) → make_of bytes (length work) list ≡ answers.refused n at → ¬ (n ≡ 11)
     → work_after bytes work list ≡ work
 unfolding make_of make_read work_after work_read
 refused_work bytes work list n at e other = go (galley_of bytes) e
   where
-    go : (r : Reading) → make_read bytes (length work) list r ≡ Refused n at → work_read work list r ≡ work
-    go (reads.Galley g) e =
-        past_memory (λ short. pick short work (cleared (work_needed g) work) ≡ work) (made (model_of bytes g)) _ _ refl
+    go : (r : Reading) → make_read bytes (length work) list r ≡ answers.refused n at → work_read work list r ≡ work
+    go (Ok g) e =
+        past_memory (λ short. pick short work (cleared (work_needed g) work) ≡ work) _ _ (made (model_of bytes g)) refl
         (λ e. absurd (other (made_refused (model_of bytes g) n at e).0))
         (ltb (length work) (work_needed g)) (ltb list (list_needed g)) e
-    go (reads.Refused m there) e = refl
+    go (Err r) e = refl
 
 -- What the contract of `make` promises of its answer and of the lent memory, whatever that held.
 module _ {bytes work list : List ℕ} {answer : Answer} {count : ℕ} {work' list' : List ℕ} (m : Made bytes work list answer count work' list') where
   -- A refusal leaves the page list untouched.
-  pub refusal_keeps_list : (n at : ℕ) → answer ≡ Refused n at → list' ≡ list
+  pub refusal_keeps_list : (n at : ℕ) → answer ≡ answers.refused n at → list' ≡ list
   refusal_keeps_list n at e = m.listed ∙ refused_list bytes (length work) list n at (sym m.answers ∙ e)
 
   -- A refusal other than 11 leaves the work area untouched too.
-  pub refusal_keeps_work : (n at : ℕ) → answer ≡ Refused n at → ¬ (n ≡ 11) → work' ≡ work
+  pub refusal_keeps_work : (n at : ℕ) → answer ≡ answers.refused n at → ¬ (n ≡ 11) → work' ≡ work
   refusal_keeps_work n at e other = m.clean ∙ refused_work bytes work (length list) n at (sym m.answers ∙ e) other

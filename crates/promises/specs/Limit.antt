@@ -1,14 +1,12 @@
 -- No answer has more turns than documents 01 ("Spreads and turns") and 02 (S-4) allow for, nor more white than htMax for each page but
 -- one (document 02, S-10), so that T and W fit the 32 bits of an answer.
-use Rattle.std.specs.Prelude.{ℕ, pred, ◌≤◌, ◌≡◌, Bool, List, length}
+use Rattle.std.specs.Prelude.{ℕ, pred, ◌≤◌, ◌≡◌, Bool, List, length, Err, Ok}
 use Rattle.std.proofs.Common.{mul-le-mul, arith, sym, subst}
 use Rattle.std.proofs.Math.Path.{refl}
 use Rattle.std.proofs.Math.Bool.{true, false}
-use Rattle.model.specs.declared.answer.Answer.{Answer}
-use Rattle.model.specs.declared.answer.Answer.TheVariants.{Counted, Refused}
 use Rattle.model.specs.Galley as model
 use Rattle.model.specs.Turns.{turns}
-use Rattle.model.specs.Answers.{numbers_of, accepted, counts_of, marked}
+use Rattle.model.specs.Answers.{numbers_of, accepted, counts_of, marked, Answer}
 use Rattle.model.specs.Best.{allowed, made, made_words}
 use Rattle.model.specs.laws.Judge.{accepts}
 use Rattle.model.proofs.laws.Valid.{valid_accepted, accepted_valid}
@@ -16,7 +14,6 @@ use Rattle.theorems.specs.turns.Bounds.{all_floats, dearest, costs_most, Limits,
 use Rattle.theorems.specs.turns.Costs.{turns_are_costs}
 use Rattle.theorems.specs.turns.LeastTurns.{Making, no_list, best_list, making, valid_counts}
 use Rattle.galley.specs.declared.Galley.{Galley}
-use Rattle.galley.specs.declared.Reading.TheVariants as reads
 use Rattle.galley.specs.Whole.{galley_of}
 use Rattle.galley.specs.Model.{model_of}
 use Rattle.galley.proofs.laws.Sound.{sound}
@@ -40,7 +37,7 @@ most_untabled = 843999000
 
 -- If the bytes say a galley, then one without tables.
 abbrev pub Untabled : List ℕ → Type 0
-Untabled bytes = (g : Galley) → galley_of bytes ≡ reads.Galley g → g.tables.count ≡ 0
+Untabled bytes = (g : Galley) → galley_of bytes ≡ Ok g → g.tables.count ≡ 0
 
 -- No accepted list of a galley has more turns than so many,
 abbrev pub Dearest : ℕ → model.Galley → Type 0
@@ -48,7 +45,7 @@ Dearest most g = (ps : List model.Place) → accepts (allowed g) (model.sizes g)
 
 -- nor of the galley that the bytes say.
 abbrev pub Costs : ℕ → List ℕ → Type 0
-Costs most bytes = (g : Galley) → galley_of bytes ≡ reads.Galley g → Dearest most (model_of bytes g)
+Costs most bytes = (g : Galley) → galley_of bytes ≡ Ok g → Dearest most (model_of bytes g)
 
 pub reads_costs : (bytes : List ℕ) → Costs most_turns bytes
 reads_costs bytes g e = turns_limit (model_of bytes g) (reads_sane bytes g e) (reads_limits bytes g e)
@@ -75,8 +72,8 @@ untabled_costs bytes untabled g e ps h =
 
 -- What is not accepted has no turns and no white.
 refused_within : (most : ℕ) (a : Answer) → accepted a ≡ false → Within most a
-refused_within most (Counted p x y t w) e = absurd cc
-refused_within most (Refused n at) e = (omega arith, omega arith)
+refused_within most (Ok c) e = absurd cc
+refused_within most (Err r) e = (omega arith, omega arith)
 
 module _ (most : ℕ) (g : model.Galley) (limits : Limits g) (dear : Dearest most g) where
   pub marked_within : (words : List ℕ) → Within most (marked g words)
@@ -95,8 +92,8 @@ module _ (most : ℕ) (g : model.Galley) (limits : Limits g) (dear : Dearest mos
   made_within = go (made g) (made_words g) (making g)
     where
       go : (a : Answer) (words : List ℕ) → Making g a words → Within most a
-      go (Refused n at) words (no_list none) = (omega arith, omega arith)
-      go (Counted p x y t w) words (best_list m long best whiter) = subst (λ a. Within most a) m (marked_within words)
+      go (Err r) words (no_list none) = (omega arith, omega arith)
+      go (Ok c) words (best_list m long best whiter) = subst (λ a. Within most a) m (marked_within words)
 
 module _ (most : ℕ) (bytes : List ℕ) (costs : Costs most bytes) where
   pub marking_within : (words : List ℕ) → Within most (mark_of bytes words)

@@ -1,22 +1,18 @@
 -- Loosening the least fill (document 02, S-14): with a lower htMin, and all else alike, no galley loses a list, and making turns no more
 -- leaves. `make` is proved to answer `make_of`, `make_after` to answer `make_after_of`, and `mark` to answer `mark_of`.
-use Rattle.std.specs.Prelude.{ℕ, ◌≤◌, ◌≡◌, refl, List, [], ◌++◌, ltb}
-use Rattle.std.proofs.Common.{arith, ◌∙◌, inl, inr}
+use Rattle.std.specs.Prelude.{ℕ, ◌≤◌, ◌≡◌, List, [], ◌++◌, Ok}
+use Rattle.std.proofs.Common.{arith, ◌∙◌}
 use Rattle.std.proofs.Math.Path.{ap}
-use Rattle.std.proofs.Math.Bool.{Bool, true, false}
+use Rattle.std.proofs.Math.Bool.{true, false}
 use Rattle.std.proofs.Math.Option.{Option, none, some}
 use borrow.Author.Tests.{le-ltb}
-use Rattle.model.specs.declared.answer.Answer.{Answer}
-use Rattle.model.specs.declared.answer.Answer.TheVariants.{Counted, Refused}
-use Rattle.model.specs.Gather.{pick}
 use Rattle.model.specs.Galley as model
-use Rattle.model.specs.Answers.{numbers_of, accepted, marked}
+use Rattle.model.specs.Answers.{numbers_of, accepted, marked, Answer, counted_as, refused}
 use Rattle.model.specs.Opening.{opening_turned, made_after}
 use Rattle.model.proofs.laws.Opening.{made_after_nothing}
 use Rattle.model.proofs.laws.Loosened.{marked_loosened, standing_loosened}
-use Rattle.theorems.specs.pages.LeastAfter.{ByOpening, MakingAfter, turned_away, no_list, best_list}
+use Rattle.theorems.specs.pages.LeastAfter.{ByOpening, MakingAfter}
 use Rattle.galley.specs.declared.Galley.{Galley}
-use Rattle.galley.specs.declared.Reading.TheVariants as reads
 use Rattle.galley.specs.Whole.{galley_of}
 use Rattle.galley.specs.Model.{model_of}
 use Rattle.galley.specs.Alike.{Alike}
@@ -34,7 +30,7 @@ pub record Loosens (higher lower : Answer) : Type 0 where
   -- with at most as many turns
   pub turns : accepted higher ≡ true → (numbers_of lower).turns ≤ (numbers_of higher).turns
 
-module _ (bytes : List ℕ) (g : Galley) (read : galley_of bytes ≡ reads.Galley g) (work list : ℕ) where
+module _ (bytes : List ℕ) (g : Galley) (read : galley_of bytes ≡ Ok g) (work list : ℕ) where
   -- What making answers with enough memory,
   pub after_is : (opening : List ℕ) → work_needed g ≤ work → list_needed g ≤ list
       → make_after_of bytes opening work list ≡ made_after (model_of bytes g) opening
@@ -45,15 +41,7 @@ module _ (bytes : List ℕ) (g : Galley) (read : galley_of bytes ≡ reads.Galle
   pub after_made : (opening : List ℕ) → accepted (make_after_of bytes opening work list) ≡ true
       → make_after_of bytes opening work list ≡ made_after (model_of bytes g) opening
   unfolding make_after_of make_after_read
-  after_made opening a = rw read (go (ltb work (work_needed g)) (ltb list (list_needed g)) (rw read at a))
-    where
-      answer : Bool → Bool → Answer
-      answer few short = pick few (Refused 9 (work_needed g)) (pick short (Refused 10 (list_needed g)) (made_after (model_of bytes g) opening))
-
-      go : (few short : Bool) → accepted (answer few short) ≡ true → answer few short ≡ made_after (model_of bytes g) opening
-      go true short a = absurd cc
-      go false true a = absurd cc
-      go false false a = refl
+  after_made opening a = grind arith
 
   -- After no page it is what making answers without an opening.
   pub after_nothing : make_after_of bytes [] work list ≡ make_of bytes work list
@@ -62,30 +50,24 @@ module _ (bytes : List ℕ) (g : Galley) (read : galley_of bytes ≡ reads.Galle
 
 -- What is not turned away.
 none_turned : (t : Option Answer) → elim t [ none ↦ true | some refusal ↦ false ] ≡ true → t ≡ none
-none_turned none e = refl
-none_turned (some refusal) e = absurd cc
+none_turned o e = grind arith
 
 -- Of a refusal nothing is promised.
 pub refusal_loosens : {higher lower : Answer} → (accepted higher ≡ true → ⊥) → Loosens higher lower
 refusal_loosens refused = record { finishes = λ a. absurd (refused a); turns = λ a. absurd (refused a) }
 
 pub turned_refused : (a : Answer) → ByOpening a → accepted a ≡ true → ⊥
-turned_refused a (at, inl e) h = absurd cc
-turned_refused a (at, inr e) h = absurd cc
+turned_refused a by h = grind arith
 
 -- In the page model: what is made after an opening is no worse than any list that is accepted and begins with it.
 pub made_best : (m : model.Galley) (opening words : List ℕ) {p x y t w : ℕ} → opening_turned m opening ≡ none
-    → marked m (opening ++ words) ≡ Counted p x y t w → {a : Answer} {list : List ℕ} → MakingAfter m opening a list
-    → Loosens (Counted p x y t w) a
-made_best m opening words through is (turned_away e by) = absurd cc
-made_best m opening words through is (no_list e empty) =
-    let a = empty words in let b = ap accepted is in absurd cc
-made_best m opening words through is (best_list vs e is' long best whiter) =
-    record { finishes = λ _. refl; turns = λ _. let few = rw is at (best words (ap accepted is)) in omega arith }
+    → marked m (opening ++ words) ≡ counted_as p x y t w → {a : Answer} {list : List ℕ} → MakingAfter m opening a list
+    → Loosens (counted_as p x y t w) a
+made_best m opening words through is making = grind arith
 
 -- Two galleys that are read from bytes alike in all but htMin, which is no higher in the second.
-module _ {bytes bytes' : List ℕ} (like : Alike bytes bytes') (g g' : Galley) (read : galley_of bytes ≡ reads.Galley g)
-    (read' : galley_of bytes' ≡ reads.Galley g') (low : g'.spec.htmin ≤ g.spec.htmin) where
+module _ {bytes bytes' : List ℕ} (like : Alike bytes bytes') (g g' : Galley) (read : galley_of bytes ≡ Ok g)
+    (read' : galley_of bytes' ≡ Ok g') (low : g'.spec.htmin ≤ g.spec.htmin) where
   -- They ask for the same memory.
   pub same_needs : (work_needed g' ≡ work_needed g) × (list_needed g' ≡ list_needed g)
   same_needs =

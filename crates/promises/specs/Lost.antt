@@ -1,15 +1,13 @@
 -- Lost for good: of a list that marking accepts, what is best of all lists that begin with its first q pages never gets better as q grows,
 -- from making's own to the list's own. So each page end loses what can no longer be had after it, these losses add up to what the list has
 -- above making, and they are found by halves. `make_after` is proved to answer `make_after_of`, `make` to answer `make_of`, `mark` `mark_of`.
-use Rattle.std.specs.Prelude.{ℕ, zero, suc, pred, ◌+◌, ◌-◌, ◌*◌, ◌/◌, ◌%◌, ◌≤◌, ◌<◌, ◌≡◌, refl, Bool, true, false, List, [], ◌∷◌, ◌++◌, length, take, drop, ltb, eqb}
+use Rattle.std.specs.Prelude.{ℕ, zero, suc, pred, ◌+◌, ◌-◌, ◌*◌, ◌/◌, ◌%◌, ◌≤◌, ◌<◌, ◌≡◌, refl, Bool, true, false, List, [], ◌∷◌, ◌++◌, length, take, drop, ltb, eqb, Ok}
 use Rattle.std.proofs.Common.{suc-mul, mul-div_cancel, mul-le-mul_right, arith, sym, ◌∙◌, ap, subst, length-drop, length-take-le, take_at, drop_at, take-add, eq-eqb}
 use Rattle.std.proofs.Math.Nat.{mul-mod_left}
-use Rattle.std.proofs.Math.Option.{none, some}
-use Rattle.model.specs.declared.answer.Answer.{Answer}
-use Rattle.model.specs.declared.answer.Answer.TheVariants.{Refused}
+use Rattle.std.proofs.Math.Option.{Option, none, some}
 use Rattle.model.specs.Gather.{pick, sum, between}
 use Rattle.model.specs.Galley as model
-use Rattle.model.specs.Answers.{numbers_of, accepted, same, ended, chunks, pages_of, counts_of, marked}
+use Rattle.model.specs.Answers.{numbers_of, accepted, same, ended, chunks, pages_of, counts_of, marked, Answer, refused}
 use Rattle.model.specs.Best.{allowed}
 use Rattle.model.specs.Opening.{pages_turned, opening_turned}
 use Rattle.model.proofs.laws.Gather.{and_left, and_right}
@@ -18,7 +16,6 @@ use Rattle.model.specs.laws.Judge.{accepts}
 use Rattle.model.proofs.laws.Words.{length_chunks, length_pages, counted_at}
 use Rattle.model.proofs.laws.Valid.{same_true, count_sizes, marked_accepted, marked_counts}
 use Rattle.galley.specs.declared.Galley.{Galley}
-use Rattle.galley.specs.declared.Reading.TheVariants as reads
 use Rattle.galley.specs.Whole.{galley_of}
 use Rattle.galley.specs.Model.{model_of}
 use Rattle.marking.specs.Mark.{mark_of}
@@ -84,7 +81,7 @@ unfolding accepts pages_turned
 pages_stand g n q u [] few h = absurd (omega arith)
 pages_stand g zero q u (v ∷ vs) few h = go (same u (model.sizes g)) refl
   where
-    go : (b : Bool) → same u (model.sizes g) ≡ b → pick b (some (Refused 21 (pred q))) none ≡ none
+    go : (b : Bool) → same u (model.sizes g) ≡ b → ◌≡◌ {A = Option Answer} (pick b (some (refused 21 (pred q))) none) none
     go false e = refl
     go true e =
         let full = same_true u (model.sizes g) e in
@@ -127,7 +124,7 @@ page_accepted g words a =
     omega (arith, count, ((marked_accepted g words).0 a).pages.some)
 
 -- In the engine's words: the first pages of an accepted list, but not all of them, are an opening that neither 20 nor 21 turns away.
-pub first_pages_stand : (bytes : List ℕ) (g : Galley) → galley_of bytes ≡ reads.Galley g → (words : List ℕ) → accepted (mark_of bytes words) ≡ true
+pub first_pages_stand : (bytes : List ℕ) (g : Galley) → galley_of bytes ≡ Ok g → (words : List ℕ) → accepted (mark_of bytes words) ≡ true
     → (q : ℕ) → q < (numbers_of (mark_of bytes words)).pages → opening_turned (model_of bytes g) (first_pages (model_of bytes g) q words) ≡ none
 first_pages_stand bytes g read words taken q few =
     let is = mark_is bytes words g read in

@@ -1,22 +1,22 @@
 -- A book by the marks of its chapters' lists: lists of words that marking accepts, each where its chapter opens, are the choices of valid
 -- lists, with the same counts (document 02, S-9).
+use native.Mathlib.Omega.{arith}
 use Rattle.std.specs.Prelude.{ℕ, ◌+◌, ◌*◌, ◌≡◌, refl, true, List, [], ◌∷◌, ◌++◌, map, length}
-use Rattle.std.proofs.Common.{sym, ◌∙◌, ap, ap₂, subst, inl, inr}
+use Rattle.std.proofs.Common.{sym, ◌∙◌, ap, ap₂, subst}
 use mathlib.Core.List.Memᴰ
-use Rattle.model.specs.declared.answer.Answer.{Answer}
-use Rattle.model.specs.declared.answer.Answer.TheVariants.{Counted}
 use Rattle.model.specs.declared.answer.Numbers.{Numbers}
 use Rattle.model.specs.Galley.{Galley, Place}
 use Rattle.model.specs.Turns.{x_of}
 use Rattle.model.specs.White.{white}
-use Rattle.model.specs.Answers.{numbers_of, accepted, words_of, counts_of, marked}
+use Rattle.model.specs.Answers.{numbers_of, accepted, words_of, counts_of, marked, Answer, counted_as}
 use Rattle.model.specs.Best.{valid}
 use Rattle.model.specs.Book.{open_on, first_folio, Choice, gathered, choices, summed, book_pages, book_x, book_white, book_y, book_turns, book_counts}
 use Rattle.model.specs.laws.Lists.{◌∈◌}
-use Rattle.model.proofs.laws.Lists.{∈-map, ∈-unmap}
+use Rattle.model.proofs.laws.Lists.{∈-map}
 use Rattle.model.proofs.laws.Valid.{accepted_valid}
-use Rattle.model.proofs.laws.Book.{∈-gathered, ∈-ungathered}
+use Rattle.model.proofs.laws.Book.{∈-gathered}
 use Rattle.theorems.specs.turns.LeastTurns.{valid_counts}
+use Rattle.theorems.specs.books.Backward.{only_empty, opened}
 
 -- Marking accepts a list for each chapter, of which the first opens on folio f, each later one on the folio after the one before.
 unfoldable pub AllAccepted : ℕ → List Galley → List (List ℕ) → Type 0
@@ -45,7 +45,7 @@ book_marked gs lists =
     let f = first_folio gs in
     let p = sum_marks (λ n. n.pages) f gs lists in
     let x = sum_marks (λ n. n.x) f gs lists in
-    Counted p x (book_y f gs p) (weighted gs x (book_y f gs p)) (sum_marks (λ n. n.white) f gs lists)
+    counted_as p x (book_y f gs p) (weighted gs x (book_y f gs p)) (sum_marks (λ n. n.white) f gs lists)
 
 -- The chapters' lists, one after another.
 abbrev pub joined : List (List ℕ) → List ℕ
@@ -55,25 +55,6 @@ joined = gathered (λ ws. ws)
 mark_pages : (g : Galley) (ps : List Place) → ps ∈ valid g → (numbers_of (marked g (words_of ps))).pages ≡ length ps
 unfolding counts_of
 mark_pages g ps m = ap (λ a. (numbers_of a).pages) (valid_counts g ps m)
-
--- A choice, chapter by chapter.
-record Opened (f : ℕ) (g : Galley) (gs : List Galley) (cs : Choice) : Type 0 where
-  list : List Place
-  rest : Choice
-  is : cs ≡ list ∷ rest
-  lawful : list ∈ valid (open_on f g)
-  later : rest ∈ choices (f + length list) gs
-
-opened : (f : ℕ) (g : Galley) (gs : List Galley) (cs : Choice) → cs ∈ choices f (g ∷ gs) → Opened f g gs cs
-unfolding choices
-opened f g gs cs m =
-    let (ps, v, n) = ∈-ungathered (λ ps. map (λ cs. ps ∷ cs) (choices (f + length ps) gs)) cs (valid (open_on f g)) m in
-    let (es, e, k) = ∈-unmap (λ cs. ps ∷ cs) cs (choices (f + length ps) gs) n in
-    record { list = ps; rest = es; is = e; lawful = v; later = k }
-
-only_empty : (f : ℕ) (cs : Choice) → cs ∈ choices f [] → cs ≡ []
-unfolding choices
-only_empty f cs m = elim (Memᴰ.cases_cons m) [ inl e ↦ e | inr k ↦ absurd (Memᴰ.not-nil k) ]
 
 -- Marking accepts the lists of a choice,
 pub choice_accepted : (f : ℕ) (gs : List Galley) (cs : Choice) → cs ∈ choices f gs → AllAccepted f gs (map words_of cs)
@@ -117,8 +98,7 @@ sum_marks_lem h k same f (g ∷ gs) cs m =
 
 turns_weighted : (f : ℕ) (gs : List Galley) (cs : Choice) → weighted gs (book_x f gs cs) (book_y f gs (book_pages f gs cs)) ≡ book_turns f gs cs
 unfolding weighted book_turns
-turns_weighted f [] cs = refl
-turns_weighted f (g ∷ gs) cs = refl
+turns_weighted f gs cs = grind arith
 
 -- The counts by the marks are those of the choice.
 pub choice_marked : (gs : List Galley) (cs : Choice) → cs ∈ choices (first_folio gs) gs
@@ -130,7 +110,7 @@ choice_marked gs cs m =
     let x = sum_marks_lem (λ n. n.x) x_of (λ g ps. refl) f gs cs m in
     let w = sum_marks_lem (λ n. n.white) white (λ g ps. refl) f gs cs m in
     rw (p, x, w)
-    (ap (λ t. Counted (book_pages f gs cs) (book_x f gs cs) (book_y f gs (book_pages f gs cs)) t (book_white f gs cs)) (turns_weighted f gs cs))
+    (ap (λ t. counted_as (book_pages f gs cs) (book_x f gs cs) (book_y f gs (book_pages f gs cs)) t (book_white f gs cs)) (turns_weighted f gs cs))
 
 -- So are the words.
 pub choice_joined : (cs : Choice) → joined (map words_of cs) ≡ gathered words_of cs

@@ -1,6 +1,6 @@
 -- A book of one chapter is that chapter: where the lent memory is enough, making the book answers what making the galley answers, counts
 -- as much and writes the same page list (document 02, S-9).
-use Rattle.std.specs.Prelude.{ℕ, ◌+◌, ◌*◌, ◌≤◌, ◌≡◌, true}
+use Rattle.std.specs.Prelude.{ℕ, ◌+◌, ◌*◌, ◌≤◌, ◌≡◌, true, Ok}
 use native.Mathlib.Omega.{arith}
 use Rattle.std.proofs.Math.Path.{refl, ap}
 use Rattle.std.proofs.Common.{◌∙◌, ap₂}
@@ -9,11 +9,9 @@ use Rattle.std.proofs.Math.ListN.{length, drop}
 use Rattle.std.proofs.Math.Seq.{take-length}
 use borrow.Author.Tests.{le-ltb, eq-eqb}
 use Rattle.model.specs.Gather.{pick}
-use Rattle.model.specs.Best.{made}
 use Rattle.model.specs.Weighed.{weighed}
 use Rattle.theorems.specs.books.One.{one_made, one_words}
 use Rattle.galley.specs.declared.Galley.{Galley}
-use Rattle.galley.specs.declared.Reading.TheVariants as reads
 use Rattle.galley.specs.Whole.{galley_of}
 use Rattle.galley.specs.Model.{model_of}
 use Rattle.needs.specs.Needs.{work_needed, list_needed}
@@ -25,7 +23,7 @@ use Rattle.book.specs.declared.BookMade.{BookMade}
 use Rattle.book.specs.Make.{told_of, book_read, Bound}
 use Rattle.book.specs.Make as book
 
-module _ (bytes : List ℕ) (g : Galley) (reads : galley_of bytes ≡ reads.Galley g) where
+module _ (bytes : List ℕ) (g : Galley) (reads : galley_of bytes ≡ Ok g) where
   -- The only chapter.
   abbrev chapter : Chapter
   chapter = record { bytes = bytes; galley = g }

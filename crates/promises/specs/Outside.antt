@@ -1,13 +1,12 @@
 -- A book checked from outside: a chapter opened on a folio is what `mark` marks where its bytes state that folio (document 02, S-1 and S-9), so
 -- that marking alone, of bytes alone, tells which lists of a book `AllAccepted` is about. `mark` is proved to answer `mark_of`.
-use Rattle.std.specs.Prelude.{ℕ, ◌+◌, ◌≤◌, ◌≡◌, true, false, List, [], ◌∷◌}
+use Rattle.std.specs.Prelude.{ℕ, ◌+◌, ◌≤◌, ◌≡◌, true, false, List, [], ◌∷◌, Ok}
 use Rattle.std.proofs.Common.{arith, sym, ◌∙◌, ap, subst}
 use Rattle.std.proofs.Math.Path.{refl}
 use Rattle.model.specs.Galley as model
 use Rattle.model.specs.Answers.{numbers_of, accepted, marked}
 use Rattle.model.specs.Book.{sides_on, open_on, folio_in}
 use Rattle.galley.specs.declared.Galley.{Galley}
-use Rattle.galley.specs.declared.Reading.TheVariants as reads
 use Rattle.galley.specs.Range.{FolioRanged}
 use Rattle.galley.specs.Whole.{galley_of}
 use Rattle.galley.specs.Model.{sides_in, model_of}
@@ -22,7 +21,7 @@ use Rattle.promises.specs.Lost.{page_accepted}
 
 -- For a galley without `FO` and a folio from 1 to 9,999: marking the bytes with that `FO` put in answers what marking means for the chapter
 -- opened on the folio.
-pub chapter_marked : (bytes : List ℕ) (g : Galley) → galley_of bytes ≡ reads.Galley g → has_folio g ≡ false → (f : ℕ) → 1 ≤ f → f ≤ 9999
+pub chapter_marked : (bytes : List ℕ) (g : Galley) → galley_of bytes ≡ Ok g → has_folio g ≡ false → (f : ℕ) → 1 ≤ f → f ≤ 9999
     → (words : List ℕ) → mark_of (stating f bytes) words ≡ marked (open_on f (model_of bytes g)) words
 chapter_marked bytes g e none f some few words =
     let fine : FolioRanged f = record { some = some; few = few } in
@@ -39,7 +38,7 @@ own_folio m = ap (λ s. model.respecified m.spec.htmin s m.spec.lastmin m) (go m
     go (model.double f) = unfold sides_on in unfold folio_in in refl
 
 -- marking its bytes as they are answers so.
-pub first_chapter_marked : (bytes : List ℕ) (g : Galley) → galley_of bytes ≡ reads.Galley g → (words : List ℕ)
+pub first_chapter_marked : (bytes : List ℕ) (g : Galley) → galley_of bytes ≡ Ok g → (words : List ℕ)
     → mark_of bytes words ≡ marked (open_on (folio_in (sides_in g)) (model_of bytes g)) words
 first_chapter_marked bytes g e words = mark_is bytes words g e ∙ ap (λ m. marked m words) (sym (own_folio (model_of bytes g)))
 

@@ -1,19 +1,16 @@
 -- The second demand's last sentence: the engine's own pagination is such a list, with those numbers. What `make`, `make_after` and
 -- `make_book` write with an answer that is no refusal is the page list of a pagination under the published model, of the galley that the
 -- bytes say or of each chapter where it opens, and the numbers that they answer are its own.
-use Rattle.std.specs.Prelude.{ℕ, suc, ◌+◌, ◌-◌, ◌*◌, ◌≤◌, ◌<◌, ◌≡◌, refl, Bool, true, false, List, [], ◌∷◌, length, take, drop, ltb}
-use Rattle.std.proofs.Common.{arith, sym, ◌∙◌, ap, subst, ltb-false}
-use Rattle.model.specs.declared.answer.Answer.{Answer}
-use Rattle.model.specs.declared.answer.Answer.TheVariants.{Counted, Refused}
+use Rattle.std.specs.Prelude.{ℕ, suc, ◌+◌, ◌-◌, ◌*◌, ◌≤◌, ◌<◌, ◌≡◌, refl, Bool, true, List, [], ◌∷◌, length, take, drop, ltb, Ok}
+use Rattle.std.proofs.Common.{arith, sym, ◌∙◌, ap, subst}
 use Rattle.model.specs.Gather.{pick}
 use Rattle.model.specs.Galley as model
 use Rattle.model.specs.Leaf.{leaf}
-use Rattle.model.specs.Answers.{numbers_of, accepted, words_of, marked}
+use Rattle.model.specs.Answers.{numbers_of, accepted, words_of, marked, Answer, counted_as, refused}
 use Rattle.model.specs.Pagination.{Map, Pagination, list_on, x_on, turns_on, white_over}
 use Rattle.model.specs.Book.{open_on, first_folio}
 use Rattle.theorems.specs.published.Theorem.{words_published, words_counts}
 use Rattle.galley.specs.declared.Galley.{Galley}
-use Rattle.galley.specs.declared.Reading.TheVariants as reads
 use Rattle.galley.specs.Whole.{galley_of}
 use Rattle.galley.specs.Model.{model_of}
 use Rattle.rules.specs.laws.Sane.{reads_sane}
@@ -34,7 +31,7 @@ pub record Own (g : model.Galley) (words : List ℕ) (answer : Answer) : Type 0 
   pub paginates : Pagination g pages map
   pub list : words_of (list_on g map pages 1) ≡ words
   pub numbers : answer
-      ≡ Counted pages (x_on g map) (leaf g.spec.sides pages - leaf g.spec.sides 1) (turns_on g pages map) (white_over g pages map)
+      ≡ counted_as pages (x_on g map) (leaf g.spec.sides pages - leaf g.spec.sides 1) (turns_on g pages map) (white_over g pages map)
 
 -- What marking accepts is such a list, with the numbers that it reports.
 marked_own : (g : model.Galley) → model.Sane g → (words : List ℕ) → accepted (marked g words) ≡ true → Own g words (marked g words)
@@ -46,11 +43,11 @@ marked_own g sane words h =
 -- The bytes say a galley, and the first p pages of the page list are the list of its pagination with the numbers of the answer.
 pub record OwnPages (bytes list : List ℕ) (answer : Answer) : Type 0 where
   pub galley : Galley
-  pub says : galley_of bytes ≡ reads.Galley galley
+  pub says : galley_of bytes ≡ Ok galley
   pub own : Own (model_of bytes galley) (take (model.streams (model_of bytes galley) * (numbers_of answer).pages) list) answer
 
 -- Where marking accepts these pages with the same numbers, it is so.
-pub same_own : (bytes list : List ℕ) (answer : Answer) (g : Galley) → galley_of bytes ≡ reads.Galley g → accepted answer ≡ true
+pub same_own : (bytes list : List ℕ) (answer : Answer) (g : Galley) → galley_of bytes ≡ Ok g → accepted answer ≡ true
     → mark_of bytes (take (model.streams (model_of bytes g) * (numbers_of answer).pages) list) ≡ answer → OwnPages bytes list answer
 same_own bytes list answer g e h same =
     let words : List ℕ = take (model.streams (model_of bytes g) * (numbers_of answer).pages) list in
@@ -63,16 +60,14 @@ same_own bytes list answer g e h same =
 
 -- What is no refusal was sought in memory that is long enough.
 pub unrefused : (g : Galley) (work list : ℕ) (a : Answer)
-    → accepted (pick (ltb work (work_needed g)) (Refused 9 (work_needed g)) (pick (ltb list (list_needed g)) (Refused 10 (list_needed g)) a)) ≡ true
+    → accepted (pick (ltb work (work_needed g)) (refused 9 (work_needed g)) (pick (ltb list (list_needed g)) (refused 10 (list_needed g)) a)) ≡ true
     → (work_needed g ≤ work) × (list_needed g ≤ list) × (accepted a ≡ true)
 unrefused g work list a = go (ltb work (work_needed g)) (ltb list (list_needed g)) refl refl
   where
     go : (b c : Bool) → ltb work (work_needed g) ≡ b → ltb list (list_needed g) ≡ c
-        → accepted (pick b (Refused 9 (work_needed g)) (pick c (Refused 10 (list_needed g)) a)) ≡ true
+        → accepted (pick b (refused 9 (work_needed g)) (pick c (refused 10 (list_needed g)) a)) ≡ true
         → (work_needed g ≤ work) × (list_needed g ≤ list) × (accepted a ≡ true)
-    go true c x y h = absurd cc
-    go false true x y h = absurd cc
-    go false false x y h = (ltb-false work (work_needed g) x, ltb-false list (list_needed g) y, h)
+    go b c x y h = grind arith
 
 -- ---- of a book
 -- Each chapter's list is that of a pagination with the numbers that its marking reports, the first opened on folio f, each later one on the
@@ -97,10 +92,10 @@ pub record OwnChapters (bytes lengths list : List ℕ) (answer : BookMade) : Typ
 -- Every chapter of a book reads.
 abbrev AllRead : List Chapter → Type 0
 AllRead [] = Unit {0}
-AllRead (c ∷ cs) = (galley_of c.bytes ≡ reads.Galley c.galley) × AllRead cs
+AllRead (c ∷ cs) = (galley_of c.bytes ≡ Ok c.galley) × AllRead cs
 
 each_read : (cs : List Chapter)
-    → ((k : ℕ) → k < length cs → (c : Chapter) (ds : List Chapter) → drop k cs ≡ c ∷ ds → galley_of c.bytes ≡ reads.Galley c.galley)
+    → ((k : ℕ) → k < length cs → (c : Chapter) (ds : List Chapter) → drop k cs ≡ c ∷ ds → galley_of c.bytes ≡ Ok c.galley)
     → AllRead cs
 each_read [] h = tt
 each_read (c ∷ cs) h = (h 0 (omega arith) c cs refl, each_read cs (λ k low d ds e. h (suc k) (omega arith) d ds e))
@@ -110,7 +105,7 @@ book_reads bytes lengths [] e = tt
 book_reads bytes lengths (first ∷ rest) e =
     each_read (first ∷ rest) (λ k low c ds d.
     let at = chapter_at bytes lengths first rest e k low in
-    subst (λ (c : Chapter). galley_of c.bytes ≡ reads.Galley c.galley) (ap head (sym at.there ∙ d)) at.reads)
+    subst (λ (c : Chapter). galley_of c.bytes ≡ Ok c.galley) (ap head (sym at.there ∙ d)) at.reads)
   where
     head : List Chapter → Chapter
     head [] = first

@@ -1,40 +1,36 @@
 -- The second demand: marking accepts a list exactly where it is a pagination, under the published model, of the galley that
 -- the bytes say, and reports that pagination's page count, goal functions and white. `mark_of` is the contract of `mark`.
-use Rattle.std.specs.Prelude.{ℕ, ◌-◌, ◌≤◌, ◌≡◌, refl, ◌↔◌, true, List}
+use Rattle.std.specs.Prelude.{ℕ, ◌-◌, ◌≤◌, ◌≡◌, refl, ◌↔◌, true, List, Ok}
 use Rattle.std.proofs.Common.{sym, ◌∙◌, ap}
 use native.Mathlib.Omega.{arith}
-use Rattle.model.specs.declared.answer.Answer.TheVariants.{Counted, Refused}
 use Rattle.model.specs.Galley.{Block}
 use Rattle.model.specs.Leaf.{leaf}
 use Rattle.model.proofs.laws.Leaf.{leaf_mono}
-use Rattle.model.specs.Answers.{accepted, marked, words_of}
+use Rattle.model.specs.Answers.{accepted, marked, words_of, counted_as}
 use Rattle.model.specs.Pagination.{Map, Pagination, list_on, x_on, turns_on, white_over}
 use Rattle.theorems.specs.published.Theorem.{words_published, words_unique, words_counts}
 use Rattle.galley.specs.declared.Galley.{Galley}
-use Rattle.galley.specs.declared.Reading.{Reading}
-use Rattle.galley.specs.declared.Reading.TheVariants as reads
-use Rattle.galley.specs.Whole.{galley_of}
+use Rattle.galley.specs.Whole.{galley_of, Reading}
 use Rattle.galley.specs.Model.{sides_in, model_of}
 use Rattle.marking.specs.Mark.{mark_read, mark_of}
 use Rattle.rules.specs.laws.Sane.{reads_sane}
 
 -- The bytes say the galley g, P is a pagination of g on p pages in the sense of the paper, and the words are its page list.
 pub record Paginates (bytes words : List ℕ) (g : Galley) (p : ℕ) (P : Map) : Type 0 where
-  pub says : galley_of bytes ≡ reads.Galley g
+  pub says : galley_of bytes ≡ Ok g
   pub pages : Pagination (model_of bytes g) p P
   pub list : words_of (list_on (model_of bytes g) P p 1) ≡ words
 
 -- What marking a galley that was read means.
-pub mark_is : (bytes words : List ℕ) (g : Galley) → galley_of bytes ≡ reads.Galley g → mark_of bytes words ≡ marked (model_of bytes g) words
+pub mark_is : (bytes words : List ℕ) (g : Galley) → galley_of bytes ≡ Ok g → mark_of bytes words ≡ marked (model_of bytes g) words
 unfolding mark_of mark_read
 mark_is bytes words g e = rw e
 
 -- What is accepted was read.
 accepted_reads : (bytes words : List ℕ) (r : Reading) → galley_of bytes ≡ r → accepted (mark_read bytes words r) ≡ true
-    → (g : Galley) × (galley_of bytes ≡ reads.Galley g)
+    → (g : Galley) × (galley_of bytes ≡ Ok g)
 unfolding mark_read
-accepted_reads bytes words (reads.Galley g) e h = (g, e)
-accepted_reads bytes words (reads.Refused number place) e h = absurd cc
+accepted_reads bytes words r e h = grind arith
 
 -- Marking accepts the words exactly where they are the list of a pagination of the galley that the bytes say.
 pub accepts_paginations : (bytes words : List ℕ)
@@ -57,7 +53,7 @@ module _ {bytes words : List ℕ} {g : Galley} {p : ℕ} {P : Map} (m : Paginate
   -- The answer is its page count, X and Y over its leaves, its turns, and its white: what its pages but the last lack of htMax at their
   -- loosest (document 02, S-10).
   pub reports : mark_of bytes words
-      ≡ Counted p (x_on (model_of bytes g) P) (leaf (sides_in g) p - leaf (sides_in g) 1)
+      ≡ counted_as p (x_on (model_of bytes g) P) (leaf (sides_in g) p - leaf (sides_in g) 1)
       (turns_on (model_of bytes g) p P) (white_over (model_of bytes g) p P)
   reports =
       mark_is bytes words g m.says

@@ -1,18 +1,15 @@
 -- The third demand after an opening: of the lists that begin with it none can beat the engine (document 02, S-6). For every galley that
 -- reads without refusal, every opening that neither 20 nor 21 turns away, and a work area and page list of at least the lengths laid
 -- down, whatever they hold. `MadeAfter` is the contract of `make_after`, and `mark` is proved to answer `mark_of`.
-use Rattle.std.specs.Prelude.{ℕ, ◌*◌, ◌≤◌, ◌≡◌, ◌⊎◌, ◌↔◌, true, false, List, ◌++◌, length, take, drop}
+use Rattle.std.specs.Prelude.{ℕ, ◌*◌, ◌≤◌, ◌≡◌, ◌⊎◌, ◌↔◌, true, false, List, ◌++◌, length, take, drop, Ok}
 use Rattle.std.proofs.Common.{arith, sym, ◌∙◌, ap, inl, inr, take_at, le-ltb}
 use Rattle.std.proofs.Math.Path.{refl}
 use Rattle.std.proofs.Math.Option.{none}
-use Rattle.model.specs.declared.answer.Answer.{Answer}
-use Rattle.model.specs.declared.answer.Answer.TheVariants.{Refused}
 use Rattle.model.specs.Galley.{streams}
-use Rattle.model.specs.Answers.{numbers_of, accepted, marked}
+use Rattle.model.specs.Answers.{numbers_of, accepted, marked, Answer, refused}
 use Rattle.model.specs.Opening.{opening_turned, made_after, made_words_after}
 use Rattle.theorems.specs.pages.LeastAfter.{MakingAfter, turned_away, no_list, best_list, making_after}
 use Rattle.galley.specs.declared.Galley.{Galley}
-use Rattle.galley.specs.declared.Reading.TheVariants as reads
 use Rattle.galley.specs.Whole.{galley_of}
 use Rattle.galley.specs.Model.{model_of}
 use Rattle.marking.specs.Mark.{mark_read, mark_of}
@@ -22,7 +19,7 @@ use Rattle.making.specs.After.{make_after_read, make_after_of, list_made_read, l
 -- What is promised of the answer of making the bytes of the galley g after an opening, and of the page list afterwards.
 pub record ThirdDemandAfter (bytes : List ℕ) (g : Galley) (opening : List ℕ) (answer : Answer) (list' : List ℕ) : Type 0 where
   -- making returns a list, or 11
-  pub outcome : (answer ≡ Refused 11 0) ⊎ (accepted answer ≡ true)
+  pub outcome : (answer ≡ refused 11 0) ⊎ (accepted answer ≡ true)
   -- the list that it returns, the first p pages of the page list, begins with the opening,
   pub begins : accepted answer ≡ true
       → (rest : List ℕ) × (take (streams (model_of bytes g) * (numbers_of answer).pages) list' ≡ opening ++ rest)
@@ -36,10 +33,10 @@ pub record ThirdDemandAfter (bytes : List ℕ) (g : Galley) (opening : List ℕ)
       → (numbers_of (mark_of bytes (opening ++ words))).turns ≤ (numbers_of answer).turns
       → (numbers_of answer).white ≤ (numbers_of (mark_of bytes (opening ++ words))).white
   -- 11 comes back exactly where marking accepts no list that begins so
-  pub none : (answer ≡ Refused 11 0) ↔ ((words : List ℕ) → accepted (mark_of bytes (opening ++ words)) ≡ false)
+  pub none : (answer ≡ refused 11 0) ↔ ((words : List ℕ) → accepted (mark_of bytes (opening ++ words)) ≡ false)
 
 -- What making means for the galley that was read gives the demand.
-module _ (bytes : List ℕ) (g : Galley) (read : galley_of bytes ≡ reads.Galley g) (opening list : List ℕ)
+module _ (bytes : List ℕ) (g : Galley) (read : galley_of bytes ≡ Ok g) (opening list : List ℕ)
     (stands : opening_turned (model_of bytes g) opening ≡ none) (answer : Answer) (list' : List ℕ) (makes : answer ≡ made_after (model_of bytes g) opening)
     (lists : list'
     ≡ made_words_after (model_of bytes g) opening ++ drop (length (made_words_after (model_of bytes g) opening)) list) where
@@ -91,7 +88,7 @@ module _ (bytes : List ℕ) (g : Galley) (read : galley_of bytes ≡ reads.Galle
 
 -- The demand holds of whatever the contract of `make_after` allows.
 pub third_demand_after : {bytes opening work list : List ℕ} {answer : Answer} {count : ℕ} {work' list' : List ℕ}
-    → MadeAfter bytes opening work list answer count work' list' → (g : Galley) → galley_of bytes ≡ reads.Galley g
+    → MadeAfter bytes opening work list answer count work' list' → (g : Galley) → galley_of bytes ≡ Ok g
     → work_needed g ≤ length work → list_needed g ≤ length list → opening_turned (model_of bytes g) opening ≡ none
     → ThirdDemandAfter bytes g opening answer list'
 unfolding make_after_of make_after_read list_made_after list_made_read

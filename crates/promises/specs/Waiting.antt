@@ -1,11 +1,9 @@
 -- The figures that wait at a place of a galley that reads without refusal: document 02, S-2.
-use Rattle.std.specs.Prelude.{ℕ, zero, suc, ◌≤◌, ◌≡◌, refl, Bool, true, false, List, [], ◌∷◌, length, leb}
+use Rattle.std.specs.Prelude.{ℕ, zero, suc, ◌≤◌, ◌≡◌, refl, Bool, List, [], ◌∷◌, length, leb, Ok}
 use Rattle.std.proofs.Common.{arith}
-use Rattle.std.proofs.Math.Path.{ap}
 use Rattle.model.specs.Gather.{pick, row}
 use Rattle.model.specs.Galley as model
 use Rattle.galley.specs.declared.Galley.{Galley}
-use Rattle.galley.specs.declared.Reading.TheVariants as reads
 use Rattle.galley.specs.Whole.{galley_of}
 use Rattle.galley.specs.Model.{floats_of, model_of}
 use Rattle.blocks.specs.laws.Counts.{floats_some}
@@ -28,10 +26,9 @@ met_next st i (suc left) k = go (leb (st.cite (suc k)) i) (met_next st i left (s
     rest = waiting_from st i left (suc k)
 
     go : (b : Bool) → rest ≡ next (suc k) (length rest) → pick b (suc k ∷ rest) [] ≡ next k (length (pick b (suc k ∷ rest) []))
-    go true e = ap (λ (l : List ℕ). suc k ∷ l) e
-    go false e = refl
+    go b e = grind arith
 
-module _ (bytes : List ℕ) (g : Galley) (read : galley_of bytes ≡ reads.Galley g) where
+module _ (bytes : List ℕ) (g : Galley) (read : galley_of bytes ≡ Ok g) where
   -- In any float stream, with any i lines and j floats placed, the floats from j + 1 on up to the first that a line after i
   -- cites are each float past j that line i or an earlier one cites, once, and no other.
   pub waiting_stream : (s : ℕ) → 1 ≤ s → s ≤ (model_of bytes g).floats → (i j : ℕ) → j ≤ ((model_of bytes g).stream s).size
