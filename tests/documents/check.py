@@ -28,8 +28,8 @@ ANY_NAME = re.compile(r'(?<![A-Za-z])(?:NAME|GROUP|LABEL|N)(?![A-Za-z])')
 
 
 def documents():
-    """README and the pages of docs that are kept true; landing notes, history and PORT.md, which has what was, stay as they were written."""
-    pages = [ROOT / 'README.md', *sorted(path for path in (ROOT / 'docs').glob('*.md') if path.name != 'PORT.md')]
+    """README and the pages of docs that are kept true; landing notes, history, PORT.md and DESIGN-PASS.md, which have what was, stay as they were written."""
+    pages = [ROOT / 'README.md', *sorted(path for path in (ROOT / 'docs').glob('*.md') if path.name not in ('DESIGN-PASS.md', 'PORT.md'))]
     return {str(path.relative_to(ROOT)): path.read_text() for path in pages}
 
 

@@ -257,8 +257,8 @@ def planted(tally, command, place, pages, data, root):
 def run(tally, command, root, folder):
     here = folder / 'documents'
     here.mkdir()
-    # PORT.md has statements, and no commands.
-    documents = [root / 'README.md', *sorted(path for path in (root / 'docs').glob('*.md') if path.name != 'PORT.md')]
+    # PORT.md and DESIGN-PASS.md have statements, and no commands of the project.
+    documents = [root / 'README.md', *sorted(path for path in (root / 'docs').glob('*.md') if path.name not in ('DESIGN-PASS.md', 'PORT.md'))]
     pages = {str(path.relative_to(root)): path.read_text() for path in documents}
     packed = command.run('pack', root / 'samples/case-a.txt')[1]
     planted(tally, command, beside(command, root, here / 'planted'), pages, packed, root)
