@@ -95,9 +95,6 @@ pub record Unknown (mark : ℕ) : Type 0 where
   pub tb : eqb mark TB ≡ false
   pub ed : eqb mark ED ≡ false
 
-by_mark : (P : ℕ → Type 0) (mark m : ℕ) → P m → (eqb mark m ≡ false → P mark) → P mark
-by_mark P mark m here other = grind arith
-
 pub all_marks : (P : ℕ → Type 0) → P GS → P G2 → P FO → P TL → P FG → P FK → P TB → P ED → ((mark : ℕ) → Unknown mark → P mark)
     → (mark : ℕ) → P mark
 all_marks P gs g2 fo tl fg fk tb ed unknown mark = grind arith
@@ -142,45 +139,6 @@ unfit_told bytes (begun s o (suc m) n (suc k)) few =
     let some = eqb-suc-zero m in
     all_marks _ refl refl refl refl refl refl (rw (some, full_is (suc k) 50 few.2) refl) (rw some refl)
     (λ mark u. rw (unknown_kind mark u, u.tb, u.ed) refl)
-
--- One record more: the count, the line cited last, where the next is due, and the blocks of each stream.
-more_eq : {stage count count' last last' at at' folio first lines lines' figures figures' tables tables' : ℕ}
-    → count ≡ count' → last ≡ last' → at ≡ at' → lines ≡ lines' → figures ≡ figures' → tables ≡ tables'
-    → ◌≡◌ {A = Sofar}
-    (record {
-      stage = stage;
-      count = count;
-      last = last;
-      at = at;
-      folio = folio;
-      first = first;
-      lines = lines;
-      figures = figures;
-      tables = tables;
-    })
-    (record {
-      stage = stage;
-      count = count';
-      last = last';
-      at = at';
-      folio = folio;
-      first = first;
-      lines = lines';
-      figures = figures';
-      tables = tables';
-    })
-more_eq {stage} {folio = folio} {first = first} c l a m n k i =
-    record {
-      stage = stage;
-      count = c i;
-      last = l i;
-      at = a i;
-      folio = folio;
-      first = first;
-      lines = m i;
-      figures = n i;
-      tables = k i;
-    }
 
 module _ (bytes : List ℕ) (s : Spec) where
   -- A specification,
