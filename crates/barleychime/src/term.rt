@@ -17,7 +17,19 @@ fn tell(told: Result<Totals, Refusal>, words: &mut [u64; 11]) -> u32
             0
         }
         Err(Refusal { number, place }) => {
-            *words = [u64::from(number), u64::from(place), 0, 0, 0, 0, 0, 0, 0, 0, 0];
+            *words = [
+                u64::from(number),
+                u64::from(place),
+                0,
+                0,
+                0,
+                0,
+                0,
+                0,
+                0,
+                0,
+                0,
+            ];
             number
         }
     }
