@@ -51,7 +51,10 @@ pub fn report_on(marks: &[Mark]) -> Result<Totals, Refusal>
         tally.add(mark);
     }
     match tally.below {
-        Some(place) => Err(Refusal { number: 32, place }),
+        Some(paper) => Err(Refusal {
+            number: 32,
+            place: paper as u32,
+        }),
         None => Ok(tally.totals),
     }
 }

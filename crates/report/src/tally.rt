@@ -13,7 +13,7 @@ pub type Total = u64;
 #[derive(Clone, Copy)]
 pub struct Tally {
     pub totals: Totals,
-    pub below: Option<u32>,
+    pub below: Option<Total>,
 }
 
 impl Totals {
@@ -69,7 +69,7 @@ impl Tally {
     {
         self.totals.add(m);
         if self.below.is_none() && m.turns < m.engine {
-            self.below = Some(self.totals.papers as u32);
+            self.below = Some(self.totals.papers);
         }
     }
 }

@@ -33,3 +33,11 @@ first_is (suc n) f = go (f (suc n)) refl (first_is n f)
     go true e (nowhere none) = somewhere {j = n} (omega arith) e none
     go false e (nowhere none) = nowhere (fails_next n f none e)
     go b e (somewhere {j} low holds none) = somewhere {j = j} (omega arith) holds none
+
+-- It is one of them.
+low : {n : ℕ} {f : ℕ → Bool} {o : Option ℕ} → First n f o → (j : ℕ) → o ≡ Some j → j ≤ n
+low (nowhere none) j e = absurd cc
+low (somewhere {j = i} under holds none) j e = let same : suc i ≡ j = cc in omega arith
+
+pub first_low : (n : ℕ) (f : ℕ → Bool) (j : ℕ) → first n f ≡ Some j → j ≤ n
+first_low n f = low (first_is n f)
