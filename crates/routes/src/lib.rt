@@ -98,12 +98,7 @@ fn opening_routes(chapters: Chapters<'_>) -> Routes
 }
 
 // The routes after all chapters.
-pub fn all_routes(
-    chapters: Chapters<'_>,
-    book: Book,
-    work: &mut [u32],
-    from: &mut [u32],
-) -> Routes
+pub fn all_routes(chapters: Chapters<'_>, book: Book, work: &mut [u32], from: &mut [u32]) -> Routes
     requires { BookRoom chapters.galleys.now chapters.lengths.now book work.old × (length from.old ≡ 400) }
     ensures { AllRouted chapters.entry.galleys.now chapters.entry.lengths.now work.old work.new result from.new }
 {
