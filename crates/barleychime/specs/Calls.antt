@@ -100,7 +100,7 @@ zero_accepted bytes list lent = go (galley_of bytes) refl
     go : (r : Reading) → galley_of bytes ≡ r → number_of (open_read bytes list lent r).answer ≡ 0
         → accepted (open_read bytes list lent r).answer ≡ true
     go (Ok g) e h = on (accepted (mark_of bytes list)) (leb (numbers_of (mark_of bytes list)).pages 64) refl h
-    go (Err r) e h = absurd (omega (arith, (refusal_number bytes number place e).0))
+    go (Err r) e h = absurd (omega (arith, (refusal_number bytes r.number r.place e).0))
 
 -- For every list of calls through C on a lent desk, from one opened with 0 returned, all is as in a sitting that begins with the opening list.
 pub calls_sit : (bytes list : List ℕ) (lent d : Desk) (number : ℕ) (answer : List ℕ)

@@ -1,7 +1,7 @@
 // The program: a galley from standard input, its pages to standard output. Document 01, "The program".
 #![tactic(auto)]
 
-ghost use Rattle.std.specs.Prelude.{◌+◌, ◌≤◌, ◌<◌, ◌≡◌, IfOk};
+ghost use Rattle.std.specs.Prelude.{◌+◌, ◌≤◌, ◌<◌, ◌≡◌, IfOk, IfSome};
 ghost use Rattle.model.specs.Galley.{streams};
 ghost use Rattle.galley.specs.declared.Galley.{Galley};
 ghost use Rattle.galley.specs.Whole.{galley_of};
@@ -11,14 +11,13 @@ use std::io;
 use std::io::Read;
 
 // How many words a page has in the list: one for each stream of the galley. A galley that is refused has no list.
-fn words_of(galley: &[u8]) -> usize
-    ensures { (2 ≤ result)
-        × (result ≤ 3)
-        × ((g : Galley) → galley_of galley.now ≡ Ok g → result ≡ streams (model_of galley.now g)) }
+fn words_of(galley: &[u8]) -> Option<usize>
+    ensures { IfSome result (λ words. (2 ≤ words) × (words ≤ 3))
+        × ((g : Galley) → galley_of galley.now ≡ Ok g → result ≡ Some (streams (model_of galley.now g))) }
 {
     match reading::read_galley(galley) {
-        Ok(g) => blocks::page_words(g),
-        Err(_) => 2,
+        Ok(g) => Some(blocks::page_words(g)),
+        Err(_) => None,
     }
 }
 
@@ -70,7 +69,10 @@ fn main(rt: HostRuntime) -> io::Result<()> {
     match made.answer {
         Ok(n) => {
             println!(&rt; "{} {} {} {} {}", n.pages, n.x, n.y, n.turns, n.white)?;
-            print_pages(&rt, n.pages, &list, words_of(&input[..got]))
+            match words_of(&input[..got]) {
+                Some(words) => print_pages(&rt, n.pages, &list, words),
+                None => Ok(()),
+            }
         }
         Err(refusal) => println!(&rt; "R {} {}", refusal.number, refusal.place),
     }

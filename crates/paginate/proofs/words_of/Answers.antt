@@ -1,6 +1,6 @@
 -- `words_of` meets its contract: a page has two words, or three, as the galley that was read has streams.
 use Rattle.std.proofs.Common.{arith, ◌≡◌, ℕ, List, sym, ◌∙◌, ap}
-use Rattle.std.specs.Prelude.{Err, Ok}
+use Rattle.std.specs.Prelude.{Some, Err, Ok}
 use Rattle.model.specs.Galley.{streams}
 use Rattle.galley.specs.declared.Galley.{Galley}
 use Rattle.galley.specs.Whole.{galley_of, Reading}
@@ -20,7 +20,6 @@ which bytes g h r is e f = is bytes ∙ ap (λ (k : Galley). streams (model_of b
 pub returns-in-Ok : goal.returns-in-Ok
 returns-in-Ok c =
     let g = c.in-Ok.g in (
-      omega (arith, c.page_words.ensures.1, words_least g),
-      omega (arith, c.page_words.ensures.1, words_most g),
-      λ h e. which _ g h _ c.page_words.ensures.0 (sym c.read_galley.ensures ∙ c.in-Ok.is) e,
+      (omega (arith, c.page_words.ensures.1, words_least g), omega (arith, c.page_words.ensures.1, words_most g)),
+      λ h e. ap (λ (n : ℕ). Some n) (which _ g h _ c.page_words.ensures.0 (sym c.read_galley.ensures ∙ c.in-Ok.is) e),
     )
