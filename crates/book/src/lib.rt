@@ -10,7 +10,7 @@ ghost use Rattle.chapters.specs.laws.Answer.{IsRead};
 ghost use Rattle.book.specs.Make.{Bound};
 ghost use Rattle.book.specs.Bind.{BookLent, RouteFound, AlongMade, Paged, Weighted, Countable, counted_of, Best};
 
-use chapters::Book;
+use chapters::{Book, Chapters};
 use course::Sums;
 use model::answer::Refusal;
 use model::page::Page;
@@ -44,20 +44,19 @@ fn refused(number: u32, place: u32, weighed: u64) -> BookMade
 
 // The chapters made along the best route, whose folios are followed back from the one after the book.
 fn along(
-    galleys: &[u8],
-    lengths: &[u32],
+    chapters: Chapters<'_>,
     book: Book,
     from: &[u32],
     last: u32,
     work: &mut [u32],
     pages: &mut [u32],
 ) -> Sums
-    requires { RouteFound galleys.now lengths.now book from.now last work.old pages.old }
-    ensures { AlongMade galleys.now lengths.now work.old pages.old result work.new pages.new }
+    requires { RouteFound chapters.galleys.now chapters.lengths.now book from.now last work.old pages.old }
+    ensures { AlongMade chapters.entry.galleys.now chapters.entry.lengths.now work.old pages.old result work.new pages.new }
 {
     let mut folios = [0u32; 201];
     course::trace::trace(from, book.chapters, last, &mut folios);
-    course::make_chapters(galleys, lengths, book, &folios, work, pages)
+    course::make_chapters(chapters, book, &folios, work, pages)
 }
 
 // The leaves turned from the first page of a book to its last.
@@ -79,11 +78,11 @@ fn turned(alpha: u32, x: u64, beta: u32, y: u64) -> u64
 }
 
 // The counts of the book: Y is that of its first and last page, and T follows.
-fn counted(galleys: &[u8], lengths: &[u32], sums: Sums, weighed: u64) -> BookMade
-    requires { Countable galleys.now lengths.now sums }
-    ensures { (g : Galley) → galley_of (chapter_bytes galleys.now lengths.now 0) ≡ Ok g → result ≡ counted_of g sums weighed }
+fn counted(chapters: Chapters<'_>, sums: Sums, weighed: u64) -> BookMade
+    requires { Countable chapters.galleys.now chapters.lengths.now sums }
+    ensures { (g : Galley) → galley_of (chapter_bytes chapters.entry.galleys.now chapters.entry.lengths.now 0) ≡ Ok g → result ≡ counted_of g sums weighed }
 {
-    let g = chapters::galley_in(chapters::extent::chapter_bytes(galleys, lengths, 0));
+    let g = chapters::galley_in(chapters.bytes_of(0));
     let y = leaves(g.spec.sides, g.folio, sums.pages);
     BookMade {
         answer: Ok(BookCounted {
@@ -98,36 +97,24 @@ fn counted(galleys: &[u8], lengths: &[u32], sums: Sums, weighed: u64) -> BookMad
 }
 
 // The best choice in memory that is long enough: the routes, then the chapters along the best of them.
-fn bind(
-    galleys: &[u8],
-    lengths: &[u32],
-    book: Book,
-    work: &mut [u32],
-    pages: &mut [u32],
-) -> BookMade
-    requires { BookLent galleys.now lengths.now book work.old pages.old }
-    ensures { Best galleys.now lengths.now work.old pages.old result work.new pages.new }
+fn bind(chapters: Chapters<'_>, book: Book, work: &mut [u32], pages: &mut [u32]) -> BookMade
+    requires { BookLent chapters.galleys.now chapters.lengths.now book work.old pages.old }
+    ensures { Best chapters.entry.galleys.now chapters.entry.lengths.now work.old pages.old result work.new pages.new }
 {
-    let weighed = course::weighed::all_weighed(galleys, lengths, book);
+    let weighed = course::weighed::all_weighed(chapters, book);
     let mut from = [0u32; 400];
-    let ends = routes::all_routes(galleys, lengths, book, work, &mut from);
+    let ends = routes::all_routes(chapters, book, work, &mut from);
     let Some(last) = routes::best_end(ends) else {
         return refused(11, 0, weighed);
     };
-    let sums = along(galleys, lengths, book, &from, last, work, pages);
-    counted(galleys, lengths, sums, weighed)
+    let sums = along(chapters, book, &from, last, work, pages);
+    counted(chapters, sums, weighed)
 }
 
 // A book that was read, made where the lent memory is long enough: 9, then 10. The work words are cleared afterwards.
-fn make_read(
-    galleys: &[u8],
-    lengths: &[u32],
-    book: Book,
-    work: &mut [u32],
-    pages: &mut [u32],
-) -> BookMade
-    requires { IsRead galleys.now lengths.now book }
-    ensures { Bound galleys.now lengths.now work.old pages.old result work.new pages.new }
+fn make_read(chapters: Chapters<'_>, book: Book, work: &mut [u32], pages: &mut [u32]) -> BookMade
+    requires { IsRead chapters.galleys.now chapters.lengths.now book }
+    ensures { Bound chapters.entry.galleys.now chapters.entry.lengths.now work.old pages.old result work.new pages.new }
 {
     let needed = 2 * book.largest;
     if work.len() < needed {
@@ -136,7 +123,7 @@ fn make_read(
     if pages.len() < book.list {
         return refused(10, book.list as u32, 0);
     }
-    let made = bind(galleys, lengths, book, &mut work[..needed], pages);
+    let made = bind(chapters, book, &mut work[..needed], pages);
     places::clear(work, 0, needed);
     made
 }
@@ -146,7 +133,7 @@ pub fn make_book(galleys: &[u8], lengths: &[u32], work: &mut [u32], pages: &mut 
     ensures { Bound galleys.now lengths.now work.old pages.old result work.new pages.new }
 {
     match chapters::read_book(galleys, lengths) {
-        Ok(book) => make_read(galleys, lengths, book, work, pages),
+        Ok(book) => make_read(Chapters { galleys, lengths }, book, work, pages),
         Err(refusal) => BookMade {
             answer: Err(refusal),
             weighed: 0,

@@ -3,6 +3,8 @@ ghost use Rattle.std.specs.Prelude.{◌≡◌, ◌≤◌, length};
 ghost use Rattle.chapters.specs.Book.{all_bytes, adds_up, chapter_bytes};
 ghost use Rattle.chapters.specs.Steps.{Stands};
 
+use crate::Chapters;
+
 // What lengths come to. So few of 32 bits do not pass 64 bits.
 fn all_bytes(lengths: &[u32]) -> usize
     requires { length lengths.now ≤ 200 }
@@ -11,25 +13,27 @@ fn all_bytes(lengths: &[u32]) -> usize
     lengths.iter().map(|n| *n as usize).sum()
 }
 
-// The bytes of chapter k, from 0.
-pub fn chapter_bytes<'a>(galleys: &'a [u8], lengths: &[u32], k: usize) -> &'a [u8]
-    requires { Stands galleys.now lengths.now k }
-    ensures { result.now ≡ chapter_bytes galleys.now lengths.now k }
-{
-    let from = all_bytes(&lengths[..k]);
-    let to = from + lengths[k] as usize;
-    &galleys[from..to]
-}
+impl<'a> Chapters<'a> {
+    // The bytes of chapter k, from 0.
+    pub fn bytes_of(self, k: usize) -> &'a [u8]
+        requires { Stands self.galleys.now self.lengths.now k }
+        ensures { result.now ≡ chapter_bytes self.entry.galleys.now self.entry.lengths.now k }
+    {
+        let from = all_bytes(&self.lengths[..k]);
+        let to = from + self.lengths[k] as usize;
+        &self.galleys[from..to]
+    }
 
-// Whether there are 1 to 200 chapters, whose lengths add up to the bytes.
-pub fn add_up(galleys: &[u8], lengths: &[u32]) -> bool
-    ensures { result ≡ adds_up galleys.now lengths.now }
-{
-    if lengths.is_empty() {
-        return false;
+    // Whether there are 1 to 200 of them, whose lengths add up to the bytes.
+    pub fn add_up(self) -> bool
+        ensures { result ≡ adds_up self.entry.galleys.now self.entry.lengths.now }
+    {
+        if self.lengths.is_empty() {
+            return false;
+        }
+        if 200 < self.lengths.len() {
+            return false;
+        }
+        all_bytes(self.lengths) == self.galleys.len()
     }
-    if 200 < lengths.len() {
-        return false;
-    }
-    all_bytes(lengths) == galleys.len()
 }

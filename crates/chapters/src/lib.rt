@@ -13,6 +13,13 @@ use model::answer::Refusal;
 
 pub mod extent; // extent.rt: where a chapter stands in the bytes
 
+// The chapters of a book as they are lent: the bytes of their galleys, end to end, and the list of their lengths.
+#[derive(Clone, Copy)]
+pub struct Chapters<'a> {
+    pub galleys: &'a [u8],
+    pub lengths: &'a [u32],
+}
+
 // A book that was read: how many chapters it has, the words of the work area that the largest of them needs, and the words of the
 // page list that all of them need.
 #[derive(Clone, Copy)]
@@ -72,9 +79,9 @@ fn chapter_read(bytes: &[u8], number: u32) -> Reading
 }
 
 // The book, once its first chapter is read: chapter by chapter, each from where the one before it ends.
-fn read_later(galleys: &[u8], lengths: &[u32], first: Galley) -> Result<Book, Refusal>
-    requires { Opened galleys.now lengths.now first }
-    ensures { result ≡ reading_of (chapters_of galleys.now lengths.now) }
+fn read_later(chapters: Chapters<'_>, first: Galley) -> Result<Book, Refusal>
+    requires { Opened chapters.galleys.now chapters.lengths.now first }
+    ensures { result ≡ reading_of (chapters_of chapters.entry.galleys.now chapters.entry.lengths.now) }
 {
     let none = Book {
         chapters: 0,
@@ -82,11 +89,11 @@ fn read_later(galleys: &[u8], lengths: &[u32], first: Galley) -> Result<Book, Re
         list: 0,
     };
     let mut book = with_chapter(none, first);
-    let mut at = lengths[0] as usize;
-    for length in &lengths[1..] {
+    let mut at = chapters.lengths[0] as usize;
+    for length in &chapters.lengths[1..] {
         let place = book.chapters as u32 + 1;
         let to = at + *length as usize;
-        let g = chapter_read(&galleys[at..to], place)?;
+        let g = chapter_read(&chapters.galleys[at..to], place)?;
         if let Some(number) = unfit_after(first.spec, g) {
             return Err(Refusal { number, place });
         }
@@ -100,7 +107,8 @@ fn read_later(galleys: &[u8], lengths: &[u32], first: Galley) -> Result<Book, Re
 pub fn read_book(galleys: &[u8], lengths: &[u32]) -> Result<Book, Refusal>
     ensures { result ≡ reading_of (book_of galleys.now lengths.now) }
 {
-    if !extent::add_up(galleys, lengths) {
+    let chapters = Chapters { galleys, lengths };
+    if !chapters.add_up() {
         return Err(Refusal {
             number: 28,
             place: 0,
@@ -108,7 +116,7 @@ pub fn read_book(galleys: &[u8], lengths: &[u32]) -> Result<Book, Refusal>
     }
     let to = lengths[0] as usize;
     let first = chapter_read(&galleys[..to], 1)?;
-    read_later(galleys, lengths, first)
+    read_later(chapters, first)
 }
 
 // The galley of a chapter of a book that was read.

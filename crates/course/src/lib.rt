@@ -4,7 +4,7 @@
 ghost use Rattle.std.specs.Prelude.{◌≤◌};
 ghost use Rattle.course.specs.Course.{Small, WithAnswer, NextChapter, NextMade, CourseRoom, CourseMade};
 
-use chapters::Book;
+use chapters::{Book, Chapters};
 use model::answer::Answer;
 
 mod chapter; // chapter.rt: one chapter made
@@ -57,15 +57,14 @@ fn next_chapter(
 
 // All chapters, one after another, by the folios on which they open and the one after the book.
 pub fn make_chapters(
-    galleys: &[u8],
-    lengths: &[u32],
+    chapters: Chapters<'_>,
     book: Book,
     folios: &[u32],
     work: &mut [u32],
     pages: &mut [u32],
 ) -> Sums
-    requires { CourseRoom galleys.now lengths.now book folios.now work.old pages.old }
-    ensures { CourseMade galleys.now lengths.now folios.now work.old pages.old result work.new pages.new }
+    requires { CourseRoom chapters.galleys.now chapters.lengths.now book folios.now work.old pages.old }
+    ensures { CourseMade chapters.entry.galleys.now chapters.entry.lengths.now folios.now work.old pages.old result work.new pages.new }
 {
     let mut sums = Sums {
         at: 0,
@@ -74,7 +73,7 @@ pub fn make_chapters(
         white: 0,
     };
     for k in 0..book.chapters {
-        let chapter = chapters::extent::chapter_bytes(galleys, lengths, k);
+        let chapter = chapters.bytes_of(k);
         sums = next_chapter(chapter, folios[k], folios[k + 1], sums, work, pages);
     }
     sums

@@ -5,7 +5,7 @@ ghost use Rattle.chapters.specs.Steps.{Reads};
 ghost use Rattle.course.specs.Weighed.{BookRead, all_weighed, ChapterWeighed};
 
 use blocks::Counts;
-use chapters::Book;
+use chapters::{Book, Chapters};
 
 // How many pages of one chapter are weighed.
 fn chapter_weighed(s: &[u8]) -> u64
@@ -22,13 +22,13 @@ fn chapter_weighed(s: &[u8]) -> u64
 }
 
 // How many pages of all chapters are.
-pub fn all_weighed(galleys: &[u8], lengths: &[u32], book: Book) -> u64
-    requires { BookRead galleys.now lengths.now book }
-    ensures { result ≡ all_weighed (chapters_in (book_of galleys.now lengths.now)) }
+pub fn all_weighed(chapters: Chapters<'_>, book: Book) -> u64
+    requires { BookRead chapters.galleys.now chapters.lengths.now book }
+    ensures { result ≡ all_weighed (chapters_in (book_of chapters.entry.galleys.now chapters.entry.lengths.now)) }
 {
     let mut sum = 0;
     for k in 0..book.chapters {
-        sum += chapter_weighed(chapters::extent::chapter_bytes(galleys, lengths, k));
+        sum += chapter_weighed(chapters.bytes_of(k));
     }
     sum
 }

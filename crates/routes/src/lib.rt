@@ -6,7 +6,7 @@ ghost use Rattle.routes.specs.Routes.{best_end, first_routes};
 ghost use Rattle.routes.specs.Room.{BookRoom};
 ghost use Rattle.routes.specs.Next.{NextRoom, Onward, Lies, Opens, AllRouted};
 
-use chapters::Book;
+use chapters::{Book, Chapters};
 use galley::Galley;
 
 pub mod offer; // offer.rt: what each folio offers the next, and which offer is taken
@@ -90,28 +90,21 @@ fn first_routes(g: Galley) -> Routes
 }
 
 // The routes before the first chapter of a book.
-fn opening_routes(galleys: &[u8], lengths: &[u32]) -> Routes
-    requires { Lies galleys.now lengths.now 0 }
-    ensures { Opens galleys.now lengths.now result }
+fn opening_routes(chapters: Chapters<'_>) -> Routes
+    requires { Lies chapters.galleys.now chapters.lengths.now 0 }
+    ensures { Opens chapters.entry.galleys.now chapters.entry.lengths.now result }
 {
-    let chapter = chapters::extent::chapter_bytes(galleys, lengths, 0);
-    first_routes(chapters::galley_in(chapter))
+    first_routes(chapters::galley_in(chapters.bytes_of(0)))
 }
 
 // The routes after all chapters.
-pub fn all_routes(
-    galleys: &[u8],
-    lengths: &[u32],
-    book: Book,
-    work: &mut [u32],
-    from: &mut [u32],
-) -> Routes
-    requires { BookRoom galleys.now lengths.now book work.old × (length from.old ≡ 400) }
-    ensures { AllRouted galleys.now lengths.now work.old work.new result from.new }
+pub fn all_routes(chapters: Chapters<'_>, book: Book, work: &mut [u32], from: &mut [u32]) -> Routes
+    requires { BookRoom chapters.galleys.now chapters.lengths.now book work.old × (length from.old ≡ 400) }
+    ensures { AllRouted chapters.entry.galleys.now chapters.entry.lengths.now work.old work.new result from.new }
 {
-    let mut routes = opening_routes(galleys, lengths);
+    let mut routes = opening_routes(chapters);
     for k in 0..book.chapters {
-        let chapter = chapters::extent::chapter_bytes(galleys, lengths, k);
+        let chapter = chapters.bytes_of(k);
         routes = next_routes(chapter, k, routes, book.largest, work, from);
     }
     routes

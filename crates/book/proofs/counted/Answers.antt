@@ -6,11 +6,11 @@ use Rattle.course.specs.laws.Course.{one_galley}
 use Rattle.book.specs.laws.Count.{count_first}
 use Rattle.book.proofs.counted.Goals as goal
 
-pub chapter_bytes-requires : goal.chapter_bytes-requires
-chapter_bytes-requires c = let at = count_first c.requires in record { numbered = at.numbered; within = at.within }
+pub bytes_of-requires : goal.bytes_of-requires
+bytes_of-requires c = let at = count_first c.requires in record { numbered = at.numbered; within = at.within }
 
 pub galley_in-g-requires : goal.galley_in-g-requires
-galley_in-g-requires c = let at = count_first c.requires in rw c.chapter_bytes.ensures (at.galley, at.reads)
+galley_in-g-requires c = let at = count_first c.requires in rw c.bytes_of.ensures (at.galley, at.reads)
 
 pub leaves-y-requires : goal.leaves-y-requires
 leaves-y-requires c =
@@ -25,5 +25,5 @@ turned-requires c =
 
 pub returns : goal.returns
 returns c = λ g e.
-    let same = one_galley _ c.galley_in-g.result g (rw c.chapter_bytes.ensures at c.galley_in-g.ensures) e in
+    let same = one_galley _ c.galley_in-g.result g (rw c.bytes_of.ensures at c.galley_in-g.ensures) e in
     rw (c.turned.ensures, c.leaves-y.ensures.0, same) refl

@@ -20,14 +20,14 @@ use Rattle.chapters.proofs.read_later.Goals.{In-loop-length, After-chapter_read}
 pub with_chapter-book-requires : goal.with_chapter-book-requires
 with_chapter-book-requires c = (record { chapters = omega arith; list = omega arith }, read_few _ _ c.requires.reads)
 
-pub bounds-lengths-0 : goal.bounds-lengths-0
-bounds-lengths-0 c = omega (arith, (adding c.args.galleys.now c.args.lengths.now c.requires.adds).some)
+pub bounds-chapters-0 : goal.bounds-chapters-0
+bounds-chapters-0 c = omega (arith, (adding c.args.chapters.galleys.now c.args.chapters.lengths.now c.requires.adds).some)
 
 pub slice_bounds-length-items-count : goal.slice_bounds-length-items-count
-slice_bounds-length-items-count c = omega (arith, (adding c.args.galleys.now c.args.lengths.now c.requires.adds).some)
+slice_bounds-length-items-count c = omega (arith, (adding c.args.chapters.galleys.now c.args.chapters.lengths.now c.requires.adds).some)
 
 pub slice_bounds-length-items-start : goal.slice_bounds-length-items-start
-slice_bounds-length-items-start c = omega (arith, (adding c.args.galleys.now c.args.lengths.now c.requires.adds).some)
+slice_bounds-length-items-start c = omega (arith, (adding c.args.chapters.galleys.now c.args.chapters.lengths.now c.requires.adds).some)
 
 pub loop-length-init : goal.loop-length-init
 loop-length-init c = record { counted = rw c.with_chapter-book.ensures (omega arith); underway = rw c.with_chapter-book.ensures (underway_first c.requires) }
@@ -44,9 +44,9 @@ turn ls k i e h =
     (get_or-take (length ls - 1) (drop 1 ls) i 0 n ∙ get_or_after_one ls i 0 ∙ ap (λ m. get_or ls m 0) j, omega arith)
 
 next : (c : In-loop-length)
-    → (get_or (others c.args.lengths.now) c.loop-length.length-index 0 ≡ get_or c.args.lengths.now c.loop-length.book.chapters 0)
-    × (c.loop-length.book.chapters < length c.args.lengths.now)
-next c = turn c.args.lengths.now _ _ c.loop-length.invariant.counted c.loop-length-test.true
+    → (get_or (others c.args.chapters.lengths.now) c.loop-length.length-index 0 ≡ get_or c.args.chapters.lengths.now c.loop-length.book.chapters 0)
+    × (c.loop-length.book.chapters < length c.args.chapters.lengths.now)
+next c = turn c.args.chapters.lengths.now _ _ c.loop-length.invariant.counted c.loop-length-test.true
 
 pub overflow_cast-place : goal.overflow_cast-place
 overflow_cast-place c = omega (arith, c.loop-length.invariant.underway.within, c.loop-length.invariant.underway.few)
@@ -63,8 +63,8 @@ slice_bounds-chapter_read-end c =
 lent : (c : After-chapter_read)
     → c.chapter_read.result
     ≡ read_as (c.loop-length.book.chapters + 1)
-    (galley_of (slice c.loop-length.at (c.loop-length.at + get_or (others c.args.lengths.now) c.loop-length.length-index 0) c.args.galleys.now))
-lent c = c.chapter_read.ensures ∙ ap (λ l. read_as (c.loop-length.book.chapters + 1) (galley_of l)) (part_slice c.loop-length.at _ c.args.galleys.now)
+    (galley_of (slice c.loop-length.at (c.loop-length.at + get_or (others c.args.chapters.lengths.now) c.loop-length.length-index 0) c.args.chapters.galleys.now))
+lent c = c.chapter_read.ensures ∙ ap (λ l. read_as (c.loop-length.book.chapters + 1) (galley_of l)) (part_slice c.loop-length.at _ c.args.chapters.galleys.now)
 
 pub returns-in_err-g : goal.returns-in_err-g
 returns-in_err-g c =
@@ -98,4 +98,4 @@ loop-length-preserved c =
 pub returns : goal.returns
 returns c =
     underway_done c.loop-length.invariant.underway
-    (omega (arith, c.loop-length.invariant.counted, c.loop-length-test.false, length-take (length c.args.lengths.now - 1) (drop 1 c.args.lengths.now), length-drop 1 c.args.lengths.now))
+    (omega (arith, c.loop-length.invariant.counted, c.loop-length-test.false, length-take (length c.args.chapters.lengths.now - 1) (drop 1 c.args.chapters.lengths.now), length-drop 1 c.args.chapters.lengths.now))

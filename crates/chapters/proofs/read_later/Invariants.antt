@@ -5,4 +5,4 @@ use Rattle.chapters.proofs.read_later.Given as goal
 
 abbrev pub invariant-loop-length : goal.invariant-loop-length
 invariant-loop-length l =
-    record { counted : l.book.chapters ≡ l.length-index + 1; underway : Underway l.galleys l.lengths l.first.spec l.book l.at }
+    record { counted : l.book.chapters ≡ l.length-index + 1; underway : Underway l.chapters.galleys.now l.chapters.lengths.now l.first.spec l.book l.at }

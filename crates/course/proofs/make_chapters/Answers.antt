@@ -7,20 +7,20 @@ use Rattle.course.proofs.make_chapters.Goals as goal
 pub loop-k-init : goal.loop-k-init
 loop-k-init c = (course_first c.requires, refl)
 
-pub chapter_bytes-chapter-requires : goal.chapter_bytes-chapter-requires
-chapter_bytes-chapter-requires c =
+pub bytes_of-chapter-requires : goal.bytes_of-chapter-requires
+bytes_of-chapter-requires c =
     let at = course_at c.requires c.loop-k-test.true in
     record { numbered = at.numbered; within = at.within }
 
 pub next_chapter-sums-requires : goal.next_chapter-sums-requires
 next_chapter-sums-requires c =
     let st = c.loop-k in
-    rw c.chapter_bytes-chapter.ensures (course_chapter c.requires c.loop-k-test.true st.invariant.0 _ st.invariant.1)
+    rw c.bytes_of-chapter.ensures (course_chapter c.requires c.loop-k-test.true st.invariant.0 _ st.invariant.1)
 
 pub loop-k-preserved : goal.loop-k-preserved
 loop-k-preserved c =
     let st = c.loop-k in
-    let made = rw c.chapter_bytes-chapter.ensures at c.next_chapter-sums.ensures in
+    let made = rw c.bytes_of-chapter.ensures at c.next_chapter-sums.ensures in
     (course_next c.requires c.loop-k-test.true st.invariant.0 made, made.lent ∙ st.invariant.1)
 
 pub returns : goal.returns

@@ -7,4 +7,4 @@ use Rattle.course.proofs.make_chapters.Given as goal
 
 abbrev pub invariant-loop-k : goal.invariant-loop-k
 invariant-loop-k l =
-    Making (chapters_in (book_of l.galleys l.lengths)) l.folios l.initial.pages l.k l.sums l.pages × (length l.work ≡ length l.initial.work)
+    Making (chapters_in (book_of l.chapters.galleys.now l.chapters.lengths.now)) l.folios l.initial.pages l.k l.sums l.pages × (length l.work ≡ length l.initial.work)

@@ -3,4 +3,4 @@ use Rattle.routes.specs.Next.{Routing}
 use Rattle.routes.proofs.all_routes.Given as goal
 
 abbrev pub invariant-loop-k : goal.invariant-loop-k
-invariant-loop-k l = Routing l.galleys l.lengths l.book l.initial.work l.work l.k l.routes l.from
+invariant-loop-k l = Routing l.chapters.galleys.now l.chapters.lengths.now l.book l.initial.work l.work l.k l.routes l.from

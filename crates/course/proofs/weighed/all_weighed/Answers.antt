@@ -3,15 +3,15 @@ use native.Mathlib.Omega.{arith}
 use Rattle.course.specs.laws.Weighed.{weighing_at, weighing_next, weighing_done}
 use Rattle.course.proofs.weighed.all_weighed.Goals as goal
 
-pub chapter_bytes-requires : goal.chapter_bytes-requires
-chapter_bytes-requires c =
+pub bytes_of-requires : goal.bytes_of-requires
+bytes_of-requires c =
     let at = weighing_at c.requires c.loop-k-test.true in
     record { numbered = at.numbered; within = at.within }
 
 pub chapter_weighed-sum-requires : goal.chapter_weighed-sum-requires
 chapter_weighed-sum-requires c =
     let at = weighing_at c.requires c.loop-k-test.true in
-    rw c.chapter_bytes.ensures (at.galley, at.reads)
+    rw c.bytes_of.ensures (at.galley, at.reads)
 
 pub overflow_add-sum : goal.overflow_add-sum
 overflow_add-sum c =
@@ -19,7 +19,7 @@ overflow_add-sum c =
     omega (arith, c.chapter_weighed-sum.ensures.few, c.loop-k.invariant.few, at.numbered.within, at.numbered.few)
 
 pub loop-k-preserved : goal.loop-k-preserved
-loop-k-preserved c = weighing_next c.requires c.loop-k-test.true c.loop-k.invariant (rw c.chapter_bytes.ensures at c.chapter_weighed-sum.ensures)
+loop-k-preserved c = weighing_next c.requires c.loop-k-test.true c.loop-k.invariant (rw c.bytes_of.ensures at c.chapter_weighed-sum.ensures)
 
 pub returns : goal.returns
 returns c = weighing_done c.requires (omega (arith, c.loop-k-test.false)) c.loop-k.invariant

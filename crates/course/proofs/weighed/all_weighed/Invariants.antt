@@ -4,4 +4,4 @@ use Rattle.course.specs.Weighed.{Weighing}
 use Rattle.course.proofs.weighed.all_weighed.Given as goal
 
 abbrev pub invariant-loop-k : goal.invariant-loop-k
-invariant-loop-k l = Weighing (chapters_in (book_of l.galleys l.lengths)) l.k l.sum
+invariant-loop-k l = Weighing (chapters_in (book_of l.chapters.galleys.now l.chapters.lengths.now)) l.k l.sum
