@@ -1,6 +1,6 @@
 // The proved library as a WebAssembly module. tools/archive compiles the proved library for x86-64, and keeps the LLVM module that the
 // toolchain's clang compiled. That module gets WebAssembly's layout in place of x86-64's, two lines of its text, and is compiled and linked by the
-// same clang.
+// same clang. Where it compares addresses, `ptrtoaddr` has the 64 bits of x86-64's: `ptrtoint` widens the 32 of WebAssembly's.
 import { execFileSync, spawnSync } from 'node:child_process';
 import { createHash } from 'node:crypto';
 import fs from 'node:fs';
@@ -52,7 +52,7 @@ export function compile(module, out) {
   try {
     execFileSync(clang, ['--target=x86_64-unknown-linux-gnu', '-x', 'ir', module, '-S', '-emit-llvm', '-Xclang', '-disable-llvm-passes', '-O3', '-o', at('kept.ll')]);
     const text = fs.readFileSync(at('kept.ll'), 'utf8').replace(/^target datalayout.*\n/m, '')
-      .replace(/^target triple.*$/m, 'target triple = "wasm32-unknown-unknown"').replace(/"target-cpu"="[^"]*"/g, '');
+      .replace(/^target triple.*$/m, 'target triple = "wasm32-unknown-unknown"').replace(/"target-cpu"="[^"]*"/g, '').replace(/\bptrtoaddr ptr /g, 'ptrtoint ptr ');
     fs.writeFileSync(at('wasm.ll'), text);
     execFileSync(clang, ['--target=wasm32-unknown-unknown', '-O3', '-mbulk-memory', ...SAFE.flatMap((each) => ['-mllvm', each]), '-c', '-x', 'ir', at('wasm.ll'), '-o', at('wasm.o')]);
     fs.symlinkSync(clang, at('wasm-ld'));
