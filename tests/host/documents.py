@@ -55,7 +55,7 @@ NEVER = {  # the first line of what is not run, and why
     'web/build && make && /usr/bin/python3 tests/web/times.py': 'a measurement, on an idle machine',
 }
 QUOTED = {  # the first line of what is quoted and no command, and the file that has it
-    'pub loop-i-init : goal.loop-i-init': 'crates/places/proofs/clear/Answers.antt',
+    'pub loop-k-init : goal.loop-k-init': 'crates/course/proofs/make_chapters/Answers.antt',
 }
 DRAWN = re.compile(r'^.* ──► ', re.M)  # a drawing and no command
 PACKED = re.compile(r'^ *(\d+)  ((?:[0-9a-f]{2} ?)+) +(\w+)(?:,.*| (\d+))$')  # offset, bytes, mark or field, number
