@@ -247,7 +247,7 @@ def planted(tally, command, place, pages, data, root):
         'a byte that is another': unlike_packed(manual.replace('00 00 00 14  height 20', '00 00 00 15  height 21'), data),
         'a number that is not its bytes': unlike_packed(manual.replace('height 20', 'height 21'), data),
         'a field that is another': unlike_packed(manual.replace('14  height', '14  least'), data),
-        'a quotation that is another': unlike_quoted({'X.md': quoting.replace('(cleared_already _ _', '(cleared_already _')}, root),
+        'a quotation that is another': unlike_quoted({'X.md': quoting.replace('(course_first c.', '(course_first d.')}, root),
         'a byte less': unlike_packed(manual.replace(' 102  45 44        ED, the end\n', ''), data),
     }
     for what, found in faults.items():
