@@ -140,7 +140,9 @@ pub fn clear(work: &mut [u32], from: usize, n: usize)
     requires { (from ≤ n) × (n ≤ length work.old) × (take from work.old ≡ replicate from 0) }
     ensures { work.new ≡ cleared n work.old }
 {
-    work[from..n].fill(0);
+    for k in from..n {
+        work[k] = 0;
+    }
 }
 
 // The words that a galley of so many lines and columns needs.

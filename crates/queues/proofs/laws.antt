@@ -1,4 +1,5 @@
 -- The laws of the queues.
+pub mod Run
 pub mod Held
 pub mod Pushed
 pub mod Front

@@ -39,7 +39,13 @@ fn hint_in(seen: &[u32], column: usize) -> Option<u32>
     ensures { HintIn seen.now column result }
 {
     let name = column + 1;
-    seen.iter().copied().find(|hint| name_of(*hint) == name)
+    for at in 0..seen.len() {
+        let hint = seen[at];
+        if name_of(hint) == name {
+            return Some(hint);
+        }
+    }
+    None
 }
 
 // A word that names no column, and leaves every line to look at: from the first to the last that can be written.

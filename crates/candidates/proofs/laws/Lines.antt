@@ -25,7 +25,11 @@ module _ (col : ℕ → Entry) (add : ℕ → ℕ) (b : ℕ) where
       let (cost, start) = least_same (sym f ∙ c.2.entry) in
       (omega (arith, c.2.whole), λ _. inr (c.0, omega (arith, c.1))))
 
-  -- Each line is weighed against the best so far,
+  -- Before the first line there is no start,
+  pub lines_none : (low : ℕ) → Best (Lines col add low low b) None
+  lines_none low = best_none (λ a b' x c. omega (arith, c.0, c.1))
+
+  -- each line is weighed against the best so far,
   pub lines_next : (low a : ℕ) (e : Entry) → low ≤ a → Best (Lines col add low a b) e
       → Best (Lines col add low (a + 1) b) (chosen e (start_at (col a) (add a) a b))
   lines_next low a e l best =

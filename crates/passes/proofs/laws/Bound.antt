@@ -1,5 +1,5 @@
 -- Bounds found line by line from the last on, kept by what does not concern them, and what they spare.
-use Rattle.std.specs.Prelude.{ℕ, suc, ◌+◌, ◌-◌, ◌*◌, ◌≤◌, ◌<◌, ◌≡◌, List, length, None, Some}
+use Rattle.std.specs.Prelude.{ℕ, suc, ◌+◌, ◌-◌, ◌*◌, ◌≤◌, ◌<◌, ◌≡◌, refl, List, length, None, Some}
 use Rattle.std.proofs.Common.{le_refl, arith, sym, ◌∙◌, inr}
 use Rattle.std.proofs.Math.Decide.{dec_lt, ℕ_discrete}
 use Rattle.places.specs.declared.Place.{Place}
@@ -8,11 +8,11 @@ use Rattle.places.specs.Best.{Leads, Best}
 use Rattle.queues.specs.declared.queue.Source.{Source}
 use Rattle.window.specs.Rows.{Beside}
 use Rattle.queues.specs.Queue.{queued, lines_in}
-use Rattle.window.specs.laws.Rows.{pushed_length, pushed_beside}
+use Rattle.window.specs.laws.Rows.{beside_none, pushed_length, pushed_beside}
 use Rattle.queues.proofs.laws.Pushed.{other_cost, pushed_own_cost}
 use Rattle.candidates.specs.Search.{Search}
 use Rattle.candidates.specs.Choice.{Candidate, Starts, Between}
-use Rattle.passes.specs.Bound.{lesser_of, bound_at, Bounded, BoundRun}
+use Rattle.passes.specs.Bound.{lesser_of, bound_at, Bounded, BoundFound, BoundRun}
 
 -- The lesser is no more than either.
 pub lesser_low : (below : ℕ) (e : Entry) → lesser_of below e ≤ below
@@ -22,7 +22,22 @@ lesser_low below (Some l) = omega arith
 pub lesser_entry : (below x : ℕ) (s : Place) (e : Entry) → e ≡ least x s → lesser_of below e ≤ x
 lesser_entry below x s e p = rw p (omega arith)
 
--- One line more is bounded.
+-- The last line needs no bound,
+pub bound_first : (work words : List ℕ) (source : Source) (lines below : ℕ) → 0 < lines
+    → BoundRun work words words source lines (lesser_of below (lines_in work source lines)) lines
+bound_first work words source lines below some =
+    record {
+      within = le_refl lines;
+      sized = refl;
+      some = some;
+      lowest = λ b x r l m e.
+          let same : b ≡ lines = omega arith in
+          lesser_entry below x r (lines_in work source lines) (rw same at e);
+      bounded = λ k b x r l h m n e. absurd (omega arith);
+      beside = beside_none _ _ _;
+    }
+
+-- one line more is bounded,
 module _ {work words₀ words : List ℕ} {source : Source} {lines below a : ℕ} (run : BoundRun work words₀ words source lines below a)
     (few : lines ≤ 4000) (room : 48000 ≤ length words₀) (more : 1 < a) where
   pub bound_next : (new : List ℕ) → new ≡ queued words (a - 1 + 12000) (a - 1) (lesser_of below (lines_in work source (a - 1)))
@@ -52,6 +67,12 @@ module _ {work words₀ words : List ℕ} {source : Source} {lines below a : ℕ
       bound k b x r l h m n q (no d) =
           rw (other_cost words (a - 1 + 12000) (a - 1) (lesser_of below (lines_in work source (a - 1))) (k + 12000) (λ e. d (omega arith)))
           (run.bounded k b x r (omega arith) h m n q)
+
+-- and at last all are.
+pub bound_last : {work words₀ words : List ℕ} {source : Source} {lines below a since : ℕ} → BoundRun work words₀ words source lines below a
+    → a ≤ since + 1 → BoundFound work words₀ source lines since words
+bound_last run l =
+    record { bounded = record { low = λ k b x r m h n o e. run.bounded k b x r (omega arith) h n o e }; beside = run.beside }
 
 -- Words stored before the bounds leave them,
 pub bounded_beside : {col : ℕ → Entry} {old new : List ℕ} {lines since from to : ℕ} → Beside old new from to → to ≤ 12001

@@ -40,7 +40,14 @@ pub least_low : (bytes : List ℕ) (g : Galley) → Sound bytes g → (last : Bo
 least_low bytes g sound true = sound.spec_ranged.lastmins
 least_low bytes g sound false = sound.spec_ranged.htmins
 
--- A sweep goes no further than one past the last line.
+-- A sweep may go on after any line of the galley or up to it, and no further than one past the last.
+pub end_from_lem : (g : Galley) (pass : Pass) (i : ℕ) → i ≤ g.text.count → i ≤ sweep_end g pass
+end_from_lem g pass i l = go (last_column g pass.to)
+  where
+    go : (t : Bool) → i ≤ pick t g.text.count (g.text.count + 1)
+    go true = l
+    go false = omega arith
+
 pub end_low : (g : Galley) (pass : Pass) → sweep_end g pass ≤ g.text.count + 1
 end_low g pass = go (last_column g pass.to)
   where

@@ -142,6 +142,15 @@ module _ {bytes : List ℕ} {g : Galley} {w₀ sums words₀ : List ℕ} {pass :
 
   module _ (some : pass.reach.first ≤ g.text.count) {stop : ℕ} (stopped : Stopped g sums pass stop) {w words : List ℕ} {c : ℕ}
       (run : SweepRun bytes g w₀ w words₀ words pass stop c) where
+    -- After the last side all places know the starts of the pass.
+    pub sweep_last : g.spec.sides ≤ c → SweepDone bytes g w₀ w pass
+    sweep_last l =
+        record {
+          known = λ k d h m. run.swept.done k d h m (omega (arith, asked.lent.sound.few_lines));
+          still = λ none. absurd (omega arith);
+          kept = run.kept;
+        }
+
     module _ (occurs : c < g.spec.sides) where
       pub sweep_side : SideSweep bytes g w sums words c pass stop
       sweep_side =

@@ -1,7 +1,8 @@
 -- Addresses: in range, in the order of the columns, and apart. All products of two variables are dealt with here.
 use Rattle.std.specs.Prelude.{◌≡◌, refl, ◌⊎◌, Bool, true, false, ℕ, ◌+◌, ◌*◌, ◌<◌, ◌≤◌, ltb}
 use Rattle.std.proofs.Common.{inl, inr, suc-mul, mul_comm, mul-le-mul, mul-le-mul_right, arith, ltb-true, ltb-false}
-use Rattle.places.specs.Address.{address, area, words_needed, Limited, Apart}
+use Rattle.places.specs.declared.Place.{Place}
+use Rattle.places.specs.Address.{address, area, words_needed, Inside, Limited, Apart}
 use Rattle.places.specs.Order.{Earlier}
 
 -- Numbers are in one of three orders.
@@ -91,6 +92,10 @@ address_past tall i j side first l = omega (arith, mul-le-mul_right tall l, mul_
 pub area_needed : (m wide : ℕ) → area (m + 1) wide ≡ words_needed m wide
 unfolding area words_needed
 area_needed m wide = refl
+
+-- The product in an address is small.
+pub column_small : (tall : ℕ) (place : Place) (side : ℕ) → Inside tall place side → place.column * tall ≤ 41010250
+column_small tall place side r = mul-le-mul r.wide r.high
 
 -- The product in the words needed is small.
 pub words_small : (m wide : ℕ) → Limited m wide → (m + 1) * wide ≤ 41014251

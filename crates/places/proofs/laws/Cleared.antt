@@ -1,11 +1,21 @@
 -- The work area after clearing: word by word, the same whatever was there before, and unreached throughout.
-use Rattle.std.specs.Prelude.{◌≡◌, refl, List, ℕ, ◌+◌, ◌-◌, ◌<◌, ◌≤◌, length, get_or, take, drop, replicate, None}
-use Rattle.std.proofs.Common.{append_assoc, drop-drop, sym, ◌∙◌, ap, arith, length-append, length-drop, length-take, take_at, drop_at}
+use Rattle.std.specs.Prelude.{◌≡◌, refl, List, [], ◌∷◌, ◌++◌, ℕ, zero, suc, ◌+◌, ◌-◌, ◌<◌, ◌≤◌, length, get_or, set, take, drop, replicate, None}
+use Rattle.std.proofs.Common.{append_assoc, drop-drop, sym, ◌∙◌, ap, le_of_suc-le-suc, not-suc-le-zero, add-one, arith, take-append-drop, length-append, length-drop, length-take, take_at, drop_at}
 use Rattle.std.proofs.lemmas.List.{length-replicate, get_or-replicate, replicate-append-replicate, take-append-le}
 use Rattle.std.proofs.Math.ListN.{get_or-append}
 use borrow.Rule.Slice.PartMut.{put_mid}
 use Rattle.places.specs.Entry.{stored, cleared}
 use Rattle.places.proofs.laws.Stored.{stored_there}
+
+-- One word more is cleared by a zero at the next offset.
+pub cleared_next : (n : ℕ) (w : List ℕ) → n < length w → set (cleared n w) n 0 ≡ cleared (n + 1) w
+unfolding cleared
+cleared_next n w h = go n w h ∙ ap (λ (k : ℕ). cleared k w) (sym (add-one n))
+  where
+    go : (n : ℕ) (w : List ℕ) → n < length w → set (cleared n w) n 0 ≡ cleared (suc n) w
+    go n [] h = absurd (not-suc-le-zero h)
+    go zero (x ∷ w) h = refl
+    go (suc n) (x ∷ w) h = ap (λ (l : List ℕ). 0 ∷ l) (go n w (le_of_suc-le-suc h))
 
 -- Clearing forgets all but the words beyond.
 pub cleared_forgets : (n : ℕ) (v w : List ℕ) → drop n v ≡ drop n w → cleared n v ≡ cleared n w
@@ -22,7 +32,7 @@ pub cleared_length : (n : ℕ) (w : List ℕ) → n ≤ length w → length (cle
 unfolding cleared
 cleared_length n w h = omega (arith, length-append (replicate n 0) (drop n w), length-replicate {A = ℕ} n 0, length-drop n w)
 
--- The first of them are zeros.
+-- The first of them are zeros,
 pub cleared_first : (n k : ℕ) (w : List ℕ) → k ≤ n → take k (cleared n w) ≡ replicate k 0
 unfolding cleared
 cleared_first n k w l =
@@ -32,6 +42,11 @@ cleared_first n k w l =
     take-append-le k (replicate n 0) (drop n w) (omega (arith, length-replicate {A = ℕ} n 0))
     ∙ ap (λ (l : List ℕ). take k l) (sym (rw rest at split))
     ∙ take_at (replicate k 0) (replicate (n - k) 0) k long
+
+-- and words that are zeros need not be cleared.
+pub cleared_already : (k : ℕ) (w : List ℕ) → take k w ≡ replicate k 0 → cleared k w ≡ w
+unfolding cleared
+cleared_already k w zeros = ap (λ (l : List ℕ). l ++ drop k w) (sym zeros) ∙ take-append-drop k w
 
 -- Zeros written after them clear what is between.
 pub cleared_filled : (from n : ℕ) (w ys : List ℕ) → from ≤ n → n ≤ length w → take from w ≡ replicate from 0

@@ -6,7 +6,7 @@ use Rattle.galley.specs.declared.Galley.{Galley}
 use Rattle.reached.specs.declared.look.Reach.{Reach}
 use Rattle.reached.specs.declared.recall.Recall.{Recall}
 use Rattle.reached.specs.Ring.{hint_of, hint_name, Present, Named}
-use Rattle.reached.specs.Look.{Quiet, Hinted, Reached}
+use Rattle.reached.specs.Look.{Quiet, Found, Hinted, Reached}
 use Rattle.reached.specs.Recall.{Remembered, Agrees, Noted}
 use Rattle.reached.proofs.laws.Ring.{hint_name_lem, hint_first_lem, hint_last_lem}
 
@@ -71,7 +71,12 @@ module _ (old : List ℕ) (h x : ℕ) (room : h < length old) where
         go here (inl e) = absurd (omega (arith, here.names, ap hint_name e))
         go here (inr old) = old
 
--- A column that is not reached needs no place in the ring,
+-- A column that is not reached, as a look has found,
+pub found_none : {g : Galley} {w : List ℕ} {j from r : ℕ} → Found g w j from r → g.text.count < r
+    → Quiet g w j g.spec.sides from (g.text.count + 1)
+found_none found over = record { none = λ a c l m occurs. found.quiet.none a c l (omega arith) occurs }
+
+-- needs no place in the ring,
 pub noted_none : {g : Galley} {w seen : List ℕ} {j from : ℕ} (recall : Recall) → recall.head < length seen → Named seen j
     → Quiet g w j g.spec.sides from (g.text.count + 1) → Noted g w seen seen recall j from recall
 noted_none {j = j} recall head named quiet =

@@ -1,11 +1,11 @@
 -- The columns of a row, one sweep after another: back from the tables of the column where pages end, until the floats are too tall.
-use Rattle.std.specs.Prelude.{ℕ, suc, ◌+◌, ◌-◌, ◌≤◌, ◌<◌, ◌≡◌, refl, ◌⊎◌, Bool, true, false, ◌&&◌, List, length, ltb}
-use Rattle.std.proofs.Common.{le_refl, arith, ap, sym, ◌∙◌, inl, inr, ltb-true, ltb-false}
-use Rattle.std.proofs.lemmas.Bool.{false≢true}
+use Rattle.std.specs.Prelude.{ℕ, suc, ◌+◌, ◌-◌, ◌≤◌, ◌<◌, ◌≡◌, refl, ◌⊎◌, Bool, true, false, ◌&&◌, ◌||◌, List, length, ltb, leb}
+use Rattle.std.proofs.Common.{le_refl, arith, ap, ◌∙◌, inl, inr, ltb-true, ltb-false, leb-false}
 use Rattle.model.specs.Gather.{pick}
 use Rattle.rules.specs.Sums.{white_at}
 use Rattle.galley.specs.declared.Galley.{Galley}
 use Rattle.galley.specs.Model.{floats_of, model_of}
+use Rattle.galley.proofs.laws.Pick.{or_false}
 use Rattle.blocks.specs.declared.Counts.{Counts}
 use Rattle.blocks.specs.declared.heights.Heights.{Heights}
 use Rattle.blocks.specs.Counts.{Within}
@@ -60,6 +60,20 @@ module _ {bytes : List ℕ} {g : Galley} {w₀ sums words₀ seen : List ℕ} {r
 
   tables_few : row.end.tables ≤ g.tables.count
   tables_few = omega (arith, end_tables, end_within.tables)
+
+  -- Counts and columns are small.
+  pub end_few : row.end.tables ≤ 50
+  end_few = omega (arith, tables_few, asked.lent.sound.tables.few)
+
+  pub row_small : row_of g row.figures ≤ 10250
+  row_small =
+      omega (
+        arith,
+        row_grows g row.figures row.end.figures asked.within,
+        end_stands,
+        asked.lent.column,
+        columns_few g (few_floats asked.lent.sound),
+      )
 
   -- Before the first sweep no more is known than in the row after it: the columns past the top are not under the end.
   pub row_first : RowRun bytes g w₀ w₀ words₀ words₀ row no_heights (row_top row) false
@@ -240,10 +254,13 @@ module _ {bytes : List ℕ} {g : Galley} {w₀ sums words₀ seen : List ℕ} {r
 
           -- and brings in the starts of its column.
           pub row_swept : (white : ℕ) (reach : Reach) (v words' : List ℕ) → length v ≡ length w → length words' ≡ length words
-              → SweepDone bytes g w v (next white reach) → RowRun bytes g w₀ v words₀ words' row tables' (top - 1) true
+              → SweepDone bytes g w v (next white reach)
+              → RowRun bytes g w₀ v words₀ words' row tables' (top - 1) (any || leb reach.first g.text.count)
           row_swept white reach v words' p q done =
               record {
-                still = λ e. absurd (false≢true (sym e));
+                still = λ e.
+                    let (before, here) = or_false any (leb reach.first g.text.count) e in
+                    done.still (leb-false reach.first g.text.count here) ∙ run.still before;
                 lent = lent_kept done.kept run.lent;
                 scratch = omega (arith, run.scratch);
                 within = omega (arith, run.within);

@@ -4,6 +4,8 @@ use mathlib.Core.Path.{refl}
 use native.Mathlib.Omega.{arith}
 use Rattle.candidates.specs.Read.{row_of}
 use Rattle.starts.proofs.laws.Row.{from_small, row_first, row_last, row_room, row_told, row_stands, row_lays, row_unreached, row_sweeps, row_swept, row_tall}
+use Rattle.std.proofs.Math.Bool.{or-true}
+use Rattle.std.proofs.lemmas.Bool.{le-leb}
 use borrow.Author.Rules.{rules}
 use Rattle.starts.proofs.sweep.sweep_row.Goals as goal
 
@@ -54,11 +56,12 @@ loop-t-preserved-in_default c =
 pub loop-t-preserved : goal.loop-t-preserved
 unfolding row_of
 loop-t-preserved c =
-    row_swept c.requires c.loop-t.invariant (omega (arith, c.loop-t-test.true))
+    rw (le-leb _ _ c.in-Some.ensures.0, or-true) at
+    (row_swept c.requires c.loop-t.invariant (omega (arith, c.loop-t-test.true))
     c.block_before-tables.result c.block_before-tables.ensures _ refl c.floats_alone-floats.result c.floats_alone-floats.ensures
-    c.white_at.result c.in-Some.reach _ _
+    c.white_at.result c.in-Some.reach c.sweep.new.work c.sweep.new.words
     (search rules)
-    (search rules) c.sweep.ensures
+    (search rules) c.sweep.ensures)
 
 pub returns : goal.returns
 returns c =
