@@ -1,5 +1,5 @@
 -- The count of the pages that are weighed, on its way: what it asks for, and what is counted so far.
-use Rattle.std.specs.Prelude.{ℕ, suc, ◌+◌, ◌-◌, ◌*◌, ◌≤◌, ◌<◌, ◌≡◌, Bool, ◌&&◌, ◌||◌, List, ltb}
+use Rattle.std.specs.Prelude.{ℕ, suc, ◌+◌, ◌-◌, ◌*◌, ◌≤◌, ◌<◌, ◌≡◌, Bool, ◌&&◌, ◌||◌, List, ltb, leb}
 use Rattle.model.specs.Gather.{pick}
 use Rattle.model.specs.Galley as model
 use Rattle.model.specs.laws.Boxes.{below}
@@ -10,7 +10,7 @@ use Rattle.galley.specs.Sound.{Sound}
 use Rattle.blocks.specs.declared.Counts.{Counts}
 use Rattle.blocks.specs.declared.heights.Heights.{Heights}
 use Rattle.blocks.specs.Counts.{place_of, Within}
-use Rattle.blocks.specs.Heights.{Stacked}
+use Rattle.blocks.specs.Heights.{no_heights, block_before, Room, Stacked}
 use Rattle.candidates.specs.Read.{columns_in, counts_at, row_of}
 use Rattle.starts.specs.Sweep.{floats_alone}
 use Rattle.passes.specs.Sweep.{Summed}
@@ -53,6 +53,19 @@ pub record Part : Type 0 where
   pub from : ℕ
   pub heights : Heights
 
+-- Nothing of a stream of floats, where as many are placed at a page's start as at its end; and one float more, the one before.
+abbrev pub nothing : ℕ → Part
+nothing end = record { from = end; heights = no_heights }
+
+abbrev pub with_one_more : List ℕ → Stream → Part → ℕ → Part
+with_one_more bytes stream part end =
+    record { from = part.from - 1; heights = block_before bytes stream part.heights (part.from - 1) end }
+
+-- A part that has a float before it, with room for that.
+pub record Extendable (bytes : List ℕ) (stream : Stream) (part : Part) (end : ℕ) : Type 0 where
+  pub some : 1 ≤ part.from
+  pub room : Room bytes stream part.heights end
+
 -- The part of a stream between what is placed first and a page's end.
 pub record PartOf (bytes : List ℕ) (stream : Stream) (first end : ℕ) (part : Part) : Type 0 where
   pub since : first ≤ part.from
@@ -67,6 +80,13 @@ pub record CountableColumn (bytes : List ℕ) (g : Galley) (sums : List ℕ) (fi
 -- The column where pages start with these parts.
 abbrev pub column_of : Galley → Part → Part → ℕ
 column_of g figures tables = row_of g figures.from + tables.from
+
+-- The pages from all columns past that of these parts are counted.
+pub record ColumnCount (bytes : List ℕ) (g : Galley) (first : Counts) (q : ℕ) (figures tables : Part) (pairs : ℕ) : Type 0 where
+  pub figured : PartOf bytes g.figures first.figures (counts_at g 0 q).figures figures
+  pub tabled : PartOf bytes g.tables first.tables (counts_at g 0 q).tables tables
+  pub few : pairs + suc (column_of g figures tables) * 16008001 ≤ columns_in g * 16008001
+  pub counted : pairs + below (suc (column_of g figures tables)) (pairs_into bytes g first q) ≡ below (columns_in g) (pairs_into bytes g first q)
 
 -- The pages from all rows from that of b figures on are counted.
 pub record RowsCount (bytes : List ℕ) (g : Galley) (first : Counts) (q b : ℕ) (figures : Heights) (pairs : ℕ) : Type 0 where
@@ -88,6 +108,16 @@ pub record ColumnStep (bytes : List ℕ) (g : Galley) (first : Counts) (q : ℕ)
   pub laid : floats ≡ floats_alone g.spec figures.heights tables.heights (ltb figures.from (counts_at g 0 q).figures && ltb tables.from (counts_at g 0 q).tables)
   pub few : more ≤ 16008001
   pub counted : more ≡ pairs_between (text_of bytes g.text) g first.lines floats.tight (ltb figures.from (counts_at g 0 q).figures || ltb tables.from (counts_at g 0 q).tables)
+
+-- The row of these parts has no earlier column to count, where the floats are too tall alone or no more tables are left than are placed
+-- first;
+abbrev pub row_over : Galley → Counts → Heights → Part → Bool
+row_over g first floats tables = ltb g.spec.htmax floats.tight || leb tables.from first.tables
+
+-- nor has a row before it, where these are figures alone or no more figures are left.
+abbrev pub rows_over : Galley → Counts → ℕ → Heights → Part → Part → Bool
+rows_over g first q floats figures tables =
+    (ltb g.spec.htmax floats.tight && leb (counts_at g 0 q).tables tables.from) || leb figures.from first.figures
 
 -- All pages that end in the column are counted.
 pub record ColumnCounted (bytes : List ℕ) (g : Galley) (first : Counts) (q pairs : ℕ) : Type 0 where

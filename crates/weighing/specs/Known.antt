@@ -11,12 +11,7 @@ pub record Covers (known : Known) (beside : ℕ) (row : Tally) : Type 0 where
   pub from : row.from ≤ beside
   pub end : beside < row.end
 
--- There are as many rows as can be told apart, and the next is one of them.
-pub record Writable (known : Known) : Type 0 where
-  pub sized : length known.rows ≡ 127
-  pub next : known.next < 127
-
 -- What every row says is so.
 pub record Knows (sums : List ℕ) (known : Known) (m first limit : ℕ) : Type 0 where
-  pub writable : Writable known
+  pub sized : length known.rows ≡ 127
   pub right : All (λ row. IfSome row (Same sums m first limit)) known.rows

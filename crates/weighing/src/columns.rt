@@ -46,6 +46,9 @@ fn pairs_into(s: &[u8], g: Galley, sums: &[u32], known: &mut Known, first: Count
     ensures { ColumnCounted s.now g first q result × KnownOf g sums.now first.lines known.new }
 {
     let end = candidates::read::counts_at(g, 0, q);
+    if (end.figures < first.figures) | (end.tables < first.tables) {
+        return 0;
+    }
     let mut pairs: u64 = 0;
     let mut figures = Heights { tight: 0, loose: 0 };
     for b in (first.figures..end.figures + 1).rev() {

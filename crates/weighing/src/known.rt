@@ -1,15 +1,16 @@
 // The counts of pairs that are known. Where lines are alike, many pages have the same pairs, whatever floats stand beside their lines.
 ghost use Rattle.std.specs.Prelude.{ℕ, List, IfSome};
 ghost use Rattle.weighing.specs.Lines.{Pairable, Same, Pairs};
-ghost use Rattle.weighing.specs.Known.{Covers, Writable, Knows};
+ghost use Rattle.weighing.specs.Known.{Covers, Knows};
 
 use crate::lines::Tally;
 
 // So many tallies are kept.
 const ROWS: usize = 127;
 
-// The tallies that were kept last, and the row that the next one takes. `vain` goes up as rows are written and down as they are found
-// again. Where they are not, as with lines of all heights, no more are written, since a wide tally takes longer.
+// The tallies that were kept last, and the row that the next one takes; past the last row that is the first. `vain` goes up as rows are
+// written and down as they are found again. Where they are not, as with lines of all heights, no more are written, since a wide tally takes
+// longer.
 #[derive(Clone, Copy)]
 pub struct Known {
     pub rows: [Option<Tally>; ROWS],
@@ -33,8 +34,8 @@ impl Known {
     fn row(&self, beside: u32) -> Option<Tally>
         ensures { IfSome result (λ row. Covers self.now beside row) }
     {
-        for row in &self.rows {
-            let row = (*row)?;
+        for k in 0..ROWS {
+            let row = self.rows[k]?;
             if row.from <= beside && beside < row.end {
                 return Some(row);
             }
@@ -44,14 +45,14 @@ impl Known {
 
     // A tally written as the next row, if it says something of what else may stand beside the lines.
     fn keep(&mut self, tally: Tally)
-        requires { Writable self.old }
         ensures { (sums : List ℕ) (m first limit : ℕ) → Knows sums self.old m first limit → Same sums m first limit tally → Knows sums self.new m first limit }
     {
         if tally.end <= tally.from {
             return;
         }
-        self.rows[self.next] = Some(tally);
-        self.next = (self.next + 1) % ROWS;
+        let at = self.next % ROWS;
+        self.rows[at] = Some(tally);
+        self.next = at + 1;
         self.vain = self.vain % 64 + 1;
     }
 }

@@ -14,7 +14,7 @@ use Rattle.candidates.specs.Read.{columns_in, counts_at, row_of}
 use Rattle.candidates.proofs.laws.Columns.{few_floats, columns_few, row_next, row_grows, row_since, row_under, row_in, columns_in_lem}
 use Rattle.weighing.specs.Count.{pairs_into, Weighable, Part, PartOf, CountableColumn, RowsCount, RowCount, ColumnStep, ColumnCounted, AllCount}
 use Rattle.weighing.proofs.laws.Columns.{weighed_columns}
-use Rattle.weighing.proofs.laws.From.{end_within, over, short, from_pairs, row_passed, rows_passed}
+use Rattle.weighing.proofs.laws.From.{end_within, over, short, from_pairs, tall_over, tall_all, row_passed, rows_passed}
 use Rattle.weighing.proofs.laws.Past.{past}
 
 -- The last row is that of all figures.
@@ -135,7 +135,7 @@ module _ {bytes : List ℕ} {g : Galley} {sums : List ℕ} {first : Counts} {q :
         pub row_tall : g.spec.htmax < floats.tight → RowsCount bytes g first q b figures (pairs + more)
         row_tall tall =
             let none = past (row_of g b) (row_of g b + (t - 1)) (pairs_into bytes g first q) (omega arith)
-            (row_passed asked run.figured row_tabled floats step.laid tall) in
+            (row_passed asked run.figured row_tabled floats step.laid (tall_over asked run.figured row_tabled floats step.laid tall)) in
             record { within = omega (arith, run.figured.within); high = run.figured.high; few = omega (arith, run.few, step.few); counted = omega (arith, added, none) }
 
         -- or all columns are, where the figures alone are.
@@ -143,7 +143,9 @@ module _ {bytes : List ℕ} {g : Galley} {sums : List ℕ} {first : Counts} {q :
         unfolding below
         row_all tall all =
             let none = past 0 (row_of g b + (t - 1)) (pairs_into bytes g first q) (omega arith)
-            (λ x l h. rows_passed asked run.figured row_tabled floats step.laid tall all x h) in
+            (λ x l h.
+            rows_passed asked run.figured row_tabled floats step.laid (tall_over asked run.figured row_tabled floats step.laid tall)
+            (tall_all asked run.figured row_tabled floats step.laid tall all) x l h) in
             record { few = row_few; counted = omega (arith, added, none) }
 
 -- The columns where pages end, one after another.

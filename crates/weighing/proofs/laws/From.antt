@@ -1,8 +1,9 @@
 -- The column where pages start that have these parts of figures and tables: what it has to column q, and which columns before it add
 -- nothing.
-use Rattle.std.specs.Prelude.{ℕ, suc, ◌≤◌, ◌<◌, ◌≡◌, refl, Bool, true, false, ◌&&◌, ◌||◌, List, ltb}
+use Rattle.std.specs.Prelude.{ℕ, suc, ◌+◌, ◌≤◌, ◌<◌, ◌≡◌, refl, ◌⊎◌, Bool, true, false, ◌&&◌, ◌||◌, List, ltb, leb}
 use Rattle.std.proofs.Math.Decide.{dec_le}
-use Rattle.std.proofs.Common.{arith, sym, ap, lt-ltb, le-ltb, ltb-true, ltb-false}
+use Rattle.std.proofs.Common.{arith, sym, ap, inl, inr, lt-ltb, le-ltb, le-leb, ltb-true, ltb-false, leb-true}
+use Rattle.model.proofs.laws.Gather.{and_left, and_right, or_cases}
 use Rattle.galley.specs.declared.Galley.{Galley}
 use Rattle.galley.specs.Model.{text_of, model_of}
 use Rattle.blocks.specs.declared.Counts.{Counts}
@@ -13,7 +14,7 @@ use Rattle.candidates.specs.Read.{columns_in, counts_at, row_of}
 use Rattle.starts.specs.Sweep.{Layable, floats_alone}
 use Rattle.candidates.proofs.laws.Columns.{row_next, row_grows, row_of_lem, row_figures, row_tables, row_under, row_in, within_at, under_at}
 use Rattle.starts.proofs.laws.Floats.{alone_at, floats_lay, alone_low}
-use Rattle.weighing.specs.Count.{pairs_between, pairs_into, Between, Part, PartOf, column_of, CountableColumn}
+use Rattle.weighing.specs.Count.{pairs_between, pairs_into, Between, Part, PartOf, column_of, CountableColumn, row_over, rows_over}
 use Rattle.weighing.proofs.laws.Past.{short_none, over_none, tall_none, between_at, weighable_between}
 
 module _ {bytes : List ℕ} {g : Galley} {sums : List ℕ} {first : Counts} {q : ℕ} (asked : CountableColumn bytes g sums first q) where
@@ -106,20 +107,45 @@ module _ {bytes : List ℕ} {g : Galley} {sums : List ℕ} {first : Counts} {q :
           tall_none bytes g first asked.ready.placed x from q h asked.column from_under (omega (arith, alone_from))
           (omega (arith, from_figures)) (λ k. omega (arith, t k, from_tables))
 
-      -- So no earlier column of the row adds anything,
-      pub row_passed : g.spec.htmax < floats.tight → (x : ℕ) → row_of g figures.from ≤ x → x < column_of g figures tables
-          → pairs_into bytes g first q x ≡ 0
-      row_passed tall x l h =
-          let (f, t) = row_in g figures.from x l (omega (arith, row_next g figures.from, low)) in
-          tall_before tall x (omega (arith, from_before, asked.column)) (omega arith) (λ k. omega arith)
+      -- The row is over where the floats are too tall alone,
+      pub tall_over : g.spec.htmax < floats.tight → row_over g first floats tables ≡ true
+      tall_over tall = rw (lt-ltb g.spec.htmax floats.tight tall) refl
 
-      -- and where the figures alone are, none of an earlier row.
-      pub rows_passed : g.spec.htmax < floats.tight → (counts_at g 0 q).tables ≤ tables.from → (x : ℕ) → x < column_of g figures tables
+      -- and all rows are where those are figures alone.
+      pub tall_all : g.spec.htmax < floats.tight → (counts_at g 0 q).tables ≤ tables.from → rows_over g first q floats figures tables ≡ true
+      tall_all tall all = rw (lt-ltb g.spec.htmax floats.tight tall, le-leb end.tables tables.from all) refl
+
+      -- So no earlier column of the row adds anything where the row is over,
+      pub row_passed : row_over g first floats tables ≡ true → (x : ℕ) → row_of g figures.from ≤ x → x < column_of g figures tables
           → pairs_into bytes g first q x ≡ 0
-      rows_passed tall all x h = go (dec_le (row_of g figures.from) x)
+      row_passed e x l h =
+          let (f, t) = row_in g figures.from x l (omega (arith, row_next g figures.from, low)) in
+          go (or_cases (ltb g.spec.htmax floats.tight) (leb tables.from first.tables) e) f t (omega (arith, from_before, asked.column))
         where
-          go : Dec (row_of g figures.from ≤ x) → None x
-          go (yes l) = row_passed tall x l h
-          go (no l) =
+          go : (ltb g.spec.htmax floats.tight ≡ true) ⊎ (leb tables.from first.tables ≡ true) → (counts_at g 0 x).figures ≡ figures.from
+              → row_of g figures.from + (counts_at g 0 x).tables ≡ x → x < columns_in g → None x
+          go (inl tall) f t wide = tall_before (ltb-true _ _ tall) x wide (omega arith) (λ k. omega arith)
+          go (inr few) f t wide = let l = leb-true tables.from first.tables few in short x wide (λ a b. omega arith)
+
+      -- and none of an earlier row where all rows are.
+      pub rows_passed : row_over g first floats tables ≡ true → rows_over g first q floats figures tables ≡ true → (x : ℕ) → 0 ≤ x
+          → x < column_of g figures tables → pairs_into bytes g first q x ≡ 0
+      rows_passed e d x _ h =
+          go (dec_le (row_of g figures.from) x)
+          (or_cases (ltb g.spec.htmax floats.tight && leb end.tables tables.from) (leb figures.from first.figures) d)
+          (omega (arith, from_before, asked.column))
+        where
+          go : Dec (row_of g figures.from ≤ x)
+              → (ltb g.spec.htmax floats.tight && leb end.tables tables.from ≡ true) ⊎ (leb figures.from first.figures ≡ true)
+              → x < columns_in g → None x
+          go (yes l) d wide = row_passed e x l h
+          go (no l) (inl tall) wide =
+              let high = and_left (ltb g.spec.htmax floats.tight) (leb end.tables tables.from) tall in
+              let all = and_right (ltb g.spec.htmax floats.tight) (leb end.tables tables.from) tall in
+              let t = leb-true end.tables tables.from all in
               let f = row_under g 0 figures.from x (omega arith) in
-              tall_before tall x (omega (arith, from_before, asked.column)) (omega arith) (λ k. omega arith)
+              tall_before (ltb-true _ _ high) x wide (omega arith) (λ k. omega arith)
+          go (no l) (inr few) wide =
+              let f = row_under g 0 figures.from x (omega arith) in
+              let all = leb-true figures.from first.figures few in
+              short x wide (λ a b. omega arith)

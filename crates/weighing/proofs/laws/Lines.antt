@@ -19,7 +19,7 @@ use Rattle.window.specs.Slide.{FirstBelow, Reaches}
 use Rattle.window.specs.laws.Sums.{reach_grows}
 use Rattle.window.specs.laws.Slide.{end_passes_from, end_opens}
 use Rattle.weighing.specs.declared.lines.Tally.{Tally}
-use Rattle.weighing.specs.Lines.{lines_fit, pairs_to, line_pairs, Pairs, Same, WithLine, Counted, Counting, Tallied}
+use Rattle.weighing.specs.Lines.{lines_fit, pairs_to, line_pairs, Pairs, Same, Comparable, Compared, WithLine, Counted, Counting, Tallied}
 use Rattle.weighing.proofs.laws.Pairs.{below_past}
 
 module _ (sums : List ℕ) (first beside limit m : ℕ) where
@@ -114,6 +114,17 @@ module _ (sums : List ℕ) (first beside limit m : ℕ) where
   unfolding line_pairs
   counted_end {low} {i} {pairs} st c e =
       c.counted ∙ ap (λ n. below n (pairs_to st first beside limit m)) e ∙ sym (total_below m (pairs_to st first beside limit m))
+
+-- How much is too much beside a page from any line up to i can be told.
+pub compared_from : {sums : List ℕ} {limit low i : ℕ} → Compared sums limit low i → (a : ℕ) → a ≤ i → Comparable sums limit a i
+compared_from {i = i} c a l =
+    record {
+      start = omega (arith, c.room);
+      end = c.room;
+      first = (c.small a l).0;
+      last = (c.small i (le_refl i)).1;
+      limited = c.limited;
+    }
 
 -- What else may stand beside the lines.
 module _ (sums : List ℕ) (first beside limit m : ℕ) where

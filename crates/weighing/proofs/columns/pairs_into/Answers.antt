@@ -6,9 +6,14 @@ use Rattle.candidates.specs.Read.{counts_at}
 use Rattle.candidates.proofs.laws.Columns.{within_at}
 use Rattle.weighing.specs.Count.{PartOf, ColumnStep}
 use Rattle.weighing.proofs.laws.From.{from_lays, from_between}
+use Rattle.weighing.proofs.laws.Back.{column_short}
 use Rattle.weighing.proofs.laws.Count.{rows_first, rows_last, figure_room, row_first, row_last, table_room, row_tabled, row_few, row_counted, row_tall, row_all}
 use Rattle.weighing.proofs.columns.pairs_into.Goals as goal
 use Rattle.weighing.proofs.columns.pairs_into.Goals.{After-block_before-tables, After-pairs_between-pairs}
+
+pub returns-then-end-first : goal.returns-then-end-first
+returns-then-end-first c =
+    (column_short c.requires.0 (rw c.counts_at-end.ensures at c.if-end-first.true), c.requires.1)
 
 pub overflow_step-b : goal.overflow_step-b
 overflow_step-b c =
