@@ -7,7 +7,7 @@ use Rattle.std.proofs.Math.Path.{ap}
 use Rattle.std.proofs.Math.ListN.{length}
 use Rattle.galley.specs.Model.{model_of}
 use Rattle.queues.specs.declared.parts.Parts.{Parts}
-use Rattle.queues.specs.Parts.{parts_of}
+use Rattle.queues.specs.Parts.{parts_of, Moved}
 use Rattle.queues.proofs.laws.Parts.{row_length}
 use Rattle.candidates.specs.Search.{new_entry}
 use Rattle.candidates.specs.Read.{table_in, side_of}
@@ -93,6 +93,26 @@ module _ {bytes : List ℕ} {task : Task} {w₀ sums words₀ ends₀ : List ℕ
             held = run.queued.still c (le_refl c) occurs;
             known = run.waits end.at.lines c next.ending.line occurs (le_refl (2 * end.at.lines + c));
           }
+
+      -- The ends of its queues are words.
+      pub sides_small : (words' : List ℕ) (r : Parts)
+          → Moved w sums words (record { tall = task.galley.text.count + 1; column = end.column; side = side_of task.galley c })
+          (parts_of ends c) windows.to r words'
+          → (r.full.head ≤ 16000) × (r.full.tail ≤ 16000) × (r.rest.head ≤ 16000) × (r.rest.tail ≤ 16000)
+      sides_small words' r done =
+          let full = done.held.full in
+          let rest = done.held.rest in
+          let split = next.slides.opened.ends.split in
+          let high = next.slides.opened.ends.high in
+          let first = done.held.first in
+          let second = done.held.second in
+          let all = few in
+          let side = low in (
+            omega (arith, full.order, full.short),
+            omega (arith, full.short),
+            omega (arith, rest.order, rest.short),
+            omega (arith, rest.short),
+          )
 
       -- With it filled, one side more is.
       pub sides_next : (v words' : List ℕ) → length words' ≡ length words → (r : Parts)

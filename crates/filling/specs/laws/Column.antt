@@ -20,7 +20,7 @@ use Rattle.window.specs.laws.Slide.{ends_first, ends_next}
 use Rattle.candidates.specs.Choice.{Candidate}
 use Rattle.candidates.specs.Read.{table_in, side_of, search_of, counts_at}
 use Rattle.passes.specs.Sweep.{Lent}
-use Rattle.candidates.specs.Cells.{Scratched, fresh, more}
+use Rattle.candidates.specs.Cells.{Scratched, fresh, more, ColumnRoom}
 use Rattle.starts.specs.Swept.{ColumnSwept}
 use Rattle.candidates.proofs.laws.Columns.{within_at}
 use Rattle.passes.proofs.laws.Pass.{least_low}
@@ -28,6 +28,7 @@ use Rattle.candidates.proofs.laws.Read.{side_occurs}
 use Rattle.candidates.proofs.laws.Cells.{scratched_length, scratched_others}
 use Rattle.candidates.proofs.laws.Clean.{clean_kept}
 use Rattle.passes.proofs.laws.Cells.{lent_kept}
+use Rattle.passes.proofs.laws.Lending.{lent_room}
 use Rattle.pricing.specs.declared.Floats.{Floats}
 use Rattle.entries.specs.declared.side.Task.{Task}
 use Rattle.entries.specs.Fill.{tall, fill_side, fill_sides, side_count, fill_place}
@@ -193,6 +194,10 @@ module _ {bytes : List ℕ} {task : Task} {w₀ sums words₀ : List ℕ} {j fir
     module _ (new : Window) (slid : Slid sums (plain task) window i new) where
       opened : Open (text_of bytes task.galley.text) (plain task) new i
       opened = slid.opens (text_of bytes task.galley.text) task.galley.text.count column.summed.rows at run.slid
+
+      -- The next line that may be a start is looked for from there on, in lines of the text.
+      pub last_looks : ColumnRoom task.galley w j × (new.low ≤ task.galley.text.count) × (to ≤ task.galley.text.count)
+      last_looks = (lent_room lent, omega (arith, slid.within), run.inside)
 
       module _ (onto : ℕ) (onward : Onward task.galley w j new.low to onto) (over : task.galley.text.count < onto) where
         -- Where no later line may be a start, no line from i on is reached: what starts above the window is too tall for it, and stays so.

@@ -1,12 +1,15 @@
 -- What the ring says of columns while they are filled: to fill one leaves the others.
-use Rattle.std.specs.Prelude.{ℕ, suc, ◌+◌, ◌-◌, ◌≤◌, ◌<◌, ◌≡◌, List}
+use Rattle.std.specs.Prelude.{ℕ, suc, ◌+◌, ◌-◌, ◌≤◌, ◌<◌, ◌≡◌, List, length}
 use Rattle.std.proofs.Math.Decide.{dec_lt}
-use Rattle.std.proofs.Common.{arith, sym, ◌∙◌}
+use Rattle.std.proofs.Common.{arith, sym, ◌∙◌, ap}
 use Rattle.galley.specs.declared.Galley.{Galley}
 use Rattle.galley.specs.Model.{model_of}
+use Rattle.candidates.specs.Cells.{ColumnRoom}
 use Rattle.reached.specs.declared.recall.Recall.{Recall}
 use Rattle.reached.specs.Look.{Quiet, Hinted, Told}
 use Rattle.reached.specs.Recall.{Agrees, Noted}
+use Rattle.passes.specs.Sweep.{Lent}
+use Rattle.passes.proofs.laws.Lending.{lent_room}
 use Rattle.passes.proofs.laws.Look.{quiet_then}
 use Rattle.entries.specs.declared.side.Task.{Task}
 use Rattle.entries.specs.Fill.{tall}
@@ -14,7 +17,7 @@ use Rattle.entries.specs.laws.Side.{lent_roomy, lent_wide}
 use Rattle.filling.specs.Fill.{fill_column}
 use Rattle.filling.specs.Next.{Begun, Gathered}
 use Rattle.filling.specs.Recall.{ColumnTurn, ColumnFilled}
-use Rattle.filling.specs.laws.Fill.{column_other, column_above}
+use Rattle.filling.specs.laws.Fill.{length_column, column_other, column_above}
 use Rattle.filling.specs.laws.First.{lines_quiet, column_from}
 
 -- What holds from a line on holds from an earlier one if the lines between are not reached.
@@ -27,6 +30,14 @@ told_before {g} {w} {j = j} {line} {from} quiet told =
           let hinted = told.hinted x here in
           record { within = hinted.within; early = quiet_then quiet hinted.early; late = hinted.late };
     }
+
+-- A filled column still stands in the work area.
+pub filled_room : {bytes : List ℕ} (task : Task) {w v : List ℕ} {j : ℕ} → Lent bytes task.galley w j
+    → v ≡ fill_column (model_of bytes task.galley) task.origin j (suc task.galley.text.count) 0 w → ColumnRoom task.galley v j
+filled_room {bytes} task {w} {j = j} lent e =
+    let room = lent_room lent in
+    let sized = ap length e ∙ length_column (model_of bytes task.galley) task.origin j (suc task.galley.text.count) 0 w in
+    record { wide = room.wide; two = room.two; room = rw sized room.room }
 
 -- None of its lines before the first start is reached: they were not, and it is filled from there on.
 pub filled_quiet : {bytes : List ℕ} {task : Task} {w v sums words : List ℕ} {j first : ℕ} → Gathered bytes task w sums words j

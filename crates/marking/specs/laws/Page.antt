@@ -43,6 +43,10 @@ run_few listed run =
 
 module _ (bytes : List ℕ) (g : Galley) (ws : List ℕ) (listed : WholePages bytes g ws) {words : ℕ} (is : words ≡ page_words g)
     {last done : ℕ} {at : Counts} {w : Waiting} {sums : Sums} (run : Run bytes g ws last done at w sums) where
+  -- A page is left where not all are done.
+  pub page_left : (done ≡ length ws / words → ⊥) → done < length ws / words
+  page_left left = let up : done ≤ length ws / words = rw is run.within in omega arith
+
   module _ (more : done < length ws / words) where
     -- The words of the page are there, and there are few pages.
     pub page_there : words * done + page_words g ≤ length ws

@@ -1,6 +1,6 @@
 -- One page back on the walk: it stays within the galley, and is one step of the counting and of the writing.
 use Rattle.std.specs.Prelude.{ℕ, zero, suc, ◌+◌, ◌*◌, ◌-◌, ◌≤◌, ◌<◌, ◌≡◌, refl, true, false, List, None, Some}
-use Rattle.std.proofs.Common.{le_refl, le_trans, mul-le-mul, sym, ◌∙◌}
+use Rattle.std.proofs.Common.{le_refl, le_trans, mul-le-mul, mul-le-mul_left, mul-add, sym, ◌∙◌}
 use native.Mathlib.Omega.{arith}
 use Rattle.std.proofs.lemmas.List.Edits.{sets}
 use Rattle.std.proofs.Math.Seq.{length-sets}
@@ -20,7 +20,7 @@ use Rattle.candidates.proofs.laws.Read.{stands_in}
 use Rattle.entries.specs.laws.Entered.{side_low, side_before}
 use Rattle.walk.specs.declared.Stop.{Stop}
 use Rattle.walk.specs.Trace.{start_of, entry_of, back, at_origin, count_back, write_back}
-use Rattle.walk.specs.Traceable.{blocks_in, WorkArea, full_place, Visits, Traceable, pages_back, Counting, Writing}
+use Rattle.walk.specs.Traceable.{blocks_in, WorkArea, full_place, Visits, Traceable, PageRoom, Writable, pages_back, Counting, Writing}
 
 -- There is a column, so that there is a last one.
 pub columns_in_some : (g : Galley) → 0 < columns_in g
@@ -71,6 +71,12 @@ back_visits {g} {w} tr at v = go (entry_of (table_in g w) at) refl
         })
 
 module _ {g : Galley} {w : List ℕ} {from : Origin} {first : Stop} where
+  -- The count begins at the first stop.
+  pub counting_first : Visits g first → Counting g w from first first 0
+  counting_first v =
+      let e : blocks_in g - 0 ≡ blocks_in g = omega arith in
+      record { visits = v; few = omega arith; same = rw e }
+
   module _ {at : Stop} {p : ℕ} (run : Counting g w from first at p) where
     -- The count goes on by a page,
     pub counting_next : Traceable g w → p < blocks_in g → at_origin (sides_in g) from at ≡ false
@@ -92,7 +98,26 @@ module _ {g : Galley} {w : List ℕ} {from : Origin} {first : Stop} where
         rw e at run.same
 
 module _ {g : Galley} {w : List ℕ} {first : Stop} {p : ℕ} {ws₀ : List ℕ} where
+  -- The writing begins there too.
+  pub writing_first : Writable g w first p ws₀ → Writing g w first p ws₀ ws₀ first p
+  writing_first asked =
+      record { visits = asked.walk.visits; few = le_refl p; room = asked.room; long = refl; same = λ bytes. refl }
+
   module _ {ws : List ℕ} {at : Stop} {r : ℕ} (run : Writing g w first p ws₀ ws at r) where
+    -- The next page's words are within the list.
+    pub writing_room : WorkArea g w → 0 < r → PageRoom g at.place (page_words g * (r - 1)) ws
+    writing_room lent h =
+        let n : r - 1 + 1 ≤ p = omega (arith, run.few) in
+        let most = mul-le-mul_left (page_words g) n in
+        let next = mul-add (page_words g) (r - 1) 1 in
+        record {
+          lines = lent.lines;
+          floats = lent.floats;
+          line = run.visits.line;
+          column = run.visits.column;
+          room = omega (arith, run.room);
+        }
+
     -- The writing goes on by a page, the r-th where r are left,
     pub writing_next : Traceable g w → 0 < r
         → Writing g w first p ws₀ (sets ws (page_words g * (r - 1)) (place_of g (counts_at g at.place.line at.place.column)))
