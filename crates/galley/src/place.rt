@@ -72,13 +72,13 @@ pub fn kind_of(mark: u32) -> Kind
 pub fn unfit_for(kind: Kind, so: Sofar) -> Option<u32>
     ensures { result ≡ turning (unfit kind so) }
 {
-    if so.stage < kind.earliest || kind.latest < so.stage {
+    if (so.stage < kind.earliest) | (kind.latest < so.stage) {
         return Some(2);
     }
-    if LINE < kind.stage && so.lines == 0 {
+    if (LINE < kind.stage) & (so.lines == 0) {
         return Some(5);
     }
-    if kind.stage == so.stage && kind.most <= so.count {
+    if (kind.stage == so.stage) & (kind.most <= so.count) {
         return Some(4);
     }
     None
