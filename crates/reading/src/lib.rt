@@ -4,6 +4,7 @@
 
 ghost use Rattle.std.specs.Prelude.{◌≡◌, ◌+◌, ◌≤◌};
 ghost use Rattle.galley.specs.declared.Record.TheVariants as records;
+ghost use Rattle.galley.specs.Record.{is_second, spec_of};
 ghost use Rattle.galley.specs.Whole.{Small, Fitting, Opened, beginning, moved, refused, with_folio, with_line, with_figure, with_table, cited, galley_so_far, closed, after, step_from, galley_of};
 
 use galley::{Galley, Kind, Reading, Record, Sofar, Spec, Step, Stream, Unread};
@@ -139,6 +140,17 @@ fn galley_so_far(spec: Spec, so: Sofar) -> Galley
     }
 }
 
+// The specification at the start of the bytes. A call of its own: with its fields of four bytes inlined in `read_galley`, the compiler keeps
+// the numbers of a `Sofar` as halves, and each record splits and joins them.
+#[inline(never)]
+fn opening_spec(s: &[u8]) -> Spec
+    requires { Opened s.now }
+    ensures { result ≡ spec_of (is_second s.now 0) s.now 0 }
+{
+    let second = galley::word::mark_at(s, 0) == galley::place::G2;
+    records::spec_of(s, 0, second)
+}
+
 // The end, if nothing follows it: 8. The specification is read at the start of the bytes.
 #[tactic(auto, unfolding(galley::specs::Whole::closed))]
 fn closed(s: &[u8], so: Sofar) -> Step
@@ -148,8 +160,7 @@ fn closed(s: &[u8], so: Sofar) -> Step
     if so.at < s.len() {
         return refused(8, so.at);
     }
-    let second = galley::word::mark_at(s, 0) == galley::place::G2;
-    let spec = records::spec_of(s, 0, second);
+    let spec = opening_spec(s);
     ControlFlow::Break(Ok(galley_so_far(spec, so)))
 }
 
