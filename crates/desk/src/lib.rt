@@ -50,6 +50,13 @@ fn named(name: &[u8]) -> Result<(), Refusal>
     }
 }
 
+// One list over another, word by word: both may lie in one desk, and assigned whole they would be moved.
+fn copy_list(from: &[u32; 192], into: &mut [u32; 192])
+    ensures { into.new ≡ from.now }
+{
+    layouts::words::copy_words(from, 192, into);
+}
+
 impl Desk {
     // A new desk with a list of so many pages.
     #[tactic(auto, unfolding(crate::specs::Opening::opened))]
@@ -59,7 +66,7 @@ impl Desk {
     {
         let width = pages::width_of(list.len(), pages);
         let mut all = [0; 192];
-        all[..list.len()].copy_from_slice(list);
+        layouts::words::copy_words(list, list.len(), &mut all);
         Desk {
             pages,
             width,
@@ -179,7 +186,7 @@ impl Desk {
         ensures { (result ≡ pages_on self.now) × (pages.new ≡ in_force self.now ++ drop (words_on self.now) pages.old) }
     {
         let words = self.words_on();
-        pages[..words].copy_from_slice(&self.list[..words]);
+        layouts::words::copy_words(&self.list, words, pages);
         self.pages_on()
     }
 
@@ -210,8 +217,8 @@ impl Desk {
         ensures { Does (back_desk name.now self.old) result self.new }
     {
         let at = self.held(name)?;
-        let list = self.layouts[at].list;
-        self.put(list);
+        copy_list(&self.layouts[at].list, &mut self.list);
+        self.clear();
         Ok(())
     }
 

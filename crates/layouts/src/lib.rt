@@ -5,6 +5,7 @@ ghost use Rattle.std.specs.Prelude.{map, ◌≡◌, ◌≤◌, length};
 ghost use Rattle.layouts.specs.Names.{free_layout, is_named, freed, find_named, room_for, layout_of};
 
 pub mod names; // names.rt: the names of layouts
+pub mod words; // words.rt: words copied over the first of others
 
 // A list under a name: the bytes of the name, how many there are, and the words of the list. A layout whose name has no bytes is
 // free. C lends this memory, of any contents: so a length stands beside the bytes.
@@ -42,7 +43,15 @@ impl Layout {
     pub fn is_named(&self, name: &[u8]) -> bool
         ensures { result ≡ is_named self.now name.now }
     {
-        self.len as usize == name.len() && self.name.starts_with(name)
+        if self.len as usize != name.len() || 16 < name.len() {
+            return false;
+        }
+        for i in 0..name.len() {
+            if self.name[i] != name[i] {
+                return false;
+            }
+        }
+        true
     }
 
     // It is no longer under a name; where it was under another it stays as it was.
@@ -59,7 +68,12 @@ impl Layout {
 pub fn find(layouts: &[Layout; 8], name: &[u8]) -> Option<usize>
     ensures { result ≡ find_named layouts.now name.now }
 {
-    layouts.iter().position(|layout| layout.is_named(name))
+    for at in 0..layouts.len() {
+        if layouts[at].is_named(name) {
+            return Some(at);
+        }
+    }
+    None
 }
 
 // Where a list is kept under a name: where the name is held, else the first layout that is free.
@@ -73,7 +87,7 @@ pub fn room_for(layouts: &[Layout; 8], name: &[u8]) -> Option<usize>
 pub fn free(layouts: &mut [Layout; 8], name: &[u8])
     ensures { layouts.new ≡ map (freed name.now) layouts.old }
 {
-    for layout in layouts.iter_mut() {
-        layout.drop_name(name);
+    for at in 0..layouts.len() {
+        layouts[at].drop_name(name);
     }
 }

@@ -15,6 +15,8 @@ pub fn pad(name: &[u8]) -> [u8; 16]
     ensures { result ≡ padded name.now }
 {
     let mut all = [0; 16];
-    all[..name.len()].copy_from_slice(name);
+    for i in 0..name.len() {
+        all[i] = name[i];
+    }
     all
 }

@@ -2,6 +2,7 @@
 
 -- The filled work area as the graph of pages has it, and what the functions ask for.
 pub mod Shown
+pub mod Copied
 pub mod Begun
 pub mod Back
 pub mod Solved

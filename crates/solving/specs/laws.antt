@@ -3,6 +3,7 @@ pub mod Last
 pub mod Shown
 pub mod Seen
 pub mod Right
+pub mod Copied
 pub mod Begun
 pub mod Back
 pub mod Written

@@ -30,7 +30,7 @@ pub fn best_pages(
     }
     let p = walk::count_pages(g, work, origin, last);
     let begun = opening.len();
-    pages[..begun].copy_from_slice(opening);
+    crate::opening::copy_words(opening, pages);
     walk::write_pages(g, work, last, p, &mut pages[begun..]);
     let words = begun + blocks::page_words(g) * p;
     // The opening is part of the list, and what it costs part of the answer.

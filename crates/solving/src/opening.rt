@@ -1,5 +1,5 @@
 // Where making begins after an opening. Document 02, S-6.
-ghost use Rattle.std.specs.Prelude.{◌≡◌};
+ghost use Rattle.std.specs.Prelude.{◌≡◌, ◌++◌, ◌≤◌, length, drop};
 ghost use Rattle.galley.specs.Sound.{Sound};
 ghost use Rattle.solving.specs.Begun.{Ending, origin_after, BegunAfter};
 
@@ -31,4 +31,14 @@ pub fn begin_after(s: &[u8], g: Galley, opening: &[u32]) -> Result<Origin, Refus
 {
     let ends = openings::judge_opening(s, g, opening)?;
     Ok(origin_after(g, ends))
+}
+
+// The words of the opening over the first of the page list.
+pub fn copy_words(opening: &[u32], pages: &mut [u32])
+    requires { length opening.now ≤ length pages.old }
+    ensures { pages.new ≡ opening.now ++ drop (length opening.now) pages.old }
+{
+    for i in 0..opening.len() {
+        pages[i] = opening[i];
+    }
 }

@@ -79,6 +79,10 @@ module _ (name : List ℕ) where
   held_first (v ∷ vs) (suc k) low h before =
       rw (before 0 (omega arith)) (held_first vs k (omega arith) h (λ j l. before (suc j) (omega arith)))
 
+  -- What is found under a name is under it.
+  pub found_named : (vs : List Layout) (at : ℕ) → find_named vs name ≡ Some at → is_named (get_or vs at no_layout) name ≡ true
+  found_named vs at e = (position-Some (λ (v : Layout). is_named v name) vs at no_layout e).1
+
   pub found_held : (vs : List Layout) (at : ℕ) → find_named vs name ≡ Some at → held_in vs name ≡ Some (get_or vs at no_layout).list
   found_held vs at e =
       let it = position-Some (λ (v : Layout). is_named v name) vs at no_layout e in

@@ -1,8 +1,6 @@
--- `free` meets its contract. The invariant: the layouts before the loop's are freed of the name, the others are as they were.
-use Rattle.std.proofs.Common.{map, ◌≡◌, ◌++◌, take, drop}
-use Rattle.layouts.specs.Names.{freed}
+-- `free` meets its contract. The invariant: the layouts before number `at` are freed of the name, the others are as they were.
+use Rattle.layouts.specs.laws.Layouts.{Freeing}
 use Rattle.layouts.proofs.free.Given as goal
 
-abbrev pub invariant-loop-layout : goal.invariant-loop-layout
-invariant-loop-layout l =
-    l.layouts ≡ map (freed l.name) (take l.layout-index l.initial.layouts) ++ drop l.layout-index l.initial.layouts
+abbrev pub invariant-loop-at : goal.invariant-loop-at
+invariant-loop-at l = Freeing l.name l.initial.layouts l.layouts l.at

@@ -58,17 +58,23 @@ fits c =
 pub returns : goal.returns
 returns c =
     walk_written c.requires _ c.last_stop-last.ensures _ c.reached.ensures _ c.count_pages-p.ensures c.if-not-reached.false _ _ _ _
-    (rw c.copy_from_slice.ensures.after) refl
+    c.copy_words.ensures refl
     (c.write_pages.ensures c.args.s.now) refl _ (rw c.page_words.ensures.1 at c.mark.ensures)
 
-pub slice_bounds-copy_from_slice-end : goal.slice_bounds-copy_from_slice-end
-slice_bounds-copy_from_slice-end c = room (goal.at.slice_bounds-copy_from_slice-end c).After-count_pages-p
+pub copy_words-requires : goal.copy_words-requires
+copy_words-requires c = room (goal.at.copy_words-requires c).After-count_pages-p
 
-pub slice_bounds-copy_from_slice-end-2 : goal.slice_bounds-copy_from_slice-end-2
-slice_bounds-copy_from_slice-end-2 c = search (rules, room (goal.at.slice_bounds-copy_from_slice-end-2 c).After-count_pages-p)
+pub offset_bounds-pages-begun : goal.offset_bounds-pages-begun
+offset_bounds-pages-begun c = search (rules, room (goal.at.offset_bounds-pages-begun c).After-count_pages-p)
 
-pub copy_from_slice-requires : goal.copy_from_slice-requires
-copy_from_slice-requires c = search (rules, room (goal.at.copy_from_slice-requires c).After-count_pages-p)
+pub slice_bounds-write_pages-count : goal.slice_bounds-write_pages-count
+slice_bounds-write_pages-count c = search (rules, room (goal.at.slice_bounds-write_pages-count c).After-count_pages-p)
+
+pub slice_bounds-write_pages-start : goal.slice_bounds-write_pages-start
+slice_bounds-write_pages-start c = search (rules, room (goal.at.slice_bounds-write_pages-start c).After-count_pages-p)
+
+pub slice_bounds-write_pages-end : goal.slice_bounds-write_pages-end
+slice_bounds-write_pages-end c = search (rules, room (goal.at.slice_bounds-write_pages-end c).After-count_pages-p)
 
 pub overflow_mul-words : goal.overflow_mul-words
 overflow_mul-words c = omega (arith, small (goal.at.overflow_mul-words c).After-page_words)
