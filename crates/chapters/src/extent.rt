@@ -10,7 +10,11 @@ fn all_bytes(lengths: &[u32]) -> usize
     requires { length lengths.now ≤ 200 }
     ensures { result ≡ all_bytes lengths.now }
 {
-    lengths.iter().map(|n| *n as usize).sum()
+    let mut sum = 0;
+    for i in 0..lengths.len() {
+        sum += lengths[i] as usize;
+    }
+    sum
 }
 
 impl<'a> Chapters<'a> {

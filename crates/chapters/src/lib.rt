@@ -90,9 +90,9 @@ fn read_later(chapters: Chapters<'_>, first: Galley) -> Result<Book, Refusal>
     };
     let mut book = with_chapter(none, first);
     let mut at = chapters.lengths[0] as usize;
-    for length in &chapters.lengths[1..] {
+    for k in 1..chapters.lengths.len() {
         let place = book.chapters as u32 + 1;
-        let to = at + *length as usize;
+        let to = at + chapters.lengths[k] as usize;
         let g = chapter_read(&chapters.galleys[at..to], place)?;
         if let Some(number) = unfit_after(first.spec, g) {
             return Err(Refusal { number, place });

@@ -9,3 +9,4 @@ pub mod Arrive
 pub mod Next
 pub mod Routing
 pub mod Book
+pub mod Extent

@@ -3,14 +3,23 @@ use Rattle.std.specs.Prelude.{ℕ, zero, suc, ◌+◌, ◌≤◌, ◌<◌, Bool,
 use Rattle.std.proofs.Common.{arith, sym, ◌∙◌, ap}
 use Rattle.std.proofs.Math.Seq.{slice}
 use Rattle.model.specs.Gather.{pick}
+use Rattle.model.specs.declared.answer.Refusal.{Refusal}
 use Rattle.galley.specs.declared.Galley.{Galley}
 use Rattle.galley.specs.Whole.{galley_of, Reading}
 use Rattle.needs.specs.Needs.{work_needed, list_needed}
 use Rattle.chapters.specs.Book.{Chapter, read, refused, all_bytes, adds_up, later_from, first_of, chapters_of, book_of, largest, book_list, chapter_start, chapter_bytes}
-use Rattle.chapters.specs.Steps.{Numbered}
+use Rattle.chapters.specs.Steps.{Reads, Numbered}
 use Rattle.chapters.specs.laws.Lengths.{adding}
 use Rattle.chapters.specs.laws.Opening.{added, extent_within}
 use Rattle.chapters.specs.laws.Later.{unread, before_read, AllLater, later_at}
+
+-- Bytes that hold a galley are not refused.
+pub unrefused : {A : Type 0} (bytes : List ℕ) (r : Refusal) → Reads bytes → galley_of bytes ≡ Err r → A
+unrefused bytes r reads e = let z : ◌≡◌ {A = ℕ} 0 1 = ap kind (sym reads.1 ∙ e) in absurd (omega arith)
+  where
+    kind : Reading → ℕ
+    kind (Ok g) = 0
+    kind (Err r) = 1
 
 -- The lengths of a book that was read add up.
 pub book_adds : (bytes lengths : List ℕ) (cs : List Chapter) → book_of bytes lengths ≡ read cs → adds_up bytes lengths ≡ true

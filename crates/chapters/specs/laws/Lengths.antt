@@ -1,7 +1,7 @@
 -- The lengths of a book's chapters: what the first of them and the rest come to.
 use Rattle.std.specs.Prelude.{ℕ, zero, suc, ◌+◌, ◌-◌, ◌≤◌, ◌<◌, true, not, ◌&&◌, List, [], ◌∷◌, ◌≡◌, refl, length, get_or, take, drop, ltb, eqb}
 use Rattle.std.proofs.Common.{arith, sym, ◌∙◌, ap, drop-cons, ltb-false, eqb-true}
-use Rattle.std.proofs.Math.Seq.{slice, take-nil}
+use Rattle.std.proofs.Math.Seq.{slice, take-length, take-nil}
 use Rattle.std.proofs.lemmas.Bool.{eqb-false, not-true}
 use Rattle.model.proofs.laws.Gather.{and_left, and_right}
 use Rattle.chapters.specs.Book.{all_bytes, adds_up, chapter_start}
@@ -17,6 +17,10 @@ pub start_next : (lengths : List ℕ) (i : ℕ) → i < length lengths → chapt
 start_next lengths i h =
     let e : i + 1 ≡ suc i = omega arith in
     ap (chapter_start lengths) e ∙ start_suc lengths i h
+
+-- After all chapters stands what all lengths come to.
+pub start_all : (lengths : List ℕ) → chapter_start lengths (length lengths) ≡ all_bytes lengths
+start_all lengths = ap all_bytes (take-length lengths)
 
 -- No chapter begins past the end of all.
 pub start_within : (lengths : List ℕ) (i : ℕ) → chapter_start lengths i ≤ all_bytes lengths

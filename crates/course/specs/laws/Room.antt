@@ -24,6 +24,10 @@ module _ {bytes lengths : List ℕ} {book : Book} {folios work list : List ℕ} 
     pub course_at : ChapterAt bytes lengths p.first p.rest k
     course_at = chapter_at bytes lengths p.first p.rest p.is k (omega (arith, p.many))
 
+    -- Its folio and the next are there.
+    pub course_opens : k + 1 < length folios
+    course_opens = omega (arith, p.many, p.opens)
+
     module _ {sums : Sums} {list' : List ℕ} (m : Making (chapters_in (book_of bytes lengths)) folios list k sums list') where
       going : Making chapters folios list k sums list'
       going = subst (λ cs. Making cs folios list k sums list') is_read m

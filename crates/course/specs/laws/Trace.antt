@@ -1,14 +1,27 @@
 -- The folios that are followed back are those of the best route.
 use Prim.Native.Nat.{ℕ, zero, suc, ◌+◌, ◌-◌, ◌≤◌, ◌<◌}
 use native.Mathlib.Omega.{arith}
-use Rattle.std.specs.Prelude.{◌≡◌, List, ◌∷◌, set}
+use Rattle.std.specs.Prelude.{◌≡◌, refl, List, ◌∷◌, set}
 use Rattle.std.proofs.Common.{sym, ◌∙◌, subst}
 use Rattle.std.proofs.Math.Path.{ap}
 use Rattle.std.proofs.Math.ListN.{length, get_or, drop, length-set}
 use Rattle.std.proofs.Math.Seq.{drop-cons, get_or-set_same, drop-set-lt}
-use Rattle.course.specs.Trace.{came_from, followed, Leads, Following}
+use Rattle.course.specs.Trace.{came_from, followed, Leads, Followable, Following}
 
 module _ {from : List ℕ} {chapters last : ℕ} where
+  -- The folio after the last chapter is written.
+  pub follow_first : (folios : List ℕ) → Followable from chapters last folios
+      → Following from chapters last (drop (chapters + 1) folios) (set folios chapters last) chapters
+  follow_first folios p =
+      let is : get_or (set folios chapters last) chapters 0 ≡ last = get_or-set_same folios chapters last 0 p.room in
+      let long = length-set folios chapters last in
+      record {
+        within = omega arith;
+        room = omega (arith, p.room);
+        leads = rw is p.leads;
+        same = rw (is, drop-set-lt (chapters + 1) folios chapters last (omega arith)) refl;
+      }
+
   module _ {after folios : List ℕ} where
     -- A folio that is known is 1 or 2.
     pub follow_range : (k : ℕ) → Following from chapters last after folios k → (1 ≤ get_or folios k 0) × (get_or folios k 0 ≤ 2)

@@ -94,6 +94,10 @@ module _ {bytes lengths : List ℕ} {book : Book} (p : BookRead bytes lengths bo
   is_read : chapters_in (book_of bytes lengths) ≡ chapters
   is_read = chapters_read p.is
 
+  -- Before the first chapter nothing is counted.
+  pub weighing_first : Weighing (chapters_in (book_of bytes lengths)) 0 0
+  weighing_first = record { within = omega arith; few = omega arith; goes = omega arith }
+
   pub weighing_at : {k : ℕ} → k < book.chapters → ChapterAt bytes lengths p.first p.rest k
   weighing_at {k} h = chapter_at bytes lengths p.first p.rest p.is k (omega (arith, p.many))
 

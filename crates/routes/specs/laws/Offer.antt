@@ -2,12 +2,13 @@
 use Rattle.std.specs.Prelude.{ℕ, suc, ◌+◌, ◌*◌, ◌≤◌, ◌<◌, ◌≡◌, refl, Bool, true, false, List}
 use Rattle.std.proofs.Common.{le_refl, arith, sym, ◌∙◌, ap, lt-ltb, le-ltb}
 use Rattle.model.specs.Gather.{pick}
-use Rattle.model.specs.Leaf.{ends}
+use Rattle.model.specs.Leaf.{ends, sides_of}
 use Rattle.theorems.specs.pages.Graph.{side}
 use Rattle.theorems.specs.pages.Sides.{side_side}
 use Rattle.galley.specs.declared.Galley.{Galley}
 use Rattle.galley.specs.Model.{sides_in}
-use Rattle.places.specs.Entry.{Entry}
+use Rattle.places.specs.declared.Place.{Place as Start}
+use Rattle.places.specs.Entry.{Entry, least, low_of, high_of}
 use Rattle.candidates.specs.Read.{table_in}
 use Rattle.walk.specs.declared.Stop.{Stop}
 use Rattle.walk.specs.Trace.{entry_of}
@@ -88,11 +89,35 @@ pub end_both : {a b : Route} {x y : Cost} (t : Bool) → a ≡ Some x → b ≡ 
 unfolding best_end
 end_both t p q e = rw (p, q, e)
 
+-- What is turned to a later chapter.
+pub turn_later : (g : Galley) {first : Bool} (o : ℕ) (t : Bool) → first ≡ false → t ≡ ends (sides_of g.spec.sides o) 0
+    → pick t g.spec.beta 0 ≡ turn_to g first o
+turn_later g o t p e = rw (p, e)
+
 -- A route goes on by the entry that was read where a list closes.
 pub passed_from : (g : Galley) {route r : Route} {turn : ℕ} {e : Entry} (first : Bool) (o next : ℕ) (w : List ℕ) (c : ℕ) (at : Stop)
     → c ≡ side (sides_in g) (o + next) → at ≡ closing_stop g c → e ≡ entry_of (table_in g w) at → turn ≡ turn_to g first o → Passed route turn e r
     → Passed route (turn_to g first o) (entry_of (table_in g w) (closing_from g o next)) r
 passed_from g first o next w c at ec ea ee et p = rw (et, ee, ea, ec) at p
+
+-- A route that leads to a folio goes on by an entry that is reached.
+pub passed_least : {route : Route} {e : Entry} {x : Cost} {v : ℕ} {s : Start} (turn t w : ℕ) → route ≡ Some x → e ≡ least v s
+    → t ≡ high_of v → w ≡ low_of v → Some (record { turns = x.turns + turn + t; white = x.white + w }) ≡ passed route turn e
+passed_least turn t w p q et ew = rw (p, q, et, ew) refl
+
+-- The preferred of two offers, where there is one or none,
+pub decided_second : {a : Route} (b : Route) (later : Bool) → a ≡ None → record { route = b; from = 2 } ≡ decided later a b
+decided_second b later p = rw p refl
+
+pub decided_first : {a b : Route} {x : Cost} (later : Bool) → a ≡ Some x → b ≡ None → record { route = Some x; from = 1 } ≡ decided later a b
+decided_first later p q = rw (p, q) refl
+
+-- and where there are two.
+pub decided_both : {a b : Route} {x y : Cost} (s t u : Bool) {later : Bool} → a ≡ Some x → b ≡ Some y → s ≡ less x y → t ≡ less y x → u ≡ later
+    → pick s (record { route = Some x; from = 1 }) (pick t (record { route = Some y; from = 2 })
+    (pick u (record { route = Some x; from = 1 }) (record { route = Some y; from = 2 })))
+    ≡ decided later a b
+decided_both s t u p q es et eu = rw (p, q, es, et, eu) refl
 
 -- The route to the next folio, where that does not occur
 pub arrived_none : {g : Galley} {routes : Routes} {first : Bool} {next : ℕ} {w v : List ℕ} → g.spec.sides < next

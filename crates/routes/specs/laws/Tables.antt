@@ -1,5 +1,5 @@
 -- Both tables of a chapter, each in one half of the work area: what filling one leaves of the other, and what can be read of them.
-use Rattle.std.specs.Prelude.{ℕ, ◌+◌, ◌-◌, ◌≤◌, ◌≡◌, Bool, List, [], ◌++◌, length, take, drop}
+use Rattle.std.specs.Prelude.{ℕ, ◌+◌, ◌-◌, ◌≤◌, ◌≡◌, refl, Bool, true, false, List, [], ◌++◌, length, take, drop}
 use Rattle.std.proofs.Common.{arith, sym, ◌∙◌, ap, subst, append-nil, length-drop, length-append, length-take-le, take_at, drop_at, take_all}
 use Rattle.std.proofs.Math.Seq.{drop-length}
 use Rattle.galley.specs.declared.Galley.{Galley}
@@ -45,7 +45,7 @@ pub room_on : {bytes : List ℕ} {g : Galley} {w : List ℕ} (o : ℕ) → Chapt
 unfolding columns_in
 room_on o (room, low, high) = record { sound = sound_on o low high room.sound; room = room.room }
 
--- The table is filled where a route leads to its folio.
+-- The table is filled where a route leads to its folio,
 pub filled_from : {bytes : List ℕ} {g g' : Galley} {w w' : List ℕ} (route : Route) (o : ℕ) → ChapterRoom bytes g w × (1 ≤ o) × (o ≤ 2) → g' ≡ on_folio o g
     → w' ≡ filled (model_of bytes g') nothing_yet w → FilledFrom bytes g route o w w'
 filled_from {bytes} {g} {g'} {w} {w'} route o asked eg e =
@@ -55,6 +55,15 @@ filled_from {bytes} {g} {g'} {w} {w'} route o asked eg e =
       long = ap length is ∙ length_filled (model_of bytes (on_folio o g)) nothing_yet w (needed_roomy bytes (on_folio o g) room.room);
       tabled = λ reached. record { sound = room.sound; before = w; enough = room.room; is = is };
     }
+
+-- and left as it is where none does.
+pub left_from : {bytes : List ℕ} {g : Galley} {w : List ℕ} {route : Route} {o : ℕ} (t : Bool) → t ≡ is_reached route → t ≡ false
+    → FilledFrom bytes g route o w w
+left_from t e n =
+    record { long = refl; tabled = λ reached. let z : ◌≡◌ {A = Bool} true false = sym reached ∙ sym e ∙ n in absurd (true_false z) }
+  where
+    true_false : true ≡ false → ⊥
+    true_false e = let z : ◌≡◌ {A = ℕ} 0 1 = cc in omega arith
 
 -- All words from one on to the last are the rest.
 pub rest_is : (half k : ℕ) (w : List ℕ) → k ≡ length w - half → take k (drop half w) ≡ drop half w
