@@ -1,3 +1,4 @@
 -- The laws of folding order.
 pub mod Size
 pub mod Table
+pub mod Copying
