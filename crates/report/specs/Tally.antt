@@ -1,5 +1,5 @@
 -- The tally that the code keeps, paper after paper.
-use Rattle.std.specs.Prelude.{ℕ, ◌+◌, ◌-◌, ◌*◌, ◌≤◌, min, max, Option, Some, None, List, ltb, eqb}
+use Rattle.std.specs.Prelude.{ℕ, ◌+◌, ◌-◌, ◌*◌, ◌≤◌, min, max, Option, Some, None, List, leb, ltb, eqb}
 use Rattle.std.specs.Option.{option_or}
 use Rattle.model.specs.Gather.{pick}
 use Rattle.report.specs.declared.Mark.{Mark}
@@ -51,3 +51,7 @@ pub record Within (t : Totals) : Type 0 where
   pub y : t.y ≤ t.papers * 4294967295
   pub turns : t.turns ≤ t.papers * 4294967295
   pub excess : t.excess ≤ t.papers * 4294967295
+
+-- How many of n marks are gone through.
+unfoldable pub limit_of : ℕ → ℕ
+limit_of n = pick (leb n 10000) n 0
