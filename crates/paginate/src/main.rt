@@ -1,7 +1,7 @@
 // The program: a galley from standard input, its pages to standard output. Document 01, "The program".
 #![tactic(auto)]
 
-ghost use Rattle.std.specs.Prelude.{◌+◌, ◌≤◌, ◌<◌, ◌≡◌, IfOk, IfSome};
+ghost use Rattle.std.specs.Prelude.{◌+◌, ◌≤◌, ◌<◌, ◌≡◌, length, IfOk, IfSome};
 ghost use Rattle.model.specs.Galley.{streams};
 ghost use Rattle.galley.specs.declared.Galley.{Galley};
 ghost use Rattle.galley.specs.Whole.{galley_of};
@@ -21,13 +21,15 @@ fn words_of(galley: &[u8]) -> Option<usize>
     }
 }
 
-// Page q with the lines, figures and, where there are any, tables placed so far.
-fn print_page(rt: &impl Print, q: usize, ends: &[u32]) -> io::Result<()> {
-    print!(rt; "{q}")?;
-    for end in ends {
-        print!(rt; " {end}")?;
+// Page q with the lines, figures and, where there are any, tables placed so far, in one write.
+fn print_page(rt: &impl Print, q: usize, ends: &[u32]) -> io::Result<()>
+    requires { (2 ≤ length ends.now) × (length ends.now ≤ 3) }
+{
+    match ends {
+        [lines, figures] => println!(rt; "{q} {lines} {figures}"),
+        [lines, figures, tables] => println!(rt; "{q} {lines} {figures} {tables}"),
+        _ => unreachable!(),
     }
-    println!(rt)
 }
 
 // Every page, of so many words: there is room for no more than the list has words.
