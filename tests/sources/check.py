@@ -1,7 +1,8 @@
 """Nothing stands in the sources for nobody, and what the documents list of the tree is what it has.
 
 A name that a `use` brings in and its file does not use fails, and so does a definition or law that nothing reaches. Reached is what
-a function, a proof of one, a promise, the table of cases, or docs/PROMISES.md cites, and whatever that cites in turn. So does a list of
+a function, a proof of one, a promise, the table of cases, docs/PROMISES.md or the list of laws that stand by themselves (standing.txt)
+cites, and whatever that cites in turn. That list names no law that is not there or that is cited anyway. So does a list of
 the model's files or of the tests' parts that is not whole, and so do floors of crates that are not as crates.txt says (floors.py). Every
 kind of fault is planted, so that the test is known to find it.
 """
@@ -16,6 +17,7 @@ from choice import chosen  # noqa: E402
 
 ROOT = pathlib.Path(__file__).resolve().parents[2]
 CRATES = ROOT / 'crates'
+STANDING = ROOT / 'tests/sources/standing.txt'
 FINAL = {'promises', 'cases', 'byhand'}  # of byhand nothing is cited: it has the laws of walks in the toolchain's logic for whoever proves by hand
 
 
@@ -68,17 +70,41 @@ def words_of(source, line):
     yield from source.words(line)
 
 
-def uncited(sources):
-    """The declarations that nothing reaches."""
-    promised = set(re.findall(r'`([^`\s]+)`', (ROOT / 'docs/PROMISES.md').read_text()))
-    cited = citations(sources)
-    todo = list(cited[None]) + [d for s in sources for d in s.declarations if d.name in promised]
-    reached = set()
+def told_to_stand(text):
+    """The laws of a list of those that stand by themselves: a file and the name of each."""
+    for line in text.splitlines():
+        if line and not line.startswith('#'):
+            path, _, told = line.partition(': ')
+            yield from ((path, name) for name in told.split(', '))
+
+
+def reached_from(todo, cited):
+    """What these declarations cite, and whatever that cites in turn."""
+    reached, todo = set(), list(todo)
     while todo:
         declaration = todo.pop()
         if declaration not in reached:
             reached.add(declaration)
             todo += cited.get(declaration, ())
+    return reached
+
+
+def uncited(sources, standing):
+    """The declarations that nothing reaches, and laws that are told to stand by themselves and are not there, or are cited."""
+    promised = set(re.findall(r'`([^`\s]+)`', (ROOT / 'docs/PROMISES.md').read_text()))
+    cited = citations(sources)
+    reached = reached_from([*cited[None], *(d for s in sources for d in s.declarations if d.name in promised)], cited)
+    there = {(str(s.path.relative_to(ROOT)), d.name): d for s in sources for d in s.declarations}
+    alone = []
+    for path, name in told_to_stand(standing):
+        law = there.get((path, name))
+        if law is None:
+            yield f'tests/sources/standing.txt: {path} has no {name}'
+        elif law in reached:
+            yield f'tests/sources/standing.txt: {name} of {path} is cited, and need not be listed'
+        else:
+            alone.append(law)
+    reached |= reached_from(alone, cited)
     for source in sources:
         if not (source.is_proof or source.crate in FINAL):
             for declaration in source.declarations:
@@ -100,7 +126,7 @@ def untold(architecture):
             yield f'{document}: {name} is {"not there" if name in told else "not listed"}'
 
 
-FAULTS = {'unused': lambda sources, *_: unused(sources), 'uncited': lambda sources, *_: uncited(sources),
+FAULTS = {'unused': lambda sources, *_: unused(sources), 'uncited': lambda sources, *_: uncited(sources, STANDING.read_text()),
           'untold': lambda _, architecture, __: untold(architecture),
           'floors': lambda sources, architecture, crates: floors.faults(crates, sources, architecture)}
 
@@ -112,7 +138,9 @@ def planted(sources, architecture, crates):
     law = text + '\n-- A law of nothing.\npub planted_law : ℕ → ℕ\nplanted_law q = leaf single q\n'
     name = text.replace('Prelude.{', 'Prelude.{planted_name, ')
     for told, found in (
-            ('nothing cites planted_law', uncited(names.read(CRATES, {path: law}))),
+            ('nothing cites planted_law', uncited(names.read(CRATES, {path: law}), STANDING.read_text())),
+            ('Leaf.antt has no planted_law', uncited(sources, STANDING.read_text() + 'crates/model/specs/Leaf.antt: planted_law\n')),
+            ('leaf of crates/model/specs/Leaf.antt is cited', uncited(sources, STANDING.read_text() + 'crates/model/specs/Leaf.antt: leaf\n')),
             ('brings in planted_name', unused(names.read(CRATES, {path: name}))),
             ('Planted is not there', untold(architecture + '`Planted`')),
             ('Statement has planted cases', floors.faults(crates, sources, architecture.replace('| `crates/model` |', '| `crates/planted` |'))),
