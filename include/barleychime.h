@@ -3,7 +3,7 @@
  * Making gives the pagination with the fewest page turns that a galley's page specification allows. If several have as few, it gives
  * the one with the least white space. It makes one galley, or the chapters of a book, or the pages after an opening that is already
  * printed. Marking judges a pagination that is handed in. Both work on lent memory alone: they allocate nothing, keep nothing between
- * calls, print nothing, and call nothing but memcpy, memmove and memset of the C library. Calls on memory that is not shared may run at the
+ * calls, print nothing, and call nothing but memcpy and memset of the C library. Calls on memory that is not shared may run at the
  * same time.
  *
  * What the caller owes, because no call can see it:
@@ -155,7 +155,7 @@ enum barleychime_refusal {
 
 /* Bytes of stack that a call takes below the frame of its caller, at most: making a book, any other call, and marking alone.
  * They are what the archive's machine code takes, rounded up; the tests compare them. Making and the calls of a desk need 4,096
- * bytes more where the dynamic linker binds one of these three at its first call, as in a program that is linked without -z now.
+ * bytes more where the dynamic linker binds memcpy or memset at its first call, as in a program that is linked without -z now.
  * Signal handlers are not counted.
  */
 #define BARLEYCHIME_BOOK_STACK_BYTES ((size_t)244224)

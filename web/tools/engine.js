@@ -1,7 +1,6 @@
 // The proved library as a WebAssembly module. tools/archive compiles the proved library for x86-64, and keeps the LLVM module that the
 // toolchain's clang compiled. That module gets WebAssembly's layout in place of x86-64's, two lines of its text, and is compiled and linked by the
-// same clang. Two things of its text are of 64 bits: where addresses are compared, `ptrtoint` widens WebAssembly's 32, and where an Option of a
-// reference is loaded whole, its reference stands 8 bytes after its tag.
+// same clang.
 import { execFileSync, spawnSync } from 'node:child_process';
 import { createHash } from 'node:crypto';
 import fs from 'node:fs';
@@ -46,15 +45,6 @@ export function files(folder) {
   return out;
 }
 
-/** A tag and the reference 8 bytes after it, loaded one by one. @param {string} _ @param {string} to @param {string} from */
-function tagged(_, to, from) {
-  return `${to}.tag = load i8, ptr ${from}
-${to}.at = getelementptr i8, ptr ${from}, i64 8
-${to}.reference = load ptr, ptr ${to}.at
-${to}.half = insertvalue { i8, ptr } poison, i8 ${to}.tag, 0
-${to} = insertvalue { i8, ptr } ${to}.half, ptr ${to}.reference, 1`;
-}
-
 /** Compiles the library's module to WebAssembly. @param {string} module @param {string} out */
 export function compile(module, out) {
   const { clang } = toolchain(), temp = fs.mkdtempSync(path.join(os.tmpdir(), 'barleychime-web-'));
@@ -62,10 +52,7 @@ export function compile(module, out) {
   try {
     execFileSync(clang, ['--target=x86_64-unknown-linux-gnu', '-x', 'ir', module, '-S', '-emit-llvm', '-Xclang', '-disable-llvm-passes', '-O3', '-o', at('kept.ll')]);
     const text = fs.readFileSync(at('kept.ll'), 'utf8').replace(/^target datalayout.*\n/m, '')
-      .replace(/^target triple.*$/m, 'target triple = "wasm32-unknown-unknown"').replace(/"target-cpu"="[^"]*"/g, '').replace(/\bptrtoaddr ptr /g, 'ptrtoint ptr ')
-      .replace(/^ *(%\S+) = load \{ i8, ptr \}, ptr (%\S+),.*$/gm, tagged);
-    const other = text.match(/load \{ (?!ptr, i64 \})[^}]*\bptr\b[^}]*\}/);
-    if (other) throw new Error(`web/tools/engine.js knows no layout of ${other[0]} in WebAssembly.`);
+      .replace(/^target triple.*$/m, 'target triple = "wasm32-unknown-unknown"').replace(/"target-cpu"="[^"]*"/g, '');
     fs.writeFileSync(at('wasm.ll'), text);
     execFileSync(clang, ['--target=wasm32-unknown-unknown', '-O3', '-mbulk-memory', ...SAFE.flatMap((each) => ['-mllvm', each]), '-c', '-x', 'ir', at('wasm.ll'), '-o', at('wasm.o')]);
     fs.symlinkSync(clang, at('wasm-ld'));
